@@ -6,5 +6,7 @@
 mod status;
 mod words;
 
-pub use status::{BAD_COMMAND_LINE, tell_no_memory, tell_no_words, tell_words, words_of};
+pub use status::{
+    BAD_COMMAND_LINE, report_arguments, report_bad_arguments, report_out_of_memory, words_of,
+};
 pub use words::{find, flag, hidden_word, program};

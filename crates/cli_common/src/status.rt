@@ -20,11 +20,11 @@ pub fn words_of<H: AllocGlobal + Env>(rt: &H) -> io::Result<Vec<String>> {
 }
 
 /// Tells why there are no words, and gives the exit status.
-pub fn tell_no_words(rt: &impl Eprint, error: &io::Error) -> u8
+pub fn report_bad_arguments(rt: &impl Eprint, error: &io::Error) -> u8
     ensures { result ≤ 3 }
 {
     match error.kind() {
-        io::ErrorKind::OutOfMemory => tell_no_memory(rt),
+        io::ErrorKind::OutOfMemory => report_out_of_memory(rt),
         _ => {
             let _ = eprintln!(rt; "error: {error}");
             BAD_COMMAND_LINE
@@ -33,11 +33,11 @@ pub fn tell_no_words(rt: &impl Eprint, error: &io::Error) -> u8
 }
 
 /// Tells what `clap` says of the command line, and gives the exit status: 0 where it is the help that was asked for.
-pub fn tell_words<H: Print + Eprint>(rt: &H, error: &Error) -> u8
+pub fn report_arguments<H: Print + Eprint>(rt: &H, error: &Error) -> u8
     ensures { result ≡ kind_status (kind_of error.now) }
 {
     if error.kind() == ErrorKind::OutOfMemory {
-        return tell_no_memory(rt);
+        return report_out_of_memory(rt);
     }
     let _ = error.print(rt);
     if error.use_stderr() {
@@ -48,7 +48,7 @@ pub fn tell_words<H: Print + Eprint>(rt: &H, error: &Error) -> u8
 }
 
 /// Tells that memory was wanting before anything was read, and gives the exit status.
-pub fn tell_no_memory(rt: &impl Eprint) -> u8
+pub fn report_out_of_memory(rt: &impl Eprint) -> u8
     ensures { result ≡ 3 }
 {
     let fault = ScriptFault::Memory;

@@ -1,18 +1,18 @@
 //! What the room of each word of a script is made of: the members of a line (`members`), what they give (`given`), the
-//! texts of answers (`texts`), and what a room is (`room`).
+//! texts of answers (`texts`), and what a room is (`command`).
 #![tactic(auto)]
 
+mod command;
 mod given;
 mod members;
-mod room;
 mod texts;
 
+pub use command::{Command, serve_in};
 pub use given::{read_choice, read_content_or_empty, read_document, read_id, read_rev};
 pub use members::{
     has_only_members, name_member, optional_flag, optional_text, optional_texts, optional_uuid,
     optional_whole, text_member,
 };
-pub use room::{Room, serve_in};
 pub use texts::{
     hush, id_text, push_count, push_json, push_last, push_number, push_rev, push_revs,
     push_revs_line,

@@ -7,6 +7,6 @@ use Rattle.commands.specs.{AnswersAsked, Asked, WordsAnswer}
 use Rattle.command_api.proofs.{may_tell}
 
 -- what a word's room answers, the line is told
-pub word_answered : {K : Type 0} {room : Answering State K} {old new : State} {told : Told} (word : K → Asked) → ((ask : K) (t : Told) → room old ask t new → WordsAnswer old (word ask) t new) → (part : Result K Refusal) → MayTell (AnswersIn room) old part told new → MayTell AnswersAsked old (seen_as word part) told new
+pub word_answered : {K : Type 0} {command : Answering State K} {old new : State} {told : Told} (word : K → Asked) → ((ask : K) (t : Told) → command old ask t new → WordsAnswer old (word ask) t new) → (part : Result K Refusal) → MayTell (AnswersIn command) old part told new → MayTell AnswersAsked old (seen_as word part) told new
 word_answered word f (Ok ask) h = may_tell (f ask) h
 word_answered word f (Err refusal) h = may_tell (λ t a. a) h

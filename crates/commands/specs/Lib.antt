@@ -5,4 +5,4 @@ pub use words.{Asked, WordsAnswer, asked_as, asked_in, audit, backup, changes, c
 pub use words.{replicate, restore, show, sync}
 pub use Script.{AnswersAsked, Asks, IsNoObject, LinesAnswer}
 pub use Trust.{IsTrusted, TrustedLines}
-pub use declared.words.Word.{Word}
+pub use declared.words.CommandName.{CommandName}

@@ -25,8 +25,8 @@ use Rattle.read_commands.specs.Docs.{DocsAsk, docs_in, PrintsDocuments}
 use Rattle.read_commands.specs.Info.{InfoAsk, info_in, Informs}
 use Rattle.read_commands.specs.Ledger.{LedgerAsk, ledger_in, ListsLedger}
 use Rattle.write_commands.specs.Sync.{SyncAsk, sync_in, Syncs}
-use Rattle.commands.specs.declared.words.Word.{Word}
-use Rattle.commands.specs.declared.words.Word.TheVariants as word
+use Rattle.commands.specs.declared.words.CommandName.{CommandName}
+use Rattle.commands.specs.declared.words.CommandName.TheVariants as word
 
 -- what a line asks: a word, with what it names
 pub data Asked : Type 0 where
@@ -48,7 +48,7 @@ pub data Asked : Type 0 where
   sync : SyncAsk → Asked
 
 -- what an object asks by a word
-abbrev pub asked_as : Word → Data → Result Asked Refusal
+abbrev pub asked_as : CommandName → Data → Result Asked Refusal
 asked_as word.Load d = seen_as load (load_in d)
 asked_as word.Edit d = seen_as edit (edit_in d)
 asked_as word.Show d = seen_as show (show_in d)
@@ -67,7 +67,7 @@ asked_as word.Ledger d = seen_as ledger (ledger_in d)
 asked_as word.Sync d = seen_as sync (sync_in d)
 
 -- where a word is known
-abbrev pub asked_if : Option Word → Data → Result Asked Refusal
+abbrev pub asked_if : Option CommandName → Data → Result Asked Refusal
 asked_if (Some w) d = asked_as w d
 asked_if None d = Err why.BadCommand
 

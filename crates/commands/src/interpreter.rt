@@ -15,7 +15,7 @@ ghost use Rattle.commands.specs.Trust.{TrustedLines};
 ghost use Rattle.read_commands.specs.Rest.{FitsRest, told_begun};
 ghost use Rattle.script_databases.specs.Stored.{program_of};
 
-use crate::attend::Attend;
+use crate::observe_answer::ObserveAnswers;
 use crate::words;
 use json_values::{Line, ReadFault, ValueReader};
 use read_commands::Rest;
@@ -48,7 +48,7 @@ impl<'a, H, L> Model for Interpreter<'a, H, L> {
     ghost view = { λ a. a.databases };
 }
 
-impl<'a, H: Threads + Wait + Sync, L: Attend> Serve for Interpreter<'a, H, L> {
+impl<'a, H: Threads + Wait + Sync, L: ObserveAnswers> Serve for Interpreter<'a, H, L> {
     ghost use Rattle.std.specs.Thread.{IsSync};
     ghost use Rattle.read_commands.specs.Rest.{FitsRest, rest_left};
 
@@ -74,7 +74,7 @@ impl<'a, H: Threads + Wait + Sync, L: Attend> Serve for Interpreter<'a, H, L> {
             Ok(rest) => rest,
             Err(refusal) => return Err(refusal.name()),
         };
-        self.listener.attend(answer.as_slice());
+        self.listener.observe_answer(answer.as_slice());
         Ok(rest)
     }
 
@@ -83,8 +83,8 @@ impl<'a, H: Threads + Wait + Sync, L: Attend> Serve for Interpreter<'a, H, L> {
     }
 
     #[inline]
-    fn hear(&mut self, number: u64, line: &[u8], refused: Option<&'static str>) {
-        self.listener.hear(number, line, refused);
+    fn observe(&mut self, number: u64, line: &[u8], refused: Option<&'static str>) {
+        self.listener.observe(number, line, refused);
     }
 }
 
@@ -144,7 +144,7 @@ pub fn read_object<'a>(
 /// The listener hears what each line is told, and how its answer begins, and changes nothing of it.
 ///
 /// It waits for the threads of a `replicate` line. That it ends is not proved.
-pub fn run_script<H, R: ScriptRead, W: ScriptWrite, L: Attend>(
+pub fn run_script<H, R: ScriptRead, W: ScriptWrite, L: ObserveAnswers>(
     rt: &H,
     reader: &mut R,
     writer: &mut W,
@@ -195,7 +195,7 @@ where
 }
 
 /// Runs a script on databases that are there, and gives them back: the last state of the script.
-fn run_on<H: Threads + Wait + Sync, R: ScriptRead, W: ScriptWrite, L: Attend>(
+fn run_on<H: Threads + Wait + Sync, R: ScriptRead, W: ScriptWrite, L: ObserveAnswers>(
     rt: &H,
     alloc: Global,
     databases: Databases,

@@ -5,9 +5,9 @@
 //! others in `write_commands`, and what all rooms are made of in `command_api`. `interpreter` runs a whole script.
 #![tactic(auto)]
 
-mod attend;
 mod interpreter;
+mod observe_answer;
 mod words;
 
-pub use attend::Attend;
 pub use interpreter::run_script;
+pub use observe_answer::ObserveAnswers;

@@ -20,7 +20,7 @@ use write_commands::{Backup, BothWays, Edit, Load, Replicate, Restore};
 
 /// The words.
 #[derive(Clone, Copy, Drop)]
-enum Word {
+enum CommandName {
     Load,
     Edit,
     Show,
@@ -40,26 +40,26 @@ enum Word {
 }
 
 /// The word of an object, by its member `do`.
-fn word_of(value: &LineValue<'_>) -> Option<Word>
+fn command_name_of(value: &LineValue<'_>) -> Option<CommandName>
     ensures { asked_in (line_view value.now) ≡ asked_if result (line_view value.now) }
 {
     match text_member(value, "do") {
-        Some(name) if is_same_text(name, "load") => Some(Word::Load),
-        Some(name) if is_same_text(name, "edit") => Some(Word::Edit),
-        Some(name) if is_same_text(name, "show") => Some(Word::Show),
-        Some(name) if is_same_text(name, "doc") => Some(Word::Doc),
-        Some(name) if is_same_text(name, "changes") => Some(Word::Changes),
-        Some(name) if is_same_text(name, "log") => Some(Word::Log),
-        Some(name) if is_same_text(name, "audit") => Some(Word::Audit),
-        Some(name) if is_same_text(name, "replicate") => Some(Word::Replicate),
-        Some(name) if is_same_text(name, "backup") => Some(Word::Backup),
-        Some(name) if is_same_text(name, "restore") => Some(Word::Restore),
-        Some(name) if is_same_text(name, "compare") => Some(Word::Compare),
-        Some(name) if is_same_text(name, "conflicts") => Some(Word::Conflicts),
-        Some(name) if is_same_text(name, "docs") => Some(Word::Docs),
-        Some(name) if is_same_text(name, "info") => Some(Word::Info),
-        Some(name) if is_same_text(name, "ledger") => Some(Word::Ledger),
-        Some(name) if is_same_text(name, "sync") => Some(Word::Sync),
+        Some(name) if is_same_text(name, "load") => Some(CommandName::Load),
+        Some(name) if is_same_text(name, "edit") => Some(CommandName::Edit),
+        Some(name) if is_same_text(name, "show") => Some(CommandName::Show),
+        Some(name) if is_same_text(name, "doc") => Some(CommandName::Doc),
+        Some(name) if is_same_text(name, "changes") => Some(CommandName::Changes),
+        Some(name) if is_same_text(name, "log") => Some(CommandName::Log),
+        Some(name) if is_same_text(name, "audit") => Some(CommandName::Audit),
+        Some(name) if is_same_text(name, "replicate") => Some(CommandName::Replicate),
+        Some(name) if is_same_text(name, "backup") => Some(CommandName::Backup),
+        Some(name) if is_same_text(name, "restore") => Some(CommandName::Restore),
+        Some(name) if is_same_text(name, "compare") => Some(CommandName::Compare),
+        Some(name) if is_same_text(name, "conflicts") => Some(CommandName::Conflicts),
+        Some(name) if is_same_text(name, "docs") => Some(CommandName::Docs),
+        Some(name) if is_same_text(name, "info") => Some(CommandName::Info),
+        Some(name) if is_same_text(name, "ledger") => Some(CommandName::Ledger),
+        Some(name) if is_same_text(name, "sync") => Some(CommandName::Sync),
         _ => None,
     }
 }
@@ -78,44 +78,54 @@ pub fn serve<H: Threads + Wait + Sync>(
         (told_begun databases.new result answer.new.items) databases.new }
     ensures fits { IfOk result (λ rest. Fits (FitsRest databases.new) rest) }
 {
-    let Some(word) = word_of(line.value()) else {
+    let Some(word) = command_name_of(line.value()) else {
         return Err(Refusal::BadCommand);
     };
     match word {
-        Word::Load => whole(serve_in::<&Line<'_>, Load<'_, '_>, H>(
+        CommandName::Load => whole(serve_in::<&Line<'_>, Load<'_, '_>, H>(
             rt, alloc, databases, line, answer,
         )),
-        Word::Edit => whole(serve_in::<&Line<'_>, Edit<'_, '_>, H>(
+        CommandName::Edit => whole(serve_in::<&Line<'_>, Edit<'_, '_>, H>(
             rt, alloc, databases, line, answer,
         )),
-        Word::Show => whole(serve_in::<&Line<'_>, Show<'_>, H>(rt, alloc, databases, line, answer)),
-        Word::Doc => whole(serve_in::<&Line<'_>, Doc<'_>, H>(rt, alloc, databases, line, answer)),
-        Word::Changes => whole(serve_in::<&Line<'_>, Changes<'_>, H>(
+        CommandName::Show => whole(serve_in::<&Line<'_>, Show<'_>, H>(
             rt, alloc, databases, line, answer,
         )),
-        Word::Log => whole(serve_in::<&Line<'_>, Log<'_, '_>, H>(
+        CommandName::Doc => whole(serve_in::<&Line<'_>, Doc<'_>, H>(
             rt, alloc, databases, line, answer,
         )),
-        Word::Audit => whole(serve_in::<&Line<'_>, Audit<'_, '_>, H>(
+        CommandName::Changes => whole(serve_in::<&Line<'_>, Changes<'_>, H>(
             rt, alloc, databases, line, answer,
         )),
-        Word::Replicate => whole(serve_in::<&Line<'_>, Replicate<'_, '_>, H>(
+        CommandName::Log => whole(serve_in::<&Line<'_>, Log<'_, '_>, H>(
             rt, alloc, databases, line, answer,
         )),
-        Word::Backup => whole(serve_in::<&Line<'_>, Backup<'_>, H>(
+        CommandName::Audit => whole(serve_in::<&Line<'_>, Audit<'_, '_>, H>(
             rt, alloc, databases, line, answer,
         )),
-        Word::Restore => whole(serve_in::<&Line<'_>, Restore<'_>, H>(
+        CommandName::Replicate => whole(serve_in::<&Line<'_>, Replicate<'_, '_>, H>(
             rt, alloc, databases, line, answer,
         )),
-        Word::Compare => begin_in::<&Line<'_>, Compare<'_, '_>>(alloc, databases, line, answer),
-        Word::Conflicts => begin_in::<&Line<'_>, Conflicts<'_>>(alloc, databases, line, answer),
-        Word::Docs => begin_in::<&Line<'_>, Docs<'_, '_>>(alloc, databases, line, answer),
-        Word::Info => whole(serve_in::<&Line<'_>, Info<'_>, H>(rt, alloc, databases, line, answer)),
-        Word::Ledger => whole(serve_in::<&Line<'_>, Ledger<'_>, H>(
+        CommandName::Backup => whole(serve_in::<&Line<'_>, Backup<'_>, H>(
             rt, alloc, databases, line, answer,
         )),
-        Word::Sync => whole(serve_in::<&Line<'_>, BothWays<'_, '_>, H>(
+        CommandName::Restore => whole(serve_in::<&Line<'_>, Restore<'_>, H>(
+            rt, alloc, databases, line, answer,
+        )),
+        CommandName::Compare => begin_in::<&Line<'_>, Compare<'_, '_>>(
+            alloc, databases, line, answer,
+        ),
+        CommandName::Conflicts => begin_in::<&Line<'_>, Conflicts<'_>>(
+            alloc, databases, line, answer,
+        ),
+        CommandName::Docs => begin_in::<&Line<'_>, Docs<'_, '_>>(alloc, databases, line, answer),
+        CommandName::Info => whole(serve_in::<&Line<'_>, Info<'_>, H>(
+            rt, alloc, databases, line, answer,
+        )),
+        CommandName::Ledger => whole(serve_in::<&Line<'_>, Ledger<'_>, H>(
+            rt, alloc, databases, line, answer,
+        )),
+        CommandName::Sync => whole(serve_in::<&Line<'_>, BothWays<'_, '_>, H>(
             rt, alloc, databases, line, answer,
         )),
     }

@@ -5,7 +5,7 @@ use Rattle.rev_tree.specs.declared.fault.Merged.TheVariants.{Changed}
 use Rattle.rev_tree.specs.declared.origin.Origin.TheVariants.{Feed}
 use Rattle.doc_json.specs.Document.{Document}
 use Rattle.rev_core.specs.{IsAncestry}
-use Rattle.couch_base.specs.{DatabaseValue, tree_of, with_tree, most, put_answer, put_told, after_put, content_of, AreMade, IsMadeOf, Made, TableValue, database_of, found, tree_at, IsKept}
+use Rattle.couch_base.specs.{DatabaseValue, tree_of, with_tree, most, put_answer, put_told, after_put, content_of, AreMade, IsMadeOf, PreparedTree, TableValue, database_of, found, tree_at, IsKept}
 use Rattle.couch_base.specs.declared.fault.Put.TheVariants as answers
 use Rattle.couch_base.specs.declared.fault.BaseFault.TheVariants as faults
 use Rattle.couch_base.proofs.Found.{tree_of-documents_of}
@@ -19,7 +19,7 @@ at_end (z ∷ xs) x zero y at = inl at
 at_end (z ∷ xs) x (suc i) y at = elim (at_end xs x i y at) [ inl before ↦ inl before | inr last ↦ inr (ap suc last.0, last.1) ]
 
 -- what is made of the next document
-pub made_next : (docs : List Document) (all : List (Option Made)) (d : Document) (m : Made) → AreMade docs all → slice_get docs (length all) ≡ Some d → IsMadeOf d m → AreMade docs (all ++ Some m ∷ [])
+pub made_next : (docs : List Document) (all : List (Option PreparedTree)) (d : Document) (m : PreparedTree) → AreMade docs all → slice_get docs (length all) ≡ Some d → IsMadeOf d m → AreMade docs (all ++ Some m ∷ [])
 made_next docs all d m made next new i e n doc at =
     elim (at_end all (Some m) i (Some n) at) [
       | inl before ↦ made i e n doc before
@@ -28,7 +28,7 @@ made_next docs all d m made next new i e n doc at =
           subst (λ (x : Document). IsMadeOf x n) same (subst (IsMadeOf d) (same_Some m n last.1) new)
     ]
 
-module _ (uuid life : ℕ) (t : TableValue) (db : DatabaseValue) (view : database_of uuid life t ≡ db) (kept : IsKept t) (d : Document) (a : IsAncestry d.ancestry) (m : Made) (made : IsMadeOf d m) (absent : found t.entries m.key ≡ None) where
+module _ (uuid life : ℕ) (t : TableValue) (db : DatabaseValue) (view : database_of uuid life t ≡ db) (kept : IsKept t) (d : Document) (a : IsAncestry d.ancestry) (m : PreparedTree) (made : IsMadeOf d m) (absent : found t.entries m.key ≡ None) where
   -- it has no tree yet
   pub no_tree : tree_of db.docs d.id ≡ no_revisions
   no_tree = sym (λ i. tree_of (view i).docs (made.key i)) ∙ tree_of-documents_of t kept m.key ∙ ap tree_at absent

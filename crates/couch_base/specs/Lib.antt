@@ -33,6 +33,6 @@ pub use WriteLaws.{IsLater, IsLater-after_put, IsLater-later, IsLater-same, tree
 pub use Messages.{AskedValue, IsAsked, IsParcel, ParcelValue, WantedValue, brings, document_at, document_in, fetched, gone_of, is_answered}
 pub use Messages.{is_rev_of, leaf_document, open_revs, opened, revs_diff, want_first, wanted}
 pub use MessageLaws.{IsAsked-revs_diff, IsParcel-open_revs}
-pub use declared.made.Made.{Made}
+pub use declared.prepared_tree.PreparedTree.{PreparedTree}
 pub use declared.fault.BaseFault.{BaseFault}
 pub use declared.kept.Kept.{Kept}

@@ -5,15 +5,15 @@ use Rattle.rev_tree.specs.declared.origin.Origin.TheVariants.{Feed}
 use Rattle.doc_json.specs.Document.{Document}
 use Rattle.couch_base.specs.Database.{IsDocumentTree}
 use Rattle.couch_base.specs.Put.{content_of}
-use Rattle.couch_base.specs.declared.made.Made.{Made}
+use Rattle.couch_base.specs.declared.prepared_tree.PreparedTree.{PreparedTree}
 
 -- what a document makes where it is new: its id, and its ancestry and its content merged into no revisions
-pub record IsMadeOf (d : Document) (m : Made) : Type 0 where
+pub record IsMadeOf (d : Document) (m : PreparedTree) : Type 0 where
   pub key : m.key ≡ d.id
   pub tree : m.tree ≡ merged no_revisions d.ancestry (content_of d.deleted d.body) (Feed m.session m.seq)
   pub document : IsDocumentTree m.tree
 
 -- what was made of documents, each at its document's place
-abbrev pub AreMade : List Document → List (Option Made) → Type 0
+abbrev pub AreMade : List Document → List (Option PreparedTree) → Type 0
 AreMade docs all =
-    (i : ℕ) (d : Document) (m : Made) → slice_get docs i ≡ Some d → slice_get all i ≡ Some (Some m) → IsMadeOf d m
+    (i : ℕ) (d : Document) (m : PreparedTree) → slice_get docs i ≡ Some d → slice_get all i ≡ Some (Some m) → IsMadeOf d m

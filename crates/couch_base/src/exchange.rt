@@ -7,7 +7,7 @@ ghost use Rattle.couch_base.specs.Messages.{document_in, leaf_document, opened, 
 
 use crate::asked::{Asked, Wanted};
 use crate::database::Database;
-use crate::near::Near;
+use crate::lookup_hint::LookupHint;
 use crate::parcel::Parcel;
 use crate::row::Row;
 use crate::window::Window;
@@ -27,7 +27,7 @@ impl Database {
         ensures asked { IfOk result (λ a. a ≡ revs_diff self.now window.now) }
     {
         let mut docs = Vec::with_capacity(alloc, window.rows().len())?;
-        let mut near = Near::new();
+        let mut near = LookupHint::new();
         for row in window.rows() {
             self.want(alloc, row, &mut near, &mut docs)?;
         }
@@ -52,7 +52,7 @@ impl Database {
         self.law();
         let mut docs = Vec::with_capacity(alloc, asked.docs().len())?;
         let mut gone = Vec::new(alloc);
-        let mut near = Near::new();
+        let mut near = LookupHint::new();
         for wanted in asked.docs() {
             self.fetch(alloc, wanted, &mut near, &mut docs, &mut gone)?;
         }
@@ -64,7 +64,7 @@ impl Database {
         ensures count { IfOk result (λ n. n ≡ length (open_revs self.now asked.now).docs) }
     {
         let mut count: u128 = 0;
-        let mut near = Near::new();
+        let mut near = LookupHint::new();
         for wanted in asked.docs() {
             let more = self.count_wanted(alloc, wanted, &mut near)?;
             count += more as u128;
@@ -77,12 +77,12 @@ impl Database {
         &self,
         alloc: Global,
         wanted: &Wanted,
-        near: &mut Near,
+        near: &mut LookupHint,
     ) -> Result<u64, AllocError>
         ensures count { IfOk result
             (λ n. n ≡ length (opened wanted.now.id (tree_of self.now.docs wanted.now.id) wanted.now.revs)) }
     {
-        let Some(tree) = self.tree_near(near, wanted.id()) else {
+        let Some(tree) = self.tree_by_hint(near, wanted.id()) else {
             return Ok(0);
         };
         let leaves = tree.leaves_above(alloc, wanted.revs())?;
@@ -105,7 +105,7 @@ impl Database {
         &self,
         alloc: Global,
         row: &Row,
-        near: &mut Near,
+        near: &mut LookupHint,
         docs: &mut Vec<Wanted>,
     ) -> Result<(), AllocError>
         ensures ok { OnOk result (docs.new.items ≡ docs.old.items
@@ -126,7 +126,7 @@ impl Database {
         &self,
         alloc: Global,
         wanted: &Wanted,
-        near: &mut Near,
+        near: &mut LookupHint,
         docs: &mut Vec<Doc>,
         gone: &mut Vec<(DocId, Rev)>,
     ) -> Result<(), AllocError>
@@ -137,7 +137,7 @@ impl Database {
     {
         let id = wanted.id();
         let asked = wanted.revs();
-        let Some(tree) = self.tree_near(near, id) else {
+        let Some(tree) = self.tree_by_hint(near, id) else {
             add_revs(alloc, id, asked, gone)?;
             return Ok(());
         };
@@ -152,13 +152,13 @@ impl Database {
     fn missing(
         &self,
         alloc: Global,
-        near: &mut Near,
+        near: &mut LookupHint,
         id: &DocId,
         revs: &[Rev],
     ) -> Result<Revs, AllocError>
         ensures missing { IfOk result (λ r. r ≡ missing (tree_of self.now.docs id.now) revs.now) }
     {
-        let Some(tree) = self.tree_near(near, id) else {
+        let Some(tree) = self.tree_by_hint(near, id) else {
             return Revs::from_slice(alloc, revs);
         };
         tree.missing(alloc, revs)
@@ -200,20 +200,20 @@ fn document_in(alloc: Global, id: &DocId, tree: &Tree, rev: Rev) -> Result<Optio
     requires document { IsDocumentTree tree.now }
     ensures document { IfOk result (λ d. d ≡ document_in id.now tree.now rev) }
 {
-    let found = match tree.standing(alloc, rev) {
+    let found = match tree.rev_info(alloc, rev) {
         Ok(found) => found,
         Err(refused) => return Err(refused),
     };
-    let Some(standing) = found else {
+    let Some(rev_info) = found else {
         return Ok(None);
     };
-    let Some(content) = standing.content else {
+    let Some(content) = rev_info.content else {
         return Ok(None);
     };
     let text = content.share()?;
     let id = id.copy(alloc)?;
     let body = Body::from_text(text);
-    Ok(Some(Doc::new(id, standing.ancestry, content.deleted(), body)))
+    Ok(Some(Doc::new(id, rev_info.ancestry, content.deleted(), body)))
 }
 
 /// Adds revisions of a document.

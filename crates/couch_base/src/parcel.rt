@@ -4,7 +4,7 @@ ghost use Rattle.couch_base.specs.Readied.{AreMade};
 
 use crate::asked::Asked;
 use crate::copies::copied;
-use crate::made::Made;
+use crate::prepared_tree::PreparedTree;
 use crate::row::Row;
 use doc_json::{Doc, DocId};
 use rev_core::Rev;
@@ -21,7 +21,7 @@ pub struct Parcel {
     docs: Vec<Doc>,
     gone: Vec<(DocId, Rev)>,
     // In a list of its own: few readers prepare a parcel, and the others move small documents.
-    made: Vec<Option<Made>>,
+    made: Vec<Option<PreparedTree>>,
 }
 
 // By hand, so that it is proved once: docs/DECISIONS.md, "Letting values go".
@@ -113,7 +113,14 @@ impl Parcel {
 
     /// The asked, the documents, the gone revisions, and what was made of the documents, in their order: nothing of any
     /// where the parcel wasn't prepared.
-    pub fn into_parts(self) -> (Asked, Vec<Doc>, Vec<(DocId, Rev)>, Vec<Option<Made>>)
+    pub fn into_parts(
+        self,
+    ) -> (
+        Asked,
+        Vec<Doc>,
+        Vec<(DocId, Rev)>,
+        Vec<Option<PreparedTree>>,
+    )
         ensures parts { self ≡ record { asked = result.0; docs = result.1.items; gone = result.2.items } }
         ensures parcel { IsParcel self }
         ensures made { AreMade result.1.items result.3.items }
@@ -160,7 +167,7 @@ fn make_all(
     session: SessionId,
     rows: &[Row],
     docs: &[Doc],
-) -> Result<Vec<Option<Made>>, AllocError>
+) -> Result<Vec<Option<PreparedTree>>, AllocError>
     ensures made { IfOk result (λ made. AreMade docs.now made.items) }
 {
     let mut all = Vec::with_capacity(alloc, docs.len())?;
@@ -170,7 +177,7 @@ fn make_all(
         if row >= rows.len() {
             return Ok(all);
         }
-        let made = Made::of(alloc, doc, session, rows[row].seq())?;
+        let made = PreparedTree::of(alloc, doc, session, rows[row].seq())?;
         all.push(Some(made))?;
     }
     Ok(all)

@@ -5,7 +5,9 @@ ghost use Rattle.couch_lines.specs.Status.{drawn_status, ended_status, status_of
 use crate::options::NoTask;
 use crate::run::{Ended, Run, run_words};
 use crate::tasks::Named;
-use cli_common::{BAD_COMMAND_LINE, tell_no_memory, tell_no_words, tell_words, words_of};
+use cli_common::{
+    BAD_COMMAND_LINE, report_arguments, report_bad_arguments, report_out_of_memory, words_of,
+};
 use response_output::AnswerFault;
 use response_parser::Refusal;
 use script_engine::{OverRead, OverWrite, ScriptFault, ScriptWrite};
@@ -20,7 +22,7 @@ pub fn run_program<H: AllocGlobal + Env + Input + Print + Eprint>(rt: &H) -> u8
 {
     match words_of(rt) {
         Ok(words) => tell(rt, &run_standard(rt, words.as_slice())),
-        Err(error) => tell_no_words(rt, &error),
+        Err(error) => report_bad_arguments(rt, &error),
     }
 }
 
@@ -79,7 +81,7 @@ fn tell<H: Print + Eprint>(rt: &H, ended: &Ended) -> u8
     ensures { result ≡ ended_status ended.now }
 {
     match ended {
-        Ended::NotRun(NoTask::Words(error)) => tell_words(rt, error),
+        Ended::NotRun(NoTask::Words(error)) => report_arguments(rt, error),
         Ended::NotRun(NoTask::Unknown) => {
             let _ = eprintln!(rt; "error: no such task; couch_lines --help tells them");
             BAD_COMMAND_LINE
@@ -91,7 +93,7 @@ fn tell<H: Print + Eprint>(rt: &H, ended: &Ended) -> u8
             );
             BAD_COMMAND_LINE
         }
-        Ended::NotRun(NoTask::Memory) => tell_no_memory(rt),
+        Ended::NotRun(NoTask::Memory) => report_out_of_memory(rt),
         Ended::Ran(run) => tell_run(rt, run),
         Ended::Drawn(ended) => tell_drawn(rt, ended),
     }

@@ -5,7 +5,7 @@
 //! streams and the exit status.
 #![tactic(auto)]
 
-mod hearing;
+mod error_reporter;
 mod options;
 mod program;
 mod run;

@@ -4,7 +4,9 @@ ghost use Rattle.couch_replicate.specs.Status.{ended_status, status_of};
 
 use crate::options::NoSettings;
 use crate::run::{Ended, run_words};
-use cli_common::{BAD_COMMAND_LINE, tell_no_memory, tell_no_words, tell_words, words_of};
+use cli_common::{
+    BAD_COMMAND_LINE, report_arguments, report_bad_arguments, report_out_of_memory, words_of,
+};
 use script_engine::{OverRead, OverWrite, ScriptFault};
 use std::env::Env;
 use std::io;
@@ -24,7 +26,7 @@ where
 {
     match words_of(rt) {
         Ok(words) => tell(rt, &run_standard(rt, words.as_slice(), is_watched)),
-        Err(error) => tell_no_words(rt, &error),
+        Err(error) => report_bad_arguments(rt, &error),
     }
 }
 
@@ -45,13 +47,13 @@ fn tell<H: Print + Eprint>(rt: &H, ended: &Ended) -> u8
     ensures { result ≡ ended_status ended.now }
 {
     match ended {
-        Ended::NotRun(NoSettings::Words(error)) => tell_words(rt, error),
+        Ended::NotRun(NoSettings::Words(error)) => report_arguments(rt, error),
         Ended::NotRun(NoSettings::NoNumber) => BAD_COMMAND_LINE,
         Ended::NotRun(NoSettings::File) => {
             let _ = eprintln!(rt; "error: input goes to standard input: couch_replicate < FILE");
             BAD_COMMAND_LINE
         }
-        Ended::NotRun(NoSettings::Memory) => tell_no_memory(rt),
+        Ended::NotRun(NoSettings::Memory) => report_out_of_memory(rt),
         Ended::Ran(ended) => tell_fault(rt, ended),
     }
 }

@@ -2,7 +2,7 @@
 ghost use Rattle.std.specs.Prelude.{map, string_bytes};
 ghost use Rattle.couch_replicate.specs.RunWords.{RunsWords};
 
-use crate::hearing::Hearing;
+use crate::error_reporter::ErrorReporter;
 use crate::options::{NoSettings, read_words};
 use commands::run_script;
 use script_engine::{ScriptFault, ScriptRead, ScriptWrite};
@@ -40,7 +40,7 @@ where
         Err(why) => return Ended::NotRun(why),
     };
     let shows = options.progress && is_watched;
-    let hearing = Hearing::new(rt, rt.alloc(), options.explain, shows);
+    let hearing = ErrorReporter::new(rt, rt.alloc(), options.explain, shows);
     hearing.warn(&options.settings);
     let ended = run_script(rt, reader, writer, hearing, &options.settings);
     Ended::Ran(ended)

@@ -46,7 +46,7 @@ impl Serve for Drawer<'_> {
         Ok(false)
     }
 
-    fn hear(&mut self, _number: u64, _line: &[u8], _refused: Option<&'static str>) {}
+    fn observe(&mut self, _number: u64, _line: &[u8], _refused: Option<&'static str>) {}
 }
 
 impl Drawer<'_> {

@@ -1,8 +1,8 @@
 -- The text of an id, where it lies.
 use Rattle.std.specs.Prelude.{ℕ, List, string_bytes}
 use Rattle.doc_json.specs.declared.doc_id.IdText.{IdText}
-use Rattle.doc_json.specs.declared.doc_id.IdText.TheVariants.{Near, Far}
+use Rattle.doc_json.specs.declared.doc_id.IdText.TheVariants.{LookupHint, Far}
 
 abbrev pub text_of : IdText → List ℕ
-text_of (Near text) = text
+text_of (LookupHint text) = text
 text_of (Far text) = string_bytes text

@@ -17,7 +17,7 @@ use std::marker::Model;
 /// The text of an id: in place where it has at most 32 bytes, so that it takes no memory of its own.
 #[derive(Debug, Drop)]
 enum IdText {
-    Near(NearText),
+    LookupHint(NearText),
     Far(String),
 }
 
@@ -30,7 +30,7 @@ impl IdText {
         ensures kept { IfOk result (λ t. text_of t ≡ text.now) }
     {
         if let Some(near) = NearText::keep(text) {
-            return Ok(IdText::Near(near));
+            return Ok(IdText::LookupHint(near));
         }
         Ok(IdText::Far(String::from_str(alloc, text)?))
     }
@@ -40,7 +40,7 @@ impl IdText {
         ensures copied { IfOk result (λ t. text_of t ≡ text_of self.now) }
     {
         match self {
-            IdText::Near(near) => Ok(IdText::Near(near.copy())),
+            IdText::LookupHint(near) => Ok(IdText::LookupHint(near.copy())),
             IdText::Far(far) => Ok(IdText::Far(String::from_str(alloc, far.as_str())?)),
         }
     }
@@ -50,7 +50,7 @@ impl IdText {
         ensures { result.now ≡ text_of self.now }
     {
         match self {
-            IdText::Near(near) => near.as_str(),
+            IdText::LookupHint(near) => near.as_str(),
             IdText::Far(far) => far.as_str(),
         }
     }

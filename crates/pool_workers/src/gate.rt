@@ -41,7 +41,7 @@ pub trait Gate {
 
     /// Whether it may hold a worker at a place until another one has come to a place of its own. Where it holds none, one
     /// thread may do the work of several, in turn.
-    fn may_hold(&self) -> bool {
+    fn may_block(&self) -> bool {
         true
     }
 }
@@ -57,7 +57,7 @@ impl Gate for Open {
         Turn::Go
     }
 
-    fn may_hold(&self) -> bool {
+    fn may_block(&self) -> bool {
         false
     }
 }

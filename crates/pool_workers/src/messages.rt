@@ -9,7 +9,7 @@ ghost use Rattle.pool_workers.specs.Paging.{IsNext};
 
 use crate::brands::SourceBrand;
 use couch_base::{Asked, Row, Window};
-use repl_target::{Peer, Plan, ReadyParcel, ReadyWindow, WriteFilter};
+use repl_target::{Peer, Plan, PreparedParcel, ReadyWindow, WriteFilter};
 use rev_tree::SessionId;
 use std::alloc::{AllocError, Global};
 use std::marker::{Model, PhantomData};
@@ -185,7 +185,7 @@ impl<S: SourceBrand> Found<S> {
 /// What the source answers to what was asked, read.
 #[derive(Drop)]
 pub struct Fetched<S: SourceBrand> {
-    ready: ReadyParcel,
+    ready: PreparedParcel,
     of: PhantomData<S>,
 }
 
@@ -216,7 +216,7 @@ impl<S: SourceBrand> Fetched<S> {
         if session.is_some() {
             grow_heap(alloc);
         }
-        let mut ready = ReadyParcel::new(alloc, source.open_asked(alloc, asked)?);
+        let mut ready = PreparedParcel::new(alloc, source.open_asked(alloc, asked)?);
         prepare(alloc, &mut ready, session, page.window())?;
         Ok(Fetched {
             ready,
@@ -232,7 +232,7 @@ impl<S: SourceBrand> Fetched<S> {
     }
 
     /// The parcel, with what is made of it.
-    pub fn into_ready(self) -> ReadyParcel
+    pub fn into_ready(self) -> PreparedParcel
         ensures value { result ≡ self }
         ensures answer { IsAnswerOf S.source self }
     {
@@ -243,7 +243,7 @@ impl<S: SourceBrand> Fetched<S> {
 /// Makes the documents of a parcel ready for a session, where one is given.
 fn prepare(
     alloc: Global,
-    ready: &mut ReadyParcel,
+    ready: &mut PreparedParcel,
     session: Option<SessionId>,
     window: &Window,
 ) -> Result<(), AllocError>

@@ -114,7 +114,7 @@ impl<
 
     /// Cuts passes and a part of the ledger off, takes the last seat, and starts a pair with them: `start_pair`. There are
     /// so many others. `None` where no thread can be made; then its seat is back.
-    fn hire_pair<'s, E>(
+    fn spawn_pair<'s, E>(
         &'e self,
         scope: &Scope<'s, E>,
         others: usize,
@@ -211,7 +211,7 @@ impl<
                 end_windows(self.rt, self.channels, windows, i);
                 break;
             }
-            match self.hire_pair(scope, i, windows, parcels, all, seats) {
+            match self.spawn_pair(scope, i, windows, parcels, all, seats) {
                 Some(handle) => started.push_reserved(handle),
                 None => break,
             }

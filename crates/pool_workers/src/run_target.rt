@@ -17,7 +17,7 @@ use crate::brands::{SourceBrand, TargetBrand};
 use crate::messages::{Fetched, Paged};
 use couch_base::Asked;
 use repl_log::Moment;
-use repl_target::{Peer, Settled, Spent, TargetFault, WriteFilter, has_left};
+use repl_target::{DeferredDrops, Peer, Settled, TargetFault, WriteFilter, has_left};
 use rev_tree::SessionId;
 use std::alloc::{AllocError, Global};
 use std::marker::{Model, PhantomData};
@@ -96,7 +96,7 @@ impl<F: WriteFilter, S: SourceBrand, T: TargetBrand<F>, L: Ledger> RunTarget<F, 
         }
     }
 
-    /// Stores a page of the source in the run's session: `Peer::append_ready`. `None` exactly where the plan allows no
+    /// Stores a page of the source in the run's session: `Peer::append_prepared`. `None` exactly where the plan allows no
     /// further window; then nothing is stored.
     pub fn append(&mut self, page: Paged<S>) -> Option<Result<(), TargetFault>>
         ensures filter { self.new.0 ≡ self.old.0 }
@@ -114,7 +114,7 @@ impl<F: WriteFilter, S: SourceBrand, T: TargetBrand<F>, L: Ledger> RunTarget<F, 
         }
         let less = one_less(self.more);
         let ready = page.into_ready();
-        match self.target.append_ready(self.session, ready) {
+        match self.target.append_prepared(self.session, ready) {
             Ok(()) => {
                 self.more = less;
                 Some(Ok(()))
@@ -135,7 +135,7 @@ impl<F: WriteFilter, S: SourceBrand, T: TargetBrand<F>, L: Ledger> RunTarget<F, 
         &mut self,
         share: &mut Share<L>,
         fetched: Fetched<S>,
-        spent: &mut Spent,
+        spent: &mut DeferredDrops,
     ) -> Result<Settled, TargetFault>
         requires { 0 < share.old.parts }
         ensures parts { share.new.parts ≡ share.old.parts }

@@ -39,7 +39,7 @@ impl<
     R: Wait + Sync,
 > Context<'e, F, S, T, L, G, R> {
     /// Cuts a pass of each channel off, and starts a fetcher with them.
-    fn hire_fetcher<'s, E>(
+    fn spawn_fetcher<'s, E>(
         &'e self,
         scope: &Scope<'s, E>,
         windows: &mut WindowPass<S>,
@@ -101,7 +101,7 @@ impl<
             if started.reserve(1).is_err() {
                 break;
             }
-            match self.hire_fetcher(scope, windows, parcels) {
+            match self.spawn_fetcher(scope, windows, parcels) {
                 Some(handle) => started.push_reserved(handle),
                 None => break,
             }
@@ -111,7 +111,7 @@ impl<
 
     /// Cuts a pass and a part of the ledger off, takes the last seat, and starts a writer with them: `start_writer`.
     /// There are so many others. `None` where no thread can be made; then its seat is back.
-    fn hire_writer<'s, E>(
+    fn spawn_writer<'s, E>(
         &'e self,
         scope: &Scope<'s, E>,
         others: usize,
@@ -196,7 +196,7 @@ impl<
                 end_parcels(self.rt, self.channels, parcels, i);
                 break;
             }
-            match self.hire_writer(scope, i, parcels, all, seats) {
+            match self.spawn_writer(scope, i, parcels, all, seats) {
                 Some(handle) => started.push_reserved(handle),
                 None => break,
             }

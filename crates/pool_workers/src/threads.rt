@@ -171,7 +171,7 @@ impl<
         ensures { HaveEnded self.now.channels.now (option_copied self.now.board) (G.may_stop self.now.gate.now) workers
             owned.seats.items result.0 result.1.items }
     {
-        if workers == 1 && !self.gate.may_hold() {
+        if workers == 1 && !self.gate.may_block() {
             let (ended, seats) = self.in_turn(start, owned);
             return (Some(ended), seats);
         }
@@ -189,7 +189,7 @@ impl<
                 ensures { HaveEnded context.entry.now.channels.now (option_copied context.entry.now.board)
                     (G.may_stop context.entry.now.gate.now) workers owned.seats.items result.0 result.1.items }
             {
-                if context.gate.may_hold() {
+                if context.gate.may_block() {
                     context.in_scope(scope, workers, start, owned)
                 } else {
                     context.pairs_in_scope(scope, workers, start, owned)

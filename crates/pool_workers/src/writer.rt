@@ -19,7 +19,7 @@ use crate::parcels::{Gets, ParcelMessage, ParcelPass};
 use crate::run_target::taken_of;
 use crate::show::{show_read, show_settled};
 use progress_board::BoardSeat;
-use repl_target::{Spent, WriteFilter};
+use repl_target::{DeferredDrops, WriteFilter};
 use rev_tree::SessionId;
 use std::sync::Wait;
 use std::sync::ledger::{Ledger, Share};
@@ -71,7 +71,7 @@ impl<F: WriteFilter, S: SourceBrand, T: TargetBrand<F>, L: Ledger, G: Gate, R: W
         share: &mut Share<L>,
         seat: &mut Option<BoardSeat>,
         fetched: Fetched<S>,
-        spent: &mut Spent,
+        spent: &mut DeferredDrops,
     ) -> Result<(), Halt>
         requires parts { 0 < share.old.parts }
         requires seat { IsSeated (option_copied self.now.board) seat.old }
@@ -122,7 +122,7 @@ impl<F: WriteFilter, S: SourceBrand, T: TargetBrand<F>, L: Ledger, G: Gate, R: W
             seat.old seat.new }
     {
         let documents = fetched.documents();
-        let mut spent = Spent::new(self.alloc);
+        let mut spent = DeferredDrops::new(self.alloc);
         show_read(self.board, seat, documents)?;
         self.settle_and_show(share, seat, fetched, &mut spent)?;
         pass(self.rt, self.gate, Place::Settled(number))?;

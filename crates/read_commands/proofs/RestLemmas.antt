@@ -20,17 +20,17 @@ pub held_found : (s : State) {name db : List ℕ} {l : PeerValue} (holds : PeerV
 held_found s holds e f h = subst (λ o. holds_in o holds) f (subst (λ n. holds_in (peer_at s n) holds) e h)
 
 -- what was given of an answer that was begun, or memory was wanting
-pub give_told : {K : Type 0} {room : Answering State K} (s : State) {ask : K} (rest : Rest) (r : Result (Option Rest) Refusal) (text : List ℕ) → IfOk r (λ left. text_with (rest_left s) text left ≡ rest_left s rest) → IfErr r (λ refusal. refusal ≡ why.Memory) → MayTell room s ask (Ok (rest_left s rest)) s → MayTell room s ask (told_begun s r text) s
-give_told {room = room} s {ask = ask} rest (Ok left) text e m h = subst (λ t. MayTell room s ask (Ok t) s) (sym e) h
-give_told {room = room} s {ask = ask} rest (Err why) text e m h = subst (λ x. MayTell room s ask (Err (name_of x)) s) (sym m) gave_up
+pub give_told : {K : Type 0} {command : Answering State K} (s : State) {ask : K} (rest : Rest) (r : Result (Option Rest) Refusal) (text : List ℕ) → IfOk r (λ left. text_with (rest_left s) text left ≡ rest_left s rest) → IfErr r (λ refusal. refusal ≡ why.Memory) → MayTell command s ask (Ok (rest_left s rest)) s → MayTell command s ask (told_begun s r text) s
+give_told {command = command} s {ask = ask} rest (Ok left) text e m h = subst (λ t. MayTell command s ask (Ok t) s) (sym e) h
+give_told {command = command} s {ask = ask} rest (Err why) text e m h = subst (λ x. MayTell command s ask (Err (name_of x)) s) (sym m) gave_up
 
 -- a refusal that is handed on is told by its name
-pub handed_from : {K : Type 0} {room : Answering State K} (s : State) {ask : K} (refusal : Refusal) (r : Result Rest Refusal) → IsErrAnd r (λ e. e ≡ refusal) → MayTell room s ask (Err (name_of refusal)) s → MayTell room s ask (told_from s r) s
+pub handed_from : {K : Type 0} {command : Answering State K} (s : State) {ask : K} (refusal : Refusal) (r : Result Rest Refusal) → IsErrAnd r (λ e. e ≡ refusal) → MayTell command s ask (Err (name_of refusal)) s → MayTell command s ask (told_from s r) s
 handed_from s refusal (Ok rest) h told = absurd h
-handed_from {room = room} s {ask = ask} refusal (Err e) h told = subst (λ x. MayTell room s ask (Err (name_of x)) s) (sym h) told
+handed_from {command = command} s {ask = ask} refusal (Err e) h told = subst (λ x. MayTell command s ask (Err (name_of x)) s) (sym h) told
 
 -- an allocation was refused, and that is told
-pub memory_from : {K : Type 0} {room : Answering State K} (s : State) {ask : K} (r : Result Rest Refusal) → IsErrAnd r (λ e. e ≡ why.Memory) → MayTell room s ask (told_from s r) s
+pub memory_from : {K : Type 0} {command : Answering State K} (s : State) {ask : K} (r : Result Rest Refusal) → IsErrAnd r (λ e. e ≡ why.Memory) → MayTell command s ask (told_from s r) s
 memory_from s r h = handed_from s why.Memory r h gave_up
 
 -- a piece is given of a state that is seen so

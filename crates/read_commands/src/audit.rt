@@ -5,7 +5,7 @@ ghost use Rattle.json_values.specs.LineView.{line_view};
 ghost use Rattle.read_commands.specs.Audit.{audit_text, hole_line};
 
 use command_api::{
-    Room, has_only_members, name_member, optional_texts, push_json, push_number, push_rev,
+    Command, has_only_members, name_member, optional_texts, push_json, push_number, push_rev,
     read_choice,
 };
 use json_values::{Line, LineValue};
@@ -25,7 +25,7 @@ pub struct Audit<'v, 'a> {
     pub doc_ids: Option<&'v Vec<LineValue<'a>>>,
 }
 
-impl<'v, 'a> Room<&'v Line<'a>> for Audit<'v, 'a> {
+impl<'v, 'a> Command<&'v Line<'a>> for Audit<'v, 'a> {
     ghost use Rattle.read_commands.specs.Audit.{AuditAsk, Audits, audit_asked, audit_in};
 
     ghost seen = { λ line. line_view line.now };

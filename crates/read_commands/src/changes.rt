@@ -8,7 +8,7 @@ ghost use Rattle.command_api.specs.Texts.{last_line};
 
 use crate::feed::{NoTally, RowPrinter, Walk, print_feed};
 use command_api::{
-    Room, has_only_members, name_member, optional_whole, push_json, push_last, push_number,
+    Command, has_only_members, name_member, optional_whole, push_json, push_last, push_number,
     push_revs,
 };
 use couch_base::{Database, Row};
@@ -26,7 +26,7 @@ pub struct Changes<'a> {
     pub since: u64,
 }
 
-impl<'v, 'a> Room<&'v Line<'a>> for Changes<'v> {
+impl<'v, 'a> Command<&'v Line<'a>> for Changes<'v> {
     ghost use Rattle.read_commands.specs.Changes.{ChangesAsk, ListsChanges, changes_asked, changes_in};
 
     ghost seen = { λ line. line_view line.now };

@@ -4,8 +4,8 @@ ghost use Rattle.json_values.specs.LineView.{line_view};
 ghost use Rattle.read_commands.specs.Compare.{FitsCompare, compare_left, compared_line, compared_part, comparison_lines, contradicts_line, found_part};
 
 use crate::feed::{RowPrinter, Walk, fill};
-use crate::long_room::LongRoom;
 use crate::rest::Rest;
+use crate::streaming_command::StreamingCommand;
 use command_api::{
     has_only_members, name_member, optional_texts, push_number, push_revs_line, read_choice,
 };
@@ -25,7 +25,7 @@ pub struct Compare<'v, 'a> {
     pub doc_ids: Option<&'v Vec<LineValue<'a>>>,
 }
 
-impl<'v, 'a> LongRoom<&'v Line<'a>> for Compare<'v, 'a> {
+impl<'v, 'a> StreamingCommand<&'v Line<'a>> for Compare<'v, 'a> {
     ghost use Rattle.read_commands.specs.Compare.{CompareAsk, Compares, compare_asked, compare_in};
 
     ghost seen = { λ line. line_view line.now };

@@ -4,8 +4,8 @@ ghost use Rattle.json_values.specs.LineView.{line_view};
 ghost use Rattle.read_commands.specs.Conflicts.{FitsConflicts, conflicts_left, conflicts_line};
 
 use crate::feed::{RowPrinter, Walk, fill};
-use crate::long_room::LongRoom;
 use crate::rest::Rest;
+use crate::streaming_command::StreamingCommand;
 use command_api::{has_only_members, name_member, push_number, push_revs_line};
 use couch_base::{Database, Row};
 use json_values::Line;
@@ -20,7 +20,7 @@ pub struct Conflicts<'a> {
     pub db: &'a str,
 }
 
-impl<'v, 'a> LongRoom<&'v Line<'a>> for Conflicts<'v> {
+impl<'v, 'a> StreamingCommand<&'v Line<'a>> for Conflicts<'v> {
     ghost use Rattle.read_commands.specs.Conflicts.{ConflictsAsk, ListsConflicts, conflicts_asked, conflicts_in};
 
     ghost seen = { λ line. line_view line.now };

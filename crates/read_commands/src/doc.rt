@@ -6,7 +6,7 @@ ghost use Rattle.json_values.specs.LineView.{line_view};
 ghost use Rattle.read_commands.specs.Doc.{chosen};
 
 use command_api::{
-    Room, has_only_members, name_member, optional_text, read_id, read_rev, text_member,
+    Command, has_only_members, name_member, optional_text, read_id, read_rev, text_member,
 };
 use doc_json::push_doc;
 use json_values::Line;
@@ -26,7 +26,7 @@ pub struct Doc<'a> {
     pub rev: Option<&'a str>,
 }
 
-impl<'v, 'a> Room<&'v Line<'a>> for Doc<'v> {
+impl<'v, 'a> Command<&'v Line<'a>> for Doc<'v> {
     ghost use Rattle.read_commands.specs.Doc.{DocAsk, PrintsDocument, doc_asked, doc_in};
 
     ghost seen = { λ line. line_view line.now };

@@ -5,8 +5,8 @@ ghost use Rattle.json_values.specs.LineView.{line_view};
 ghost use Rattle.read_commands.specs.Docs.{doc_line, docs_left};
 
 use crate::feed::{NoTally, RowPrinter, Walk, fill};
-use crate::long_room::LongRoom;
 use crate::rest::Rest;
+use crate::streaming_command::StreamingCommand;
 use command_api::{
     has_only_members, name_member, optional_texts, optional_whole, push_last, read_choice,
 };
@@ -27,7 +27,7 @@ pub struct Docs<'v, 'a> {
     pub doc_ids: Option<&'v Vec<LineValue<'a>>>,
 }
 
-impl<'v, 'a> LongRoom<&'v Line<'a>> for Docs<'v, 'a> {
+impl<'v, 'a> StreamingCommand<&'v Line<'a>> for Docs<'v, 'a> {
     ghost use Rattle.read_commands.specs.Docs.{DocsAsk, PrintsDocuments, docs_asked, docs_in};
 
     ghost seen = { λ line. line_view line.now };

@@ -3,7 +3,7 @@ ghost use Rattle.std.specs.Prelude.{◌≡◌, ◌++◌, OnOk};
 ghost use Rattle.json_values.specs.LineView.{line_view};
 ghost use Rattle.read_commands.specs.Info.{census_part, documents_part, identity_part, info_text, leaves_part, sessions_part};
 
-use command_api::{Room, has_only_members, id_text, name_member, push_count, push_number};
+use command_api::{Command, has_only_members, id_text, name_member, push_count, push_number};
 use couch_base::Database;
 use json_values::Line;
 use repl_inspect::{Census, census_of};
@@ -19,7 +19,7 @@ pub struct Info<'a> {
     pub db: &'a str,
 }
 
-impl<'v, 'a> Room<&'v Line<'a>> for Info<'v> {
+impl<'v, 'a> Command<&'v Line<'a>> for Info<'v> {
     ghost use Rattle.read_commands.specs.Info.{InfoAsk, Informs, info_asked, info_in};
 
     ghost seen = { λ line. line_view line.now };

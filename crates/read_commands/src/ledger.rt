@@ -6,7 +6,7 @@ ghost use Rattle.read_commands.specs.Ledger.{contradicted_line, denied_line, led
 ghost use Rattle.rev_core.specs.Text.{rev_text};
 
 use command_api::{
-    Room, has_only_members, name_member, optional_uuid, push_count, push_json, push_rev,
+    Command, has_only_members, name_member, optional_uuid, push_count, push_json, push_rev,
 };
 use json_values::Line;
 use repl_inspect::{LedgerRow, ledger_row};
@@ -26,7 +26,7 @@ pub struct Ledger<'a> {
     pub session: u128,
 }
 
-impl<'v, 'a> Room<&'v Line<'a>> for Ledger<'v> {
+impl<'v, 'a> Command<&'v Line<'a>> for Ledger<'v> {
     ghost use Rattle.read_commands.specs.Ledger.{LedgerAsk, ListsLedger, ledger_asked, ledger_in};
 
     ghost seen = { λ line. line_view line.now };

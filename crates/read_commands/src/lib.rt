@@ -2,7 +2,7 @@
 //! lines" and "Answers").
 //!
 //! Each word has a file of its own. An answer about a database's feed is printed row by row (`feed`); where it goes out
-//! in pieces, its word has a long room (`long_room`), and more is given of what is left (`rest`).
+//! in pieces, its word has a long room (`streaming_command`), and more is given of what is left (`rest`).
 #![tactic(auto)]
 
 mod audit;
@@ -15,9 +15,9 @@ mod feed;
 mod info;
 mod ledger;
 mod log;
-mod long_room;
 mod rest;
 mod show;
+mod streaming_command;
 
 pub use audit::Audit;
 pub use changes::Changes;
@@ -28,6 +28,6 @@ pub use docs::Docs;
 pub use info::Info;
 pub use ledger::Ledger;
 pub use log::Log;
-pub use long_room::{begin_in, whole};
 pub use rest::Rest;
 pub use show::Show;
+pub use streaming_command::{begin_in, whole};

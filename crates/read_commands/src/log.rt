@@ -5,7 +5,9 @@ ghost use Rattle.repl_peer.specs.logs.Checkpoint.{rep_between};
 ghost use Rattle.command_api.specs.Texts.{ended};
 ghost use Rattle.read_commands.specs.Log.{log_held, side_at};
 
-use command_api::{Room, has_only_members, name_member, optional_texts, read_choice, text_member};
+use command_api::{
+    Command, has_only_members, name_member, optional_texts, read_choice, text_member,
+};
 use json_values::{Line, LineValue};
 use repl_log::{RepId, write_log};
 use repl_target::{Peer, Rules, rep_between};
@@ -31,7 +33,7 @@ pub enum Side {
     Target,
 }
 
-impl<'v, 'a> Room<&'v Line<'a>> for Log<'v, 'a> {
+impl<'v, 'a> Command<&'v Line<'a>> for Log<'v, 'a> {
     ghost use Rattle.read_commands.specs.Log.{LogAsk, Logs, log_asked, log_in};
 
     ghost seen = { λ line. line_view line.now };

@@ -9,7 +9,7 @@ ghost use Rattle.json_values.specs.LineView.{line_view};
 ghost use Rattle.read_commands.specs.Show.{head_line, leaf_line, leaf_text, show_text};
 
 use command_api::{
-    Room, has_only_members, name_member, push_count, push_json, push_rev, push_revs, read_id,
+    Command, has_only_members, name_member, push_count, push_json, push_rev, push_revs, read_id,
     text_member,
 };
 use json_values::Line;
@@ -27,7 +27,7 @@ pub struct Show<'a> {
     pub id: &'a str,
 }
 
-impl<'v, 'a> Room<&'v Line<'a>> for Show<'v> {
+impl<'v, 'a> Command<&'v Line<'a>> for Show<'v> {
     ghost use Rattle.read_commands.specs.Show.{ShowAsk, Shows, show_asked, show_in};
 
     ghost seen = { λ line. line_view line.now };
@@ -127,11 +127,11 @@ fn push_leaf(alloc: Global, answer: &mut Vec<u8>, tree: &Tree, leaf: &Rev) -> Re
     requires { has tree.now leaf.now ≡ true }
     ensures { OnOk result (answer.new.items ≡ answer.old.items ++ leaf_line tree.now leaf.now) }
 {
-    let Some(standing) = tree.standing(alloc, *leaf)? else {
+    let Some(rev_info) = tree.rev_info(alloc, *leaf)? else {
         unreachable!()
     };
-    let deleted = is_deletion(standing.content);
-    push_leaf_text(answer, leaf, deleted, standing.ancestry.revs())
+    let deleted = is_deletion(rev_info.content);
+    push_leaf_text(answer, leaf, deleted, rev_info.ancestry.revs())
 }
 
 /// Whether what is known of a content is that it is a deletion.

@@ -16,12 +16,14 @@ use crate::fault::{Report, Settled, TargetFault};
 use crate::peer::filter::WriteFilter;
 use crate::peer::written::Written;
 use crate::session::beginning::Beginning;
-use crate::session::ready_parcel::ReadyParcel;
+use crate::session::deferred_drops::DeferredDrops;
+use crate::session::prepared_parcel::PreparedParcel;
 use crate::session::ready_window::ReadyWindow;
 use crate::session::rows::has_in;
 use crate::session::sessions::Sessions;
-use crate::session::spent::Spent;
-use couch_base::{Asked, BaseFault, Change, Database, Listed, Near, Parcel, Put, Revised, Window};
+use couch_base::{
+    Asked, BaseFault, Change, Database, Listed, LookupHint, Parcel, Put, Revised, Window,
+};
 use doc_json::{Body, Chosen, Doc, DocId};
 use repl_log::{Entry, Logs, Moment};
 use rev_core::Rev;
@@ -259,13 +261,13 @@ impl<F: WriteFilter> Peer<F> {
     pub fn uncovered_in(
         &self,
         alloc: Global,
-        near: &mut Near,
+        near: &mut LookupHint,
         change: &Change<'_>,
     ) -> Result<Option<Rev>, AllocError>
         ensures { IfOk result
             (λ rev. rev ≡ find (λ rev. not (covers self.now.1 change.now.id rev)) change.now.leaves) }
     {
-        let tree = self.db.tree_near(near, change.id());
+        let tree = self.db.tree_by_hint(near, change.id());
         let leaves = change.leaves(alloc)?;
         for rev in leaves.as_slice() {
             if !(has_in(tree, *rev) || self.sessions.has_refused(change.id(), *rev)) {
@@ -309,11 +311,11 @@ impl<F: WriteFilter> Peer<F> {
         ensures err { OnErr result (self.new.1 ≡ self.old.1) }
         ensures law { Lawful (F.refuses self.new.0) self.new.1 }
     {
-        self.append_ready(id, ReadyWindow::new(window))
+        self.append_prepared(id, ReadyWindow::new(window))
     }
 
     /// As `append`, of a window that was made ready: once it is done, what is kept of it isn't made then.
-    pub fn append_ready(&mut self, id: SessionId, ready: ReadyWindow) -> Result<(), TargetFault>
+    pub fn append_prepared(&mut self, id: SessionId, ready: ReadyWindow) -> Result<(), TargetFault>
         ensures answer { GivesUnlessMemory result (append_answer self.old.1 id ready) }
         ensures filter { self.new.0 ≡ self.old.0 }
         ensures ok { OnOk result (self.new.1 ≡ after_append self.old.1 id ready) }
@@ -343,8 +345,8 @@ impl<F: WriteFilter> Peer<F> {
         ensures law { Lawful (F.refuses self.new.0) self.new.1 }
     {
         let alloc = *self.locals.allocator();
-        let mut spent = Spent::new(alloc);
-        self.settle_into(id, ReadyParcel::new(alloc, parcel), &mut spent)
+        let mut spent = DeferredDrops::new(alloc);
+        self.settle_into(id, PreparedParcel::new(alloc, parcel), &mut spent)
     }
 
     /// `settle`, which lets nothing go that it has used up of the parcel, where all its documents are settled: it hands
@@ -352,8 +354,8 @@ impl<F: WriteFilter> Peer<F> {
     pub fn settle_into(
         &mut self,
         id: SessionId,
-        parcel: ReadyParcel,
-        spent: &mut Spent,
+        parcel: PreparedParcel,
+        spent: &mut DeferredDrops,
     ) -> Result<Settled, TargetFault>
         ensures settles { SettleGives (F.refuses self.old.0) self.old.1 id parcel result self.new.1 }
         ensures filter { self.new.0 ≡ self.old.0 }

@@ -8,15 +8,15 @@ ghost use Rattle.repl_peer.specs.session.Sessions.{GivesUnlessMemory, new_sessio
 
 mod ahead;
 pub(crate) mod beginning;
+pub(crate) mod deferred_drops;
 mod ledger_index;
-pub(crate) mod ready_parcel;
+pub(crate) mod prepared_parcel;
 pub(crate) mod ready_window;
 pub(crate) mod refused;
 mod rep_index;
 pub(crate) mod rows;
 pub(crate) mod sessions;
 mod settle;
-pub(crate) mod spent;
 mod stored;
 pub(crate) mod window;
 

@@ -9,7 +9,7 @@ ghost use Rattle.repl_target.specs.ties.Ties.{IsTiedPair};
 pub(crate) mod found;
 
 use crate::auditing::found::Audit;
-use couch_base::{Change, Near};
+use couch_base::{Change, LookupHint};
 use doc_json::{Chosen, is_chosen};
 use repl_peer::{Peer, WriteFilter, checkpoint, rep_between};
 use std::alloc::{AllocError, Global};
@@ -79,7 +79,7 @@ pub fn hole_within<F: WriteFilter, G: WriteFilter>(
         ≡ first_uncovered target.now.1 (chosen_feed (option_copied chosen.entry) source.now.1.db above upto)) }
 {
     let mut feed = source.db().feed_within(above, upto);
-    let mut near = Near::new();
+    let mut near = LookupHint::new();
     while let Some(change) = feed.next() {
         let found = hole_in(alloc, target, &change, &mut near, chosen)?;
         if let Audit::Hole { seq, id, rev } = found {
@@ -94,7 +94,7 @@ fn hole_in<G: WriteFilter>(
     alloc: Global,
     target: &Peer<G>,
     change: &Change<'_>,
-    near: &mut Near,
+    near: &mut LookupHint,
     chosen: Option<&Chosen>,
 ) -> Result<Audit, AllocError>
     ensures answer { IfOk result (λ a. hole_of a

@@ -10,9 +10,9 @@ mod replication;
 pub use auditing::found::Audit;
 pub use auditing::{audit, hole_above, hole_within};
 pub use repl_peer::{
-    Backup, Beginning, Cause, Peer, ReadyParcel, ReadyWindow, Reason, Refused, Report, Rules,
-    Scope, Settled, Spent, StoredWindow, TargetFault, Verdict, WriteFilter, Written, checkpoint,
-    rep_between,
+    Backup, Beginning, Cause, DeferredDrops, Peer, PreparedParcel, ReadyWindow, Reason, Refused,
+    Report, Rules, Scope, Settled, StoredWindow, TargetFault, Verdict, WriteFilter, Written,
+    checkpoint, rep_between,
 };
 pub use replication::sync::{SyncFault, Synced, sync_alone};
 pub use replication::{

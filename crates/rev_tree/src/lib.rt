@@ -21,4 +21,4 @@ pub use content::Content;
 pub use fault::{Contradiction, Merged, TreeFault};
 pub use origin::{Origin, SessionId};
 pub use revs::Revs;
-pub use tree::{Standing, Tree};
+pub use tree::{RevInfo, Tree};

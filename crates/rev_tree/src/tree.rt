@@ -15,7 +15,7 @@ use std::marker::Model;
 
 /// What a tree has of one of its revisions: its ancestors, itself first, and what stands at it where that is known.
 #[derive(Drop)]
-pub struct Standing<'a> {
+pub struct RevInfo<'a> {
     pub ancestry: Ancestry,
     pub content: Option<&'a Content>,
 }
@@ -153,7 +153,7 @@ impl Tree {
 
     /// What the tree has of a revision, found with one look-up: its ancestors, and what stands at it where that is known.
     /// `None` where it is not in the tree.
-    pub fn standing(&self, alloc: Global, rev: Rev) -> Result<Option<Standing<'_>>, AllocError>
+    pub fn rev_info(&self, alloc: Global, rev: Rev) -> Result<Option<RevInfo<'_>>, AllocError>
         ensures { IfOk result
             (λ o. MatchOption o (has self.now rev ≡ false) (λ s. IsStanding self.now rev s.ancestry (option_copied s.content))) }
     {
@@ -161,7 +161,7 @@ impl Tree {
             return Ok(None);
         };
         let revs = self.nodes.walk(alloc, place)?;
-        Ok(Some(Standing {
+        Ok(Some(RevInfo {
             ancestry: Ancestry::from_revs(revs),
             content: self.nodes.node_at(place).content(),
         }))

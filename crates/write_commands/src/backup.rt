@@ -3,7 +3,7 @@ ghost use Rattle.std.specs.Prelude.{◌≡◌, ◌++◌, OnOk};
 ghost use Rattle.json_values.specs.LineView.{line_view};
 ghost use Rattle.write_commands.specs.Backup.{backed_line};
 
-use command_api::{Room, has_only_members, name_member, push_number};
+use command_api::{Command, has_only_members, name_member, push_number};
 use json_values::Line;
 use script_databases::{Databases, Refusal};
 use std::alloc::{AllocError, Global};
@@ -18,7 +18,7 @@ pub struct Backup<'a> {
     pub name: &'a str,
 }
 
-impl<'v, 'a> Room<&'v Line<'a>> for Backup<'v> {
+impl<'v, 'a> Command<&'v Line<'a>> for Backup<'v> {
     ghost use Rattle.write_commands.specs.Backup.{BacksUp, BackupAsk, backup_asked, backup_in};
 
     ghost seen = { λ line. line_view line.now };

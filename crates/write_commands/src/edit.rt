@@ -6,7 +6,7 @@ ghost use Rattle.script_engine.specs.Serving.{MayTell};
 ghost use Rattle.command_api.specs.Telling.{told_by};
 
 use command_api::{
-    Room, has_only_members, hush, name_member, optional_flag, optional_text, push_json,
+    Command, has_only_members, hush, name_member, optional_flag, optional_text, push_json,
     push_number, push_rev, read_content_or_empty, read_id, read_rev, text_member,
 };
 use json_values::{Line, LinePart};
@@ -26,7 +26,7 @@ pub struct Edit<'v, 'a> {
     pub body: Option<LinePart<'v, 'a>>,
 }
 
-impl<'v, 'a> Room<&'v Line<'a>> for Edit<'v, 'a> {
+impl<'v, 'a> Command<&'v Line<'a>> for Edit<'v, 'a> {
     ghost use Rattle.write_commands.specs.Edit.{EditAsk, Edits, edit_asked, edit_in};
 
     ghost seen = { λ line. line_view line.now };

@@ -8,7 +8,7 @@ ghost use Rattle.command_api.specs.Telling.{told_by};
 ghost use Rattle.write_commands.specs.Load.{LoadsLoud, LoadsNamed, LoadsNew, document_part, load_asked, loaded_line, made_line, put_line, same_line, there_line};
 
 use command_api::{
-    Room, has_only_members, hush, name_member, optional_uuid, push_json, push_number, push_rev,
+    Command, has_only_members, hush, name_member, optional_uuid, push_json, push_number, push_rev,
     read_document,
 };
 use couch_base::Put;
@@ -28,7 +28,7 @@ pub struct Load<'v, 'a> {
     pub doc: Option<LinePart<'v, 'a>>,
 }
 
-impl<'v, 'a> Room<&'v Line<'a>> for Load<'v, 'a> {
+impl<'v, 'a> Command<&'v Line<'a>> for Load<'v, 'a> {
     ghost use Rattle.write_commands.specs.Load.{LoadAsk, Loads, load_asked, load_in};
 
     ghost seen = { λ line. line_view line.now };

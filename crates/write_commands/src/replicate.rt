@@ -10,7 +10,7 @@ ghost use Rattle.command_api.specs.Telling.{told_by};
 ghost use Rattle.write_commands.specs.Replicate.{EndsBy, ReportsReplication, checked_part, documents_part, ending_line, ending_of, ending_of_run, ending_of_watched, last_second, moment_of, options_in, plan_with, progress_line, replicate_asked, report_line, session_of, session_part, stopped_line, with_session};
 
 use command_api::{
-    Room, has_only_members, id_text, name_member, optional_flag, optional_texts, optional_uuid,
+    Command, has_only_members, id_text, name_member, optional_flag, optional_texts, optional_uuid,
     optional_whole, push_number, read_choice,
 };
 use doc_json::Chosen;
@@ -65,7 +65,7 @@ enum Ending {
     Stopped(u64),
 }
 
-impl<'v, 'a> Room<&'v Line<'a>> for Replicate<'v, 'a> {
+impl<'v, 'a> Command<&'v Line<'a>> for Replicate<'v, 'a> {
     ghost use Rattle.write_commands.specs.Replicate.{ReplicateAsk, ReportsReplication, replicate_asked, replicate_in};
 
     ghost seen = { λ line. line_view line.now };

@@ -6,7 +6,7 @@ ghost use Rattle.write_commands.specs.Sync.{shared_in, way_options};
 
 use crate::replicate::{Options, Replicate, serve_replication};
 use command_api::{
-    Room, has_only_members, name_member, optional_flag, optional_texts, optional_uuid,
+    Command, has_only_members, name_member, optional_flag, optional_texts, optional_uuid,
     optional_whole,
 };
 use json_values::{Line, LineValue};
@@ -35,7 +35,7 @@ pub struct Shared {
     pub alone: bool,
 }
 
-impl<'v, 'a> Room<&'v Line<'a>> for BothWays<'v, 'a> {
+impl<'v, 'a> Command<&'v Line<'a>> for BothWays<'v, 'a> {
     ghost use Rattle.write_commands.specs.Sync.{SyncAsk, Syncs, sync_asked, sync_in};
 
     ghost seen = { λ line. line_view line.now };

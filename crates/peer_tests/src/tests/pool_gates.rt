@@ -106,17 +106,17 @@ struct StopsOnce {
     kind: u64,
     window: u64,
     /// Whether it says that it holds workers, though it holds none: then each is a thread of its own, however few.
-    may_hold: bool,
+    may_block: bool,
     stopped: AtomicBool,
 }
 
 impl StopsOnce {
     /// It has not stopped yet.
-    fn new(kind: u64, window: u64, may_hold: bool) -> StopsOnce {
+    fn new(kind: u64, window: u64, may_block: bool) -> StopsOnce {
         StopsOnce {
             kind,
             window,
-            may_hold,
+            may_block,
             stopped: AtomicBool::new(false),
         }
     }
@@ -146,8 +146,8 @@ impl Gate for StopsOnce {
         }
     }
 
-    fn may_hold(&self) -> bool {
-        self.may_hold
+    fn may_block(&self) -> bool {
+        self.may_block
     }
 }
 
@@ -215,8 +215,8 @@ fn fetched_is_counted_where_a_run_stops(rt: HostRuntime) {
         (Call::SourceLog(A, REP), "1 at 0;"),
         (Call::Audit(A, B), "clean"),
     ];
-    for may_hold in [true, false] {
-        let gate = StopsOnce::new(2, 0, may_hold);
+    for may_block in [true, false] {
+        let gate = StopsOnce::new(2, 0, may_block);
         let mut bench = Bench::new(rt.alloc(), 1);
         bench.run(&rt, FOUR);
         expect_answer(&rt, 3, bench.replicate(&rt, &gate, A, B, TWO_ROWS), HALTED);
@@ -276,11 +276,11 @@ fn stop_and_go_on<R: Abort + Threads + Wait + Sync>(
     rt: &R,
     alloc: Global,
     workers: u64,
-    may_hold: bool,
+    may_block: bool,
     kind: u64,
     window: u64,
 ) {
-    let gate = StopsOnce::new(kind, window, may_hold);
+    let gate = StopsOnce::new(kind, window, may_block);
     let mut bench = Bench::new(alloc, workers);
     bench.run(rt, OPEN_PEERS);
     bench.run(rt, DOCUMENTS);

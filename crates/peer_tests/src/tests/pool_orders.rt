@@ -31,12 +31,12 @@ struct Counts {
     places: Vec<AtomicU64>,
     strays: AtomicU64,
     /// Whether it says that it holds workers, though it holds none: then they are threads, however few.
-    may_hold: bool,
+    may_block: bool,
 }
 
 impl Counts {
     /// So many windows, of which none was asked for.
-    fn new(rt: &impl Abort, alloc: Global, windows: usize, may_hold: bool) -> Counts {
+    fn new(rt: &impl Abort, alloc: Global, windows: usize, may_block: bool) -> Counts {
         let mut places = Vec::new(alloc);
         for _ in 0..windows {
             places.push(AtomicU64::new(0)).expect(rt, "memory");
@@ -44,7 +44,7 @@ impl Counts {
         Counts {
             places,
             strays: AtomicU64::new(0),
-            may_hold,
+            may_block,
         }
     }
 
@@ -75,8 +75,8 @@ impl Gate for Counts {
         Turn::Go
     }
 
-    fn may_hold(&self) -> bool {
-        self.may_hold
+    fn may_block(&self) -> bool {
+        self.may_block
     }
 }
 
@@ -86,7 +86,7 @@ fn expect_in_order<R: Abort + Threads + Wait + Sync>(
     rt: &R,
     alloc: Global,
     workers: u64,
-    may_hold: bool,
+    may_block: bool,
 ) {
     const WELL: &str =
         "session 1 from 0 to 300 checked 300 found 300 read 300 written 300 failed 0, fetched 300";
@@ -95,7 +95,7 @@ fn expect_in_order<R: Abort + Threads + Wait + Sync>(
         (Call::Peer(2, None), "made"),
         (Call::Fill(A, 300), "Changed { seq: 300 }"),
     ];
-    let gate = Counts::new(rt, alloc, 30, may_hold);
+    let gate = Counts::new(rt, alloc, 30, may_block);
     let mut bench = Bench::new(alloc, workers);
     bench.run(rt, MANY);
     expect_answer(

@@ -21,7 +21,7 @@ use crate::peer::filter::{Verdict, WriteFilter};
 use crate::peer::written::Written;
 use crate::session::Session;
 use crate::session::rows::seq_from;
-use couch_base::{Database, Made, Row};
+use couch_base::{Database, PreparedTree, Row};
 use doc_json::Doc;
 use repl_log::Counts;
 use rev_tree::{Origin, SessionId};
@@ -32,13 +32,13 @@ use std::mem::replace;
 ///
 /// Their arrivals are entered at once, as a list of their own, so that the peer spends no time on each under its lock.
 /// Where there is no memory for that list none is settled.
-pub(crate) fn settle_ahead<F: WriteFilter>(
+pub(crate) fn settle_prepared<F: WriteFilter>(
     filter: &F,
     db: &mut Database,
     session: &mut Session,
     place: usize,
     docs: &[Doc],
-    made: &mut Vec<Option<Made>>,
+    made: &mut Vec<Option<PreparedTree>>,
     arrivals: Vec<Written>,
 ) -> usize
     requires rows { (w : WindowValue)
@@ -86,7 +86,7 @@ fn put_ahead<F: WriteFilter>(
     session: SessionId,
     rows: &[Row],
     docs: &[Doc],
-    made: &mut Vec<Option<Made>>,
+    made: &mut Vec<Option<PreparedTree>>,
     limit: usize,
 ) -> usize
     requires there { list_all (λ d. list_any (λ row. bytes_eq row.id d.id) rows.now) docs.now ≡ true }
@@ -120,7 +120,7 @@ fn put_next(
     db: &mut Database,
     docs: &[Doc],
     i: usize,
-    made: &mut Vec<Option<Made>>,
+    made: &mut Vec<Option<PreparedTree>>,
     origin: Origin,
 ) -> bool
     requires within { i < length docs.now }
@@ -130,15 +130,15 @@ fn put_next(
         → (answer : Put) × (put_answer db.old d ≡ Ok answer) × (db.new ≡ after_put db.old d origin) }
     ensures unlike { result ≡ false → db.new ≡ db.old }
 {
-    put_made_at(db, docs, i, made, origin) || db.put(&docs[i], origin).is_ok()
+    put_prepared_at(db, docs, i, made, origin) || db.put(&docs[i], origin).is_ok()
 }
 
-/// Puts the document at a place by what was made of it, where that can be: `Database::put_made`.
-pub(crate) fn put_made_at(
+/// Puts the document at a place by what was made of it, where that can be: `Database::put_prepared`.
+pub(crate) fn put_prepared_at(
     db: &mut Database,
     docs: &[Doc],
     i: usize,
-    made: &mut Vec<Option<Made>>,
+    made: &mut Vec<Option<PreparedTree>>,
     origin: Origin,
 ) -> bool
     requires within { i < length docs.now }
@@ -149,7 +149,7 @@ pub(crate) fn put_made_at(
         × (db.new ≡ after_put db.old d origin) }
     ensures unlike { result ≡ false → db.new ≡ db.old }
 {
-    i < made.len() && db.put_made(&docs[i], &mut made[i], origin)
+    i < made.len() && db.put_prepared(&docs[i], &mut made[i], origin)
 }
 
 /// Enters the first of some arrivals, for whose list there is room, and counts them.

@@ -11,7 +11,7 @@ ghost use Rattle.repl_peer.specs.session.Settling.{seq_in};
 ghost use Rattle.repl_peer.specs.session.SettlingParts.{known_of, IsRowOf};
 
 use crate::session::ledger_index::LedgerIndex;
-use couch_base::{Database, Near, Row, Wanted};
+use couch_base::{Database, LookupHint, Row, Wanted};
 use doc_json::{Doc, DocId};
 use rev_core::Rev;
 use rev_tree::Tree;
@@ -116,10 +116,15 @@ fn is_known(tree: Option<&Tree>, ledgered: &LedgerIndex, id: &DocId, rev: Rev) -
 }
 
 /// The first leaf of a row that is neither in its document's tree nor refused.
-fn unknown_in(db: &Database, ledgered: &LedgerIndex, row: &Row, near: &mut Near) -> Option<Rev>
+fn unknown_in(
+    db: &Database,
+    ledgered: &LedgerIndex,
+    row: &Row,
+    near: &mut LookupHint,
+) -> Option<Rev>
     ensures { result ≡ find (λ rev. not (known_of db.now ledgered.now row.now.id rev)) row.now.leaves }
 {
-    let tree = db.tree_near(near, row.id());
+    let tree = db.tree_by_hint(near, row.id());
     for rev in row.leaves() {
         if !is_known(tree, ledgered, row.id(), *rev) {
             return Some(*rev);
@@ -137,7 +142,7 @@ pub(crate) fn first_unknown<'a>(
     ensures { option_map (λ u. record { seq = u.0.now.seq; id = u.0.now.id; rev = u.1 }) result
         ≡ first_unknown (known_of db.now ledgered.now) rows.now }
 {
-    let mut near = Near::new();
+    let mut near = LookupHint::new();
     for row in rows {
         if let Some(rev) = unknown_in(db, ledgered, row, &mut near) {
             return Some((row, rev));

@@ -14,12 +14,12 @@ use crate::fault::{Report, Settled, TargetFault};
 use crate::peer::filter::WriteFilter;
 use crate::session::Session;
 use crate::session::beginning::Beginning;
+use crate::session::deferred_drops::DeferredDrops;
 use crate::session::ledger_index::LedgerIndex;
-use crate::session::ready_parcel::ReadyParcel;
+use crate::session::prepared_parcel::PreparedParcel;
 use crate::session::ready_window::ReadyWindow;
 use crate::session::rep_index::RepIndex;
 use crate::session::settle::settle_parcel;
-use crate::session::spent::Spent;
 use couch_base::Database;
 use doc_json::DocId;
 use indexmap::IndexMap;
@@ -224,8 +224,8 @@ impl Sessions {
         filter: &F,
         db: &mut Database,
         id: SessionId,
-        parcel: ReadyParcel,
-        spent: &mut Spent,
+        parcel: PreparedParcel,
+        spent: &mut DeferredDrops,
     ) -> Result<Settled, TargetFault>
         ensures { (p : PeerValue)
             → SettleGives (F.refuses filter.now) (with_parts p db.old self.old) id parcel result

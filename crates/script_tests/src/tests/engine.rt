@@ -36,7 +36,7 @@ impl Serve for Lengths {
         Ok(false)
     }
 
-    fn hear(&mut self, _number: u64, _line: &[u8], _refused: Option<&'static str>) {}
+    fn observe(&mut self, _number: u64, _line: &[u8], _refused: Option<&'static str>) {}
 }
 
 /// Prints a length on a line.

@@ -41,7 +41,7 @@ impl Serve for Echo {
         Ok(false)
     }
 
-    fn hear(&mut self, _number: u64, _line: &[u8], _refused: Option<&'static str>) {}
+    fn observe(&mut self, _number: u64, _line: &[u8], _refused: Option<&'static str>) {}
 }
 
 /// What lines are answered where there is memory, and where there is none behind a first piece.

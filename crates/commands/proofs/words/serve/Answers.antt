@@ -4,12 +4,12 @@ use Rattle.json_values.specs.{line_view, LineValue}
 use Rattle.script_engine.specs.{Told, MayTell, in_full}
 use Rattle.script_databases.specs.{State, name_of, Refusal}
 use Rattle.script_databases.specs.declared.refusal.Refusal.TheVariants as why
-use Rattle.commands.specs.{AnswersAsked, Asked, asked_as, asked_in, load, edit, show, doc, changes, log, audit, replicate, backup, restore, compare, conflicts, docs, info, ledger, sync, Word}
+use Rattle.commands.specs.{AnswersAsked, Asked, asked_as, asked_in, load, edit, show, doc, changes, log, audit, replicate, backup, restore, compare, conflicts, docs, info, ledger, sync, CommandName}
 use Rattle.commands.proofs.{word_answered}
 use Rattle.commands.proofs.words.serve.Goals as goal
 
 -- what is told to what is asked by the word, is told to what is asked
-by_word : {old new : State} {told : Told} (d : Data) (word found : Word) → asked_in d ≡ asked_as found d → found ≡ word → MayTell AnswersAsked old (asked_as word d) told new → MayTell AnswersAsked old (asked_in d) told new
+by_word : {old new : State} {told : Told} (d : Data) (word found : CommandName) → asked_in d ≡ asked_as found d → found ≡ word → MayTell AnswersAsked old (asked_as word d) told new → MayTell AnswersAsked old (asked_in d) told new
 by_word {old = old} {new = new} {told = told} d word found e is h = subst (λ a. MayTell AnswersAsked old a told new) (sym (e ∙ ap (λ w. asked_as w d) is)) h
 
 -- what is told to what a line's value asks, is told to what the line asks

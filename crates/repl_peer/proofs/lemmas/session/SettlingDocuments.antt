@@ -5,7 +5,7 @@ use Rattle.rev_tree.specs.Tree.{answer_of, is_same}
 use Rattle.rev_tree.specs.declared.fault.Contradiction.{Contradiction}
 use Rattle.rev_tree.specs.declared.origin.Origin.{Origin}
 use Rattle.doc_json.specs.Document.{Document}
-use Rattle.couch_base.specs.{AreMade, Id, IsMadeOf, DatabaseValue, Made, WindowValue, none_some, any_left, most, tree_of, PutGives, is_changed, put_answer, put_told, after_put, BaseFault}
+use Rattle.couch_base.specs.{AreMade, Id, IsMadeOf, DatabaseValue, PreparedTree, WindowValue, none_some, any_left, most, tree_of, PutGives, is_changed, put_answer, put_told, after_put, BaseFault}
 use Rattle.couch_base.specs.declared.fault.BaseFault.TheVariants as base_faults
 use Rattle.couch_base.specs.declared.fault.Put.{Put}
 use Rattle.repl_peer.specs.{AreArrivalsOf, WrittenValue, written_of, with_arrivals, SessionValue, RefusedValue, contradiction_of, refusal_of, in_ledger, is_ledgered, Settling, is_full, settle_as, settle_one, settle_docs, Halts, stops_as, stops_in, stops_at, settled_before, fed, with_arrival, with_refused, IndexesMore, IsIndexedWith, IsSameIndex, KeepsIndexed, Reached, ReachedAll, Steps, cause_at, settling_at, Cause, Reason, LedgerIndex}
@@ -23,13 +23,13 @@ set_at (z ∷ xs) zero x (suc j) y at = inl at
 set_at (z ∷ xs) (suc i) x zero y at = inl at
 set_at (z ∷ xs) (suc i) x (suc j) y at = elim (set_at xs i x j y at) [ inl before ↦ inl before | inr here ↦ inr (ap suc here.0, here.1) ]
 
-pub made_set : (docs : List Document) (made : List (Option Made)) (i : ℕ) (d : Document) (m : Option Made) → AreMade docs made → slice_get docs i ≡ Some d → IfSome m (IsMadeOf d) → AreMade docs (set made i m)
+pub made_set : (docs : List Document) (made : List (Option PreparedTree)) (i : ℕ) (d : Document) (m : Option PreparedTree) → AreMade docs made → slice_get docs i ≡ Some d → IfSome m (IsMadeOf d) → AreMade docs (set made i m)
 made_set docs made i d m all at so j e n doc here =
     elim (set_at made i m j (Some n) here) [
       | inl before ↦ all j e n doc before
       | inr put ↦
           let same : d ≡ e = same_Some d e (sym at ∙ ap (slice_get docs) (sym put.0) ∙ doc) in
-          subst (λ (x : Document). IsMadeOf x n) same (subst (λ (o : Option Made). IfSome o (IsMadeOf d)) put.1 so)
+          subst (λ (x : Document). IsMadeOf x n) same (subst (λ (o : Option PreparedTree). IfSome o (IsMadeOf d)) put.1 so)
     ]
 
 -- ---- one document

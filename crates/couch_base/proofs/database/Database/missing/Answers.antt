@@ -8,6 +8,6 @@ returns-in_default c =
     record {
       missing =
           let revs = c.args.revs.now in
-          let gone = sym c.tree_near.ensures.value ∙ ap option_copied c.in_default.is in
+          let gone = sym c.tree_by_hint.ensures.value ∙ ap option_copied c.in_default.is in
           subst (λ l. IfOk c.from_slice.result (λ r. r ≡ l)) (sym (missing-no_revisions revs) ∙ sym (ap (λ o. missing (unwrap_or o no_revisions) revs) gone)) c.from_slice.ensures;
     }

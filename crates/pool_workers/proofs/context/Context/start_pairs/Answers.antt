@@ -6,10 +6,10 @@ pub loop-i-preserved : goal.loop-i-preserved
 loop-i-preserved g c =
     let was = c.loop-i.invariant in
     record {
-      window_seat = c.hire_pair.ensures.window_seat;
+      window_seat = c.spawn_pair.ensures.window_seat;
       window_view = search rules;
       window_parts = search rules;
-      parcel_seat = c.hire_pair.ensures.parcel_seat;
+      parcel_seat = c.spawn_pair.ensures.parcel_seat;
       parcel_view = search rules;
       parcel_parts = search rules;
       all_parts = search rules;
@@ -20,7 +20,7 @@ loop-i-preserved g c =
           (λ h. (h.promise.channels.now ≡ c.args.self.now.channels.now) × (h.promise.gate.now ≡ c.args.self.now.gate.now) × (option_copied h.promise.board ≡ option_copied c.args.self.now.board)) was.promised c.in-Some.ensures.promised c.reserve.ensures.items c.push_reserved.ensures.items;
       seats = c.in-Some.ensures.left c.args.workers (search rules) was.seats;
       out =
-          held_next c.args.seats.now.items c.loop-i.seats.items c.hire_pair.new.seats.items c.loop-i.started.items c.reserve.new.self.items c.push_reserved.new.self.items c.in-Some.handle (λ h. h.promise.seat.value) was.out c.in-Some.ensures.seats
+          held_next c.args.seats.now.items c.loop-i.seats.items c.spawn_pair.new.seats.items c.loop-i.started.items c.reserve.new.self.items c.push_reserved.new.self.items c.in-Some.handle (λ h. h.promise.seat.value) was.out c.in-Some.ensures.seats
           c.reserve.ensures.items c.push_reserved.ensures.items;
       capacity = search rules;
     }
@@ -36,5 +36,5 @@ returns-then-is_err-clause-back g c =
 
 pub returns-in-None-clause-back : goal.returns-in-None-clause-back
 returns-in-None-clause-back g c =
-    back_rest (option_copied c.args.self.now.board) c.args.seats.now.items c.loop-i.seats.items c.hire_pair.new.seats.items c.loop-i.started.items c.reserve.new.self.items (λ h. h.promise.seat.value)
-    (seats_seated (option_copied c.args.self.now.board) 0 c.args.workers c.args.seats.now.items c.requires.seats) c.loop-i.invariant.out c.reserve.ensures.items (c.hire_pair.ensures.back c.in-None.is)
+    back_rest (option_copied c.args.self.now.board) c.args.seats.now.items c.loop-i.seats.items c.spawn_pair.new.seats.items c.loop-i.started.items c.reserve.new.self.items (λ h. h.promise.seat.value)
+    (seats_seated (option_copied c.args.self.now.board) 0 c.args.workers c.args.seats.now.items c.requires.seats) c.loop-i.invariant.out c.reserve.ensures.items (c.spawn_pair.ensures.back c.in-None.is)

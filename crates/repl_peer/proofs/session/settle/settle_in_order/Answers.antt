@@ -5,15 +5,15 @@ use Rattle.repl_peer.proofs.{halts_first, halts_none, halts_stop, IfErr_both}
 use Rattle.repl_peer.proofs.session.settle.settle_in_order.Goals as goal
 use Rattle.repl_peer.proofs.session.settle.settle_in_order.Goals.{in-Some, in-None}
 
-pub settle_ahead-from-requires-clause-rows : goal.settle_ahead-from-requires-clause-rows
-settle_ahead-from-requires-clause-rows g c =
+pub settle_prepared-from-requires-clause-rows : goal.settle_prepared-from-requires-clause-rows
+settle_prepared-from-requires-clause-rows g c =
     let stored = c.requires.rows in
     (stored.0, subst (λ (s : SessionValue). slice_get s.windows c.args.place ≡ Some stored.0) (sym c.session.view_is) stored.1, stored.2)
 
 pub settle_each-requires-clause-rows : goal.settle_each-requires-clause-rows
 settle_each-requires-clause-rows g c =
     let stored = c.requires.rows in
-    let windows = c.settle_ahead-from.ensures.windows ∙ ap (λ (s : SessionValue). s.windows) c.session.view_is in
+    let windows = c.settle_prepared-from.ensures.windows ∙ ap (λ (s : SessionValue). s.windows) c.session.view_is in
     (stored.0, ap (λ (ws : List WindowValue). slice_get ws c.args.place) windows ∙ stored.1, stored.2)
 
 pub returns-in-Err-clause-why : goal.returns-in-Err-clause-why
@@ -37,8 +37,8 @@ returns-clause-why g c =
     let same : settling_at c.args.db.now (record (session_value c.session.inside) { front = c.reserve.new.self.front }) ≡ settling_at c.args.db.now c.args.session.now =
     λ i. record { db = c.args.db.now; session = kept i } in
     let started = λ (w : WindowValue) (is : slice_get c.args.session.now.windows c.args.place ≡ Some w).
-    c.settle_ahead-from.ensures.reached w (subst (λ (s : SessionValue). slice_get s.windows c.args.place ≡ Some w) (sym c.session.view_is) is) in
-    let windows = c.settle_ahead-from.ensures.windows ∙ ap (λ (s : SessionValue). s.windows) c.session.view_is in
+    c.settle_prepared-from.ensures.reached w (subst (λ (s : SessionValue). slice_get s.windows c.args.place ≡ Some w) (sym c.session.view_is) is) in
+    let windows = c.settle_prepared-from.ensures.windows ∙ ap (λ (s : SessionValue). s.windows) c.session.view_is in
     IfErr_both c.settle_each.result
     (λ stop reached why w is.
     halts_stop refuses w _ _ _ docs stop.settled stop.cause same (reached w _ (ap (λ (ws : List WindowValue). slice_get ws c.args.place) windows ∙ is) (started w is)) why)
@@ -46,5 +46,5 @@ returns-clause-why g c =
 
 pub returns-clause-indexed : goal.returns-clause-indexed
 returns-clause-indexed g c = λ base h.
-    let kept = sym (c.settle_ahead-from.ensures.ledger ∙ ap (λ (s : SessionValue). s.ledger) c.session.view_is) in
+    let kept = sym (c.settle_prepared-from.ensures.ledger ∙ ap (λ (s : SessionValue). s.ledger) c.session.view_is) in
     c.settle_each.ensures.indexed base (subst (λ (l : List RefusedValue). IndexesMore base l c.args.ledgered.now) kept h)

@@ -5,24 +5,24 @@ use Rattle.repl_peer.specs.{SessionValue, WrittenValue, Settling, IndexesMore, S
 use Rattle.repl_peer.proofs.{IfErr_both, OnOk_then, arrives_by}
 use Rattle.repl_peer.proofs.session.settle.settle_one.Goals as goal
 
-pub returns-then-put_made_at-clause-settled : goal.returns-then-put_made_at-clause-settled
-returns-then-put_made_at-clause-settled g c = λ d at.
+pub returns-then-put_prepared_at-clause-settled : goal.returns-then-put_prepared_at-clause-settled
+returns-then-put_prepared_at-clause-settled g c = λ d at.
     let refuses = g.F.WriteFilter.refuses c.args.filter.now in
     let same = c.index-docs-i.is ∙ get_or_from_slice_get c.args.docs.now c.args.i d c.index-docs-i.result at in
     let accepted = subst (λ (e : Document). refuses e ≡ false) same (sym c.is_refused.ensures ∙ c.if-is_refused.false) in
-    let put = c.put_made_at.ensures.put c.if-put_made_at.true d at in
+    let put = c.put_prepared_at.ensures.put c.if-put_prepared_at.true d at in
     let inner = session_value c.session.inside in
     let lists = flat_map (λ list. list.items) c.session.inside.earlier.items in
     let entered : lists ++ c.arrive.new.arrivals.items ≡ inner.arrivals ++ written_of d ∷ [] =
     ap (λ (l : List WrittenValue). lists ++ l) (c.arrive.ensures.arrivals ∙ (λ i. c.in-Ok.ensures.arrivals i ++ (c.in-Ok.ensures.written ∙ ap written_of same) i ∷ []))
     ∙ sym (append_assoc lists c.session.inside.arrivals.items (written_of d ∷ [])) in
     let arrived = (λ i. record inner { arrivals = entered i; counts = c.arrive.ensures.counts i }) ∙ ap (with_arrival d) c.session.view_is in
-    arrives_by refuses c.args.origin d c.args.db.now c.put_made_at.new.db c.args.session.now _ (puts.Changed (c.args.db.now.update_seq + 1)) accepted put.0 put.1 arrived
+    arrives_by refuses c.args.origin d c.args.db.now c.put_prepared_at.new.db c.args.session.now _ (puts.Changed (c.args.db.now.update_seq + 1)) accepted put.0 put.1 arrived
 
 pub returns-clause-settled : goal.returns-clause-settled
 returns-clause-settled g c =
     let refuses = g.F.WriteFilter.refuses c.args.filter.now in
-    let unlike = c.put_made_at.ensures.unlike c.if-put_made_at.false in
+    let unlike = c.put_prepared_at.ensures.unlike c.if-put_prepared_at.false in
     let after = settling_at c.settle_unmade.new.db c.settle_unmade.new.session in
     let lists = flat_map (λ list. list.items) c.session.inside.earlier.items in
     -- the session with a place among its arrivals is the same
@@ -37,7 +37,7 @@ returns-clause-settled g c =
 pub returns-clause-why : goal.returns-clause-why
 returns-clause-why g c =
     let refuses = g.F.WriteFilter.refuses c.args.filter.now in
-    let unlike = c.put_made_at.ensures.unlike c.if-put_made_at.false in
+    let unlike = c.put_prepared_at.ensures.unlike c.if-put_prepared_at.false in
     IfErr_both c.settle_unmade.result
     (λ cause why again d at.
     why ∙ (λ i. cause_at (stops_in refuses (unlike i) ((c.index-docs-i.is ∙ get_or_from_slice_get c.args.docs.now c.args.i d c.index-docs-i.result at) i))))

@@ -1,0 +1,184 @@
+//! What is told on standard error beside the answers, for people: a sentence for each refusal, and how far the run came
+//! (docs/PROFILE.md, "Options").
+
+use crate::seen::Seen;
+use commands::ObserveAnswers;
+use error_messages::explain;
+use json_values::{ValueReader, is_same_text};
+use script_databases::Settings;
+use script_engine::Observe;
+use std::alloc::{AllocError, Global};
+use std::io::Eprint;
+use std::rt::Clock;
+use std::time::Instant;
+use std::{io, str};
+
+/// How many refusals are told with a sentence.
+const MOST_TOLD: u64 = 20;
+
+/// The most workers, the most documents of a batch, and the last second of the year 9999 (docs/PROFILE.md, "Limits").
+const MOST_WORKERS: u64 = 64;
+
+const MOST_BATCH: u64 = 10000;
+
+const LAST_MOMENT: u64 = 253402300799;
+
+/// The seconds between two tellings of how far a run came.
+const PAUSE: u64 = 1;
+
+/// Tells on standard error what lines are told.
+#[derive(Drop)]
+pub struct ErrorReporter<'a, H> {
+    rt: &'a H,
+    /// Whether refusals are told.
+    explains: bool,
+    /// When it was last told how far the run came, where that is told.
+    told_at: Option<Instant>,
+    /// What the answers say of that.
+    seen: Seen,
+    /// How many refusals were told with a sentence.
+    told: u64,
+    /// The names of refusals that came, and how often.
+    counts: Vec<(&'static str, u64)>,
+    /// What reads the lines' values.
+    values: ValueReader,
+    /// Room for what is told.
+    text: Vec<u8>,
+    alloc: Global,
+}
+
+impl<'a, H: Eprint + Clock> Observe for ErrorReporter<'a, H> {
+    #[inline]
+    fn observe(&mut self, number: u64, line: &[u8], refused: Option<&'static str>) {
+        if let Some(name) = refused
+            && self.explains
+        {
+            self.tell(number, line, name);
+        }
+        if let Some(told_at) = self.told_at {
+            self.show(number, told_at);
+        }
+    }
+
+    /// Tells how often each name came.
+    fn close(&mut self) {
+        if self.told_at.is_some() {
+            let _ = eprint!(self.rt; "\r\x1b[K");
+        }
+        for row in &self.counts {
+            let _ = eprintln!(self.rt; "refused as {}: {}", row.0, row.1);
+        }
+    }
+}
+
+impl<'a, H: Eprint + Clock> ObserveAnswers for ErrorReporter<'a, H> {
+    #[inline]
+    fn observe_answer(&mut self, answer: &[u8]) {
+        if self.told_at.is_some() {
+            self.seen.note(answer);
+        }
+    }
+}
+
+impl<'a, H: Eprint + Clock> ErrorReporter<'a, H> {
+    /// Tells refusals where `explains` is true, and how far a run came where `shows` is.
+    pub(crate) fn new(
+        rt: &'a H,
+        alloc: Global,
+        explains: bool,
+        shows: bool,
+    ) -> ErrorReporter<'a, H> {
+        let told_at = if shows { Instant::now(rt).ok() } else { None };
+        ErrorReporter {
+            rt,
+            explains,
+            told_at,
+            seen: Seen::nothing(),
+            told: 0,
+            counts: Vec::new(alloc),
+            values: ValueReader::new(alloc),
+            text: Vec::new(alloc),
+            alloc,
+        }
+    }
+
+    /// Tells, before the first line, which numbers of the options each `replicate` line without one of its own is refused
+    /// for (docs/PROFILE.md, "Limits").
+    pub(crate) fn warn(&self, settings: &Settings) {
+        if !self.explains {
+            return;
+        }
+        if settings.workers == 0 || settings.workers > MOST_WORKERS {
+            let _ = eprintln!(self.rt;
+                "--workers is to be 1 to 64: a replicate line that names none is refused"
+            );
+        }
+        if settings.batch == 0 || settings.batch > MOST_BATCH {
+            let _ = eprintln!(self.rt;
+                "--batch is to be 1 to 10000: a replicate line that names none is refused"
+            );
+        }
+        if settings.at > LAST_MOMENT {
+            let _ = eprintln!(self.rt;
+                "--at is to be in the years up to 9999: a replicate line that names none is refused"
+            );
+        }
+    }
+
+    /// Tells of a refusal. Where memory is wanting it is passed over.
+    #[inline(never)]
+    fn tell(&mut self, number: u64, line: &[u8], name: &'static str) {
+        let _ = self.count(name);
+        if self.told >= MOST_TOLD {
+            return;
+        }
+        self.told += 1;
+        self.text.clear();
+        let made = explain(
+            &mut self.values,
+            self.alloc,
+            number,
+            line,
+            name,
+            &mut self.text,
+        );
+        if made.is_ok()
+            && let Ok(text) = str::from_utf8(self.text.as_slice())
+        {
+            let _ = eprint!(self.rt; "{text}");
+        }
+    }
+
+    /// Counts a name.
+    fn count(&mut self, name: &'static str) -> Result<(), AllocError> {
+        for row in self.counts.iter_mut() {
+            if is_same_text(row.0, name) {
+                row.1 = row.1.saturating_add(1);
+                return Ok(());
+            }
+        }
+        self.counts.push((name, 1))?;
+        Ok(())
+    }
+
+    /// Tells how far the run came, if it was not told within a second.
+    #[inline(never)]
+    fn show(&mut self, number: u64, told_at: Instant) {
+        let Ok(now) = Instant::now(self.rt) else {
+            return;
+        };
+        if now.duration_since(told_at).as_secs() < PAUSE {
+            return;
+        }
+        self.told_at = Some(now);
+        let Seen {
+            writes,
+            sessions,
+            read,
+            written,
+        } = self.seen;
+        let _ = eprint!(self.rt;
+            "\rline {number}: {writes} loads and edits, {sessions} sessions, {read} documents read, {written} written "
+        );
+    }
+}

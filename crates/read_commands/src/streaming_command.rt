@@ -1,0 +1,100 @@
+//! The room of a word whose answer goes out in pieces, and how such an answer is begun.
+ghost use Rattle.std.specs.Prelude.{◌≡◌, ℕ, List, [], option_map, IfOk, IfErr};
+ghost use Rattle.script_engine.specs.Serving.{Fits, MayTell, text_with};
+ghost use Rattle.script_databases.specs.Databases.{State};
+ghost use Rattle.script_databases.specs.declared.refusal.Refusal.TheVariants.{Memory};
+ghost use Rattle.command_api.specs.Checks.{needed};
+ghost use Rattle.read_commands.specs.Rest.{FitsRest, rest_left, told_begun, told_from};
+ghost use Rattle.command_api.specs.Telling.{AnswersIn, told_by};
+
+use crate::rest::Rest;
+use script_databases::{Databases, Refusal};
+use std::alloc::Global;
+
+/// The room of a word whose answer goes out in pieces, and that changes nothing.
+pub trait StreamingCommand<L>: Sized + Drop {
+    ghost use Rattle.std.specs.Prelude.{Result};
+    ghost use Rattle.serde_json.specs.Data.{Data};
+    ghost use Rattle.script_engine.specs.Serving.{Answering};
+    ghost use Rattle.script_databases.specs.Databases.{State};
+    ghost use Rattle.script_databases.specs.declared.refusal.Refusal.{Refusal};
+
+    // The value of a line.
+    ghost seen: { L → Data };
+
+    // What the word asks, apart from where it stands.
+    ghost Ask: { Type 0 };
+
+    ghost asked: { Self → Ask };
+
+    // What an object asks by the word: its members, of their kinds, and no others.
+    ghost asked_in: { Data → Result Ask Refusal };
+
+    // What it is answered, and the state that it leaves.
+    ghost answers: { Answering State Ask };
+
+    /// What an object asks by the word. `None` where it asks nothing: the line is `BadCommand`.
+    fn read(line: L) -> Option<Self>
+        ensures { needed (option_map asked result) ≡ asked_in (seen line) };
+
+    /// Looks at what is asked, and gives the whole answer as what is left of it. `Memory` may come in the place of any
+    /// answer.
+    fn begin(&self, alloc: Global, databases: &Databases) -> Result<Rest, Refusal>
+        ensures told { MayTell answers databases.now (asked self.now) (told_from databases.now result) databases.now }
+        ensures fits { IfOk result (λ rest. FitsRest databases.now rest) };
+}
+
+/// Begins the answer to what an object asks by a word, in the word's room: gives its first piece, and what is left.
+#[inline(never)]
+pub fn begin_in<L, A: StreamingCommand<L>>(
+    alloc: Global,
+    databases: &Databases,
+    line: L,
+    answer: &mut Vec<u8>,
+) -> Result<Option<Rest>, Refusal>
+    requires empty { answer.old.items ≡ [] }
+    ensures told { MayTell (AnswersIn A.answers) databases.now (A.asked_in (A.seen line))
+        (told_begun databases.now result answer.new.items) databases.now }
+    ensures fits { IfOk result (λ rest. Fits (FitsRest databases.now) rest) }
+{
+    let ask = match A::read(line) {
+        Some(ask) => ask,
+        None => return Err(Refusal::BadCommand),
+    };
+    let rest = match ask.begin(alloc, databases) {
+        Ok(rest) => rest,
+        Err(refusal) => return Err(refusal),
+    };
+    give(alloc, databases, rest, answer)
+}
+
+/// Gives the first piece of an answer, and what is left behind it.
+fn give(
+    alloc: Global,
+    databases: &Databases,
+    mut rest: Rest,
+    answer: &mut Vec<u8>,
+) -> Result<Option<Rest>, Refusal>
+    requires empty { answer.old.items ≡ [] }
+    requires fits { FitsRest databases.now rest }
+    ensures told { IfOk result (λ left. text_with (rest_left databases.now) answer.new.items left
+        ≡ rest_left databases.now rest) }
+    ensures fits { IfOk result (λ left. Fits (FitsRest databases.now) left) }
+    ensures memory { IfErr result (λ refusal. refusal ≡ Memory) }
+{
+    if rest.more(alloc, databases, answer)? {
+        return Ok(Some(rest));
+    }
+    Ok(None)
+}
+
+/// What a word is answered whose answer was given whole.
+pub fn whole(served: Result<(), Refusal>) -> Result<Option<Rest>, Refusal>
+    ensures told { (s : State) → (text : List ℕ) → told_begun s result text ≡ told_by served text }
+    ensures fits { (s : State) → IfOk result (λ rest. Fits (FitsRest s) rest) }
+{
+    match served {
+        Ok(()) => Ok(None),
+        Err(refusal) => Err(refusal),
+    }
+}

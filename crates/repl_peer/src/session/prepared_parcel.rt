@@ -1,0 +1,109 @@
+//! Parcels that are made ready before they are settled.
+ghost use Rattle.std.specs.Prelude.{◌≡◌, map, IfOk};
+ghost use Rattle.couch_base.specs.Readied.{AreMade};
+ghost use Rattle.repl_peer.specs.peer.Peer.{written_of};
+ghost use Rattle.repl_peer.specs.session.Arriving.{AreArrivalsOf};
+
+use crate::peer::written::Written;
+use couch_base::{Asked, Parcel, PreparedTree, Row};
+use doc_json::{Doc, DocId};
+use rev_core::Rev;
+use rev_tree::SessionId;
+use std::alloc::{AllocError, Global};
+use std::marker::Model;
+
+/// A parcel, perhaps with what its documents make where they are new and what they enter among the arrivals, which are
+/// made before the peer is locked.
+pub struct PreparedParcel {
+    parcel: Parcel,
+    arrivals: Vec<Written>,
+}
+
+// By hand, so that it is proved once: docs/DECISIONS.md, "Letting values go".
+impl Drop for PreparedParcel {
+    fn drop(self) {
+        let PreparedParcel {
+            parcel: _,
+            arrivals: _,
+        } = self;
+    }
+}
+
+impl Model for PreparedParcel {
+    ghost use Rattle.couch_base.specs.Messages.{ParcelValue};
+
+    ghost Value = { ParcelValue };
+
+    ghost use Rattle.repl_peer.specs.session.Arriving.{AreArrivalsOf};
+
+    ghost view = { λ r. r.parcel };
+
+    ghost invariant = { λ r. AreArrivalsOf r.parcel.docs r.arrivals.items };
+}
+
+impl PreparedParcel {
+    /// A parcel of which nothing is made yet.
+    pub fn new(alloc: Global, parcel: Parcel) -> PreparedParcel
+        ensures { result ≡ parcel }
+    {
+        PreparedParcel {
+            parcel,
+            arrivals: Vec::new(alloc),
+        }
+    }
+
+    /// Makes what the documents make where they are new, and come from a session's feed at the sequences of some rows,
+    /// and what they enter among its arrivals. It stays the same parcel.
+    pub fn prepare(
+        &mut self,
+        alloc: Global,
+        session: SessionId,
+        rows: &[Row],
+    ) -> Result<(), AllocError>
+        ensures same { self.new ≡ self.old }
+    {
+        let arrivals = arrivals_of(alloc, self.parcel.docs())?;
+        self.parcel.prepare(alloc, session, rows)?;
+        self.arrivals = arrivals;
+        Ok(())
+    }
+
+    /// The parcel.
+    pub fn parcel(&self) -> &Parcel
+        ensures { result.now ≡ self.now }
+    {
+        &self.parcel
+    }
+
+    /// The asked, the documents, the gone revisions, what was made of the documents, and what the first of them enter
+    /// among the arrivals.
+    pub(crate) fn into_parts(
+        self,
+    ) -> (
+        Asked,
+        Vec<Doc>,
+        Vec<(DocId, Rev)>,
+        Vec<Option<PreparedTree>>,
+        Vec<Written>,
+    )
+        ensures parts { self ≡ record { asked = result.0; docs = result.1.items; gone = result.2.items } }
+        ensures made { AreMade result.1.items result.3.items }
+        ensures arrivals { AreArrivalsOf result.1.items result.4.items }
+    {
+        let PreparedParcel { parcel, arrivals } = self;
+        let (asked, docs, gone, made) = parcel.into_parts();
+        (asked, docs, gone, made, arrivals)
+    }
+}
+
+/// What documents enter among the arrivals.
+fn arrivals_of(alloc: Global, docs: &[Doc]) -> Result<Vec<Written>, AllocError>
+    ensures { IfOk result (λ all. all.items ≡ map written_of docs.now) }
+{
+    let mut all = Vec::with_capacity(alloc, docs.len())?;
+    for doc in docs {
+        let written = Written::of(alloc, doc)?;
+        all.push(written)?;
+    }
+    Ok(all)
+}

@@ -1,0 +1,7 @@
+use Rattle.proof_prelude.proofs.{ap}
+use Rattle.script_databases.specs.{Program}
+use Rattle.command_api.proofs.{taken_back}
+use Rattle.write_commands.proofs.edit.EditCommandRefLine.serve.Goals as goal
+
+pub returns : goal.returns
+returns g c = taken_back _ c.edit_loud-served.result c.edit_loud-served.new.answer.items _ (ap (λ (p : Program). p.quiet) c.settings.ensures) c.hush.ensures c.edit_loud-served.ensures
