@@ -245,8 +245,7 @@ def counted(words, lines, name, folder):
 
 def kept_at_most(words, lines, name, folder):
     """The peak memory of a program on some lines, in KB, as the system reports it before the run's input ends: when a line
-    after
-    them fails, or when couch_lines has read all of its input.
+    after them fails, or when couch_lines has read all of its input.
 
     A child's `rusage` would include the memory of this script, from which the child was forked.
     """
