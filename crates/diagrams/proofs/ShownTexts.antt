@@ -1,50 +1,39 @@
 -- A text that is shown has no hidden character, and in XML none that is markup.
-use Rattle.proof_prelude.proofs.{◌≡◌, ℕ, ◌/◌, ◌%◌, ◌<◌, ◌≤◌, ◌==◌, ◌||◌, nat_le, Bool, true, false, if◌then◌else◌, List, [], ◌∷◌, ◌++◌, refl, sym, ap, ◌∙◌, append_assoc, arith, encode_utf8_all, codes, list_any, digit_char, lt-leb, or_from, and_left, and_right, nat_tests, list_any-append, flat_map-append, encodes-append, append-nil}
-use Rattle.diagrams.specs.{Form, IsEscaped, IsSafe, IsSeen, done, entity_of, escape_of, is_hidden, is_markup, named, plain, shown, shown_char}
+use Rattle.proof_prelude.proofs.{◌≡◌, ℕ, ◌+◌, ◌-◌, ◌/◌, ◌%◌, ◌<◌, ◌≤◌, ◌==◌, ◌||◌, nat_lt, Bool, true, false, if◌then◌else◌, List, [], ◌∷◌, ◌++◌, refl, sym, ap, ◌∙◌, append_assoc, arith, encode_utf8_all, codes, list_any, digit_char, or_from, or_parts, nat_tests, list_any-append, flat_map-append, encodes-append, append-nil}
+use Rattle.visible_text.specs.{IsSeen, escape_of, is_hidden, unit_of}
+use Rattle.visible_text.proofs.{escape_seen}
+use Rattle.diagrams.specs.{Form, IsEscaped, IsSafe, done, entity_of, is_markup, named, plain, shown, shown_char}
 use Rattle.diagrams.specs.declared.form.Form.TheVariants.{Text, Svg}
 
 by_if : {X : Type 0} (P : X → Type 0) (b : Bool) (x y : X) → (b ≡ true → P x) → (b ≡ false → P y) → P (if b then x else y)
 by_if P true x y f g = f refl
 by_if P false x y f g = g refl
 
--- a printable character of ASCII is seen
-printable : (n : ℕ) → 32 ≤ n → n ≤ 126 → is_hidden n ≡ false
-printable n low high =
-    let a : nat_le n 31 ≡ false = lt-leb n 31 (omega arith) in
-    let b : nat_le 127 n ≡ false = lt-leb 127 n (omega arith) in
-    let c : nat_le 8203 n ≡ false = lt-leb 8203 n (omega arith) in
-    let d : nat_le 8232 n ≡ false = lt-leb 8232 n (omega arith) in
-    let e : nat_le 8288 n ≡ false = lt-leb 8288 n (omega arith) in
-    let f : nat_le 65279 n ≡ false = lt-leb 65279 n (omega arith) in
-    let g : nat_le 65534 n ≡ false = lt-leb 65534 n (omega arith) in
-    or_from _ _ (or_from _ _ (or_from _ _ (or_from _ _ (or_from _ _ (or_from _ _ (and_right _ _ a) (and_left _ _ b))
-    (and_left _ _ c)) (and_left _ _ d)) (and_left _ _ e)) (and_left _ _ f)) (and_left _ _ g)
+-- ---- an escape has no markup
 
 digit_low : (d : ℕ) → d < 16 → (48 ≤ digit_char d) × (digit_char d ≤ 102)
 digit_low d low = grind (arith, nat_tests)
 
-digit_seen : (d : ℕ) → d < 16 → is_hidden (digit_char d) ≡ false
-digit_seen d low =
-    let h = digit_low d low in
-    printable (digit_char d) (omega (arith, h.0)) (omega (arith, h.1))
-
 digit_plain : (d : ℕ) → d < 16 → is_markup (digit_char d) ≡ false
 digit_plain d low = let h = digit_low d low in grind (arith, nat_tests, h.0)
 
--- a hidden character has four hexadecimal digits
-hidden_low : (c : ℕ) → is_hidden c ≡ true → c < 65536
-hidden_low c h = grind (arith, nat_tests)
-
-escape_seen : (c : ℕ) → is_hidden c ≡ true → list_any is_hidden (escape_of c) ≡ false
-escape_seen c h =
-    let low = hidden_low c h in
-    let a = digit_seen (c / 4096) (omega (arith, low)) in
-    let b = digit_seen (c / 256 % 16) (omega arith) in
-    let d = digit_seen (c / 16 % 16) (omega arith) in
-    let e = digit_seen (c % 16) (omega arith) in
+unit_plain : (n : ℕ) → list_any is_markup (unit_of n) ≡ false
+unit_plain n =
+    let a = digit_plain (n / 4096 % 16) (omega arith) in
+    let b = digit_plain (n / 256 % 16) (omega arith) in
+    let d = digit_plain (n / 16 % 16) (omega arith) in
+    let e = digit_plain (n % 16) (omega arith) in
     or_from _ _ a (or_from _ _ b (or_from _ _ d (or_from _ _ e refl)))
 
+escape_plain : (c : ℕ) → list_any is_markup (escape_of c) ≡ false
+escape_plain c =
+    by_if (λ t. list_any is_markup t ≡ false) (nat_lt c 0x10000) (unit_of c) (unit_of (0xD800 + (c - 0x10000) / 1024) ++ unit_of (0xDC00 + c % 1024))
+    (λ h. unit_plain c)
+    (λ h. list_any-append is_markup (unit_of (0xD800 + (c - 0x10000) / 1024)) (unit_of (0xDC00 + c % 1024))
+    ∙ or_from _ _ (unit_plain (0xD800 + (c - 0x10000) / 1024)) (unit_plain (0xDC00 + c % 1024)))
+
 entity_seen : (c : ℕ) → is_hidden c ≡ false → list_any is_hidden (entity_of c) ≡ false
+unfolding is_hidden
 entity_seen c h =
     let P : List ℕ → Type 0 = λ t. list_any is_hidden t ≡ false in
     by_if P (c == 38) (codes "&amp;") _ (λ e. refl) (λ e.
@@ -54,9 +43,9 @@ entity_seen c h =
 
 char_seen : (form : Form) (c : ℕ) → list_any is_hidden (shown_char form c) ≡ false
 char_seen Text c =
-    by_if (λ (t : List ℕ). list_any is_hidden t ≡ false) (is_hidden c) (escape_of c) (c ∷ []) (escape_seen c) (λ h. or_from _ _ h refl)
+    by_if (λ (t : List ℕ). list_any is_hidden t ≡ false) (is_hidden c) (escape_of c) (c ∷ []) (λ h. escape_seen c) (λ h. or_from _ _ h refl)
 char_seen Svg c =
-    by_if (λ (t : List ℕ). list_any is_hidden t ≡ false) (is_hidden c) (escape_of c) (entity_of c) (escape_seen c) (entity_seen c)
+    by_if (λ (t : List ℕ). list_any is_hidden t ≡ false) (is_hidden c) (escape_of c) (entity_of c) (λ h. escape_seen c) (entity_seen c)
 
 pub seen_shown : (form : Form) (cs : List ℕ) → IsSeen (shown form cs)
 seen_shown form [] = refl
@@ -64,16 +53,16 @@ seen_shown form (c ∷ cs) =
     list_any-append is_hidden (shown_char form c) (shown form cs)
     ∙ (ap (λ b. b || list_any is_hidden (shown form cs)) (char_seen form c) ∙ seen_shown form cs)
 
+-- text without markup and hidden characters before escaped text
+plain_escaped : (cs rest : List ℕ) → IsSeen cs → list_any is_markup cs ≡ false → IsEscaped rest → IsEscaped (cs ++ rest)
+plain_escaped [] rest h m k = k
+plain_escaped (c ∷ cs) rest h m k =
+    let p = or_parts (is_hidden c) (list_any is_hidden cs) h in
+    let q = or_parts (is_markup c) (list_any is_markup cs) m in
+    plain p.0 q.0 (plain_escaped cs rest p.1 q.1 k)
+
 escape_escaped : (c : ℕ) (rest : List ℕ) → is_hidden c ≡ true → IsEscaped rest → IsEscaped (escape_of c ++ rest)
-escape_escaped c rest h k =
-    let low = hidden_low c h in
-    let a : c / 4096 < 16 = omega (arith, low) in
-    let b : c / 256 % 16 < 16 = omega arith in
-    let d : c / 16 % 16 < 16 = omega arith in
-    let e : c % 16 < 16 = omega arith in
-    plain refl refl (plain refl refl
-    (plain (digit_seen _ a) (digit_plain _ a) (plain (digit_seen _ b) (digit_plain _ b)
-    (plain (digit_seen _ d) (digit_plain _ d) (plain (digit_seen _ e) (digit_plain _ e) k)))))
+escape_escaped c rest h k = plain_escaped (escape_of c) rest (escape_seen c) (escape_plain c) k
 
 entity_escaped : (c : ℕ) (rest : List ℕ) → is_hidden c ≡ false → IsEscaped rest → IsEscaped (entity_of c ++ rest)
 entity_escaped c rest h k =

@@ -1,7 +1,7 @@
 pub mod Shown
 pub mod Ink
 pub mod Drawing
-pub use Shown.{IsEscaped, IsSafe, IsSeen, done, entity_of, escape_of, is_hidden, is_markup, named, plain, shown, shown_char}
+pub use Shown.{IsEscaped, IsSafe, done, entity_of, is_markup, named, plain, shown, shown_char}
 pub use Ink.{Draws, Piece, Sign, bar, bars_of, caption, chart, count, counts_of, edit, edit_of, edits_of, filled, found, heading, ink_of, label_text}
 pub use Ink.{leaf, leaf_sign, listed, log, mark, moment, most_from, node_label, number, ratio, reached, shape_text, share, short, short_text}
 pub use Ink.{shown_text, sign, sign_in, sign_ink, signs_of, signs_of_found, signs_of_log, signs_of_row, signs_of_session, table_text, title, whole}

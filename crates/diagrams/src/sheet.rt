@@ -4,7 +4,8 @@ ghost use Rattle.std.specs.Char.{digit_char};
 ghost use Rattle.rev_core.specs.Text.{rev_text};
 ghost use Rattle.diagrams.specs.declared.form.Form.TheVariants.{Svg, Text};
 ghost use Rattle.diagrams.specs.Ink.{Draws, edit, leaf, markup_text, short_text, shown_text, title};
-ghost use Rattle.diagrams.specs.Shown.{IsEscaped, IsSeen, entity_of, escape_of, is_hidden, seen_char, shown, shown_char};
+ghost use Rattle.diagrams.specs.Shown.{IsEscaped, entity_of, seen_char, shown, shown_char};
+ghost use Rattle.visible_text.specs.Visible.{IsSeen, escape_of, is_hidden};
 
 use crate::form::Form;
 use crate::labels::{label_text, node_label, shape_text};
@@ -12,6 +13,7 @@ use crate::markup::Markup;
 use itoa::Buffer;
 use rev_core::Rev;
 use std::alloc::AllocError;
+use visible_text::{is_hidden, push_escape};
 
 /// Draws markup.
 pub fn mark(out: &mut Vec<u8>, markup: Markup) -> Result<(), AllocError>
@@ -170,18 +172,6 @@ fn push_shown(out: &mut String, form: Form, text: &str) -> Result<(), AllocError
     Ok(())
 }
 
-/// Whether a character is escaped because it is invisible, moves other characters, or is not allowed in XML.
-fn is_hidden(c: char) -> bool
-    ensures { result ≡ is_hidden c }
-{
-    match c {
-        '\0'..='\u{1f}' | '\u{7f}'..='\u{9f}' => true,
-        '\u{200b}'..='\u{200f}' | '\u{2028}'..='\u{202e}' | '\u{2060}'..='\u{206f}' => true,
-        '\u{feff}' | '\u{fffe}'..='\u{ffff}' => true,
-        _ => false,
-    }
-}
-
 /// Appends a character, escaped if necessary.
 fn push_char(out: &mut String, form: Form, c: char) -> Result<(), AllocError>
     ensures { OnOk result (string_bytes out.new ≡ string_bytes out.old ++ encode_utf8_all (shown_char form c)) }
@@ -205,30 +195,5 @@ fn push_entity(out: &mut String, c: char) -> Result<(), AllocError>
         '>' => out.push_str("&gt;"),
         '"' => out.push_str("&quot;"),
         c => out.push(c),
-    }
-}
-
-/// Appends a hidden character as `\u` and four hexadecimal digits.
-fn push_escape(out: &mut String, c: char) -> Result<(), AllocError>
-    requires { c < 65536 }
-    ensures { OnOk result (string_bytes out.new ≡ string_bytes out.old ++ encode_utf8_all (escape_of c)) }
-{
-    let code = c as u32;
-    out.push_str("\\u")?;
-    out.push(hex_digit(code / 4096))?;
-    out.push(hex_digit(code / 256 % 16))?;
-    out.push(hex_digit(code / 16 % 16))?;
-    out.push(hex_digit(code % 16))
-}
-
-/// A hexadecimal digit.
-fn hex_digit(digit: u32) -> char
-    requires { digit < 16 }
-    ensures { result ≡ digit_char digit }
-{
-    if digit < 10 {
-        char::from(b'0' + digit as u8)
-    } else {
-        char::from(b'a' + (digit as u8 - 10))
     }
 }

@@ -1,1 +1,2 @@
 pub mod Told
+pub use Told.{AddsSeen, IsTold, beginning}

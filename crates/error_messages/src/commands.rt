@@ -279,13 +279,13 @@ fn is_side(text: &str) -> bool {
 /// Describes a type.
 fn wanted(kind: &Kind) -> &'static str {
     match kind {
-        Kind::Name => "is to be a name, 1 to 32 letters, digits, - or _",
-        Kind::Text => "is to be a text",
-        Kind::Texts => "is to be a list of texts",
-        Kind::Whole => "is to be a whole number from 0 on",
-        Kind::Flag => "is to be true or false",
-        Kind::Uuid => "is to be a UUID",
-        Kind::Side => "is to be source or target",
+        Kind::Name => "must be 1 to 32 letters, digits, - or _",
+        Kind::Text => "must be a string",
+        Kind::Texts => "must be a list of strings",
+        Kind::Whole => "must be a non-negative integer",
+        Kind::Flag => "must be true or false",
+        Kind::Uuid => "must be a UUID",
+        Kind::Side => "must be \"source\" or \"target\"",
         Kind::Any => "may be any value",
     }
 }

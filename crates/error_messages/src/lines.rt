@@ -1,6 +1,6 @@
 //! Writes the explanation of a failed line.
-ghost use Rattle.std.specs.Prelude.{◌≡◌, ℕ, ◌++◌, List, OnOk};
-ghost use Rattle.error_messages.specs.Told.{AddsTo, IsTold, beginning};
+ghost use Rattle.std.specs.Prelude.{◌≡◌, ℕ, ◌++◌, List, OnOk, string_bytes};
+ghost use Rattle.error_messages.specs.Told.{AddsSeen, IsTold, beginning};
 
 use crate::commands::{CommandFault, fault_of};
 use crate::places::push_place;
@@ -14,32 +14,37 @@ use std::alloc::{AllocError, Global};
 /// if the line shows it, and the meaning of the name (docs/PROFILE.md, "Names of refusals"). Strings of the line are
 /// printed as JSON.
 ///
-/// The contract allows any reason between the start of the text and its line end.
+/// The contract guarantees that the explanation is one line: the reason between its start and its line end is any text
+/// with no hidden character.
+///
+/// # Errors
+///
+/// Returns `AllocError` if an allocation fails; then part of the explanation may have been appended.
 pub fn explain(
     values: &mut ValueReader,
     alloc: Global,
     number: u64,
     line: &[u8],
     name: &str,
-    text: &mut Vec<u8>,
+    text: &mut String,
 ) -> Result<(), AllocError>
-    ensures told { OnOk result (IsTold number name.now text.old.items text.new.items) }
+    ensures told { OnOk result (IsTold number name.now (string_bytes text.old) (string_bytes text.new)) }
 {
     push_beginning(text, number, name)?;
     push_reason(values, alloc, line, name, text)?;
-    push_words(text, "\n")
+    text.push_str("\n")
 }
 
 /// Appends the number of the line and the error name.
-fn push_beginning(text: &mut Vec<u8>, number: u64, name: &str) -> Result<(), AllocError>
-    ensures { OnOk result (text.new.items ≡ text.old.items ++ beginning number name.now) }
+fn push_beginning(text: &mut String, number: u64, name: &str) -> Result<(), AllocError>
+    ensures { OnOk result (string_bytes text.new ≡ string_bytes text.old ++ beginning number name.now) }
 {
     let mut digits = Buffer::new();
-    push_words(text, "line ")?;
-    text.extend_from_slice(digits.format(number).as_bytes())?;
-    push_words(text, ": ")?;
-    push_words(text, name)?;
-    push_words(text, ": ")
+    text.push_str("line ")?;
+    text.push_str(digits.format(number))?;
+    text.push_str(": ")?;
+    text.push_str(name)?;
+    text.push_str(": ")
 }
 
 /// Appends what is at fault, and the meaning of the error name.
@@ -48,9 +53,9 @@ fn push_reason(
     alloc: Global,
     line: &[u8],
     name: &str,
-    text: &mut Vec<u8>,
+    text: &mut String,
 ) -> Result<(), AllocError>
-    ensures { OnOk result (AddsTo text.old.items text.new.items) }
+    ensures { OnOk result (AddsSeen (string_bytes text.old) (string_bytes text.new)) }
 {
     if let Ok(line) = values.read_line(alloc, line) {
         if is_same_text("BadCommand", name) {
@@ -62,16 +67,19 @@ fn push_reason(
 }
 
 /// Appends why an object is not a command.
-fn push_fault(text: &mut Vec<u8>, fault: &CommandFault<'_>) -> Result<(), AllocError>
-    ensures { OnOk result (AddsTo text.old.items text.new.items) }
+fn push_fault(text: &mut String, fault: &CommandFault<'_>) -> Result<(), AllocError>
+    ensures { OnOk result (AddsSeen (string_bytes text.old) (string_bytes text.new)) }
 {
     match fault {
-        CommandFault::NoWord => push_words(text, "a command has a member \"do\" that is a text"),
-        CommandFault::UnknownWord(word) => push_named(text, "no word is called ", word),
-        CommandFault::UnknownMember(member) => push_named(text, "the word has no member ", member),
-        CommandFault::Missing(member) => push_named(text, "the word wants a member ", member),
+        CommandFault::NoWord => push_words(
+            text,
+            "a command must have a member \"do\" that is a string",
+        ),
+        CommandFault::UnknownWord(word) => push_named(text, "unknown command ", word),
+        CommandFault::UnknownMember(member) => push_named(text, "unknown member ", member),
+        CommandFault::Missing(member) => push_named(text, "missing member ", member),
         CommandFault::WrongKind(member, wanted) => {
-            push_named(text, "the member ", member)?;
+            push_named(text, "member ", member)?;
             push_words(text, " ")?;
             push_words(text, wanted)
         }

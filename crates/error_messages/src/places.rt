@@ -1,6 +1,6 @@
 //! Finds the document, member or databases at fault in a line.
-ghost use Rattle.std.specs.Prelude.{OnOk};
-ghost use Rattle.error_messages.specs.Told.{AddsTo};
+ghost use Rattle.std.specs.Prelude.{OnOk, string_bytes};
+ghost use Rattle.error_messages.specs.Told.{AddsSeen};
 
 use crate::texts::{push_named, push_words};
 use doc_json::has_fraction;
@@ -9,11 +9,11 @@ use std::alloc::AllocError;
 
 /// Appends what is at fault and a colon. Appends nothing if that is unknown.
 pub(crate) fn push_place(
-    text: &mut Vec<u8>,
+    text: &mut String,
     name: &str,
     object: &LineValue<'_>,
 ) -> Result<(), AllocError>
-    ensures { OnOk result (AddsTo text.old.items text.new.items) }
+    ensures { OnOk result (AddsSeen (string_bytes text.old) (string_bytes text.new)) }
 {
     if !is_same_text("NoDatabase", name)
         && let Some(id) = id_of(object)

@@ -6,109 +6,124 @@ use json_values::is_same_text;
 static SENTENCES: &[(&str, &str)] = &[
     (
         "Attachments",
-        "a document with attachments is not loaded as it is; couch_lines load --whole puts them into an envelope",
+        "documents with attachments are not accepted; couch_lines load --whole puts them into envelopes",
     ),
-    ("BadBatch", "a batch is 1 to 10,000 documents"),
-    ("BadCommand", "the object is no command"),
+    ("BadBatch", "batch must be 1 to 10000"),
+    ("BadCommand", "the object is not a command"),
     (
         "BadGeneration",
-        "a revision id begins with a generation and a hyphen",
+        "a revision id must begin with a generation and a hyphen",
     ),
-    ("BadLine", "the line is no JSON object"),
-    ("BadMoment", "a moment is at most the end of the year 9999"),
+    ("BadLine", "the line is not a JSON object"),
+    ("BadMoment", "the timestamp must be before the year 10000"),
     (
         "BadRevisions",
-        "_revisions is to be an ancestry, newest first: {\"start\":N,\"ids\":[..]} with at most N signatures",
+        "_revisions must be an ancestry, newest first: {\"start\":N,\"ids\":[..]} with at most N ids",
     ),
     (
         "BadSig",
-        "a revision id has a signature behind its first hyphen",
+        "a revision id must have a signature after its first hyphen: 1 to 64 letters, digits, hyphens, underscores or periods",
     ),
-    ("BackupExists", "the database has a copy of that name"),
+    ("BackupExists", "the database has a backup of that name"),
     (
         "BoardFull",
-        "a word of the board that shows progress would pass its limit",
+        "a counter of the progress board would exceed its limit",
     ),
     (
         "Conflict",
-        "the parent is no leaf of the document, or none is named and a leaf is live: ask with show which leaves there are",
+        "\"parent\" is not a leaf of the document, or it is missing and the document has a live leaf; list the leaves with show",
     ),
     (
         "Contradiction",
         "a given revision has another parent in the document's tree",
     ),
-    ("CountFull", "a count of the session would pass its limit"),
+    ("CountFull", "a count of the session would exceed its limit"),
     (
         "DatabaseExists",
-        "a UUID is given for a database that is there",
+        "a UUID is given for a database that exists",
     ),
     (
         "EmptyLog",
-        "nothing was replicated so, or the log of that side has no entry",
+        "this replication has no log on that side: it has never run, or never recorded a checkpoint there",
     ),
-    ("ForeignParcel", "documents are of no window of the session"),
+    (
+        "ForeignParcel",
+        "the documents belong to no window of the session",
+    ),
     (
         "Fraction",
-        "a number that is neither an i64 nor a u64; couch_lines load --whole puts such members into an envelope",
+        "a number is not a 64-bit integer; couch_lines load --whole puts such members into an envelope",
     ),
-    ("GenerationFull", "the parent has the greatest generation"),
-    ("GoalBelowStart", "the session has its goal below its start"),
-    ("Hole", "a leaf of the source isn't covered"),
+    (
+        "GenerationFull",
+        "the parent has the greatest possible generation",
+    ),
+    ("GoalBelowStart", "the session's goal is below its start"),
+    (
+        "Hole",
+        "a leaf of the source is missing in the target and was not refused",
+    ),
     (
         "IsTarget",
-        "something was replicated into the database, so it is neither copied nor put back",
+        "the database has been a replication target, so it cannot be backed up or restored",
     ),
-    ("LifeFull", "no life of the database is left"),
-    ("Memory", "an allocation was refused"),
-    ("NoBackup", "the database has no copy of that name"),
-    ("NoDatabase", "no database has the name; load makes one"),
-    ("NoId", "an id is a text that is not empty"),
-    ("NoRev", "a loaded document has a _rev, or _revisions"),
-    ("NoSuchDocument", "the database has no document of the id"),
+    (
+        "LifeFull",
+        "the database cannot be restored again, because its life number is at the limit",
+    ),
+    ("Memory", "an allocation failed"),
+    ("NoBackup", "the database has no backup of that name"),
+    (
+        "NoDatabase",
+        "no database has that name; create it with load",
+    ),
+    ("NoId", "the id must be a non-empty string"),
+    ("NoRev", "a loaded document must have _rev or _revisions"),
+    (
+        "NoSuchDocument",
+        "the database has no document with that id",
+    ),
     (
         "NoSuchRevision",
-        "the document has no such revision, or it is an ancestor that came without its content",
+        "the document has no such revision, or the revision is an ancestor whose content is unknown",
     ),
-    ("NoSuchSession", "the target has no session of that id"),
-    (
-        "NoWorkers",
-        "a replication has 1 to 64 workers, or is alone",
-    ),
-    ("NoneChosen", "a choice of documents has at least one id"),
-    ("NotObject", "a document and a body are JSON objects"),
+    ("NoSuchSession", "the target has no session with that id"),
+    ("NoWorkers", "workers must be 1 to 64, unless alone is true"),
+    ("NoneChosen", "doc_ids must have at least one id"),
+    ("NotObject", "a document and a body must be JSON objects"),
     (
         "ReservedId",
-        "an id begins with _ only where it is that of a design document",
+        "an id must not begin with _, unless it is that of a design document",
     ),
     (
         "RevExists",
-        "the revision that the edit makes is there already",
+        "the revision that this edit makes exists already",
     ),
-    ("RevMismatch", "_rev is to be the newest of _revisions"),
-    ("SamePeer", "source and target are one database"),
+    (
+        "RevMismatch",
+        "_rev must equal the first revision of _revisions",
+    ),
+    ("SamePeer", "source and target are the same database"),
     (
         "SeqFull",
-        "the update sequence of the database is the greatest one",
+        "the update sequence of the database is at its limit",
     ),
-    ("SessionExists", "the target holds a session of that id"),
+    ("SessionExists", "the target has a session with that id"),
     (
         "SpecialMember",
-        "members of documents that begin with _ are _id, _rev, _revisions and _deleted, which is true or false",
+        "members that begin with _ must be _id, _rev, _revisions or _deleted, and _deleted must be true or false",
     ),
     (
         "Stopped",
-        "a window was settled in part, since memory or sequences were wanting",
+        "only part of a window was written: no memory, or no update sequence, was left",
     ),
-    (
-        "TooManyChosen",
-        "a choice of documents has at most 1,000 ids",
-    ),
-    ("TooManyWorkers", "a replication has 1 to 64 workers"),
+    ("TooManyChosen", "doc_ids must have at most 1000 ids"),
+    ("TooManyWorkers", "workers must be 1 to 64"),
     (
         "Uncovered",
-        "a leaf of a window is not covered by what was fetched",
+        "a leaf of a window is missing in what was fetched",
     ),
-    ("UuidTaken", "another database has the UUID"),
+    ("UuidTaken", "another database has that UUID"),
 ];
 
 /// The meaning of an error name, or a text that it has none.
@@ -118,5 +133,5 @@ pub(crate) fn sentence_of(name: &str) -> &'static str {
             return row.1;
         }
     }
-    "no line is refused so"
+    "no line fails with this name"
 }

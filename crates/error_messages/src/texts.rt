@@ -1,21 +1,28 @@
-//! Parts of the explanation.
-ghost use Rattle.std.specs.Prelude.{◌≡◌, ◌++◌, OnOk};
-ghost use Rattle.json.specs.Print.{quoted};
+//! Parts of an explanation. No character of them is hidden.
+ghost use Rattle.std.specs.Prelude.{string_bytes, OnOk};
+ghost use Rattle.error_messages.specs.Told.{AddsSeen};
 
-use doc_json::push_text;
 use std::alloc::AllocError;
+use visible_text::{push_quoted, push_visible};
 
-/// Appends a text unchanged.
-pub(crate) fn push_words(text: &mut Vec<u8>, words: &str) -> Result<(), AllocError>
-    ensures { OnOk result (text.new.items ≡ text.old.items ++ words.now) }
+/// Appends words, with the escape of each hidden character.
+pub(crate) fn push_words(text: &mut String, words: &str) -> Result<(), AllocError>
+    ensures { OnOk result (AddsSeen (string_bytes text.old) (string_bytes text.new)) }
 {
-    text.extend_from_slice(words.as_bytes())
+    push_visible(text, words)
 }
 
-/// Appends a text, and a string of the line as JSON. JSON escapes only the control characters below U+0020.
-pub(crate) fn push_named(text: &mut Vec<u8>, words: &str, name: &str) -> Result<(), AllocError>
-    ensures { OnOk result (text.new.items ≡ text.old.items ++ words.now ++ quoted name.now) }
+/// Appends words and a string of the line, as a JSON string with no hidden character.
+pub(crate) fn push_named(text: &mut String, words: &str, name: &str) -> Result<(), AllocError>
+    ensures { OnOk result (AddsSeen (string_bytes text.old) (string_bytes text.new)) }
 {
     push_words(text, words)?;
-    push_text(text, name)
+    push_json(text, name)
+}
+
+/// Appends a string as JSON, with no hidden character.
+fn push_json(text: &mut String, name: &str) -> Result<(), AllocError>
+    ensures { OnOk result (AddsSeen (string_bytes text.old) (string_bytes text.new)) }
+{
+    push_quoted(text, name)
 }

@@ -1,0 +1,2 @@
+pub mod Escapes
+pub use Escapes.{between, both_units, escape_seen, more_chars, seen_quoted, seen_visible}
