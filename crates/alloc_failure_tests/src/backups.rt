@@ -1,4 +1,4 @@
-//! `Peer::backup` and `restore`. A refused growth leaves a peer as it was.
+//! `Peer::backup` and `restore`. A failed allocation leaves a peer unchanged.
 use crate::peers::load;
 use anyhow::{Result, bail};
 use repl_log::{Moment, RepId};
@@ -14,11 +14,11 @@ const REP: RepId = RepId {
     chosen: None,
 };
 
-/// What is seen of a peer: the life and the update sequence of its database, how many local writes it has, and how many
-/// entries the log of the replication.
+/// What is observed of a peer: the life and the update sequence of its database, the number of local writes, and the
+/// number of entries in the log of the replication.
 type Seen = (u64, u64, usize, usize);
 
-/// How many entries the log of the replication has.
+/// Returns the number of entries in the log of the replication.
 fn entries(alloc: Global, peer: &Peer<Rules>) -> Option<usize> {
     match peer.source_log(alloc, &REP) {
         Err(AllocError) => Some(peer.source_log(alloc, &REP).ok()?.len()),
@@ -34,7 +34,7 @@ fn look(alloc: Global, peer: &Peer<Rules>) -> Option<Seen> {
     Some((db.life(), db.update_seq(), peer.locals().len(), entries))
 }
 
-/// Puts the entry of a session.
+/// Stores the entry of a session.
 fn put_entry(peer: &mut Peer<Rules>, session: u128, at: Moment) -> Option<()> {
     let session = SessionId(session);
     match peer.put_entry(&REP, bare_entry(session, 0, at)) {
@@ -65,7 +65,7 @@ fn restore(alloc: Global, peer: &mut Peer<Rules>, backup: &Backup) -> Option<()>
     }
 }
 
-/// Loads two documents, and puts two entries.
+/// Loads two documents, and stores two entries.
 fn fill(alloc: Global, peer: &mut Peer<Rules>) -> Option<()> {
     load(
         alloc,
@@ -84,7 +84,7 @@ fn fill(alloc: Global, peer: &mut Peer<Rules>) -> Option<()> {
     put_entry(peer, 2, at)
 }
 
-/// Changes what was copied, and more.
+/// Changes what was backed up, and more.
 fn go_on(alloc: Global, peer: &mut Peer<Rules>) -> Option<()> {
     load(
         alloc,
@@ -97,7 +97,7 @@ fn go_on(alloc: Global, peer: &mut Peer<Rules>) -> Option<()> {
     put_entry(peer, 3, Moment::new(11).ok()?)
 }
 
-/// Copies a peer, goes on with it, and puts it back. Tells how it was before that, and how it is then.
+/// Backs up a peer, changes it, and restores it. Returns the observations before the backup and after the restore.
 fn put_back(alloc: Global, peer: &mut Peer<Rules>) -> Option<(Seen, Seen)> {
     let Some(()) = fill(alloc, peer) else {
         return None;
@@ -117,7 +117,7 @@ fn put_back(alloc: Global, peer: &mut Peer<Rules>) -> Option<(Seen, Seen)> {
     Some((before, look(alloc, peer)?))
 }
 
-/// The same of a peer without documents.
+/// The same for a new peer.
 fn of_one(alloc: Global) -> Option<(Seen, Seen)> {
     let mut peer = Peer::new(alloc, 1, Rules { deny: None });
     put_back(alloc, &mut peer)

@@ -1,4 +1,4 @@
-//! Choices of documents, and what is replicated under them: a refused growth leaves everything as it was.
+//! Selections of documents, and replications with them. A failed allocation changes nothing.
 use crate::peers::load;
 use crate::replications::{is_memory, is_nothing, plan};
 use anyhow::{Result, bail};
@@ -8,7 +8,7 @@ use repl_log::{Moment, RepId, rep_id};
 use repl_target::{Peer, Report, Rules, audit, hole_above, replicate_alone};
 use std::alloc::{AllocError, Global};
 
-/// The id of a text.
+/// Parses a document id.
 fn id(alloc: Global, text: &str) -> Option<DocId> {
     match DocId::parse(alloc, text) {
         Err(DocFault::Memory) => DocId::parse(alloc, text).ok(),
@@ -16,7 +16,7 @@ fn id(alloc: Global, text: &str) -> Option<DocId> {
     }
 }
 
-/// Two ids, one of them twice.
+/// Returns two ids, one of them twice.
 fn ids(alloc: Global) -> Option<Vec<DocId>> {
     let mut ids = Vec::new(alloc);
     for text in ["f", "d", "f"] {
@@ -35,7 +35,7 @@ fn ids(alloc: Global) -> Option<Vec<DocId>> {
     Some(ids)
 }
 
-/// The choice of these ids, and once more where memory was refused.
+/// Creates the selection of these ids; retries if an allocation fails.
 fn choose(alloc: Global) -> Option<Chosen> {
     match Chosen::new(ids(alloc)?) {
         Err(DocFault::Memory) => Chosen::new(ids(alloc)?).ok(),
@@ -43,7 +43,7 @@ fn choose(alloc: Global) -> Option<Chosen> {
     }
 }
 
-/// The length of the text of a replication's id under a choice.
+/// Returns the length of the text of a replication id with a selection.
 fn named(alloc: Global, chosen: &Chosen) -> Option<usize> {
     let Ok(rep) = RepId::new(1, 2, Some(chosen)).ok()?.copy(alloc) else {
         return None;
@@ -54,7 +54,7 @@ fn named(alloc: Global, chosen: &Chosen) -> Option<usize> {
     }
 }
 
-/// The page of a source under a choice.
+/// Reads the page of a source with a selection.
 fn page(alloc: Global, source: &Peer<Rules>, chosen: &Chosen) -> Option<Window> {
     let goal = source.db().update_seq();
     match source.page(alloc, 0, goal, 10, Some(chosen)) {
@@ -63,7 +63,7 @@ fn page(alloc: Global, source: &Peer<Rules>, chosen: &Chosen) -> Option<Window> 
     }
 }
 
-/// Whether an audit of the chosen documents finds nothing.
+/// Whether an audit of the selected documents is clean.
 fn is_clean(
     alloc: Global,
     source: &Peer<Rules>,
@@ -77,7 +77,7 @@ fn is_clean(
     Some(is_nothing(found?))
 }
 
-/// Whether the target covers all of the source's chosen documents, and not all of its documents.
+/// Whether the target covers all selected documents of the source, and not all of its documents.
 fn has_them_alone(
     alloc: Global,
     source: &Peer<Rules>,
@@ -95,7 +95,7 @@ fn has_them_alone(
     Some(is_nothing(some?) && !is_nothing(all?))
 }
 
-/// Replicates the chosen documents by a session.
+/// Replicates the selected documents in a session.
 fn carry(
     alloc: Global,
     source: &mut Peer<Rules>,
@@ -111,7 +111,7 @@ fn carry(
     }
 }
 
-/// Replicates the chosen documents, and once more by another session where memory was refused.
+/// Replicates the selected documents; retries with another session if an allocation fails.
 fn replicate(
     alloc: Global,
     source: &mut Peer<Rules>,
@@ -129,7 +129,7 @@ fn replicate(
     }
 }
 
-/// Loads three documents, of which two are chosen.
+/// Loads three documents, two of which are selected.
 fn fill(alloc: Global, source: &mut Peer<Rules>) -> Option<()> {
     let Some(_put) = load(alloc, source, r#"{"_id":"d","_rev":"1-a"}"#) else {
         return None;
@@ -143,11 +143,11 @@ fn fill(alloc: Global, source: &mut Peer<Rules>) -> Option<()> {
     Some(())
 }
 
-/// What is seen: the length of the replication's id, how many rows the page has, what was recorded, the target's
-/// sequence, and whether the target has the chosen documents alone.
+/// What is observed: the length of the replication id, the number of rows of the page, the recorded sequence, the
+/// target's sequence, and whether the target has only the selected documents.
 type Seen = (usize, usize, u64, u64, bool);
 
-/// What is seen of two peers after a replication of chosen documents.
+/// Returns the observations of two peers after a replication of selected documents.
 fn ended(alloc: Global, source: &mut Peer<Rules>, target: &mut Peer<Rules>) -> Option<Seen> {
     let Some(()) = fill(alloc, source) else {
         return None;
@@ -175,13 +175,13 @@ fn ended(alloc: Global, source: &mut Peer<Rules>, target: &mut Peer<Rules>) -> O
     ))
 }
 
-/// The replication into a target. Nothing else lives beside a peer: each value adds to its proof.
+/// Replicates into a target. A function of its own, because each value beside a peer adds to the proof.
 fn into_target(alloc: Global, source: &mut Peer<Rules>) -> Option<Seen> {
     let mut target = Peer::new(alloc, 2, Rules { deny: None });
     ended(alloc, source, &mut target)
 }
 
-/// The replication of a source and a target.
+/// Replicates between a source and a target.
 fn between(alloc: Global) -> Option<Seen> {
     let mut source = Peer::new(alloc, 1, Rules { deny: None });
     into_target(alloc, &mut source)

@@ -1,5 +1,5 @@
-//! `Database::put`, `edit`, `page`, `revs_diff`, `open_revs`, `count_asked` and `copy_in`, the copies of their messages, and
-//! `Parcel::prepare`. A refused growth leaves a database as it was.
+//! `Database::put`, `edit`, `page`, `revs_diff`, `open_revs`, `count_asked` and `copy_in`, the copies of their
+//! messages, and `Parcel::prepare`. A failed allocation leaves a database unchanged.
 use anyhow::{Result, bail};
 use couch_base::{Asked, BaseFault, Database, Parcel, Put, Row, Window};
 use doc_json::{Body, Doc, DocFault, DocId, read_body, read_doc};
@@ -38,7 +38,7 @@ fn doc_id(alloc: Global, text: &str) -> Result<DocId> {
     }
 }
 
-/// The update sequence, and how many revisions and leaves a document has, and which leaf wins.
+/// Returns the update sequence, the numbers of revisions and leaves of a document, and its winner.
 fn reading(db: &Database, id: &DocId) -> (u64, usize, usize, Option<Rev>) {
     match db.tree(id) {
         Some(tree) => (
@@ -51,7 +51,7 @@ fn reading(db: &Database, id: &DocId) -> (u64, usize, usize, Option<Rev>) {
     }
 }
 
-/// The sequences of the feed, summed with their places.
+/// Returns the sum of the sequences of the feed, weighted by their positions.
 fn feed(alloc: Global, db: &Database) -> Result<u64> {
     if db.update_seq() == 0 {
         return Ok(0);
@@ -153,7 +153,7 @@ fn put_all(alloc: Global, db: &mut Database) -> Result<()> {
     Ok(())
 }
 
-/// Edits a document, and once more above the new revision where that is wanted.
+/// Edits a document, and again above the new revision if `twice` is true.
 fn edit_id(alloc: Global, db: &mut Database, id: &str, body: &Body, twice: bool) -> Result<()> {
     let id = doc_id(alloc, id)?;
     let rev = edit(alloc, db, &id, None, body)?;
@@ -163,7 +163,7 @@ fn edit_id(alloc: Global, db: &mut Database, id: &str, body: &Body, twice: bool)
     Ok(())
 }
 
-/// Puts and edits: four documents, two of them edited.
+/// Puts and edits four documents, two of which are edited.
 fn grow(alloc: Global, db: &mut Database) -> Result<()> {
     put_all(alloc, db)?;
     let body = body(alloc, r#"{"n":2}"#)?;
@@ -171,13 +171,13 @@ fn grow(alloc: Global, db: &mut Database) -> Result<()> {
     edit_id(alloc, db, "d", &body, false)
 }
 
-/// How many documents are fetched of what is asked, and how many revisions are gone.
+/// Returns the number of fetched documents, and of gone revisions.
 fn fetched(alloc: Global, db: &Database, asked: &Asked) -> Result<(usize, usize)> {
     let parcel = opened(alloc, db, asked)?;
     Ok((parcel.docs().len(), parcel.gone().len()))
 }
 
-/// How many documents there are of what is asked.
+/// Returns the number of documents for a request.
 fn asked_count(alloc: Global, db: &Database, asked: &Asked) -> Result<u128> {
     match db.count_asked(alloc, asked) {
         Err(AllocError) => Ok(db.count_asked(alloc, asked)?),
@@ -185,7 +185,7 @@ fn asked_count(alloc: Global, db: &Database, asked: &Asked) -> Result<u128> {
     }
 }
 
-/// Makes a parcel's documents ready for a session.
+/// Prepares a parcel's documents for a session.
 fn prepare(alloc: Global, parcel: &mut Parcel, window: &Window) -> Result<()> {
     match parcel.prepare(alloc, SessionId(1), window.rows()) {
         Err(AllocError) => Ok(parcel.prepare(alloc, SessionId(1), window.rows())?),
@@ -204,7 +204,7 @@ fn put_row(alloc: Global, db: &mut Database, docs: &[Doc], row: &Row) -> Result<
     Ok(())
 }
 
-/// Puts the documents of a window, made ready, into a database of none: its update sequence then.
+/// Puts the prepared documents of a window into an empty database. Returns its update sequence.
 fn arrived(alloc: Global, window: &Window, parcel: Parcel) -> Result<u64> {
     let mut db = Database::new(alloc, 9);
     let mut parcel = parcel;
@@ -216,7 +216,7 @@ fn arrived(alloc: Global, window: &Window, parcel: Parcel) -> Result<u64> {
     Ok(db.update_seq())
 }
 
-/// What the exchange with a database of no documents counts.
+/// The counts of an exchange with an empty database.
 #[derive(Clone, Copy)]
 struct Counts {
     rows: usize,
@@ -227,7 +227,7 @@ struct Counts {
     arrived: u64,
 }
 
-/// Asks for a window for a database of no documents, fetches from both, and puts what was fetched.
+/// Requests a window for an empty database, fetches from both databases, and puts what was fetched.
 fn counted(alloc: Global, db: &Database, empty: &Database, window: &Window) -> Result<Counts> {
     let asked = asked(alloc, empty, window)?;
     let (count, _) = fetched(alloc, db, &asked)?;
@@ -242,14 +242,14 @@ fn counted(alloc: Global, db: &Database, empty: &Database, window: &Window) -> R
     })
 }
 
-/// Exchanges the whole feed with a database of no documents.
+/// Exchanges the complete feed with an empty database.
 fn exchanged(alloc: Global, db: &Database, empty: &Database) -> Result<Counts> {
     let page = page(alloc, db, 0, 10)?;
     let window = window_copied(alloc, &page)?;
     counted(alloc, db, empty, &window)
 }
 
-/// The same documents in the next life.
+/// Copies the documents into the next life.
 fn db_copied(alloc: Global, db: &Database) -> Result<Database> {
     match db.copy_in(alloc, 1) {
         Err(AllocError) => Ok(db.copy_in(alloc, 1)?),
@@ -270,7 +270,8 @@ fn session(alloc: Global, db: &mut Database, empty: &Database) -> Result<(u64, C
     copy_exchanged(alloc, db, empty)
 }
 
-/// The session of two databases. Few values live beside a database: each adds to its proof at every step.
+/// Runs the session of two databases. Few values are alive beside a database, because each adds to the proof of every
+/// step.
 fn between(alloc: Global) -> Result<(u64, Counts)> {
     let mut db = Database::new(alloc, 7);
     let empty = Database::new(alloc, 8);

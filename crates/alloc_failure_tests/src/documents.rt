@@ -5,11 +5,11 @@ use rev_core::{Rev, RevFault, new_rev};
 use serde_json::Value;
 use std::alloc::{AllocError, Global};
 
-/// The text of a document.
+/// A serialized document.
 const TEXT: &[u8] =
     b"{\"_id\":\"d\",\"_rev\":\"3-c\",\"_revisions\":{\"start\":3,\"ids\":[\"c\",\"b\",\"a\"]},\"_deleted\":true,\"n\":[1,{\"m\":\"x\"}]}";
 
-/// The JSON value of the text.
+/// Parses a JSON value.
 fn value(alloc: Global, text: &[u8]) -> Option<Value> {
     match Value::from_slice(alloc, text) {
         Ok(value) => Some(value),
@@ -38,7 +38,7 @@ fn written(alloc: Global, doc: &Doc) -> Result<Vec<u8>, AllocError> {
     }
 }
 
-/// The id d.
+/// Returns the id d.
 fn id(alloc: Global) -> Result<DocId, DocFault> {
     match DocId::parse(alloc, "d") {
         Err(DocFault::Memory) => DocId::parse(alloc, "d"),
@@ -46,7 +46,7 @@ fn id(alloc: Global) -> Result<DocId, DocFault> {
     }
 }
 
-/// The body of a value.
+/// Reads the body of a value.
 fn body(alloc: Global, members: &Value) -> Result<Body, DocFault> {
     match read_body(alloc, members) {
         Err(DocFault::Memory) => read_body(alloc, members),
@@ -54,7 +54,7 @@ fn body(alloc: Global, members: &Value) -> Result<Body, DocFault> {
     }
 }
 
-/// The revision that an edit without a parent gives.
+/// Returns the revision of an edit without a parent.
 fn revised(alloc: Global, text: &[u8]) -> Result<Rev, RevFault> {
     match new_rev(alloc, None, false, text) {
         Err(RevFault::Memory) => new_rev(alloc, None, false, text),
@@ -70,7 +70,7 @@ fn is_named(alloc: Global) -> bool {
     }
 }
 
-/// Whether an edit with a body gives a revision of the first generation.
+/// Whether an edit with a body gives a revision of generation 1.
 fn is_first(alloc: Global, text: &[u8]) -> bool {
     match revised(alloc, text) {
         Ok(rev) => rev.generation() == 1,
@@ -78,7 +78,7 @@ fn is_first(alloc: Global, text: &[u8]) -> bool {
     }
 }
 
-/// Whether the body of a value is as it is to be, and an edit with it.
+/// Whether the body of a value, and an edit with it, are as expected.
 fn is_edited(alloc: Global, members: &Value) -> bool {
     match body(alloc, members) {
         Ok(body) => body.text() == b"{\"n\":1}".as_slice() && is_first(alloc, body.text()),
@@ -86,7 +86,7 @@ fn is_edited(alloc: Global, members: &Value) -> bool {
     }
 }
 
-/// Whether the id and the body of an edit, and the revision that it gives, are as they are to be.
+/// Whether the id and the body of an edit, and its revision, are as expected.
 fn edited(alloc: Global) -> bool {
     match value(alloc, b"{\"n\":1}") {
         Some(members) => is_named(alloc) && is_edited(alloc, &members),
@@ -118,7 +118,7 @@ fn is_read(alloc: Global, value: &Value) -> bool {
     }
 }
 
-/// Whether the text is read and written.
+/// Whether the text is read and written as expected.
 fn of_text(alloc: Global) -> bool {
     match value(alloc, TEXT) {
         Some(value) => is_read(alloc, &value),

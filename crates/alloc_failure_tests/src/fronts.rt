@@ -3,7 +3,7 @@ use anyhow::{Result, bail};
 use range_front::{Front, FrontFault};
 use std::alloc::{AllocError, Global};
 
-/// Appends, and once more where memory was refused.
+/// Appends a window; retries if an allocation fails.
 fn appended(front: &mut Front, hi: u64) -> Result<(), FrontFault> {
     match front.append(hi) {
         Err(FrontFault::Memory) => front.append(hi),
@@ -11,7 +11,7 @@ fn appended(front: &mut Front, hi: u64) -> Result<(), FrontFault> {
     }
 }
 
-/// Reserves, and once more where memory was refused.
+/// Reserves space; retries if an allocation fails.
 fn reserved(front: &mut Front) -> Result<(), AllocError> {
     match front.reserve() {
         Err(AllocError) => front.reserve(),
@@ -19,7 +19,7 @@ fn reserved(front: &mut Front) -> Result<(), AllocError> {
     }
 }
 
-/// Where the windows end.
+/// The ends of the windows.
 static ENDS: &[u64] = &[2, 4, 6, 8, 10];
 
 /// Whether all windows could be appended.
@@ -31,15 +31,15 @@ fn grows(front: &mut Front) -> bool {
     grows
 }
 
-/// Whether a window could be finished: with room there is no want of memory, so the first answer counts.
+/// Whether a window could be finished. Space is reserved, so the first result counts.
 fn finishes(front: &mut Front, lo: u64) -> bool {
     reserved(front).is_ok() && front.finish(lo, lo.saturating_add(2)).is_ok()
 }
 
-/// Where the windows begin that are finished, in that order.
+/// The beginnings of the windows to finish, in order.
 static BEGINNINGS: &[u64] = &[2, 6, 0, 4];
 
-/// The low water after them, where all could be finished.
+/// Returns the low water after finishing, if all could be finished.
 fn ended(alloc: Global) -> Option<u64> {
     let mut front = Front::new(alloc, 0);
     let mut well = grows(&mut front);

@@ -5,13 +5,13 @@ use rev_tree::SessionId;
 use std::alloc::{AllocError, Global};
 use test_support::bare_entry;
 
-/// The entry of a session that recorded up to the sequence of its own number and read nothing.
+/// Creates the entry of the session with this number, which recorded up to this number and read nothing.
 fn entry(recorded: u64) -> Result<Entry, LogFault> {
     let at = Moment::new(1_381_384_598)?;
     Ok(bare_entry(SessionId(u128::from(recorded)), recorded, at))
 }
 
-/// Puts, and once more where memory was refused. Says whether a refusal changed the log.
+/// Stores an entry; retries if an allocation fails. Returns whether a failure changed the log.
 fn put(log: &mut Log, recorded: u64) -> Result<bool, LogFault> {
     let before = log.len();
     match log.put(entry(recorded)?) {
@@ -45,7 +45,7 @@ fn written(alloc: Global, id: &RepId, log: &Log) -> Result<Vec<u8>, LogFault> {
     }
 }
 
-/// Puts into the log of a replication, and once more where memory was refused.
+/// Stores an entry in the log of a replication; retries if an allocation fails.
 fn put_into(logs: &mut Logs, id: &RepId, recorded: u64) -> Result<(), LogFault> {
     match logs.put(id, entry(recorded)?) {
         Err(LogFault::Memory) => logs.put(id, entry(recorded)?),
@@ -67,7 +67,7 @@ fn copy_of(alloc: Global, logs: &Logs, id: &RepId) -> Result<Log, AllocError> {
     }
 }
 
-/// The replication from 1 into a database.
+/// Returns the id of the replication from 1 into a database.
 fn from_one(target: u64) -> RepId {
     RepId {
         source: 1,
@@ -76,7 +76,7 @@ fn from_one(target: u64) -> RepId {
     }
 }
 
-/// Whether six entries, two of each replication, could be put.
+/// Whether six entries, two for each replication, could be stored.
 fn fills(logs: &mut Logs) -> bool {
     let mut fills = true;
     for number in 0..6u64 {
@@ -93,7 +93,7 @@ fn has_two(alloc: Global, logs: &Logs, target: u64) -> bool {
     }
 }
 
-/// Two entries in the log of each of three replications, and in a copy.
+/// Whether each of three replications has two entries in its log, and in a copy.
 fn by_replication(alloc: Global) -> bool {
     let mut logs = Logs::new(alloc);
     if !fills(&mut logs) {
@@ -107,7 +107,7 @@ fn by_replication(alloc: Global) -> bool {
     }
 }
 
-/// Whether five entries could be put, and no refusal changed the log.
+/// Whether five entries could be stored, and no failure changed the log.
 fn grows(log: &mut Log) -> bool {
     let mut grows = true;
     for recorded in 1..6u64 {
@@ -116,7 +116,7 @@ fn grows(log: &mut Log) -> bool {
     grows
 }
 
-/// Whether the id of a replication has the length that it is to have.
+/// Whether the text of a replication id has the expected length.
 fn is_named(alloc: Global, id: &RepId) -> bool {
     match named(alloc, id) {
         Ok(name) => name.len() == 32 + 1 + 32,
@@ -124,7 +124,7 @@ fn is_named(alloc: Global, id: &RepId) -> bool {
     }
 }
 
-/// Whether a log is written with the id before it.
+/// Whether a log is written with its id in front.
 fn is_written(alloc: Global, id: &RepId, log: &Log) -> bool {
     match written(alloc, id, log) {
         Ok(text) => text.starts_with(b"{\"_id\":\"_local/00000000000000000000000000000001-"),
@@ -132,7 +132,7 @@ fn is_written(alloc: Global, id: &RepId, log: &Log) -> bool {
     }
 }
 
-/// Whether a log grows, and its copy is written as wanted.
+/// Whether a log grows, and its copy is written as expected.
 fn of_one(alloc: Global) -> bool {
     let mut log = Log::new(alloc);
     if !grows(&mut log) {

@@ -1,5 +1,5 @@
-//! Calls each function that may want memory, and calls it once more where a growth was refused: then every run prints
-//! the same, whichever allocation fails. `.ci/refused-growths` refuses each of them in turn.
+//! Calls each function that may allocate, and retries if an allocation fails, so every run prints the same, whichever
+//! allocation fails. `.ci/refused-growths` fails each of them in turn.
 #![tactic(auto)]
 
 mod backups;

@@ -1,5 +1,5 @@
-//! Calls on a net: after a refused growth nothing was added or written, no audit finds a hole, and the same hops by
-//! further sessions end where they would have.
+//! Calls on a network. After a failed allocation nothing was added or written, audits are clean, and the same hops with
+//! further sessions end as they would have.
 use crate::peers::{body, doc, doc_id};
 use crate::replications::{is_memory, is_nothing, plan};
 use anyhow::{Result, bail};
@@ -9,10 +9,10 @@ use repl_network::{Hop, Net, NetFault};
 use repl_target::{Plan, Rules};
 use std::alloc::Global;
 
-/// How many peers the net has.
+/// The number of peers.
 const PEERS: usize = 3;
 
-/// Whether a call was refused for want of memory.
+/// Whether a call ran out of memory.
 fn is_wanting(fault: NetFault) -> bool {
     match fault {
         NetFault::Memory => true,
@@ -22,7 +22,7 @@ fn is_wanting(fault: NetFault) -> bool {
     }
 }
 
-/// Adds a peer, once more where memory was refused.
+/// Adds a peer; retries if an allocation fails.
 fn add(alloc: Global, net: &mut Net<Rules>, uuid: u128) -> Option<usize> {
     match net.add(alloc, uuid, Rules { deny: None }) {
         Ok(place) => Some(place),
@@ -35,7 +35,7 @@ fn add(alloc: Global, net: &mut Net<Rules>, uuid: u128) -> Option<usize> {
     }
 }
 
-/// Loads a document, once more where memory was refused.
+/// Loads a document; retries if an allocation fails.
 fn load(alloc: Global, net: &mut Net<Rules>, place: usize, text: &str) -> Option<()> {
     let Some(doc) = doc(alloc, text) else {
         return None;
@@ -51,7 +51,7 @@ fn load(alloc: Global, net: &mut Net<Rules>, place: usize, text: &str) -> Option
     Some(())
 }
 
-/// Edits a document, once more where memory was refused.
+/// Edits a document; retries if an allocation fails.
 fn edit(alloc: Global, net: &mut Net<Rules>, place: usize, id: &str) -> Option<()> {
     let Some(id) = doc_id(alloc, id) else {
         return None;
@@ -70,7 +70,7 @@ fn edit(alloc: Global, net: &mut Net<Rules>, place: usize, id: &str) -> Option<(
     Some(())
 }
 
-/// Whether an audit finds nothing; once more where memory was refused.
+/// Whether an audit is clean; retries if an allocation fails.
 fn is_clean(alloc: Global, net: &Net<Rules>, source: usize, target: usize) -> bool {
     let found = match net.audit(alloc, source, target, None) {
         Ok(found) => Some(found),
@@ -82,7 +82,7 @@ fn is_clean(alloc: Global, net: &Net<Rules>, source: usize, target: usize) -> bo
     }
 }
 
-/// Whether all audits find nothing.
+/// Whether all audits are clean.
 fn are_clean(alloc: Global, net: &Net<Rules>) -> bool {
     let mut clean = true;
     for source in 0..PEERS {
@@ -93,7 +93,7 @@ fn are_clean(alloc: Global, net: &Net<Rules>) -> bool {
     clean
 }
 
-/// A chain from the second peer over the third to the first.
+/// Returns a chain of hops from the second peer through the third to the first.
 fn hops(alloc: Global, first: u128, at: Moment) -> Option<Vec<Hop>> {
     let mut hops = Vec::new(alloc);
     let hop = Hop {
@@ -115,7 +115,7 @@ fn hops(alloc: Global, first: u128, at: Moment) -> Option<Vec<Hop>> {
     Some(hops)
 }
 
-/// The same, once more where memory was refused.
+/// As `hops`; retries if an allocation fails.
 fn some_hops(alloc: Global, first: u128, at: Moment) -> Option<Vec<Hop>> {
     match hops(alloc, first, at) {
         Some(hops) => Some(hops),
@@ -123,7 +123,7 @@ fn some_hops(alloc: Global, first: u128, at: Moment) -> Option<Vec<Hop>> {
     }
 }
 
-/// Replicates along the chain, and once more by further sessions where memory was refused.
+/// Replicates along the chain; retries with further sessions if an allocation fails.
 fn along(alloc: Global, net: &mut Net<Rules>, at: Moment) -> Option<()> {
     let Some(first) = some_hops(alloc, 1, at) else {
         return None;
@@ -142,7 +142,7 @@ fn along(alloc: Global, net: &mut Net<Rules>, at: Moment) -> Option<()> {
     Some(())
 }
 
-/// A plan for each peer behind the hub.
+/// Returns a plan for each peer other than the hub.
 fn plans(alloc: Global, first: u128, at: Moment) -> Option<Vec<Plan>> {
     let mut plans = Vec::new(alloc);
     let Ok(()) = plans.push(plan(first, at)) else {
@@ -154,7 +154,7 @@ fn plans(alloc: Global, first: u128, at: Moment) -> Option<Vec<Plan>> {
     Some(plans)
 }
 
-/// The same, once more where memory was refused.
+/// As `plans`; retries if an allocation fails.
 fn some_plans(alloc: Global, first: u128, at: Moment) -> Option<Vec<Plan>> {
     match plans(alloc, first, at) {
         Some(plans) => Some(plans),
@@ -162,7 +162,7 @@ fn some_plans(alloc: Global, first: u128, at: Moment) -> Option<Vec<Plan>> {
     }
 }
 
-/// Replicates by the hub, and once more by further sessions where memory was refused.
+/// Replicates through the hub; retries with further sessions if an allocation fails.
 fn by_hub(alloc: Global, net: &mut Net<Rules>, at: Moment) -> Option<()> {
     let Some(there) = some_plans(alloc, 5, at) else {
         return None;
@@ -187,7 +187,7 @@ fn by_hub(alloc: Global, net: &mut Net<Rules>, at: Moment) -> Option<()> {
     Some(())
 }
 
-/// The update sequences of all peers, summed up.
+/// Returns the sum of the update sequences of all peers.
 fn sequences(net: &Net<Rules>) -> Option<u64> {
     let mut sum = 0u64;
     for place in 0..PEERS {
@@ -196,7 +196,7 @@ fn sequences(net: &Net<Rules>) -> Option<u64> {
     Some(sum)
 }
 
-/// What is written and replicated in a net of three peers: the sum of their sequences, and whether audits are clean.
+/// Writes and replicates in a network of three peers. Returns the sum of their sequences, and whether audits are clean.
 fn ended(alloc: Global, net: &mut Net<Rules>) -> Option<(u64, bool)> {
     let Ok(at) = Moment::new(10) else {
         return None;
@@ -228,7 +228,7 @@ fn ended(alloc: Global, net: &mut Net<Rules>) -> Option<(u64, bool)> {
     Some((sequences(net)?, clean))
 }
 
-/// The same. Nothing else lives beside the net.
+/// As `ended`, for a new network. Nothing else is alive beside the network.
 fn of_net(alloc: Global) -> Option<(u64, bool)> {
     let mut net = Net::new(alloc);
     ended(alloc, &mut net)

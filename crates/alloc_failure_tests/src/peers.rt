@@ -1,4 +1,5 @@
-//! `Peer`: its local writes, its sessions, and settling. A refused growth leaves a peer as the call says.
+//! `Peer`: its local writes, its sessions, and settling. A failed allocation leaves a peer as the contract of the call
+//! says.
 use anyhow::{Result, bail};
 use couch_base::{Asked, BaseFault, Parcel, Put, Window};
 use doc_json::{Body, Doc, DocFault, DocId, read_body, read_doc};
@@ -9,7 +10,7 @@ use rev_tree::SessionId;
 use serde_json::Value;
 use std::alloc::{AllocError, Global};
 
-/// The one session.
+/// The only session.
 const SESSION: SessionId = SessionId(1);
 
 /// The replication from the peer 1 to the peer 2.
@@ -122,7 +123,7 @@ fn opened(alloc: Global, peer: &Peer<Rules>, asked: &Asked) -> Option<Parcel> {
     }
 }
 
-/// From 0 to a goal, in life 0 of the source.
+/// Returns the parameters of a session from 0 to a goal, in life 0 of the source.
 fn beginning(goal: u64) -> Beginning {
     let scope = Scope {
         rep: REP,
@@ -152,7 +153,7 @@ fn append(alloc: Global, peer: &mut Peer<Rules>, window: &Window) -> Option<()> 
     }
 }
 
-/// How many documents stand where settling stopped for want of memory, and how many came back.
+/// Returns the number of settled documents if settling ran out of memory, and the number of returned ones.
 fn stopped(fault: TargetFault) -> Option<(u64, usize)> {
     match fault {
         TargetFault::Stopped {
@@ -164,7 +165,7 @@ fn stopped(fault: TargetFault) -> Option<(u64, usize)> {
     }
 }
 
-/// How many documents the session read, and how many leaves it checked.
+/// Returns the numbers of documents read and of leaves checked by the session.
 fn counted(peer: &Peer<Rules>) -> Option<(u64, u64)> {
     let Ok(entry) = peer.entry(SESSION) else {
         return None;
@@ -172,7 +173,7 @@ fn counted(peer: &Peer<Rules>) -> Option<(u64, u64)> {
     Some((entry.counts.read, entry.counts.checked))
 }
 
-/// Settles, and once more where memory was refused.
+/// Settles; retries if an allocation fails.
 fn settle(
     alloc: Global,
     peer: &mut Peer<Rules>,
@@ -227,7 +228,7 @@ fn prefix(alloc: Global) -> Option<String> {
     }
 }
 
-/// Begins the session with the source's whole feed, and asks for what the target misses.
+/// Begins the session with the source's complete feed, and requests what the target lacks.
 fn ask(alloc: Global, source: &Peer<Rules>, target: &mut Peer<Rules>, at: Moment) -> Option<Asked> {
     let Some(window) = page(alloc, source) else {
         return None;
@@ -259,7 +260,7 @@ fn replicate(
     Some((settled, target.conclude(SESSION, at).ok()?))
 }
 
-/// Prints what the session did.
+/// Prints the result of the session.
 fn tell(rt: &impl Print, settled: Settled, report: Report, sequence: u64) -> Result<()> {
     println!(rt;
         "peers as wanted: written {}, failures {}, recorded {}, checked {}, sequence {sequence}",
@@ -268,8 +269,8 @@ fn tell(rt: &impl Print, settled: Settled, report: Report, sequence: u64) -> Res
     Ok(())
 }
 
-/// The peers' session: what it settled, its report, and the target's sequence. The target holds a tree that contradicts
-/// one of the source's.
+/// Runs the peers' session. Returns what it settled, its report, and the target's sequence. The target has a tree that
+/// contradicts one of the source's.
 fn session(
     alloc: Global,
     source: &mut Peer<Rules>,
@@ -289,7 +290,8 @@ fn session(
     Some((settled, report, target.db().update_seq()))
 }
 
-/// The session with a target that refuses documents. Nothing else lives beside a peer: each value adds to its proof.
+/// Runs the session with a target that refuses documents. A function of its own, because each value beside a peer adds
+/// to the proof.
 fn into_target(
     alloc: Global,
     source: &mut Peer<Rules>,
@@ -299,13 +301,13 @@ fn into_target(
     session(alloc, source, &mut target)
 }
 
-/// The session of a source and a target.
+/// Runs the session of a source and a target.
 fn between(alloc: Global, deny: Option<String>) -> Option<(Settled, Report, u64)> {
     let mut source = Peer::new(alloc, 1, Rules { deny: None });
     into_target(alloc, &mut source, deny)
 }
 
-/// The session with a target that refuses the documents of the prefix.
+/// Runs the session with a target that refuses the documents of a prefix.
 fn refusing(alloc: Global) -> Option<(Settled, Report, u64)> {
     let Some(deny) = prefix(alloc) else {
         return None;

@@ -1,5 +1,5 @@
-//! `run` of the pool with one worker in each crew: after a refused growth both peers come back, an audit finds nothing,
-//! and a further run ends at the goal.
+//! `run` of the pool with one fetcher and one writer. After a failed allocation both peers are returned, an audit is
+//! clean, and a further run ends at the goal.
 use crate::peers::load;
 use crate::replications::{is_clean, is_memory, plan};
 use anyhow::{Result, bail};
@@ -11,12 +11,12 @@ use std::mem;
 use std::sync::Wait;
 use std::thread::Threads;
 
-/// A peer that is taken from its place for a run.
+/// Takes a peer for a run.
 fn taken(alloc: Global, place: &mut Peer<Rules>) -> Peer<Rules> {
     mem::replace(place, Peer::new(alloc, 0, Rules { deny: None }))
 }
 
-/// Runs a session between two peers, which come back.
+/// Runs a session between two peers, and puts them back.
 fn once<R: Threads + Wait + Sync>(
     rt: &R,
     alloc: Global,
@@ -38,7 +38,7 @@ fn once<R: Threads + Wait + Sync>(
     outcome
 }
 
-/// Whether a run was refused for want of memory.
+/// Whether a run ran out of memory.
 fn is_want(fault: PoolFault) -> bool {
     match fault {
         PoolFault::Memory => true,
@@ -47,7 +47,7 @@ fn is_want(fault: PoolFault) -> bool {
     }
 }
 
-/// Runs, and once more by another session where memory was refused.
+/// Runs; retries with another session if an allocation fails.
 fn replicate<R: Threads + Wait + Sync>(
     rt: &R,
     alloc: Global,
@@ -81,7 +81,7 @@ fn fill(alloc: Global, source: &mut Peer<Rules>) -> Option<()> {
     Some(())
 }
 
-/// What the last run recorded, the target's sequence, and whether an audit is clean.
+/// Returns what the last run recorded, the target's sequence, and whether an audit is clean.
 fn ended<R: Threads + Wait + Sync>(
     rt: &R,
     alloc: Global,
@@ -101,7 +101,7 @@ fn ended<R: Threads + Wait + Sync>(
     Some((report.recorded, target.db().update_seq(), clean))
 }
 
-/// The runs into a target. Nothing else lives beside a peer: each value adds to its proof.
+/// Runs into a target. A function of its own, because each value beside a peer adds to the proof.
 fn into_target<R: Threads + Wait + Sync>(
     rt: &R,
     alloc: Global,
@@ -111,7 +111,7 @@ fn into_target<R: Threads + Wait + Sync>(
     ended(rt, alloc, source, &mut target)
 }
 
-/// The runs of a source and a target.
+/// Runs between a source and a target.
 fn between<R: Threads + Wait + Sync>(rt: &R, alloc: Global) -> Option<(u64, u64, bool)> {
     let mut source = Peer::new(alloc, 1, Rules { deny: None });
     into_target(rt, alloc, &mut source)

@@ -1,4 +1,4 @@
-//! `replicate_alone`: after a refused growth an audit finds nothing, and a further replication ends at the goal.
+//! `replicate_alone`. After a failed allocation an audit is clean, and a further replication ends at the goal.
 use crate::peers::load;
 use anyhow::{Result, bail};
 use repl_log::Moment;
@@ -6,7 +6,7 @@ use repl_target::{Audit, Cause, Peer, Plan, Report, Rules, TargetFault, audit, r
 use rev_tree::SessionId;
 use std::alloc::Global;
 
-/// The plan of a session with windows of one row.
+/// Creates the plan of a session with windows of one row.
 pub(crate) fn plan(session: u128, at: Moment) -> Plan {
     Plan {
         session: SessionId(session),
@@ -18,7 +18,7 @@ pub(crate) fn plan(session: u128, at: Moment) -> Plan {
     }
 }
 
-/// Whether a replication was refused for want of memory.
+/// Whether a replication ran out of memory.
 pub(crate) fn is_memory(fault: TargetFault) -> bool {
     match fault {
         TargetFault::Memory => true,
@@ -27,7 +27,7 @@ pub(crate) fn is_memory(fault: TargetFault) -> bool {
     }
 }
 
-/// Whether an audit finds nothing; once more where memory was refused.
+/// Whether an audit is clean; retries if an allocation fails.
 pub(crate) fn is_clean(alloc: Global, source: &Peer<Rules>, target: &Peer<Rules>) -> bool {
     let found = match audit(alloc, source, target, None).ok() {
         Some(found) => Some(found),
@@ -39,7 +39,7 @@ pub(crate) fn is_clean(alloc: Global, source: &Peer<Rules>, target: &Peer<Rules>
     }
 }
 
-/// Whether an audit found no hole.
+/// Whether the result of an audit is `Clean`.
 pub(crate) fn is_nothing(found: Audit) -> bool {
     match found {
         Audit::Clean => true,
@@ -47,7 +47,7 @@ pub(crate) fn is_nothing(found: Audit) -> bool {
     }
 }
 
-/// Replicates, and once more by another session where memory was refused.
+/// Replicates; retries with another session if an allocation fails.
 fn replicate(
     alloc: Global,
     source: &mut Peer<Rules>,
@@ -78,7 +78,7 @@ fn fill(alloc: Global, source: &mut Peer<Rules>) -> Option<()> {
     Some(())
 }
 
-/// What the last replication recorded, the target's sequence, and whether an audit is clean.
+/// Returns what the last replication recorded, the target's sequence, and whether an audit is clean.
 fn ended(
     alloc: Global,
     source: &mut Peer<Rules>,
@@ -97,13 +97,13 @@ fn ended(
     Some((report.recorded, target.db().update_seq(), clean))
 }
 
-/// The replications into a target. Nothing else lives beside a peer: each value adds to its proof.
+/// Replicates into a target. A function of its own, because each value beside a peer adds to the proof.
 fn into_target(alloc: Global, source: &mut Peer<Rules>) -> Option<(u64, u64, bool)> {
     let mut target = Peer::new(alloc, 2, Rules { deny: None });
     ended(alloc, source, &mut target)
 }
 
-/// The replications of a source and a target.
+/// Replicates between a source and a target.
 fn between(alloc: Global) -> Option<(u64, u64, bool)> {
     let mut source = Peer::new(alloc, 1, Rules { deny: None });
     into_target(alloc, &mut source)

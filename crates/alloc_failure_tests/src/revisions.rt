@@ -1,9 +1,9 @@
-//! `Rev::write`, `Ancestry::from_parts`, `Ancestry::copy`, `KeptRev::keep`, and the copies of what is kept.
+//! `Rev::write`, `Ancestry::from_parts`, `Ancestry::copy`, `KeptRev::keep`, and the copies of compact revisions.
 use anyhow::{Result, bail};
 use rev_core::{Ancestry, KeptRev, Rev, RevFault, Sig};
 use std::alloc::{AllocError, Global};
 
-/// The signatures c, b and a.
+/// Returns the signatures c, b and a.
 fn sigs() -> Result<[Sig; 3], RevFault> {
     match (Sig::parse(b"c"), Sig::parse(b"b"), Sig::parse(b"a")) {
         (Ok(c), Ok(b), Ok(a)) => Ok([c, b, a]),
@@ -11,7 +11,7 @@ fn sigs() -> Result<[Sig; 3], RevFault> {
     }
 }
 
-/// 3-c, 2-b, 1-a.
+/// Returns the ancestry 3-c, 2-b, 1-a.
 pub(crate) fn three(alloc: Global) -> Result<Ancestry, RevFault> {
     match sigs() {
         Ok(sigs) => of_sigs(alloc, &sigs),
@@ -19,7 +19,7 @@ pub(crate) fn three(alloc: Global) -> Result<Ancestry, RevFault> {
     }
 }
 
-/// The ancestry of three signatures, once more where memory was refused.
+/// Creates the ancestry of three signatures; retries if an allocation fails.
 fn of_sigs(alloc: Global, sigs: &[Sig]) -> Result<Ancestry, RevFault> {
     match Ancestry::from_parts(alloc, 3, sigs) {
         Err(RevFault::Memory) => Ancestry::from_parts(alloc, 3, sigs),
@@ -55,7 +55,7 @@ fn kept_copied(alloc: Global, rev: &KeptRev) -> Result<KeptRev, AllocError> {
     }
 }
 
-/// Whether a copy of what is kept of a revision is that revision.
+/// Whether a copy of a compact revision is equal to the revision.
 fn is_kept(alloc: Global, rev: &Rev) -> Option<bool> {
     let Ok(kept) = kept(alloc, rev) else {
         return None;
@@ -66,7 +66,7 @@ fn is_kept(alloc: Global, rev: &Rev) -> Option<bool> {
     }
 }
 
-/// Whether a revision whose signature has 33 bytes is kept.
+/// Whether a revision with a signature of 33 bytes can be stored.
 fn keeps_long(alloc: Global) -> Option<bool> {
     match Rev::parse(b"1-0123456789abcdef0123456789abcdef0") {
         Ok(long) => is_kept(alloc, &long),
@@ -74,7 +74,7 @@ fn keeps_long(alloc: Global) -> Option<bool> {
     }
 }
 
-/// Whether a revision is there, and written as a text.
+/// Whether a revision exists and is written as expected.
 fn is_text(alloc: Global, rev: Option<&Rev>, text: &[u8]) -> bool {
     let Some(rev) = rev else {
         return false;
@@ -85,10 +85,10 @@ fn is_text(alloc: Global, rev: Option<&Rev>, text: &[u8]) -> bool {
     }
 }
 
-/// The texts of the three revisions.
+/// The strings of the three revisions.
 static TEXTS: &[&[u8]] = &[b"3-c", b"2-b", b"1-a"];
 
-/// Whether some revisions are written as those texts.
+/// Whether the revisions are written as expected.
 fn are_texts(alloc: Global, revs: &[Rev]) -> bool {
     let mut same = revs.len() == TEXTS.len();
     for (i, text) in TEXTS.iter().enumerate() {
@@ -97,7 +97,7 @@ fn are_texts(alloc: Global, revs: &[Rev]) -> bool {
     same
 }
 
-/// Whether the copy of an ancestry has its revisions, which are written as they are to be.
+/// Whether the copy of an ancestry has its revisions, written as expected.
 fn is_copied(alloc: Global, ancestry: &Ancestry) -> Option<bool> {
     let Ok(copy) = copied(alloc, ancestry) else {
         return None;
@@ -108,7 +108,7 @@ fn is_copied(alloc: Global, ancestry: &Ancestry) -> Option<bool> {
     Some(are_texts(alloc, copy.revs()))
 }
 
-/// The same of the ancestry of three.
+/// As `is_copied`, for the ancestry of three revisions.
 fn three_copied(alloc: Global) -> Option<bool> {
     match three(alloc) {
         Ok(ancestry) => is_copied(alloc, &ancestry),

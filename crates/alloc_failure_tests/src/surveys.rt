@@ -1,4 +1,4 @@
-//! What is asked of two peers: after a refused growth the same question is answered as ever.
+//! Questions about two peers. After a failed allocation, the same question gives its usual result.
 use crate::peers::{doc_id, load};
 use anyhow::{Result, bail};
 use couch_base::Database;
@@ -10,7 +10,7 @@ use repl_target::{Peer, Rules};
 use rev_tree::Tree;
 use std::alloc::{AllocError, Global};
 
-/// Two leaves of one document, of which the target has one, with another history.
+/// Two leaves of one document, one of which the target has with another history.
 const SOURCE: [&str; 2] = [
     r#"{"_id":"d","_revisions":{"start":3,"ids":["d","b","a"]}}"#,
     r#"{"_id":"d","_revisions":{"start":2,"ids":["c","a"]}}"#,
@@ -21,7 +21,7 @@ const TARGET: [&str; 2] = [
     r#"{"_id":"d","_revisions":{"start":2,"ids":["c","a"]},"n":1}"#,
 ];
 
-/// A comparison, once more where memory was refused.
+/// Compares a document; retries if an allocation fails.
 fn compared(alloc: Global, source: &Database, target: &Database, id: &DocId) -> Option<Comparison> {
     match compare(alloc, source, target, id) {
         Err(AllocError) => compare(alloc, source, target, id).ok(),
@@ -29,7 +29,7 @@ fn compared(alloc: Global, source: &Database, target: &Database, id: &DocId) -> 
     }
 }
 
-/// A total, once more where memory was refused.
+/// Returns a total; retries if an allocation fails.
 fn total(alloc: Global, source: &Peer<Rules>, target: &Peer<Rules>) -> Option<Total> {
     match compare_feed(alloc, source, target, None) {
         Err(AllocError) => compare_feed(alloc, source, target, None).ok(),
@@ -37,7 +37,7 @@ fn total(alloc: Global, source: &Peer<Rules>, target: &Peer<Rules>) -> Option<To
     }
 }
 
-/// How much a database holds, once more where memory was refused.
+/// Counts the content of a database; retries if an allocation fails.
 fn census(alloc: Global, database: &Database) -> Option<Census> {
     match census_of(alloc, database) {
         Err(AllocError) => census_of(alloc, database).ok(),
@@ -45,7 +45,7 @@ fn census(alloc: Global, database: &Database) -> Option<Census> {
     }
 }
 
-/// Adds a tree, once more where memory was refused: nothing was added then.
+/// Adds a tree; retries if an allocation fails, in which case nothing was added.
 fn counted(alloc: Global, tree: &Tree) -> Option<Census> {
     let mut census = Census::none();
     if census.add(alloc, tree).is_err() {
@@ -59,7 +59,7 @@ fn counted(alloc: Global, tree: &Tree) -> Option<Census> {
     Some(census)
 }
 
-/// How many leaves are in conflict, once more where memory was refused.
+/// Returns the number of leaves in conflict; retries if an allocation fails.
 fn in_conflict(alloc: Global, tree: &Tree) -> Option<usize> {
     match conflicting(alloc, tree) {
         Err(AllocError) => Some(conflicting(alloc, tree).ok()?.len()),
@@ -67,7 +67,7 @@ fn in_conflict(alloc: Global, tree: &Tree) -> Option<usize> {
     }
 }
 
-/// How many documents the leaves make, once more where memory was refused.
+/// Returns the number of documents of all leaves; retries if an allocation fails.
 fn documents(alloc: Global, database: &Database, id: &DocId) -> Option<usize> {
     match documents_of(alloc, database, id) {
         Err(AllocError) => Some(documents_of(alloc, database, id).ok()?.len()),
@@ -75,7 +75,7 @@ fn documents(alloc: Global, database: &Database, id: &DocId) -> Option<usize> {
     }
 }
 
-/// What is said of the one document: how many leaves it has, how many are missing, and how many differ.
+/// Returns the numbers of leaves, missing leaves and differing leaves of the document.
 fn of_document(
     alloc: Global,
     source: &Database,
@@ -95,7 +95,7 @@ fn of_document(
     ))
 }
 
-/// How many leaves of the one document are in conflict, and how many documents they make.
+/// Returns the number of leaves in conflict, and of documents of the leaves.
 fn of_leaves(alloc: Global, database: &Database, id: &DocId) -> Option<(usize, usize)> {
     let Some(tree) = database.tree(id) else {
         return None;
@@ -106,7 +106,7 @@ fn of_leaves(alloc: Global, database: &Database, id: &DocId) -> Option<(usize, u
     Some((in_conflict(alloc, tree)?, documents(alloc, database, id)?))
 }
 
-/// Everything that is asked.
+/// Asks all questions.
 fn asked(alloc: Global, source: &Peer<Rules>, target: &Peer<Rules>) -> Option<bool> {
     let Some(id) = doc_id(alloc, "d") else {
         return None;

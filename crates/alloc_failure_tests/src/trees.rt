@@ -1,4 +1,4 @@
-//! `Tree::merge`, which leaves the tree as it was where a growth is refused, and the readings that want memory.
+//! `Tree::merge`, which leaves the tree unchanged if an allocation fails, and the read calls that allocate.
 use crate::revisions;
 use anyhow::{Result, bail};
 use rev_core::{Ancestry, Rev, Sig};
@@ -6,7 +6,7 @@ use rev_tree::{Content, Merged, Origin, Revs, Tree, TreeFault};
 use std::alloc::{AllocError, Global};
 use std::sync::ArcSlice;
 
-/// A live content of a body.
+/// Creates a live content with a body.
 fn content(alloc: Global, body: &[u8]) -> Result<Content, AllocError> {
     let text = match ArcSlice::from_slice(alloc, body) {
         Err(AllocError) => ArcSlice::from_slice(alloc, body)?,
@@ -15,12 +15,12 @@ fn content(alloc: Global, body: &[u8]) -> Result<Content, AllocError> {
     Ok(Content::new(false, text))
 }
 
-/// How many leaves and revisions there are, and which one wins.
+/// Returns the numbers of leaves and revisions, and the winner.
 fn reading(tree: &Tree) -> (usize, usize, Option<Rev>) {
     (tree.leaf_count(), tree.rev_count(), tree.winner())
 }
 
-/// Merges, and once more where memory was refused. Says whether a refusal changed the tree.
+/// Merges; retries if an allocation fails. Returns whether a failure changed the tree.
 fn merged(
     alloc: Global,
     tree: &mut Tree,
@@ -66,7 +66,7 @@ fn missing(alloc: Global, tree: &Tree, revs: &[Rev]) -> Result<Revs, AllocError>
     }
 }
 
-/// The ancestry of a generation and signatures, once more where it was refused.
+/// Creates the ancestry of a generation and signatures; retries if an allocation fails.
 fn of_sigs(alloc: Global, start: u32, sigs: &[Sig]) -> Option<Ancestry> {
     match Ancestry::from_parts(alloc, start, sigs) {
         Ok(ancestry) => Some(ancestry),
@@ -74,7 +74,7 @@ fn of_sigs(alloc: Global, start: u32, sigs: &[Sig]) -> Option<Ancestry> {
     }
 }
 
-/// 4-d, 3-x, one generation above nothing that is known.
+/// Returns the ancestry 4-d, 3-x, whose oldest revision has an unknown parent.
 fn other(alloc: Global) -> Option<Ancestry> {
     match (Sig::parse(b"d"), Sig::parse(b"x")) {
         (Ok(d), Ok(x)) => of_sigs(alloc, 4, &[d, x]),
@@ -82,7 +82,7 @@ fn other(alloc: Global) -> Option<Ancestry> {
     }
 }
 
-/// 12-l to 1-l: with them the revisions are too many to be walked, and have an index.
+/// Returns the ancestry 12-l to 1-l; with it the tree has too many revisions to be scanned, and has an index.
 fn long(alloc: Global) -> Option<Ancestry> {
     match Sig::parse(b"l") {
         Ok(sig) => of_sigs(alloc, 12, &[sig; 12]),
@@ -90,7 +90,7 @@ fn long(alloc: Global) -> Option<Ancestry> {
     }
 }
 
-/// Merges an ancestry, where there is one. Says whether that is answered as wanted, and no refusal changed the tree.
+/// Merges an optional ancestry. Returns whether the result is as expected, and no failure changed the tree.
 fn merges(alloc: Global, tree: &mut Tree, given: Option<&Ancestry>, wanted: Merged) -> bool {
     let Some(given) = given else {
         return false;
@@ -101,7 +101,7 @@ fn merges(alloc: Global, tree: &mut Tree, given: Option<&Ancestry>, wanted: Merg
     }
 }
 
-/// Merges the three ancestries, and the first of them once more. Says whether each is answered as wanted.
+/// Merges the three ancestries, and the first one again. Returns whether each result is as expected.
 fn grows(alloc: Global, tree: &mut Tree) -> bool {
     let three = revisions::three(alloc).ok();
     merges(alloc, tree, three.as_ref(), Merged::Changed)
@@ -117,7 +117,7 @@ fn copied(alloc: Global, tree: &Tree) -> Result<Tree, AllocError> {
     }
 }
 
-/// Whether the leaves above some revisions are one alone.
+/// Whether the leaves above some revisions are exactly one leaf.
 fn is_above(alloc: Global, tree: &Tree, revs: &[Rev], leaf: Rev) -> bool {
     match leaves_above(alloc, tree, revs) {
         Ok(above) => above.as_slice() == [leaf].as_slice(),
@@ -125,7 +125,7 @@ fn is_above(alloc: Global, tree: &Tree, revs: &[Rev], leaf: Rev) -> bool {
     }
 }
 
-/// Whether a tree has some revisions.
+/// Whether a tree has all revisions.
 fn has_all(alloc: Global, tree: &Tree, revs: &[Rev]) -> bool {
     match missing(alloc, tree, revs) {
         Ok(missing) => missing.as_slice().is_empty(),
@@ -133,7 +133,7 @@ fn has_all(alloc: Global, tree: &Tree, revs: &[Rev]) -> bool {
     }
 }
 
-/// Whether a leaf alone stands above its ancestry, and that is there.
+/// Whether a leaf is the only one above its ancestry, and the tree has the ancestry.
 fn is_read(alloc: Global, tree: &Tree, leaf: Rev) -> bool {
     match ancestry(alloc, tree, leaf) {
         Ok(walk) => {
@@ -143,7 +143,7 @@ fn is_read(alloc: Global, tree: &Tree, leaf: Rev) -> bool {
     }
 }
 
-/// The same of each leaf.
+/// Whether this holds for each leaf.
 fn are_read(alloc: Global, tree: &Tree) -> bool {
     let Ok(leaves) = leaves(alloc, tree) else {
         return false;
@@ -155,7 +155,7 @@ fn are_read(alloc: Global, tree: &Tree) -> bool {
     are_read
 }
 
-/// How many leaves and revisions a copy of the grown tree has, where it is read as wanted.
+/// Returns the numbers of leaves and revisions of a copy of the grown tree, if it is read as expected.
 fn ended(alloc: Global) -> Option<(usize, usize)> {
     let mut tree = Tree::new(alloc);
     if !grows(alloc, &mut tree) {

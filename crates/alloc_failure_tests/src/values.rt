@@ -4,17 +4,17 @@ use doc_json::{Doc, DocFault, read_line_body, read_line_doc, write_doc};
 use json_values::{ReadFault, ValueReader};
 use std::alloc::{AllocError, Global};
 
-/// Compact texts, the second of which wants more room than the first left.
+/// Compact texts; the second one needs a larger buffer than the first.
 static TEXTS: &[&[u8]] = &[
     b"{\"n\":[1,{\"m\":\"x\"}]}",
     b"{\"l\":[{\"a\":\"a text with a \\\" in it\",\"b\":-15},{\"a\":[],\"b\":{\"c\":true}},null]}",
 ];
 
-/// A document as it is written.
+/// A serialized document.
 const DOCUMENT: &[u8] =
     b"{\"_id\":\"d\",\"_rev\":\"3-c\",\"_revisions\":{\"start\":3,\"ids\":[\"c\",\"b\",\"a\"]},\"n\":[1,{\"m\":\"x\"}]}";
 
-/// Whether a text is the body of the value that it is.
+/// Whether a text is the body of its own value.
 fn is_its_body(reader: &mut ValueReader, alloc: Global, text: &[u8]) -> Result<bool, DocFault> {
     let line = match reader.read_line(alloc, text) {
         Ok(line) => line,
@@ -27,7 +27,7 @@ fn is_its_body(reader: &mut ValueReader, alloc: Global, text: &[u8]) -> Result<b
     }
 }
 
-/// Whether a text is that of the document that it is.
+/// Whether a text is the serialized form of its own document.
 fn is_its_document(reader: &mut ValueReader, alloc: Global, text: &[u8]) -> Result<bool, DocFault> {
     let line = match reader.read_line(alloc, text) {
         Ok(line) => line,
@@ -48,7 +48,7 @@ fn is_written_as(alloc: Global, doc: &Doc, text: &[u8]) -> Result<bool, DocFault
     }
 }
 
-/// The same, once more where memory was wanting.
+/// As `is_its_document`; retries if an allocation fails.
 fn is_written(reader: &mut ValueReader, alloc: Global, text: &[u8]) -> Result<bool, DocFault> {
     match is_its_document(reader, alloc, text) {
         Err(DocFault::Memory) => is_its_document(reader, alloc, text),
@@ -56,7 +56,7 @@ fn is_written(reader: &mut ValueReader, alloc: Global, text: &[u8]) -> Result<bo
     }
 }
 
-/// Whether a text is the body of its value, once more where memory was wanting.
+/// As `is_its_body`; retries if an allocation fails.
 fn is_body(reader: &mut ValueReader, alloc: Global, text: &[u8]) -> Result<bool, DocFault> {
     match is_its_body(reader, alloc, text) {
         Err(DocFault::Memory) => is_its_body(reader, alloc, text),
@@ -64,7 +64,7 @@ fn is_body(reader: &mut ValueReader, alloc: Global, text: &[u8]) -> Result<bool,
     }
 }
 
-/// Whether all texts are read as wanted, by one reader.
+/// Whether all texts are read as expected, by one reader.
 fn are_read(alloc: Global) -> bool {
     let mut reader = ValueReader::new(alloc);
     let mut are_read = true;

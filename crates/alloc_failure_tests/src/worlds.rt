@@ -1,5 +1,5 @@
-//! `World::run`: after a refused growth the world is that of the steps before, or a settling is cut short; the steps
-//! that are left then end as all of them would have.
+//! `World::run`. After a failed allocation the world is that after the previous steps, or a settling is partial; the
+//! remaining steps then end as all of them would have.
 use crate::peers::{body, doc, doc_id};
 use anyhow::{Result, bail};
 use repl_log::Moment;
@@ -9,13 +9,13 @@ use rev_core::Rev;
 use rev_tree::SessionId;
 use std::alloc::Global;
 
-/// The one session.
+/// The only session.
 const SESSION: SessionId = SessionId(1);
 
-/// What is seen of a session: how many windows it stores, up to where these are done, and what it has recorded.
+/// What is observed of a session: the number of its windows, its low water, and its recorded sequence.
 type Session = (usize, u64, u64);
 
-/// What is seen of a world: the life of the source, the update sequences of its peers, the session where it has begun,
+/// What is observed of a world: the life of the source, the update sequences of its peers, the session if it has begun,
 /// and the sizes of the bag.
 #[derive(Clone, Copy, PartialEq, Eq)]
 struct Seen {
@@ -26,9 +26,8 @@ struct Seen {
     sizes: (usize, usize, usize, usize, usize),
 }
 
-/// What is seen before each step that may be the first of those left, with its place. A settling that was cut short
-/// stands at its own place. Neither the source's log nor its copies are seen: what was put or copied is put and copied
-/// once more.
+/// The observations before each step that may be the first remaining one, with the step's index. A partial settling is
+/// at its own index. The source's log and its backups are not observed: storing and backing up are repeated.
 static BEFORE: &[(
     u64,
     u64,
@@ -58,7 +57,7 @@ static BEFORE: &[(
     (1, 3, 4, Some((1, 3, 3)), (1, 1, 1, 2, 1), 18),
 ];
 
-/// An edit of a document at 1-a: its id, its parent and its body.
+/// Returns the parts of an edit at 1-a: id, parent and body.
 fn edit(alloc: Global, id: &str) -> Option<(doc_json::DocId, Option<Rev>, doc_json::Body)> {
     let Some(id) = doc_id(alloc, id) else {
         return None;
@@ -70,7 +69,7 @@ fn edit(alloc: Global, id: &str) -> Option<(doc_json::DocId, Option<Rev>, doc_js
     Some((id, parent, body))
 }
 
-/// The steps on the two databases.
+/// Appends the steps that write to the two databases.
 fn writes(alloc: Global, steps: &mut Vec<Step>) -> Option<()> {
     let d = doc(
         alloc,
@@ -101,7 +100,7 @@ fn writes(alloc: Global, steps: &mut Vec<Step>) -> Option<()> {
         .ok()
 }
 
-/// The steps of a replication, of which a place is the number.
+/// Returns the step of a replication at an index.
 fn step(at: Moment, place: usize) -> Step {
     let (window, asked, parcel, entry) = (0, 0, 0, 1);
     let session = SESSION;
@@ -128,7 +127,7 @@ fn step(at: Moment, place: usize) -> Step {
     }
 }
 
-/// The steps that copy the source, go on with it, and put it back.
+/// Appends the steps that back up the source, change it, and restore it.
 fn restoring(alloc: Global, steps: &mut Vec<Step>) -> Option<()> {
     let Ok(()) = steps.push(Step::Backup) else {
         return None;
@@ -145,7 +144,7 @@ fn restoring(alloc: Global, steps: &mut Vec<Step>) -> Option<()> {
     steps.push(Step::ReadLog).ok()
 }
 
-/// All the steps; nothing where memory is refused.
+/// Returns all steps, or `None` if an allocation fails.
 fn steps(alloc: Global) -> Option<Vec<Step>> {
     let Ok(at) = Moment::new(10) else {
         return None;
@@ -165,14 +164,14 @@ fn steps(alloc: Global) -> Option<Vec<Step>> {
     Some(steps)
 }
 
-/// What is seen of the session, where it has begun.
+/// Returns the observations of the session, if it has begun.
 fn session(target: &Peer<Rules>) -> Option<Session> {
     let windows = target.windows(SESSION)?.len();
     let done = target.front(SESSION)?.low_water();
     Some((windows, done, target.entry(SESSION).ok()?.recorded))
 }
 
-/// What is seen of a world.
+/// Returns the observations of a world.
 fn look(world: &World<Rules>) -> Seen {
     Seen {
         life: world.source().db().life(),
@@ -183,7 +182,7 @@ fn look(world: &World<Rules>) -> Seen {
     }
 }
 
-/// The place of the first step that is left, where the world is one of those that the steps go through.
+/// Returns the index of the first remaining step, if the world is one of the expected ones.
 fn left(seen: Seen) -> Option<usize> {
     for (life, source, target, session, sizes, place) in BEFORE {
         let before = Seen {
@@ -200,7 +199,7 @@ fn left(seen: Seen) -> Option<usize> {
     None
 }
 
-/// Takes the steps, and those that are left where a growth was refused.
+/// Takes the steps; after a failed allocation, the remaining ones.
 fn take(alloc: Global, world: &mut World<Rules>, steps: &[Step]) -> Option<()> {
     if world.run(alloc, steps).is_ok() {
         return Some(());
@@ -211,7 +210,7 @@ fn take(alloc: Global, world: &mut World<Rules>, steps: &[Step]) -> Option<()> {
     world.run(alloc, steps.get(place..)?).ok()
 }
 
-/// Whether an audit finds nothing; once more where memory was refused.
+/// Whether an audit is clean; retries if an allocation fails.
 fn is_clean(alloc: Global, world: &World<Rules>) -> bool {
     let found = match audit(alloc, world.source(), world.target(), None).ok() {
         Some(found) => Some(found),
@@ -223,7 +222,7 @@ fn is_clean(alloc: Global, world: &World<Rules>) -> bool {
     }
 }
 
-/// What the session recorded, what is seen at the end, and whether an audit is clean.
+/// Returns what the session recorded, the final observations, and whether an audit is clean.
 fn ended(alloc: Global, world: &mut World<Rules>) -> Option<(u64, Seen, bool)> {
     let all = match steps(alloc) {
         Some(all) => Some(all),
@@ -242,7 +241,7 @@ fn ended(alloc: Global, world: &mut World<Rules>) -> Option<(u64, Seen, bool)> {
     Some((entry.recorded, look(world), clean))
 }
 
-/// The world of two peers without documents. Nothing else lives beside it.
+/// As `ended`, for a world of two new peers. Nothing else is alive beside the world.
 fn of_two(alloc: Global) -> Option<(u64, Seen, bool)> {
     let source = Peer::new(alloc, 1, Rules { deny: None });
     let target = Peer::new(alloc, 2, Rules { deny: None });

@@ -1,11 +1,11 @@
--- Where the winner is deleted all leaves are.
+-- If the winner is deleted, all leaves are.
 use Rattle.couch_base.specs.{both_hold}
 use Rattle.proof_prelude.proofs.{◌≡◌, true, false, T, ◌&&◌, List, [], ◌∷◌, map, filter, Some, ap, subst, ◌∙◌, refl, list_all, is_lt, bool_cmp, ordering_then, from_entries, entries, entries_sorted, is_sorted, below_all, same_Some, none-some}
 use Rattle.std.specs.FinMap as finmap
 use Rattle.rev_core.specs.{RevId, rev_cmp}
 use Rattle.rev_tree.specs.{marked, first_of, TreeValue, is_deleted, is_leaf, leaf_cmp, leaves}
 
--- what stands behind a deleted leaf is deleted
+-- a leaf after a deleted leaf is deleted
 behind : (t : TreeValue) (w r : RevId) → is_deleted t w ≡ true → T (is_lt (leaf_cmp t w r)) → is_deleted t r ≡ true
 behind t w r dead later =
     elim (is_deleted t r) as (λ b. T (is_lt (ordering_then (bool_cmp true b) (rev_cmp r w))) → b ≡ true) [
@@ -29,7 +29,7 @@ all_sorted t (e ∷ es) w sorted first =
     ] refl
     ∙ ap (is_deleted t) (same_Some e.0 w first)
 
--- all leaves are deleted just where the winner is
+-- all leaves are deleted exactly if the winner is
 pub all_deleted : (t : TreeValue) (w : RevId) → first_of (leaves t) ≡ Some w → list_all (is_deleted t) (leaves t) ≡ is_deleted t w
 all_deleted t w first =
     let m = from_entries {R = leaf_cmp t} (marked (filter (is_leaf t) (finmap.keys t.origins))) in

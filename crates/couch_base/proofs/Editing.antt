@@ -1,4 +1,4 @@
--- What an edit leaves.
+-- The effect of an edit.
 use Rattle.proof_prelude.proofs.{◌≡◌, ℕ, ◌+◌, ◌<◌, Bool, false, ◌&&◌, List, ◌∷◌, Option, Some, None, is_some, Ok, Err, sym, ap, ◌∙◌, refl, Result, unwrap_or, list_all, option_or, option_to_list, get, get-empty, false≢true, same_Some}
 use Rattle.rev_core.specs.{RevId, rev_cmp, edges_of, head_of, ◌>>=◌, refused_if}
 use Rattle.rev_tree.specs.{TreeValue, IsTree, has, has_edge, no_revisions, first_contradiction, contradiction_at, is_same, at_head, merged, merge_answer, Origin}
@@ -10,7 +10,7 @@ use Rattle.couch_base.proofs.Putting.{from_tests, answer-changed, after_put-chan
 
 -- ---- a new revision
 
--- a revision that isn't there has no parent
+-- a revision that does not exist has no parent
 no_parent_in : (t : TreeValue) → IsTree t → (r : RevId) → has t r ≡ false → get t.parents r ≡ None
 no_parent_in t tree r absent =
     elim (get t.parents r) as (λ o. get t.parents r ≡ o → o ≡ None) [
@@ -27,7 +27,7 @@ no_parent db law id r absent = go (tree_in db.docs id) refl
         ap (λ o. get (unwrap_or o no_revisions).parents r) is
         ∙ no_parent_in t (IsDocumentTree-tree_in db law id t is).tree r (sym (ap (λ o. has (unwrap_or o no_revisions) r) is) ∙ absent)
 
--- ---- a new revision on another
+-- ---- a new revision with a parent
 
 new_contradicts_none : (t : TreeValue) (r : RevId) (before : Option RevId) → get t.parents r ≡ None → first_contradiction t.parents (edges_of (r ∷ option_to_list before)) ≡ None
 new_contradicts_none t r None alone = refl
@@ -37,7 +37,7 @@ new_is_not_same : (t : TreeValue) (r : RevId) (rest : List RevId) → has t r �
 new_is_not_same t r rest absent =
     ap (λ b. (b && list_all (has t) rest) && list_all (has_edge t) (edges_of (r ∷ rest)) && list_all (λ (e : RevId × Unit {0}). is_some (get t.contents e.0)) (at_head (r ∷ rest) tt)) absent
 
--- what the steps of an edit found out
+-- what the steps of an edit have established
 pub record IsEdited (db : DatabaseValue) (id : Id) (parent : Option RevId) (deleted : Bool) (body : List ℕ) (before : Option RevId) (revs : List RevId) (rev : RevId) : Type 0 where
   pub told : edited db id parent deleted body ≡ Ok (rev, before)
   pub whole : revs ≡ rev ∷ option_to_list before
@@ -69,13 +69,13 @@ new_revision_changes db law id rev before absent =
     let t = tree_of db.docs id in
     from_tests t (rev ∷ option_to_list before) (new_contradicts_none t rev before (no_parent db law id rev absent)) (new_is_not_same t rev (option_to_list before) absent)
 
--- the document of a new revision changes the database, where a sequence is left
+-- the document of a new revision changes the database, if a sequence is left
 pub put_answer-edit : (db : DatabaseValue) → LawfulDatabase db → (id : Id) (rev : RevId) (before : Option RevId) (deleted : Bool) (body : List ℕ) → has (tree_of db.docs id) rev ≡ false → db.update_seq < most
     → put_answer db (edit_document id (rev, before) deleted body) ≡ Ok (answers.Changed (db.update_seq + 1))
 put_answer-edit db law id rev before deleted body absent room =
     answer-changed db (edit_document id (rev, before) deleted body) (new_revision_changes db law id rev before absent) room
 
--- an edit leaves its new revision merged in
+-- an edit merges its new revision
 pub after_edit-changed : (db : DatabaseValue) → LawfulDatabase db → (id : Id) (parent : Option RevId) (deleted : Bool) (body : List ℕ) (o : Origin) (before : Option RevId) (revs : List RevId) (rev : RevId)
     → IsEdited db id parent deleted body before revs rev → has (tree_of db.docs id) rev ≡ false → db.update_seq < most
     → after_edit db id parent deleted body o ≡ with_tree db id (merged (tree_of db.docs id) revs (content_of deleted body) o)

@@ -1,11 +1,11 @@
--- Asking and fetching, one document after another.
+-- Requesting and fetching, one document at a time.
 use Rattle.proof_prelude.proofs.{◌≡◌, ℕ, ◌+◌, ◌<◌, ◌≤◌, true, List, [], ◌∷◌, ◌++◌, map, filter, None, drop, length, get_or, sym, ap, ◌∙◌, refl, append_assoc, length-append, arith, and_parts, drop_more, drop_all, list_any, list_all, option_map, get-empty, append-nil}
 use Rattle.rev_core.specs.{RevId, rev_cmp, is_among}
 use Rattle.rev_tree.specs.{ContentValue, TreeValue, is_leaf, leaves, leaves_above, ancestors, missing, no_revisions, any_filter, is_among-leaves}
 use Rattle.doc_json.specs.Document.{Document}
 use Rattle.couch_base.specs.{all_members, Id, DocumentValue, tree_of, WantedValue, document_in, leaf_document, opened, fetched, gone_of, leaves-no_revisions}
 
--- ---- a document that isn't there
+-- ---- a document that does not exist
 
 pub missing-no_revisions : (revs : List RevId) → missing no_revisions revs ≡ revs
 missing-no_revisions [] = refl
@@ -26,7 +26,7 @@ all_leaves t revs =
     all_members (is_leaf t) (leaves_above t revs)
     (λ r m. sym (is_among-leaves t r) ∙ (and_parts _ _ (sym (any_filter (λ leaf. list_any (λ x. is_among x (ancestors t leaf)) revs) r (leaves t)) ∙ m)).0)
 
--- ---- one step on
+-- ---- one step of a loop
 
 next_of : {X : Type 0} (xs : List X) (i : ℕ) (x : X) → i < length xs → x ≡ get_or xs i x → drop i xs ≡ x ∷ drop (i + 1) xs
 next_of xs i x h is = drop_more xs i x h ∙ ap (λ y. y ∷ drop (i + 1) xs) (sym is)

@@ -1,16 +1,16 @@
--- What a look-up by id finds.
+-- The result of a lookup by id.
 use Rattle.proof_prelude.proofs.{◌≡◌, ℕ, List, [], ◌∷◌, Option, Some, None, Bool, true, false, cond, sym, ap, ◌∙◌, refl, arith, inl, inr, cond_both, both_ways, nat_cmp, is_at, unwrap_or, unsigned_ties, bytes_eq, same_Some, none-some, eqb-true}
 use Rattle.rev_tree.specs.{no_revisions}
 use Rattle.couch_base.specs.{id_is, id_same, Among, Id, tree_in, tree_of, TableValue, at_seq, documents, documents_of, feed_of, found, seq_of, tree_at, IsKept, Kept}
 
--- sequences that a test finds equal
+-- sequences that compare as equal are equal
 pub seq_is : (a b : ℕ) → is_at (nat_cmp a) b ≡ true → a ≡ b
 seq_is a b h = eqb-true a b (unsigned_ties a b ∙ h)
 
 pub seq_same : (a : ℕ) → is_at (nat_cmp a) a ≡ true
 seq_same a = sym (unsigned_ties a a) ∙ grind (arith)
 
--- an id that the table hasn't is no document's
+-- an id that the table does not have is not a document's
 pub none_in : (g : Id → Option Kept) (index : List (ℕ × Id)) (id : Id) → ((e : ℕ × Id) → Among e index → seq_of (g e.1) ≡ Some e.0) → g id ≡ None → tree_in (documents g index) id ≡ None
 none_in g [] id held gone = refl
 none_in g (e ∷ es) id held gone =

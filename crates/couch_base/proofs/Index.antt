@@ -1,4 +1,4 @@
--- Look-ups in the index, and its end.
+-- Lookups in the index, and its end.
 use Rattle.proof_prelude.proofs.{◌≡◌, ℕ, ◌<◌, List, [], ◌∷◌, ◌++◌, Option, Some, None, Bool, true, false, cond, sym, ap, ◌∙◌, refl, arith, inl, inr, cond_both, cases_Bool, false_from_ne_true, nat_cmp, is_at, bytes_eq, none-some}
 use Rattle.couch_base.specs.{Id, at_seq, feed_without, AllBelow, id_is}
 use Rattle.couch_base.proofs.Found.{seq_is, seq_same, not_first}
@@ -18,7 +18,7 @@ at_new s (e ∷ es) q below =
     (λ hit. let a : s ≡ e.0 = seq_is s e.0 hit in let b : e.0 < s = below e (inl refl) in absurd (omega (arith, a, b)))
     (λ _. at_new s es q (λ x m. below x (inr m)))
 
--- what stands at a sequence still does where another document is left out
+-- the entry at a sequence stays when another document is removed
 pub at_without : (s : ℕ) (id : Id) (index : List (ℕ × Id)) (q : Id) → (q ≡ id → ⊥) → at_seq s index ≡ Some q → at_seq s (feed_without id index) ≡ Some q
 at_without s id [] q apart h = h
 at_without s id (e ∷ es) q apart h =

@@ -1,4 +1,4 @@
--- What a write does to the documents.
+-- The effect of a write on the documents.
 use Rattle.proof_prelude.proofs.{◌≡◌, ℕ, ◌<◌, ◌≤◌, List, [], ◌∷◌, ◌++◌, Option, Some, None, true, cond, subst, sym, ap, ◌∙◌, refl, inl, inr, not, both_ways, cases_Bool, false≢true, false_from_ne_true, bytes_eq, same_Some, none-some}
 use Rattle.couch_base.specs.{Among, Id, DocumentValue, IsDocumentTree, without, most, at_seq, feed_without, seq_of, tree_at, document, documents, IsTable, Sets, Kept, id_is, id_same, Among-push}
 use Rattle.couch_base.proofs.Rising.{Rising, all_below, rising_append, rising_filter, among_filter}
@@ -6,7 +6,7 @@ use Rattle.couch_base.proofs.Index.{at_append, at_new, at_without}
 
 -- ---- documents
 
--- an id apart from the one that is set
+-- an id other than the one that is set
 pub same_at : (g h : Id → Option Kept) (id : Id) (k : Kept) → Sets g h id k → (q : Id) → (q ≡ id → ⊥) → h q ≡ g q
 same_at g h id k sets q apart = sets q ∙ ap (λ b. cond b (Some k) (g q)) (false_from_ne_true (bytes_eq id q) (λ e. apart (sym (id_is id q e))))
 
@@ -41,7 +41,7 @@ kept_at g index hi t e m = some_of (g e.1) e.0 (t.held e m)
 pub nowhere : (g : Id → Option Kept) (index : List (ℕ × Id)) (hi : ℕ) → IsTable g index hi → (id : Id) → g id ≡ None → (e : ℕ × Id) → Among e index → e.1 ≡ id → ⊥
 nowhere g index hi t id gone e m same = none-some e.0 (sym (ap seq_of (ap g same ∙ gone)) ∙ t.held e m)
 
--- where the feed has no such document, nothing is left out of it
+-- if the feed does not have the document, removing it changes nothing
 pub without_none : (id : Id) (index : List (ℕ × Id)) → ((e : ℕ × Id) → Among e index → e.1 ≡ id → ⊥) → feed_without id index ≡ index
 without_none id [] apart = refl
 without_none id (e ∷ es) apart =
@@ -60,7 +60,7 @@ set_trees g h index hi t id k sets lawful q x is =
 
 -- ---- a write, which moves the document to the end of the feed
 
--- what isn't left out is another one
+-- a document that is not removed is another one
 kept_apart : (a b : Id) → not (bytes_eq a b) ≡ true → a ≡ b → ⊥
 kept_apart a b kept same = false≢true (sym (ap not (ap (bytes_eq a) (sym same) ∙ id_same a)) ∙ kept)
 

@@ -1,4 +1,4 @@
--- The index with ids in the place of places.
+-- The index, with ids instead of positions.
 use Rattle.proof_prelude.proofs.{◌≡◌, ℕ, zero, suc, ◌<◌, ◌≤◌, List, [], ◌∷◌, ◌++◌, Bool, true, false, Some, None, length, cond, sym, ap, subst, ◌∙◌, refl, arith, inl, inr, ◌==◌, nat_lt, not, slice_get, unwrap_or, position, get_or, IsDistinct, option_map, keys_of, bytes_eq, cond_both, cases_Bool, both_ways, false_from_ne_true, get_or_append_left, filter-append, position-Some, nat_list_eq_equiv, length-keys_of, lookup_from_place, apart_from_distinct, slice_get-map, slice_get_within, unwrap_or-slice_get, get_or_from_slice_get, same_Some, none-some}
 use Rattle.std.specs.List.{insert}
 use Rattle.std.proofs.lemmas.Map.{lookup-insert, none_passes_from_lookup}
@@ -9,17 +9,17 @@ use Rattle.couch_base.specs.{id_is, id_same, Id, tree_of, TableValue, documents_
 use Rattle.couch_base.proofs.Found.{tree_of-documents_of}
 use Rattle.couch_base.proofs.Rows.{live_at, dead_at, live_same, live_more, get_set, get_set_apart, feed_swept, places_filter}
 
--- ---- ids at places
+-- ---- ids at positions
 
--- the id of a document at its place
+-- the id of a document at its position
 pub id_is_at : (docs : List (Id × Kept)) (i : ℕ) (id : Id) (k : Kept) → slice_get docs i ≡ Some (id, k) → id_at (keys_of docs) i ≡ id
 id_is_at docs i id k is = ap (λ o. unwrap_or o []) (slice_get-map (λ (e : Id × Kept). e.0) docs i ∙ ap (option_map (λ (e : Id × Kept). e.0)) is)
 
--- a place stays where an id is put at the end,
+-- a position stays the same when an id is appended
 id_stays : (ids : List Id) (id : Id) (i : ℕ) → i < length ids → id_at (ids ++ id ∷ []) i ≡ id_at ids i
 id_stays ids id i within = unwrap_or-slice_get (ids ++ id ∷ []) i [] ∙ get_or_append_left ids (id ∷ []) [] i within ∙ sym (unwrap_or-slice_get ids i [])
 
--- and that id has the place behind them
+-- the appended id has the next position
 pub id_last : (ids : List Id) (id : Id) → id_at (ids ++ id ∷ []) (length ids) ≡ id
 id_last ids id = ap (λ o. unwrap_or o []) (slice_get-last ids id)
 
@@ -34,9 +34,9 @@ named_more ids id [] within = refl
 named_more ids id (e ∷ es) within =
     (λ j. (e.0, id_stays ids id e.1 (within e (inl refl)) j) ∷ named_more ids id es (λ x m. within x (inr m)) j)
 
--- ---- look-ups
+-- ---- lookups
 
--- what a look-up by id found stands at its place
+-- what a lookup by id found is at its position
 pub placed : (docs : List (Id × Kept)) (id : Id) (i : ℕ) (key : Id) (k : Kept) → Some i ≡ position (bytes_eq id) (keys_of docs) → slice_get docs i ≡ Some (key, k) → Some k ≡ found docs id → IsPlace docs id (Some i)
 placed docs id i key k first at value =
     let hit = (position-Some (bytes_eq id) (keys_of docs) i key (sym first)).1 in
@@ -47,7 +47,7 @@ placed docs id i key k first at value =
       absent = λ none. absurd (none-some i (sym none));
     }
 
--- and what stands at a place is found by its id
+-- what is at a position is found by its id
 pub standing : (docs : List (Id × Kept)) (i : ℕ) (id : Id) (k : Kept) → IsDistinct bytes_eq (keys_of docs) → slice_get docs i ≡ Some (id, k) → IsPlace docs id (Some i)
 standing docs i id k once at = record {
   there = (k, at, lookup_from_place nat_list_eq_equiv docs i id k once at);
@@ -59,7 +59,7 @@ tree_at_place t kept i id k once at = tree_of-documents_of t kept id ∙ ap tree
 
 -- ---- writes
 
--- what stands at a place, written back, changes nothing
+-- writing back what is at a position changes nothing
 pub set_same : (docs : List (Id × Kept)) (i : ℕ) (id : Id) (k : Kept) → slice_get docs i ≡ Some (id, k) → set_value_at docs i k ≡ docs
 set_same [] i id k is = refl
 set_same (e ∷ es) zero id k is = ap (λ (p : Id × Kept). (e.0, p.1) ∷ es) (sym (same_Some e (id, k) is))
@@ -69,7 +69,7 @@ keys_append : (docs : List (Id × Kept)) (id : Id) (k : Kept) → keys_of (docs 
 keys_append [] id k = refl
 keys_append (e ∷ es) id k = ap (λ l. e.0 ∷ l) (keys_append es id k)
 
--- no two places have one id
+-- no two positions have the same id
 apart_at : (docs : List (Id × Kept)) (place i : ℕ) (id : Id) (was : Kept) → IsDistinct bytes_eq (keys_of docs) → slice_get docs place ≡ Some (id, was) → i < length docs → (place ≡ i → ⊥) → bytes_eq (id_at (keys_of docs) i) id ≡ false
 apart_at docs place i id was once at within apart =
     let ids = keys_of docs in
@@ -98,7 +98,7 @@ live_push : (docs : List (Id × Kept)) (rows : List (ℕ × ℕ)) (s i : ℕ) �
 live_push docs rows s i alive =
     filter-append (is_live docs) rows ((s, i) ∷ []) ∙ ap (λ b. live docs rows ++ cond b ((s, i) ∷ []) []) alive
 
--- where the document at a place gets a later sequence than all rows have, its rows are live no more, and the others stay
+-- if the document at a position gets a greater sequence than all rows, its rows are no longer live, and the others stay
 moved_rows : (docs new : List (Id × Kept)) (place s : ℕ) (id : Id) (was k : Kept) → IsDistinct bytes_eq (keys_of docs) → slice_get docs place ≡ Some (id, was) → slice_get new place ≡ Some (id, k) → k.seq ≡ s
     → ((i : ℕ) → (place ≡ i → ⊥) → slice_get new i ≡ slice_get docs i) → (rows : List (ℕ × ℕ)) → AllBelow s rows → ArePlaces (length docs) rows
     → named (keys_of docs) (live new rows) ≡ feed_without id (named (keys_of docs) (live docs rows))
@@ -124,7 +124,7 @@ moved_rows docs new place s id was k once at now latest others (e ∷ rows) belo
           ∙ kept_row id ids e (live new rows) (live docs rows) (is_live docs e) differ rest
     ]
 
--- a write to the document at a place moves it to the end of the feed
+-- a write to the document at a position moves it to the end of the feed
 pub moved_feed : (docs new : List (Id × Kept)) (before middle after : List (ℕ × ℕ)) (s place : ℕ) (id : Id) (was k : Kept)
     → IsDistinct bytes_eq (keys_of docs) → slice_get docs place ≡ Some (id, was) → new ≡ set_value_at docs place k → keys_of new ≡ keys_of docs → k.seq ≡ s
     → middle ≡ before ++ (s, place) ∷ [] → after ≡ swept new middle → AreRows (length docs) s before
@@ -140,7 +140,7 @@ moved_feed docs new before middle after s place id was k once at written keys la
     ∙ named_append ids (live new before) s place
     ∙ (λ j. moved_rows docs new place s id was k once at now latest (λ i apart. ap (λ (d : List (Id × Kept)). slice_get d i) written ∙ get_set_apart docs place i k apart) before rows.below rows.places j ++ (s, id_is_at docs place id was at j) ∷ [])
 
--- a document that is new stands behind the others, in the table and in the index
+-- a new document is appended to the table and to the index
 pub added_feed : (docs new : List (Id × Kept)) (before after : List (ℕ × ℕ)) (s : ℕ) (id : Id) (k : Kept)
     → new ≡ docs ++ (id, k) ∷ [] → k.seq ≡ s → after ≡ before ++ (s, length docs) ∷ [] → ArePlaces (length docs) before
     → feed_of new after ≡ feed_of docs before ++ (s, id) ∷ []
@@ -154,16 +154,16 @@ added_feed docs new before after s id k grown latest longer places =
     ∙ named_append (ids ++ id ∷ []) (live docs before) s (length ids)
     ∙ (λ j. named_more ids id (live docs before) (subst (λ n. ArePlaces n (live docs before)) (sym size) (places_filter (length docs) (is_live docs) before places)) j ++ (s, id_last ids id j) ∷ [])
 
--- what is inserted behind the others stands at the end
+-- inserting after the others is appending
 insert_end : (docs : List (Id × Kept)) (e : Id × Kept) → insert docs (length docs) e ≡ docs ++ e ∷ []
 insert_end [] e = refl
 insert_end (d ∷ ds) e = ap (λ l. d ∷ l) (insert_end ds e)
 
--- an id that the table hasn't goes last
+-- an id that the table does not have is appended
 pub inserted : (docs : List (Id × Kept)) (id : Id) (k : Kept) → found docs id ≡ None → insert_entry bytes_eq docs id k ≡ docs ++ (id, k) ∷ []
 inserted docs id k gone = insert_entry-absent bytes_eq id k docs (absent_from_lookup (bytes_eq id) docs gone)
 
--- and is found there
+-- the appended id is found
 pub found_last : (docs : List (Id × Kept)) (id : Id) (k : Kept) → found docs id ≡ None → Sets (found docs) (found (docs ++ (id, k) ∷ [])) id k
 found_last docs id k gone q =
     ap (λ es. found es q) (sym (insert_end docs (id, k)))

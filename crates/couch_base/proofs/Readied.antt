@@ -1,4 +1,4 @@
--- Documents whose trees are made, and putting one of them where it is new.
+-- Documents with prepared trees, and storing one that is new.
 use Rattle.proof_prelude.proofs.{◌≡◌, ℕ, zero, suc, ◌+◌, ◌<◌, List, [], ◌∷◌, ◌++◌, length, slice_get, Option, Some, None, Ok, Err, refl, sym, ap, subst, ◌∙◌, ◌⊎◌, inl, inr, nat_lt, false, same_Some, none-some}
 use Rattle.rev_tree.specs.{merged, merge_answer, no_revisions, Origin}
 use Rattle.rev_tree.specs.declared.fault.Merged.TheVariants.{Changed}
@@ -11,14 +11,14 @@ use Rattle.couch_base.specs.declared.fault.BaseFault.TheVariants as faults
 use Rattle.couch_base.proofs.Found.{tree_of-documents_of}
 use Rattle.couch_base.proofs.Putting.{new_changes, answer-changed, after_put-changed}
 
--- what stands where one more is put at the end
+-- the elements of a list with one more
 at_end : {X : Type 0} (xs : List X) (x : X) (i : ℕ) (y : X) → slice_get (xs ++ x ∷ []) i ≡ Some y → (slice_get xs i ≡ Some y) ⊎ ((i ≡ length xs) × (x ≡ y))
 at_end [] x zero y at = inr (refl, same_Some x y at)
 at_end [] x (suc i) y at = absurd (none-some y at)
 at_end (z ∷ xs) x zero y at = inl at
 at_end (z ∷ xs) x (suc i) y at = elim (at_end xs x i y at) [ inl before ↦ inl before | inr last ↦ inr (ap suc last.0, last.1) ]
 
--- what is made of the next document
+-- the prepared tree of the next document
 pub made_next : (docs : List Document) (all : List (Option PreparedTree)) (d : Document) (m : PreparedTree) → AreMade docs all → slice_get docs (length all) ≡ Some d → IsMadeOf d m → AreMade docs (all ++ Some m ∷ [])
 made_next docs all d m made next new i e n doc at =
     elim (at_end all (Some m) i (Some n) at) [
@@ -29,23 +29,23 @@ made_next docs all d m made next new i e n doc at =
     ]
 
 module _ (uuid life : ℕ) (t : TableValue) (db : DatabaseValue) (view : database_of uuid life t ≡ db) (kept : IsKept t) (d : Document) (a : IsAncestry d.ancestry) (m : PreparedTree) (made : IsMadeOf d m) (absent : found t.entries m.key ≡ None) where
-  -- it has no tree yet
+  -- the document has no tree yet
   pub no_tree : tree_of db.docs d.id ≡ no_revisions
   no_tree = sym (λ i. tree_of (view i).docs (made.key i)) ∙ tree_of-documents_of t kept m.key ∙ ap tree_at absent
 
-  -- so a put of it is a change
+  -- a put of the document is a change
   pub new_document : merge_answer (tree_of db.docs d.id) d.ancestry ≡ Ok Changed
   new_document = ap (λ x. merge_answer x d.ancestry) no_tree ∙ new_changes d.ancestry a
 
-  -- which finds no sequence
+  -- the put finds no sequence
   pub full : nat_lt db.update_seq most ≡ false → put_answer db d ≡ Err faults.SeqFull
   full none = λ i. put_told (new_document i) (none i) (db.update_seq + 1)
 
-  -- or takes one
+  -- the put takes a sequence
   pub taken : db.update_seq < most → put_answer db d ≡ Ok (answers.Changed (db.update_seq + 1))
   taken room = answer-changed db d new_document room
 
-  -- and leaves what was made
+  -- the put stores the prepared tree
   pub left : (o : Origin) → Feed m.session m.seq ≡ o → db.update_seq < most → with_tree db m.key m.tree ≡ after_put db d o
   left o from room =
       (λ i. with_tree db (made.key i) (made.tree i))

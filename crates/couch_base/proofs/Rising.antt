@@ -1,4 +1,4 @@
--- Rising sequences of an index.
+-- The rising sequences of an index.
 use Rattle.proof_prelude.proofs.{◌≡◌, ℕ, ◌<◌, ◌≤◌, List, [], ◌∷◌, ◌++◌, Bool, true, map, ap, ◌∙◌, arith, inl, inr, filter, cond_both}
 use Rattle.couch_base.specs.{Among, Rises, Id, rises_from, rises_le, AllBelow}
 
@@ -35,7 +35,7 @@ rising_filter p lo (e ∷ es) hi r =
 
 -- ---- members
 
--- what passes a test
+-- an element that passes a test
 pub among_filter : {X : Type 0} (p : X → Bool) (xs : List X) (x : X) → Among x (filter p xs) → (Among x xs) × (p x ≡ true)
 among_filter p [] x m = absurd m
 among_filter p (y ∷ ys) x m =

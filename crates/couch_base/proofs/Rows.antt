@@ -1,10 +1,10 @@
--- The rows of an index: what a change leaves of them, and which ones are live.
+-- The rows of an index: those that remain after a change, and the live ones.
 use Rattle.proof_prelude.proofs.{◌≡◌, ℕ, zero, suc, ◌+◌, ◌*◌, ◌<◌, ◌≤◌, List, [], ◌∷◌, ◌++◌, Bool, true, false, Option, Some, None, eqb, length, map, drop, cond, sym, ap, subst, ◌∙◌, refl, arith, inl, inr, ◌==◌, ◌/◌, nat_lt, nat_le, filter, slice_get, get_or, AllWithin, AllByRecursion, IsDistinct, list_any, IsNonDecreasingBy, IsPartitionPoint, keys_of, option_map_or, cond_both, cases_Bool, false≢true, false_from_ne_true, length-map, length-le_from_distinct_below, same_Some, none-some, eqb-true, length-append}
 use Rattle.indexmap.specs.IndexMap.{set_value_at}
 use Rattle.couch_base.specs.{Among, Id, is_live, live, live_upto, above, swept, named, feed_of, ArePlaces, AllBelow, InOrder, AreFew, AreRows, Kept, Among-push}
 use Rattle.couch_base.proofs.Rising.{among_filter}
 
--- ---- rows that are put at the end, and rows that are left out
+-- ---- appended rows, and removed rows
 
 order_push : (s i : ℕ) (rows : List (ℕ × ℕ)) → InOrder rows → AllBelow s rows → InOrder (rows ++ (s, i) ∷ [])
 order_push s i [] o below = (λ x m. absurd m, tt)
@@ -56,7 +56,7 @@ filter_twice p (e ∷ rows) =
     (λ hit. ap (λ b. cond b (e ∷ filter p (filter p rows)) (filter p (filter p rows))) hit ∙ ap (λ l. e ∷ l) (filter_twice p rows))
     (λ _. filter_twice p rows)
 
--- what is swept out is not of the feed
+-- sweeping does not change the feed
 pub feed_swept : (docs : List (Id × Kept)) (rows : List (ℕ × ℕ)) → feed_of docs (swept docs rows) ≡ feed_of docs rows
 feed_swept docs rows =
     cond_both (nat_lt (length docs) (length rows / 2)) (live docs rows) rows (λ l. feed_of docs l ≡ feed_of docs rows)
@@ -69,14 +69,14 @@ places_filter n p rows places e m = places e (among_filter p rows e m).0
 pub order_above : (a : ℕ) (rows : List (ℕ × ℕ)) → InOrder rows → InOrder (above a rows)
 order_above a rows o = order_filter _ rows o
 
--- ---- how many rows there are
+-- ---- the number of rows
 
--- the sequence of a place's document
+-- the sequence of the document at a position
 one_seq : (o : Option (Id × Kept)) (s t : ℕ) → option_map_or (λ (d : Id × Kept). d.1.seq == s) o false ≡ true → option_map_or (λ (d : Id × Kept). d.1.seq == t) o false ≡ true → s ≡ t
 one_seq None s t h k = absurd (false≢true h)
 one_seq (Some d) s t h k = let a : d.1.seq ≡ s = eqb-true d.1.seq s h in let b : d.1.seq ≡ t = eqb-true d.1.seq t k in omega (arith, a, b)
 
--- of two rows of one place at most one is live
+-- of two rows with the same position, at most one is live
 live_apart : (docs : List (Id × Kept)) (e x : ℕ × ℕ) → e.0 < x.0 → is_live docs e ≡ true → is_live docs x ≡ true → (e.1 == x.1) ≡ false
 live_apart docs e x later here there =
     false_from_ne_true (e.1 == x.1) (λ same.
@@ -108,7 +108,7 @@ place_within n (e ∷ rows) places q h =
       | inr miss ↦ place_within n rows (λ x m. places x (inr m)) q (rw miss at h)
     ]
 
--- no more rows are live than there are documents
+-- there are no more live rows than documents
 few_live : (docs : List (Id × Kept)) (s : ℕ) (rows : List (ℕ × ℕ)) → AreRows (length docs) s rows → length (live docs rows) ≤ length docs
 few_live docs s rows r =
     let places = map (λ (x : ℕ × ℕ). x.1) (live docs rows) in
@@ -128,15 +128,15 @@ few_push n m s i rows few more =
     let before : length rows ≤ 2 * n + 1 = few in
     omega (arith, size, before, more)
 
--- ---- live rows of a table that is written
+-- ---- live rows of a table that is written to
 
--- a row whose document has this sequence is live
+-- a row with its document's sequence is live
 pub live_at : (docs : List (Id × Kept)) (s i : ℕ) (id : Id) (k : Kept) → slice_get docs i ≡ Some (id, k) → k.seq ≡ s → is_live docs (s, i) ≡ true
 live_at docs s i id k at same =
     let e : (k.seq == s) ≡ true = grind (arith, same) in
     ap (λ o. option_map_or (λ (d : Id × Kept). d.1.seq == s) o false) at ∙ e
 
--- and one whose document has another is not
+-- a row with another sequence is not live
 pub dead_at : (docs : List (Id × Kept)) (s i : ℕ) (id : Id) (k : Kept) → slice_get docs i ≡ Some (id, k) → s < k.seq → is_live docs (s, i) ≡ false
 dead_at docs s i id k at later =
     let e : (k.seq == s) ≡ false = grind (arith, later) in
@@ -150,7 +150,7 @@ get_more [] x i within = absurd (omega (arith, within))
 get_more (d ∷ docs) x zero within = refl
 get_more (d ∷ docs) x (suc i) within = get_more docs x i (omega (arith, within))
 
--- a document that is new changes nothing of the others
+-- a new document does not affect the others
 pub live_more : (docs : List (Id × Kept)) (x : Id × Kept) (rows : List (ℕ × ℕ)) → ArePlaces (length docs) rows → live (docs ++ x ∷ []) rows ≡ live docs rows
 live_more docs x [] places = refl
 live_more docs x (e ∷ rows) places =
@@ -169,7 +169,7 @@ get_set_apart (d ∷ docs) zero (suc j) k apart = refl
 get_set_apart (d ∷ docs) (suc i) zero k apart = refl
 get_set_apart (d ∷ docs) (suc i) (suc j) k apart = get_set_apart docs i j k (λ same. apart (ap suc same))
 
--- ---- where the rows above a sequence begin
+-- ---- the first row above a sequence
 
 among_get : (rows : List (ℕ × ℕ)) (i : ℕ) (d : ℕ × ℕ) → i < length rows → Among (get_or rows i d) rows
 among_get [] i d within = absurd (omega (arith, within))
@@ -208,7 +208,7 @@ above_from a (e ∷ rows) (suc i) h =
 
 -- ---- the next row of a page
 
--- none of rows that are all above the goal
+-- rows above the goal are not in the page
 over : (docs : List (Id × Kept)) (b : ℕ) (rows : List (ℕ × ℕ)) → ((x : ℕ × ℕ) → Among x rows → b < x.0) → live_upto docs b rows ≡ []
 over docs b [] h = refl
 over docs b (e ∷ rows) h =
@@ -228,12 +228,12 @@ past_goal docs b left e rows o is high =
       | inr n ↦ let a : e.0 < x.0 = order.0 x n in omega (arith, a, high)
     ])
 
--- a row that is not live is passed over
+-- a row that is not live is skipped
 pub row_dead : (docs : List (Id × Kept)) (b : ℕ) (left : List (ℕ × ℕ)) (e : ℕ × ℕ) (rows : List (ℕ × ℕ)) → left ≡ e ∷ rows → is_live docs e ≡ false → live_upto docs b left ≡ live_upto docs b rows
 row_dead docs b left e rows is dead =
     ap (live_upto docs b) is ∙ ap (λ t. filter (λ x. nat_le x.0 b) (cond t (e ∷ live docs rows) (live docs rows))) dead
 
--- and one that is, at or under the goal, is the next
+-- a live row at or below the goal is the next one
 pub row_live : (docs : List (Id × Kept)) (b : ℕ) (left : List (ℕ × ℕ)) (e : ℕ × ℕ) (rows : List (ℕ × ℕ)) → left ≡ e ∷ rows → is_live docs e ≡ true → e.0 ≤ b → live_upto docs b left ≡ e ∷ live_upto docs b rows
 row_live docs b left e rows is alive low =
     let within : nat_le e.0 b ≡ true = grind (arith, low) in

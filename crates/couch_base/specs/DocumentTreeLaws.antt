@@ -1,4 +1,4 @@
--- Laws of the trees of documents: a merge leaves one.
+-- Lemmas about the trees of documents: a merge keeps their invariant.
 use Rattle.std.proofs.Common.{◌≡◌, ◌<◌, ◌||◌, cond, inl, inr, subst, false, Some, None, List, [], ◌∷◌, true, length, map, filter, sym, ap, ◌∙◌, arith}
 use Rattle.std.proofs.lemmas.List.{nil_from_length}
 use Rattle.std.specs.FinMap.{FinMap, empty, entries, find, get, get-empty, len-entries, len-empty}
@@ -26,7 +26,7 @@ nonempty r (s ∷ revs) h = omega arith
 pub has_leaf : (t : TreeValue) → IsTree t → (r : RevId) → has t r ≡ true → 0 < length (leaves t)
 has_leaf t tree r known = let up = leaf_above t tree r known in nonempty up.0 (leaves t) (is_among-leaves t up.0 ∙ up.1.leaf)
 
--- a tree of no revisions has no body
+-- an empty tree has no bodies
 pub no_bodies : HasBodies no_revisions
 no_bodies r b is = absurd (none-some b (sym (get-empty rev_cmp r) ∙ is))
 
@@ -45,7 +45,7 @@ merged_bodies t revs b o bodies body r x is =
       | inr given ↦ subst (λ (c : ContentValue). IsBody c.body) (head_content revs b x r given.1) body
     ]
 
--- a merge of an ancestry and a content with a body leaves the tree of a document
+-- merging an ancestry and a content with a valid body gives a document's tree
 pub merged_document : (t : TreeValue) (revs : List RevId) (b : ContentValue) (o : Origin) → IsAncestry revs → IsBody b.body → HasBodies t → IsTree (merged t revs b o) → IsDocumentTree (merged t revs b o)
 merged_document t [] b o a body bodies tree = absurd (omega (arith, a.nonempty))
 merged_document t (r ∷ rest) b o a body bodies tree = record {
@@ -54,7 +54,7 @@ merged_document t (r ∷ rest) b o a body bodies tree = record {
   bodies = merged_bodies t (r ∷ rest) b o bodies body;
 }
 
--- a tree of no revisions has none
+-- an empty tree has no leaves
 pub leaves-no_revisions : leaves no_revisions ≡ []
 leaves-no_revisions =
     ap (λ (es : List (RevId × Origin)). in_order (leaf_cmp no_revisions) (filter (is_leaf no_revisions) (map (λ e. e.0) es)))

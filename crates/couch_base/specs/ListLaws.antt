@@ -1,4 +1,4 @@
--- Laws of lists: tests of some or of all elements, and lists in which nothing comes twice.
+-- Lemmas about lists: tests of some or all elements, and lists without duplicates.
 use Rattle.std.specs.Prelude.{◌≡◌, ℕ, Bool, true, false, ◌||◌, List, [], ◌∷◌, ◌++◌, map, filter, refl}
 use Rattle.std.proofs.Common.{ap, ◌∙◌}
 use Rattle.std.proofs.lemmas.Bool.{or_right, cond_both, or_parts, and_from, or_left, or_from}
@@ -6,7 +6,7 @@ use Rattle.std.proofs.lemmas.Slice.Eq.{bytes_eq-Decides}
 use Rattle.std.proofs.lemmas.List.Folds.{list_any-append, list_all-append}
 use Rattle.std.specs.Str.{bytes_eq}
 use Rattle.std.specs.List.{list_any, list_all, AllByRecursion}
--- by the names that crates above cite
+-- under the names that higher crates cite
 pub use Rattle.std.proofs.lemmas.Bool.{or_parts as both_false}
 pub use Rattle.std.proofs.lemmas.Option.{same_Some as some_is, none-some as none_some}
 use Rattle.rev_core.specs.Rev.{RevId}
@@ -16,7 +16,7 @@ use Rattle.couch_base.specs.Lists.{EachOnce}
 
 -- ---- ids
 
--- ids that a test finds equal
+-- ids that compare as equal are equal
 pub id_is : (a b : List ℕ) → bytes_eq a b ≡ true → a ≡ b
 id_is a b h = (bytes_eq-Decides a b).0 h
 
@@ -47,7 +47,7 @@ none_filter q p (x ∷ xs) h =
 pub all_append : {X : Type 0} (p : X → Bool) (xs ys : List X) → list_all p xs ≡ true → list_all p ys ≡ true → list_all p (xs ++ ys) ≡ true
 all_append p xs ys h k = list_all-append p xs ys ∙ and_from _ _ h k
 
--- what holds of those that pass a test holds of all that are made of them
+-- a property of the elements that pass a test holds for all that are mapped from them
 pub all_made : {X Y : Type 0} (p : Y → Bool) (f : X → Y) (q : X → Bool) → ((x : X) → q x ≡ true → p (f x) ≡ true) → (xs : List X) → list_all p (map f (filter q xs)) ≡ true
 all_made p f q h [] = refl
 all_made p f q h (x ∷ xs) =
@@ -55,12 +55,12 @@ all_made p f q h (x ∷ xs) =
     (λ passes. and_from _ _ (h x passes) (all_made p f q h xs))
     (λ _. all_made p f q h xs)
 
--- what holds of each member holds of all
+-- a property of each member holds for all
 pub all_members : (p : RevId → Bool) (revs : List RevId) → ((r : RevId) → is_among r revs ≡ true → p r ≡ true) → list_all p revs ≡ true
 all_members p [] h = refl
 all_members p (r ∷ revs) h = and_from _ _ (h r (ap (λ b. b || is_among r revs) (rev_tie_self r))) (all_members p revs (λ x m. h x (or_right _ _ m)))
 
--- ---- nothing twice
+-- ---- no duplicates
 
 pub each_filter : {X : Type 0} (eq : X → X → Bool) (p : X → Bool) (xs : List X) → EachOnce eq xs → EachOnce eq (filter p xs)
 each_filter eq p [] h = tt

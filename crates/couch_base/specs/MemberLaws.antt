@@ -1,13 +1,13 @@
--- Members of lists that were joined, mapped or searched.
+-- Members of lists that are concatenated, mapped or searched.
 use Rattle.std.proofs.Common.{◌≡◌, ◌⊎◌, List, [], ◌∷◌, ◌++◌, Bool, true, false, cond, Some, map, refl, sym, ap, ◌∙◌, inl, inr}
 use Rattle.std.specs.List.{find, list_any, list_all, AllByRecursion}
 use Rattle.std.proofs.lemmas.Bool.{or_left, or_right, or_cases, and_parts, false≢true}
 use Rattle.std.proofs.lemmas.Option.{same_Some, none-some}
 use Rattle.couch_base.specs.Lists.{Among}
--- by the names that crates above cite
+-- under the names that higher crates cite
 pub use Rattle.rev_tree.proofs.Places.{slice_get-append as at-append, slice_get-last as at-end}
 
--- ---- lists that were joined or mapped
+-- ---- concatenated and mapped lists
 
 pub Among-left : {X : Type 0} (x : X) (xs ys : List X) → Among x xs → Among x (xs ++ ys)
 Among-left x [] ys m = absurd m
@@ -18,7 +18,7 @@ pub Among-last : {X : Type 0} (x : X) (xs : List X) → Among x (xs ++ x ∷ [])
 Among-last x [] = inl refl
 Among-last x (y ∷ xs) = inr (Among-last x xs)
 
--- a member of a list with one more at its end
+-- a member of a list with one more element
 pub Among-push : {X : Type 0} (x : X) (xs : List X) (y : X) → Among x (xs ++ y ∷ []) → Among x xs ⊎ (x ≡ y)
 Among-push x [] y (inl e) = inr e
 Among-push x [] y (inr m) = absurd m
@@ -37,7 +37,7 @@ Among-mapped f x (y ∷ xs) (inr m) = inr (Among-mapped f x xs m)
 
 -- ---- tests
 
--- what passes a test
+-- an element that passes a test
 pub any_member : {X : Type 0} (p : X → Bool) (xs : List X) → list_any p xs ≡ true → (x : X) × Among x xs × (p x ≡ true)
 any_member p [] h = absurd (false≢true h)
 any_member p (x ∷ xs) h =
@@ -64,7 +64,7 @@ found_member p (y ∷ xs) x e = step (λ h. found_member p xs x h) (p y) refl e
     step later true h e = let i : x ≡ y = sym (same_Some y x e) in (inl i, ap p i ∙ h)
     step later false h e = let k = later e in (inr k.0, k.1)
 
--- ---- what holds of each
+-- ---- properties of each element
 
 pub each_member : {X : Type 0} (P : X → Type 0) (x : X) (xs : List X) → AllByRecursion P xs → Among x xs → P x
 each_member P x [] h m = absurd m

@@ -1,4 +1,4 @@
--- What is asked and what is fetched keep their facts.
+-- Requests and parcels satisfy their invariants.
 use Rattle.std.specs.Prelude.{◌≡◌, ℕ, zero, suc, true, false, not, ◌&&◌, ◌||◌, List, [], ◌∷◌, ◌++◌, map, refl}
 use Rattle.std.proofs.Common.{ap, sym, ◌∙◌, inl, inr, arith}
 use Rattle.std.proofs.lemmas.Bool.{or_right, false≢true, cases_Bool, or_left, or_cases, and_from, or_parts, and_left}
@@ -22,7 +22,7 @@ use Rattle.couch_base.specs.Feed.{RowValue, WindowValue, IsRow, IsWindow}
 use Rattle.couch_base.specs.FeedLaws.{EachOnce-leaves}
 use Rattle.couch_base.specs.Messages.{WantedValue, AskedValue, IsWanted, IsAsked, IsParcel, want_first, wanted, revs_diff, leaf_document, opened, fetched, gone_of, open_revs, brings, is_rev_of, is_answered, is_wanted, same_head, same_revision}
 
--- ---- asking
+-- ---- requesting
 
 none_wanted : (ds : List DocumentValue) (id : Id) (rows : List RowValue) → list_any (bytes_eq id) (map (λ r. r.id) rows) ≡ false → list_any (bytes_eq id) (map (λ w. w.id) (wanted ds rows)) ≡ false
 none_wanted ds id [] h = h
@@ -49,11 +49,11 @@ all_wanted : (ds : List DocumentValue) (rows : List RowValue) → AllByRecursion
 all_wanted ds [] h = tt
 all_wanted ds (r ∷ rows) h = wanted_first r.id (missing (tree_of ds r.id) r.leaves) (wanted ds rows) (each_filter (eq_by_cmp rev_cmp) (λ l. not (has (tree_of ds r.id) l)) r.leaves h.0.distinct) (all_wanted ds rows h.1)
 
--- what is asked for a window names each document once, with some revisions, none twice
+-- a request for a window names each document once, with at least one revision and no duplicates
 pub IsAsked-revs_diff : (db : DatabaseValue) (w : WindowValue) → IsWindow w → IsAsked (revs_diff db w)
 IsAsked-revs_diff db w window = record { distinct = each_wanted db.docs w.rows window.distinct; docs = all_wanted db.docs w.rows window.rows }
 
--- ---- each asked revision is answered
+-- ---- each requested revision is in the parcel
 
 any_opened : (id : Id) (t : TreeValue) (leaf r : RevId) (xs : List RevId) → is_among leaf xs ≡ true → is_among r (ancestors t leaf) ≡ true → list_any (brings id r) (map (leaf_document id t) xs) ≡ true
 any_opened id t leaf r [] h above = absurd (false≢true h)
@@ -111,7 +111,7 @@ all_answered db law (w ∷ ws) =
     (all_weaker (is_answered (fetched db.docs ws) (gone_of db.docs ws)) (is_answered (docs ++ fetched db.docs ws) (gone ++ gone_of db.docs ws))
     (λ x. answered_right docs (fetched db.docs ws) gone (gone_of db.docs ws) x) ws (all_answered db law ws))
 
--- ---- each fetched document is wanted
+-- ---- each fetched document is requested
 
 opened_wanted : (w : WantedValue) (ws : List WantedValue) (t : TreeValue) → list_all (is_wanted (w ∷ ws)) (opened w.id t w.revs) ≡ true
 opened_wanted w ws t =
@@ -126,7 +126,7 @@ fetched_wanted ds (w ∷ ws) =
     (opened_wanted w ws (tree_of ds w.id))
     (all_weaker (is_wanted ws) (is_wanted (w ∷ ws)) (λ d k. or_right _ _ k) (fetched ds ws) (fetched_wanted ds ws))
 
--- ---- no id and head comes twice
+-- ---- no id and newest revision occurs twice
 
 heads : (m : FinMap rev_cmp RevId) (n k : ℕ) (a b : RevId) → same_head (walk m n a) (walk m k b) ≡ eq_by_cmp rev_cmp a b
 heads m zero zero a b = refl
@@ -145,7 +145,7 @@ each_opened : (id : Id) (t : TreeValue) (xs : List RevId) → EachOnce (eq_by_cm
 each_opened id t [] h = tt
 each_opened id t (x ∷ xs) h = (apart_in id t x xs h.0, each_opened id t xs h.1)
 
--- documents of another id
+-- documents with different ids
 apart_from : (d : Document) (id : Id) (t : TreeValue) (ys : List RevId) → bytes_eq d.id id ≡ false → list_any (same_revision d) (map (leaf_document id t) ys) ≡ false
 apart_from d id t [] h = refl
 apart_from d id t (y ∷ ys) h = ap (λ b. b || list_any (same_revision d) (map (leaf_document id t) ys)) (and_left _ (same_head d.ancestry (ancestors t y)) h) ∙ apart_from d id t ys h
@@ -169,7 +169,7 @@ each_fetched ds (w ∷ ws) h =
     (each_fetched ds ws h.1)
     (all_apart ds w.id t (leaves_above t w.revs) ws h.0)
 
--- what is fetched is a parcel
+-- what `open_revs` returns satisfies the invariant of parcels
 pub IsParcel-open_revs : (db : DatabaseValue) (a : AskedValue) → LawfulDatabase db → IsAsked a → IsParcel (open_revs db a)
 IsParcel-open_revs db a law asked = record {
   asked = asked;

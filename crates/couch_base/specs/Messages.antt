@@ -1,4 +1,4 @@
--- Asking for missing revisions, and fetching them: docs/PROFILE.md, "Missing revisions" and "Fetching"; CouchDB,
+-- Requesting missing revisions, and fetching them: docs/PROFILE.md, "Missing revisions" and "Fetching"; CouchDB,
 -- "Replication Protocol", `_revs_diff`, and a fetch with `latest`.
 use Rattle.std.specs.Prelude.{◌≡◌, ℕ, ◌<◌, Bool, true, false, ◌&&◌, ◌||◌, List, [], ◌∷◌, ◌++◌, map, length, Option, refl}
 use Rattle.std.specs.Coded.{Coded, code_by, coded×, coded_ℕ, coded_list}
@@ -17,18 +17,18 @@ use Rattle.couch_base.specs.Lists.{EachOnce}
 use Rattle.couch_base.specs.Database.{Id, DocumentValue, DatabaseValue, coded_id, tree_of}
 use Rattle.couch_base.specs.Feed.{RowValue, WindowValue}
 
--- what is asked of one document
+-- the revisions requested of one document
 pub record WantedValue : Type 0 where
   pub id : Id
   pub revs : List RevId
 
--- what is asked for a window of the feed
+-- a request for a window of the feed
 pub record AskedValue : Type 0 where
   pub lo : ℕ
   pub hi : ℕ
   pub docs : List WantedValue
 
--- what is fetched: the asked, the documents, and the asked revisions that aren't there
+-- a parcel: the request, the documents, and the requested revisions that do not exist
 pub record ParcelValue : Type 0 where
   pub asked : AskedValue
   pub docs : List Document
@@ -50,34 +50,34 @@ coded_parcel =
     (coded× coded_asked (coded× (coded_list coded_doc) (coded_list (coded× coded_id coded_rev))))
     (λ p. (p.asked, (p.docs, p.gone))) (λ p. record { asked = p.0; docs = p.1.0; gone = p.1.1 }) (λ _. refl)
 
--- ---- asking
+-- ---- requesting
 
--- revisions of one document before those of others; nothing where there are none
+-- prepends the revisions of one document to those of others, if there are any
 abbrev pub want_first : Id → List RevId → List WantedValue → List WantedValue
 want_first id [] others = others
 want_first id (r ∷ revs) others = record { id = id; revs = r ∷ revs } ∷ others
 
--- the rows' leaves that aren't in the trees, in the order of the rows
+-- the leaves of the rows that the trees do not have, in the order of the rows
 abbrev pub wanted : List DocumentValue → List RowValue → List WantedValue
 wanted ds [] = []
 wanted ds (r ∷ rows) = want_first r.id (missing (tree_of ds r.id) r.leaves) (wanted ds rows)
 
--- what a database asks for a window of another one's feed
+-- the request of a database for a window of another database's feed
 abbrev pub revs_diff : DatabaseValue → WindowValue → AskedValue
 revs_diff db w = record { lo = w.lo; hi = w.hi; docs = wanted db.docs w.rows }
 
 -- ---- fetching
 
--- the text of a revision's body
+-- the body of a revision
 abbrev pub body_at : TreeValue → RevId → List ℕ
 body_at t r = option_map_or (λ (b : ContentValue). b.body) (get t.contents r) []
 
--- a leaf with its whole known ancestry and its content
+-- a leaf as a document, with its known ancestry and its content
 abbrev pub leaf_document : Id → TreeValue → RevId → Document
 leaf_document id t leaf =
     record { id = id; ancestry = ancestors t leaf; deleted = is_deleted t leaf; body = body_at t leaf }
 
--- the document at a revision, where a content stands at it
+-- the document at a revision, if it has a content
 abbrev pub document_in : Id → TreeValue → RevId → Option Document
 document_in id t r =
     option_map (λ (c : ContentValue). record { id = id; ancestry = ancestors t r; deleted = c.deleted; body = c.body })
@@ -87,7 +87,7 @@ document_in id t r =
 abbrev pub document_at : DatabaseValue → Id → RevId → Option Document
 document_at db id r = document_in id (tree_of db.docs id) r
 
--- the leaves of a document at or above the asked revisions, winner first
+-- the leaves of a document at or above the requested revisions, winner first
 abbrev pub opened : Id → TreeValue → List RevId → List Document
 opened id t revs = map (leaf_document id t) (leaves_above t revs)
 
@@ -95,18 +95,18 @@ abbrev pub fetched : List DocumentValue → List WantedValue → List Document
 fetched ds [] = []
 fetched ds (w ∷ ws) = opened w.id (tree_of ds w.id) w.revs ++ fetched ds ws
 
--- the asked revisions that aren't in the trees
+-- the requested revisions that the trees do not have
 abbrev pub gone_of : List DocumentValue → List WantedValue → List (Id × RevId)
 gone_of ds [] = []
 gone_of ds (w ∷ ws) = map (λ r. (w.id, r)) (missing (tree_of ds w.id) w.revs) ++ gone_of ds ws
 
--- what a database answers to what is asked
+-- the parcel of a database for a request
 abbrev pub open_revs : DatabaseValue → AskedValue → ParcelValue
 open_revs db a = record { asked = a; docs = fetched db.docs a.docs; gone = gone_of db.docs a.docs }
 
--- ---- what holds of these messages
+-- ---- invariants of requests and parcels
 
--- at least one revision, and none twice
+-- at least one revision, and no duplicates
 pub record IsWanted (w : WantedValue) : Type 0 where
   pub some : 0 < length w.revs
   pub distinct : EachOnce (eq_by_cmp rev_cmp) w.revs
@@ -116,33 +116,33 @@ pub record IsAsked (a : AskedValue) : Type 0 where
   pub distinct : EachOnce bytes_eq (map (λ w. w.id) a.docs)
   pub docs : AllByRecursion IsWanted a.docs
 
--- whether a document is of an id, and its ancestry has a revision
+-- whether a document has this id, and its ancestry has the revision
 abbrev pub brings : Id → RevId → Document → Bool
 brings id r d = bytes_eq d.id id && is_among r d.ancestry
 
--- whether this is a revision of an id
+-- whether a gone revision is this one
 abbrev pub is_rev_of : Id → RevId → Id × RevId → Bool
 is_rev_of id r g = bytes_eq g.0 id && eq_by_cmp rev_cmp r g.1
 
--- whether each asked revision of a document is in the ancestry of a fetched document of its id, or gone
+-- whether each requested revision of a document is gone, or in the ancestry of a fetched document of its id
 abbrev pub is_answered : List Document → List (Id × RevId) → WantedValue → Bool
 is_answered docs gone w = list_all (λ r. list_any (brings w.id r) docs || list_any (is_rev_of w.id r) gone) w.revs
 
--- whether a fetched document brings an asked revision
+-- whether the ancestry of a fetched document has a requested revision
 abbrev pub is_wanted : List WantedValue → Document → Bool
 is_wanted ws d = list_any (λ w. list_any (λ r. brings w.id r d) w.revs) ws
 
--- whether two ancestries begin with one revision
+-- whether two ancestries have the same newest revision
 abbrev pub same_head : List RevId → List RevId → Bool
 same_head [] others = false
 same_head (r ∷ revs) [] = false
 same_head (r ∷ revs) (s ∷ others) = eq_by_cmp rev_cmp r s
 
--- whether two documents have one id and one head
+-- whether two documents have the same id and newest revision
 abbrev pub same_revision : Document → Document → Bool
 same_revision d e = bytes_eq d.id e.id && same_head d.ancestry e.ancestry
 
--- what holds of every parcel
+-- the invariant of a parcel
 pub record IsParcel (p : ParcelValue) : Type 0 where
   pub asked : IsAsked p.asked
   pub answered : list_all (is_answered p.docs p.gone) p.asked.docs ≡ true

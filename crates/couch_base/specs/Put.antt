@@ -1,4 +1,4 @@
--- Putting a document: docs/PROFILE.md, "Merging" and "Sequences".
+-- Storing a document: docs/PROFILE.md, "Merging" and "Sequences".
 use Rattle.std.specs.Prelude.{◌≡◌, ℕ, ◌+◌, Bool, true, false, IsTrue, nat_lt, List, Result, Ok, Err, if◌then◌else◌}
 use Rattle.rev_tree.specs.Content.{ContentValue}
 use Rattle.rev_tree.specs.Tree.{merged, merge_answer}
@@ -13,19 +13,19 @@ use Rattle.couch_base.specs.declared.fault.Put.TheVariants as answers
 use Rattle.couch_base.specs.declared.fault.BaseFault.{BaseFault}
 use Rattle.couch_base.specs.declared.fault.BaseFault.TheVariants as faults
 
--- whether a merge changes a tree
+-- whether a merge changes the tree
 abbrev pub is_change : Result Merged Contradiction → Bool
 is_change (Ok merges.Changed) = true
 is_change (Ok merges.Same) = false
 is_change (Err c) = false
 
--- a contradiction is refused; what changes nothing takes no sequence; a change takes the next one, where one is left
+-- the result of a put, given the result of the merge, whether a sequence is left, and the next sequence
 abbrev pub put_told : Result Merged Contradiction → Bool → ℕ → Result Put BaseFault
 put_told (Err c) room next = Err (faults.Contradiction c.child c.known c.given)
 put_told (Ok merges.Same) room next = Ok answers.Same
 put_told (Ok merges.Changed) room next = if room then Ok (answers.Changed next) else Err faults.SeqFull
 
--- what putting a document answers
+-- the result of a put, if no allocation fails
 abbrev pub put_answer : DatabaseValue → Document → Result Put BaseFault
 put_answer db d =
     put_told (merge_answer (tree_of db.docs d.id) d.ancestry) (nat_lt db.update_seq most) (db.update_seq + 1)
@@ -36,16 +36,16 @@ is_changed (Ok (answers.Changed seq)) = true
 is_changed (Ok answers.Same) = false
 is_changed (Err fault) = false
 
--- what a put gives: the expected answer; `Memory` stands only where a sequence would be taken
+-- the result of `put`: the expected one, or `Memory` if a sequence would be taken
 abbrev pub PutGives : Result Put BaseFault → Result Put BaseFault → Type 0
 PutGives (Err faults.Memory) expected = IsTrue (is_changed expected)
 PutGives result expected = result ≡ expected
 
--- what stands at a new revision
+-- the content of a new revision
 abbrev pub content_of : Bool → List ℕ → ContentValue
 content_of deleted body = record { deleted = deleted; body = body }
 
--- the database after it: the document's tree is the merged one, exactly where that is a change
+-- the database after a put: the document's tree is the merged one, if that is a change
 abbrev pub after_put : DatabaseValue → Document → Origin → DatabaseValue
 after_put db d o =
     if is_changed (put_answer db d) then with_tree db d.id

@@ -1,5 +1,5 @@
--- A database as it is kept: a table of documents by id, and an index of their places by sequence. Each change puts a row
--- at the end of the index. A row is live while its document has no later change; the live rows are the feed.
+-- The stored form of a database: a table of documents by id, and an index of their positions by sequence. Each change
+-- appends a row to the index. A row is live if its document has no later change; the live rows are the feed.
 use Rattle.std.specs.Prelude.{◌≡◌, ℕ, ◌+◌, ◌*◌, ◌/◌, ◌<◌, ◌≤◌, ◌==◌, nat_lt, nat_le, Bool, false, not, List, [], ◌∷◌, cond, if◌then◌else◌, map, filter, length, slice_get, unwrap_or, Option, Some, None, IfSome, refl}
 use Rattle.std.specs.Coded.{Coded, code_by, coded×, coded_ℕ, coded_list}
 use Rattle.std.specs.Option.{option_map, option_map_or}
@@ -13,7 +13,7 @@ use Rattle.couch_base.specs.Database.{Id, coded_id, DocumentValue, DatabaseValue
 use Rattle.couch_base.specs.Feed.{RowValue, row_of}
 use Rattle.couch_base.specs.declared.kept.Kept.{Kept}
 
--- a table: its documents with their ids, the rows of their changes, and the sequence of the latest one
+-- a table: its documents with their ids, the rows of their changes, and the sequence of the latest change
 pub record TableValue : Type 0 where
   pub entries : List (Id × Kept)
   pub rows : List (ℕ × ℕ)
@@ -30,22 +30,22 @@ coded_table =
     (coded× (coded_list (coded× coded_id coded_kept)) (coded× (coded_list (coded× coded_ℕ coded_ℕ)) coded_ℕ))
     (λ t. (t.entries, (t.rows, t.last))) (λ p. record { entries = p.0; rows = p.1.0; last = p.1.1 }) (λ _. refl)
 
--- the id at a place
+-- the id at a position
 abbrev pub id_at : List Id → ℕ → Id
 id_at ids i = unwrap_or (slice_get ids i) []
 
--- the index with the ids in the place of their places
+-- the index, with ids instead of positions
 abbrev pub named : List Id → List (ℕ × ℕ) → List (ℕ × Id)
 named ids index = map (λ e. (e.0, id_at ids e.1)) index
 
--- whether the document at a row's place has its latest change at the row's sequence
+-- whether a row is live: the document at its position has its latest change at the row's sequence
 abbrev pub is_live : List (Id × Kept) → ℕ × ℕ → Bool
 is_live docs e = option_map_or (λ (d : Id × Kept). d.1.seq == e.0) (slice_get docs e.1) false
 
 abbrev pub live : List (Id × Kept) → List (ℕ × ℕ) → List (ℕ × ℕ)
 live docs rows = filter (is_live docs) rows
 
--- the live rows, with a table's ids
+-- the live rows, with ids
 abbrev pub feed_of : List (Id × Kept) → List (ℕ × ℕ) → List (ℕ × Id)
 feed_of docs rows = named (keys_of docs) (live docs rows)
 
@@ -53,15 +53,15 @@ feed_of docs rows = named (keys_of docs) (live docs rows)
 abbrev pub above : ℕ → List (ℕ × ℕ) → List (ℕ × ℕ)
 above a rows = filter (λ e. nat_lt a e.0) rows
 
--- the live rows at or under a sequence
+-- the live rows at or below a sequence
 abbrev pub live_upto : List (Id × Kept) → ℕ → List (ℕ × ℕ) → List (ℕ × ℕ)
 live_upto docs b rows = filter (λ e. nat_le e.0 b) (live docs rows)
 
--- the rows that a change leaves: all of them, or, where they are more than twice the documents, the live ones
+-- the rows after a change: all rows; or only the live ones, if there are more than twice as many rows as documents
 abbrev pub swept : List (Id × Kept) → List (ℕ × ℕ) → List (ℕ × ℕ)
 swept docs rows = if nat_lt (length docs) (length rows / 2) then live docs rows else rows
 
--- each place of the index is one of so many
+-- each position of the index is below n
 abbrev pub ArePlaces : ℕ → List (ℕ × ℕ) → Type 0
 ArePlaces n index = (e : ℕ × ℕ) → Among e index → e.1 < n
 
@@ -69,7 +69,7 @@ ArePlaces n index = (e : ℕ × ℕ) → Among e index → e.1 < n
 abbrev pub at_seq : ℕ → List (ℕ × Id) → Option Id
 at_seq s index = lookup (is_at (nat_cmp s)) index
 
--- what the table has at an id
+-- the stored document with an id
 abbrev pub found : List (Id × Kept) → Id → Option Kept
 found docs id = lookup (bytes_eq id) docs
 
@@ -98,11 +98,11 @@ database_of uuid life t = record { uuid = uuid; life = life; update_seq = t.last
 abbrev pub row_by : List (Id × Kept) → ℕ × ℕ → RowValue
 row_by docs e = row_of (document (found docs) (e.0, id_at (keys_of docs) e.1))
 
--- and of a document that is kept
+-- the row of a stored document
 abbrev pub row_of_kept : Id → Kept → RowValue
 row_of_kept id k = row_of (record { id = id; seq = k.seq; tree = k.tree })
 
--- the rows of a table's feed above a and at or under b
+-- the rows of a table's feed above a and at or below b
 abbrev pub rows_within : TableValue → ℕ → ℕ → List RowValue
 rows_within t a b = map (row_by t.entries) (live_upto t.entries b (above a t.rows))
 
@@ -123,28 +123,28 @@ abbrev pub InOrder : List (ℕ × ℕ) → Type 0
 InOrder [] = Unit {0}
 InOrder (e ∷ rows) = ((x : ℕ × ℕ) → Among x rows → e.0 < x.0) × InOrder rows
 
--- the rows of an index: each has one of n places, and their sequences rise and are below s
+-- the rows of an index: positions are below n, and sequences rise and are below s
 pub record AreRows (n s : ℕ) (rows : List (ℕ × ℕ)) : Type 0 where
   pub places : ArePlaces n rows
   pub below : AllBelow s rows
   pub order : InOrder rows
 
--- rows are at most twice so many, and one more
+-- there are at most 2 n + 1 rows
 abbrev pub AreFew : ℕ → List (ℕ × ℕ) → Type 0
 AreFew n rows = length rows ≤ 2 * n + 1
 
--- what holds of every table: sweeping keeps the rows few
+-- the invariant of a table
 pub record IsKept (t : TableValue) : Type 0 where
   pub table : IsTable (found t.entries) (feed_of t.entries t.rows) t.last
   pub rows : AreRows (length t.entries) (t.last + 1) t.rows
   pub few : AreFew (length t.entries) t.rows
 
--- the place of an id's document, where it is there
+-- the position of a document, if it exists
 pub record IsPlace (docs : List (Id × Kept)) (id : Id) (place : Option ℕ) : Type 0 where
   pub there : IfSome place (λ i. (k : Kept) × (slice_get docs i ≡ Some (id, k)) × (found docs id ≡ Some k))
   pub absent : place ≡ None → found docs id ≡ None
 
--- h has k at the id, and at others what g has
+-- h is g, except that it has k at the id
 abbrev pub Sets : (Id → Option Kept) → (Id → Option Kept) → Id → Kept → Type 0
 Sets g h id k = (q : Id) → h q ≡ cond (bytes_eq id q) (Some k) (g q)
 
@@ -152,7 +152,7 @@ Sets g h id k = (q : Id) → h q ≡ cond (bytes_eq id q) (Some k) (g q)
 abbrev pub feed_without : Id → List (ℕ × Id) → List (ℕ × Id)
 feed_without id index = filter (λ e. not (bytes_eq e.1 id)) index
 
--- what a change of one document leaves: it takes the next sequence
+-- the effect of changing one document, which takes the next sequence
 pub record IsWritten (old new : TableValue) (id : Id) (tree : TreeValue) : Type 0 where
   pub kept : IsKept new
   pub value : (uuid life : ℕ) → database_of uuid life new ≡ with_tree (database_of uuid life old) id tree

@@ -1,4 +1,4 @@
-//! What is asked for a window of the feed.
+//! The revisions requested for a window of the feed.
 ghost use Rattle.std.specs.Prelude.{◌≡◌, IfOk};
 
 use crate::copies::copied;
@@ -8,13 +8,13 @@ use rev_tree::Revs;
 use std::alloc::{AllocError, Global};
 use std::marker::Model;
 
-/// Revisions that are asked of one document: at least one, none twice.
+/// The revisions requested of one document: at least one, without duplicates.
 pub struct Wanted {
     id: DocId,
     revs: Revs,
 }
 
-// By hand, so that it is proved once: docs/DECISIONS.md, "Letting values go".
+// Written by hand so that it is proved once: docs/DECISIONS.md, "Letting values go".
 impl Drop for Wanted {
     fn drop(self) {
         let Wanted { id: _, revs: _ } = self;
@@ -32,28 +32,28 @@ impl Model for Wanted {
 impl Wanted {
     ghost use Rattle.couch_base.specs.Messages.{WantedValue};
 
-    /// What is asked, of these parts.
+    /// Creates a request from its parts.
     pub(crate) fn new(id: DocId, revs: Revs) -> Wanted
         ensures { result ≡ record { id = id; revs = revs } }
     {
         Wanted { id, revs }
     }
 
-    /// The document's id.
+    /// Returns the document's id.
     pub fn id(&self) -> &DocId
         ensures { result.now ≡ self.now.id }
     {
         &self.id
     }
 
-    /// The revisions that are asked for.
+    /// Returns the requested revisions.
     pub fn revs(&self) -> &[Rev]
         ensures { result.now ≡ self.now.revs }
     {
         self.revs.as_slice()
     }
 
-    /// The same again.
+    /// Copies the request.
     pub fn copy(&self, alloc: Global) -> Result<Wanted, AllocError>
         ensures copied { IfOk result (λ w. w ≡ self.now) }
     {
@@ -63,14 +63,14 @@ impl Wanted {
     }
 }
 
-/// What is asked for the window `(lo, hi]` of a feed: documents, each once, with their revisions.
+/// The revisions requested for the window `(lo, hi]` of a feed: documents without duplicates, each with revisions.
 pub struct Asked {
     lo: u64,
     hi: u64,
     docs: Vec<Wanted>,
 }
 
-// By hand, so that it is proved once: docs/DECISIONS.md, "Letting values go".
+// Written by hand so that it is proved once: docs/DECISIONS.md, "Letting values go".
 impl Drop for Asked {
     fn drop(self) {
         let Asked {
@@ -96,7 +96,7 @@ impl Model for Asked {
 impl Asked {
     ghost use Rattle.couch_base.specs.Messages.{AskedValue, IsAsked};
 
-    /// What is asked, of parts that make it.
+    /// Creates a request from parts that satisfy its invariant.
     pub(crate) fn new(lo: u64, hi: u64, docs: Vec<Wanted>) -> Asked
         requires { IsAsked (record { lo = lo; hi = hi; docs = docs.items }) }
         ensures { result ≡ record { lo = lo; hi = hi; docs = docs.items } }
@@ -104,7 +104,7 @@ impl Asked {
         Asked { lo, hi, docs }
     }
 
-    /// The sequence above which the window begins.
+    /// Returns the sequence above which the window begins.
     pub fn lo(&self) -> u64
         ensures value { result ≡ self.now.lo }
         ensures asked { IsAsked self.now }
@@ -112,7 +112,7 @@ impl Asked {
         self.lo
     }
 
-    /// The sequence at which it ends.
+    /// Returns the sequence at which the window ends.
     pub fn hi(&self) -> u64
         ensures value { result ≡ self.now.hi }
         ensures asked { IsAsked self.now }
@@ -120,7 +120,7 @@ impl Asked {
         self.hi
     }
 
-    /// The documents, in the order of the window's rows.
+    /// Returns the documents, in the order of the window's rows.
     pub fn docs(&self) -> &[Wanted]
         ensures value { result.now ≡ self.now.docs }
         ensures asked { IsAsked self.now }
@@ -128,7 +128,7 @@ impl Asked {
         &self.docs
     }
 
-    /// The same again.
+    /// Copies the request.
     pub fn copy(&self, alloc: Global) -> Result<Asked, AllocError>
         ensures copied { IfOk result (λ a. a ≡ self.now) }
         ensures asked { IsAsked self.now }

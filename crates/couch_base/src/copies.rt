@@ -1,10 +1,10 @@
-//! Lists that are copied one element after another.
+//! Copying lists element by element.
 ghost use Rattle.std.specs.Prelude.{◌≡◌, IfOk, Ok};
 ghost use Rattle.std.specs.Fn.{FnReturnsAt};
 
 use std::alloc::{AllocError, Global};
 
-/// The same list, each element as `copy` makes it again.
+/// Copies a list, using `copy` for each element.
 pub(crate) fn copied<T: Drop, F: Fn(&T) -> Result<T, AllocError>>(
     alloc: Global,
     items: &[T],

@@ -1,4 +1,4 @@
-//! What a local edit stands on, and what it brings.
+//! The parent and the ancestry of a local edit.
 ghost use Rattle.std.specs.Prelude.{◌≡◌, ◌^◌, ◌∷◌, Some, not, nat_lt, IfOk};
 ghost use Rattle.std.specs.Option.{option_to_list};
 ghost use Rattle.rev_core.specs.NewRev.{next_generation};
@@ -13,8 +13,8 @@ use rev_core::{Ancestry, Rev, new_rev};
 use rev_tree::{Content, Tree};
 use std::alloc::{AllocError, Global};
 
-/// The revision of a document that an edit stands on: the leaf that is named, or, where none is named and all leaves
-/// are deleted, the winner. Else `Conflict`.
+/// Returns the parent of an edit: the named leaf, or the winner if no parent is named and all leaves are deleted.
+/// Otherwise returns `Conflict`.
 pub(crate) fn parent_in(tree: &Tree, parent: Option<Rev>) -> Result<Option<Rev>, BaseFault>
     ensures { result ≡ parent_answer (Some tree.now) parent }
 {
@@ -30,11 +30,11 @@ pub(crate) fn parent_in(tree: &Tree, parent: Option<Rev>) -> Result<Option<Rev>,
     }
 }
 
-/// The winner of a document of which all leaves are deleted.
+/// Returns the winner if all leaves are deleted, else `Conflict`.
 fn deleted_winner(tree: &Tree) -> Result<Option<Rev>, BaseFault>
     ensures { result ≡ parent_answer (Some tree.now) None }
 {
-    // The winner is deleted only where all leaves are, since live leaves stand first.
+    // Live leaves are first, so the winner is deleted only if all leaves are.
     let Some(winner) = tree.winner() else {
         return Ok(None);
     };
@@ -45,7 +45,7 @@ fn deleted_winner(tree: &Tree) -> Result<Option<Rev>, BaseFault>
     }
 }
 
-/// Whether no generation is left behind a revision.
+/// Whether the revision has the greatest generation, so that it cannot have a child.
 pub(crate) fn next_is_full(before: Option<Rev>) -> bool
     ensures { result ≡ not (nat_lt (next_generation before) (2 ^ 32)) }
 {
@@ -55,9 +55,8 @@ pub(crate) fn next_is_full(before: Option<Rev>) -> bool
     }
 }
 
-/// The ancestry that an edit brings: the new revision, and the one that it stands on.
-///
-/// `GenerationFull` where that one has the greatest generation.
+/// Creates the ancestry of an edit: the new revision and its parent. Returns `GenerationFull` if the parent has the
+/// greatest generation.
 pub(crate) fn edit_ancestry(
     alloc: Global,
     before: Option<Rev>,
@@ -78,7 +77,7 @@ pub(crate) fn edit_ancestry(
     }
 }
 
-/// The id of an edit.
+/// Computes the new revision of an edit.
 fn edit_rev(
     alloc: Global,
     parent: Option<Rev>,
@@ -90,13 +89,13 @@ fn edit_rev(
     Ok(new_rev(alloc, parent, deleted, body.text())?)
 }
 
-/// The ancestry of a revision and the one that it stands on.
+/// Creates the ancestry of a revision and its optional parent.
 fn ancestry_of(alloc: Global, rev: Rev, parent: Option<Rev>) -> Result<Ancestry, AllocError>
     requires { rev.generation ≡ next_generation parent }
     ensures ancestry { IfOk result (λ a. a ≡ rev ∷ option_to_list parent) }
 {
     let mut revs = Vec::with_capacity(alloc, 2)?;
-    // Readings of generations tell the proof that these are revisions.
+    // Gives proofs the fact that these are revisions.
     let _generation = rev.generation();
     revs.push(rev)?;
     let Some(parent) = parent else {
@@ -107,7 +106,7 @@ fn ancestry_of(alloc: Global, rev: Rev, parent: Option<Rev>) -> Result<Ancestry,
     Ok(Ancestry::from_revs(revs))
 }
 
-/// The content that a document brings, which shares its text.
+/// Creates a document's content, which shares its body.
 pub(crate) fn content_of(deleted: bool, body: &Body) -> Result<Content, AllocError>
     ensures content { IfOk result (λ c. c ≡ content_of deleted body.now) }
     ensures body { IfOk result (λ c. IsBody c.body) }

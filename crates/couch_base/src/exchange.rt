@@ -1,4 +1,4 @@
-//! Asking for missing revisions, and fetching them; and the document at a revision.
+//! Requesting missing revisions, fetching them, and reading a document at a revision.
 ghost use Rattle.std.specs.Prelude.{◌≡◌, ◌++◌, [], true, map, length, OnOk, IfOk};
 ghost use Rattle.std.specs.List.{list_all};
 ghost use Rattle.rev_tree.specs.Tree.{is_leaf, missing};
@@ -19,10 +19,9 @@ use std::alloc::{AllocError, Global};
 impl Database {
     ghost use Rattle.couch_base.specs.Messages.{revs_diff, open_revs, document_at};
 
-    /// What this database misses of another one's window: the leaves of the rows that are not in its trees, in the
-    /// rows' order.
+    /// Returns the leaves of another database's window that are missing in this database, in the order of the rows.
     ///
-    /// A revision that is known as an ancestor only is not missing.
+    /// A revision that is known only as an ancestor is not missing.
     pub fn revs_diff(&self, alloc: Global, window: &Window) -> Result<Asked, AllocError>
         ensures asked { IfOk result (λ a. a ≡ revs_diff self.now window.now) }
     {
@@ -34,10 +33,11 @@ impl Database {
         Ok(Asked::new(window.lo(), window.hi(), docs))
     }
 
-    /// What this database has of the asked revisions: of each document the leaves at or above them, each with its whole
-    /// known ancestry and its content; and the asked revisions that are gone.
+    /// Returns the documents for a request: for each requested document, the leaves at or above the requested
+    /// revisions, each with its known ancestry and its content; and the requested revisions that this database does not
+    /// have.
     ///
-    /// Documents stand in the order of the asked ones, their leaves with the winner first.
+    /// Documents are in the order of the request, the leaves of a document winner first.
     pub fn open_revs(&self, alloc: Global, asked: &Asked) -> Result<Parcel, AllocError>
         ensures parcel { IfOk result (λ p. p ≡ open_revs self.now asked.now) }
     {
@@ -45,7 +45,7 @@ impl Database {
         self.open_asked(alloc, again)
     }
 
-    /// The same as `open_revs`, for an asked list that goes into the parcel.
+    /// As `open_revs`, but moves the request into the parcel instead of copying it.
     pub fn open_asked(&self, alloc: Global, asked: Asked) -> Result<Parcel, AllocError>
         ensures parcel { IfOk result (λ p. p ≡ open_revs self.now asked) }
     {
@@ -59,7 +59,7 @@ impl Database {
         Ok(Parcel::new(alloc, asked, docs, gone))
     }
 
-    /// How many documents `open_revs` has for what is asked.
+    /// Returns the number of documents that `open_revs` would return.
     pub fn count_asked(&self, alloc: Global, asked: &Asked) -> Result<u128, AllocError>
         ensures count { IfOk result (λ n. n ≡ length (open_revs self.now asked.now).docs) }
     {
@@ -72,7 +72,7 @@ impl Database {
         Ok(count)
     }
 
-    /// How many documents there are for the wanted revisions of one.
+    /// Returns the number of documents for the requested revisions of one document.
     fn count_wanted(
         &self,
         alloc: Global,
@@ -89,8 +89,8 @@ impl Database {
         Ok(leaves.as_slice().len() as u64)
     }
 
-    /// The document at a revision, leaf or not: its whole known ancestry, and its content. `None` where the document is
-    /// not there, the revision is not in its tree, or no content stands at it.
+    /// Returns the document at a revision, with its known ancestry and its content. `None` if the document does not
+    /// exist, its tree does not have the revision, or the revision has no content.
     pub fn document(&self, alloc: Global, id: &DocId, rev: Rev) -> Result<Option<Doc>, AllocError>
         ensures document { IfOk result (λ d. d ≡ document_at self.now id.now rev) }
     {
@@ -100,7 +100,7 @@ impl Database {
         }
     }
 
-    /// Adds what is missing of a row.
+    /// Appends the missing leaves of a row to a request.
     fn want(
         &self,
         alloc: Global,
@@ -120,8 +120,8 @@ impl Database {
         Ok(())
     }
 
-    /// Adds the documents of the leaves at or above the wanted revisions, and the wanted revisions that are not in the
-    /// tree.
+    /// Appends the documents for the requested revisions of one document, and the requested revisions that its tree
+    /// does not have.
     fn fetch(
         &self,
         alloc: Global,
@@ -148,7 +148,7 @@ impl Database {
         Ok(())
     }
 
-    /// The revisions that are not in the tree of a document.
+    /// Returns the given revisions that the tree of a document does not have.
     fn missing(
         &self,
         alloc: Global,
@@ -165,7 +165,7 @@ impl Database {
     }
 }
 
-/// Adds the documents of some leaves.
+/// Appends the documents of leaves.
 fn add_documents(
     alloc: Global,
     id: &DocId,
@@ -185,7 +185,7 @@ fn add_documents(
     Ok(())
 }
 
-/// The document of a leaf, at which a content always stands.
+/// Returns the document of a leaf; a leaf always has a content.
 fn leaf_document(alloc: Global, id: &DocId, tree: &Tree, leaf: Rev) -> Result<Doc, AllocError>
     requires document { IsDocumentTree tree.now }
     requires leaf { is_leaf tree.now leaf ≡ true }
@@ -195,7 +195,7 @@ fn leaf_document(alloc: Global, id: &DocId, tree: &Tree, leaf: Rev) -> Result<Do
     Ok(found.unwrap())
 }
 
-/// The document at a revision, where a content stands at it.
+/// Returns the document at a revision, if the revision has a content.
 fn document_in(alloc: Global, id: &DocId, tree: &Tree, rev: Rev) -> Result<Option<Doc>, AllocError>
     requires document { IsDocumentTree tree.now }
     ensures document { IfOk result (λ d. d ≡ document_in id.now tree.now rev) }
@@ -216,7 +216,7 @@ fn document_in(alloc: Global, id: &DocId, tree: &Tree, rev: Rev) -> Result<Optio
     Ok(Some(Doc::new(id, rev_info.ancestry, content.deleted(), body)))
 }
 
-/// Adds revisions of a document.
+/// Appends revisions of a document to a list.
 fn add_revs(
     alloc: Global,
     id: &DocId,

@@ -1,4 +1,4 @@
-//! What a put answers, and what the calls of this crate refuse.
+//! The results and errors of this crate.
 ghost use Rattle.std.specs.Prelude.{◌≡◌};
 ghost use Rattle.couch_base.specs.declared.fault.BaseFault.TheVariants.{Memory};
 ghost use Rattle.couch_base.specs.Answers.{edit_refusal};
@@ -8,34 +8,34 @@ use rev_core::{Rev, RevFault};
 use std::alloc::AllocError;
 use thiserror::Error;
 
-/// What an edit answers: the new revision's id, or why it is refused.
+/// The result of an edit: the new revision, or an error.
 pub type Revised = Result<Rev, BaseFault>;
 
-/// What is answered where a page of the changes feed is asked for: its window, or why it is refused.
+/// The result of reading a page of the changes feed: its window, or an error.
 pub type Listed = Result<Window, BaseFault>;
 
-/// What a put did.
+/// What a put changed.
 #[derive(Clone, Copy, Debug, PartialEq, Eq)]
 pub enum Put {
     /// The document changed, at this sequence.
     Changed { seq: u64 },
-    /// The document had all of it already. No sequence was taken.
+    /// The database already had the document. No sequence was taken.
     Same,
 }
 
-/// Why a call is refused, or that memory ran out.
+/// Why a call failed.
 #[derive(Clone, Copy, Debug, Error)]
 pub enum BaseFault {
-    /// A given child has another parent in the document's tree: the first such child, newest first.
+    /// A given child has another parent in the document's tree; this is the first such child, newest first.
     #[error("a revision has another parent in the document's tree")]
     Contradiction { child: Rev, known: Rev, given: Rev },
     /// The update sequence is the greatest one, 9,007,199,254,740,991.
     #[error("no sequence after 9007199254740991")]
     SeqFull,
-    /// A database is asked for whose update sequence is above the greatest one, 9,007,199,254,740,991.
+    /// The requested update sequence exceeds the greatest one, 9,007,199,254,740,991.
     #[error("an update sequence above 9007199254740991")]
     SeqTooLarge,
-    /// A page of no rows is asked for.
+    /// The limit of a page is 0.
     #[error("a page has at least one row")]
     BadLimit,
     /// The goal of a page is not above its start.
@@ -44,19 +44,19 @@ pub enum BaseFault {
     /// The goal of a page is above the update sequence.
     #[error("the goal is above the update sequence {update_seq}")]
     GoalAhead { update_seq: u64 },
-    /// An edit names a parent, and the document is not there.
+    /// An edit names a parent, and the document does not exist.
     #[error("no such document")]
     NoSuchDocument,
-    /// An edit's parent is no leaf; or it names none, and the document has a leaf that is not deleted.
+    /// The edit's parent is not a leaf; or it names no parent, and the document has a live leaf.
     #[error("the edit's parent is not a leaf, or a live leaf is passed over")]
     Conflict,
     /// The edit's parent has the greatest generation, 4,294,967,295.
     #[error("no generation after 4294967295")]
     GenerationFull,
-    /// The id of the edit is in the document's tree already.
+    /// The document's tree already has the new revision of the edit.
     #[error("the edit is there already")]
     RevExists { rev: Rev },
-    /// An allocation was refused.
+    /// An allocation failed.
     #[error("out of memory")]
     Memory,
 }

@@ -1,4 +1,4 @@
-//! The changes feed, read where it stands.
+//! Iterating over the changes feed in place.
 ghost use Rattle.std.specs.Prelude.{◌≡◌, ◌∷◌, [], None, IfOk, IfSome};
 
 use crate::table::Table;
@@ -7,7 +7,7 @@ use rev_tree::{Revs, Tree};
 use std::alloc::{AllocError, Global};
 use std::marker::Model;
 
-/// A document in the changes feed, where it stands. What contracts see of it is its row.
+/// A changed document in the feed, by reference. Contracts see its row.
 #[derive(Drop)]
 pub struct Change<'a> {
     seq: u64,
@@ -25,21 +25,21 @@ impl<'a> Model for Change<'a> {
 }
 
 impl<'a> Change<'a> {
-    /// The sequence of the document's latest change.
+    /// Returns the sequence of the document's latest change.
     pub fn seq(&self) -> u64
         ensures { result ≡ self.now.seq }
     {
         self.seq
     }
 
-    /// The document's id.
+    /// Returns the document's id.
     pub fn id(&self) -> &'a DocId
         ensures { result.now ≡ self.now.id }
     {
         self.id
     }
 
-    /// All leaves of the document, winner first. One alone takes no memory.
+    /// Returns all leaves of the document, winner first. Does not allocate for a single leaf.
     pub fn leaves(&self, alloc: Global) -> Result<Revs, AllocError>
         ensures { IfOk result (λ revs. revs ≡ self.now.leaves) }
     {
@@ -47,9 +47,7 @@ impl<'a> Change<'a> {
     }
 }
 
-/// What is left of a part of the changes feed: its rows, by rising sequences.
-///
-/// It looks at the documents where they stand, and copies none of them.
+/// An iterator over a part of the changes feed, by rising sequence. It copies no documents.
 #[derive(Drop)]
 pub struct Feed<'a> {
     table: &'a Table,
@@ -72,7 +70,7 @@ impl<'a> Model for Feed<'a> {
 impl<'a> Feed<'a> {
     ghost use Rattle.couch_base.specs.Stored.{rows_within};
 
-    /// The part of a table's feed above a sequence, and at or under another.
+    /// Creates an iterator over the rows above `since` and up to `goal`.
     pub(crate) fn within(table: &'a Table, since: u64, goal: u64) -> Feed<'a>
         ensures { result ≡ rows_within table.now since goal }
     {
@@ -83,7 +81,7 @@ impl<'a> Feed<'a> {
         }
     }
 
-    /// Takes the first document. `None` where none is left.
+    /// Returns the next changed document, or `None` at the end.
     pub fn next(&mut self) -> Option<Change<'a>>
         ensures first { IfSome result (λ c. self.old ≡ c ∷ self.new) }
         ensures none { result ≡ None → self.old ≡ [] }

@@ -1,19 +1,19 @@
 //! How the table of documents hashes ids.
 //!
-//! Ids come from strangers. With a fixed beginning anybody could choose twenty thousand of them that fall together, and
-//! each look-up would pass them all. So the hash of a database begins with its UUID, which who chose the ids didn't
-//! know.
+//! Ids come from untrusted sources. With a fixed initial state, anyone could choose ids whose hashes collide, and each
+//! lookup would scan all of them. The hash therefore starts with the database's UUID. This protects only if the UUID is
+//! not known to the author of the ids; a UUID that the program makes follows from its seed, which is 0 by default.
 
 use std::hash::{BuildHasher, FoldHasher, Hasher};
 
-/// Hashes that begin with the UUID of a database.
+/// Builds hashers that start with the UUID of a database.
 #[derive(Clone, Copy)]
 pub(crate) struct IdHash {
     begun: FoldHasher,
 }
 
 impl IdHash {
-    /// The hashes of the database of a UUID.
+    /// Creates the hash builder of a database.
     pub(crate) fn new(uuid: u128) -> IdHash {
         let mut begun = FoldHasher::default();
         begun.write_u128(uuid);

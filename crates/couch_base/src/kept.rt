@@ -1,4 +1,4 @@
-//! A document as it is kept.
+//! The stored form of a document.
 
 use rev_tree::Tree;
 

@@ -1,16 +1,16 @@
-//! Where documents are looked for first.
+//! Hints for looking up documents in order.
 
-/// The place behind the document that was found last.
+/// The position after the document that was found last.
 ///
-/// Documents that are asked for one behind the other mostly stand so: a look-up with this spares the hash, and memory that
-/// nothing else has read. It changes no answer.
+/// Documents are often looked up in the order in which they are stored. A lookup with a hint then needs no hash. Hints
+/// do not affect results.
 #[derive(Drop)]
 pub struct LookupHint {
     pub(crate) place: usize,
 }
 
 impl LookupHint {
-    /// Where nothing was found yet.
+    /// Creates a hint at the first document.
     pub fn new() -> LookupHint {
         LookupHint { place: 0 }
     }

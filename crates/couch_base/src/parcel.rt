@@ -1,4 +1,4 @@
-//! What is fetched.
+//! Fetched documents.
 ghost use Rattle.std.specs.Prelude.{◌≡◌, IfOk};
 ghost use Rattle.couch_base.specs.Readied.{AreMade};
 
@@ -12,19 +12,20 @@ use rev_tree::SessionId;
 use std::alloc::{AllocError, Global};
 use std::marker::Model;
 
-/// What is fetched for the asked of a window `(lo, hi]`: the asked, documents, and the asked revisions that are gone.
+/// What was fetched for a request for the window `(lo, hi]`: the request, the documents, and the requested revisions
+/// that are gone.
 ///
-/// Each asked revision is in the ancestry of a fetched document of its id, or gone. Each fetched ancestry has an asked
-/// revision. No id and head comes twice.
+/// Each requested revision is gone, or in the ancestry of a document of its id. Each ancestry contains a requested
+/// revision. No two documents have the same id and newest revision.
 pub struct Parcel {
     asked: Asked,
     docs: Vec<Doc>,
     gone: Vec<(DocId, Rev)>,
-    // In a list of its own: few readers prepare a parcel, and the others move small documents.
+    // A separate list, because few callers prepare a parcel, and documents stay small.
     made: Vec<Option<PreparedTree>>,
 }
 
-// By hand, so that it is proved once: docs/DECISIONS.md, "Letting values go".
+// Written by hand so that it is proved once: docs/DECISIONS.md, "Letting values go".
 impl Drop for Parcel {
     fn drop(self) {
         let Parcel {
@@ -53,7 +54,7 @@ impl Model for Parcel {
 impl Parcel {
     ghost use Rattle.couch_base.specs.Messages.{ParcelValue, IsParcel};
 
-    /// The parcel of these parts, which make one.
+    /// Creates a parcel from parts that satisfy its invariant.
     pub(crate) fn new(
         alloc: Global,
         asked: Asked,
@@ -71,7 +72,7 @@ impl Parcel {
         }
     }
 
-    /// The sequence above which the window begins.
+    /// Returns the sequence above which the window begins.
     pub fn lo(&self) -> u64
         ensures value { result ≡ self.now.asked.lo }
         ensures parcel { IsParcel self.now }
@@ -79,7 +80,7 @@ impl Parcel {
         self.asked.lo()
     }
 
-    /// The sequence at which it ends.
+    /// Returns the sequence at which the window ends.
     pub fn hi(&self) -> u64
         ensures value { result ≡ self.now.asked.hi }
         ensures parcel { IsParcel self.now }
@@ -87,7 +88,7 @@ impl Parcel {
         self.asked.hi()
     }
 
-    /// What was asked for.
+    /// Returns the request.
     pub fn asked(&self) -> &Asked
         ensures value { result.now ≡ self.now.asked }
         ensures parcel { IsParcel self.now }
@@ -95,7 +96,7 @@ impl Parcel {
         &self.asked
     }
 
-    /// The fetched documents, in the order of the asked ones, of each one the winner first.
+    /// Returns the documents in the order of the request, those of one id winner first.
     pub fn docs(&self) -> &[Doc]
         ensures value { result.now ≡ self.now.docs }
         ensures parcel { IsParcel self.now }
@@ -103,7 +104,7 @@ impl Parcel {
         &self.docs
     }
 
-    /// The asked revisions that are not in their documents' trees.
+    /// Returns the requested revisions that their documents' trees do not have.
     pub fn gone(&self) -> &[(DocId, Rev)]
         ensures value { result.now ≡ self.now.gone }
         ensures parcel { IsParcel self.now }
@@ -111,8 +112,8 @@ impl Parcel {
         &self.gone
     }
 
-    /// The asked, the documents, the gone revisions, and what was made of the documents, in their order: nothing of any
-    /// where the parcel wasn't prepared.
+    /// Splits the parcel into request, documents, gone revisions and prepared trees. The prepared trees are in the
+    /// order of the documents; there are none if the parcel was not prepared.
     pub fn into_parts(
         self,
     ) -> (
@@ -134,8 +135,8 @@ impl Parcel {
         (asked, docs, gone, made)
     }
 
-    /// Makes what the documents make where they are new, and come from a session's feed at the sequences of some rows.
-    /// It stays the same parcel: what is made spares the put of such a document the making.
+    /// Builds the trees that the documents would have as new documents, with a session's feed at the sequences of the
+    /// rows as their origins. The value of the parcel does not change; `put_prepared` can then use the trees.
     pub fn prepare(
         &mut self,
         alloc: Global,
@@ -148,7 +149,7 @@ impl Parcel {
         Ok(())
     }
 
-    /// The same parcel.
+    /// Copies the parcel.
     pub fn copy(&self, alloc: Global) -> Result<Parcel, AllocError>
         ensures copied { IfOk result (λ p. p ≡ self.now) }
         ensures parcel { IsParcel self.now }
@@ -160,8 +161,7 @@ impl Parcel {
     }
 }
 
-/// What documents make where they are new. Their rows are looked for in order, and nothing is made of those behind one that
-/// has none.
+/// Builds the trees of documents. Rows are searched in order; documents after one without a row get no tree.
 fn make_all(
     alloc: Global,
     session: SessionId,
@@ -183,7 +183,7 @@ fn make_all(
     Ok(all)
 }
 
-/// The first place from one on with a row of an id, or that of the end.
+/// Returns the first index from `from` on whose row has the id, or the length.
 fn row_from(rows: &[Row], id: &DocId, from: usize) -> usize {
     for place in from..rows.len() {
         if rows[place].id() == id {

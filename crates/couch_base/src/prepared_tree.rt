@@ -1,4 +1,4 @@
-//! What documents make where they are new, made before they are put.
+//! Prepared trees of new documents.
 ghost use Rattle.std.specs.Prelude.{◌≡◌, IfOk};
 ghost use Rattle.couch_base.specs.Readied.{IsMadeOf};
 
@@ -7,7 +7,7 @@ use doc_json::{Doc, DocId};
 use rev_tree::{Origin, SessionId, Tree};
 use std::alloc::{AllocError, Global};
 
-/// What a document makes where it is new: its id, and its tree, whose revisions come from a session's feed at a sequence.
+/// The tree that a document would have as a new document, with its id. Its origin is a session's feed at a sequence.
 #[derive(Drop)]
 pub struct PreparedTree {
     pub(crate) key: DocId,
@@ -17,7 +17,7 @@ pub struct PreparedTree {
 }
 
 impl PreparedTree {
-    /// What a document makes where it is new, and comes from a session's feed at a sequence.
+    /// Builds the tree of a document, with a session's feed at a sequence as its origin.
     pub(crate) fn of(
         alloc: Global,
         doc: &Doc,
@@ -27,7 +27,7 @@ impl PreparedTree {
         ensures { IfOk result (IsMadeOf doc.now) }
     {
         let ancestry = doc.ancestry();
-        // An ancestry has a revision: the reading tells the proof.
+        // Gives proofs the fact that an ancestry has a revision.
         let _revs = ancestry.revs();
         let content = content_of(doc.deleted(), doc.body())?;
         let mut tree = Tree::new(alloc);

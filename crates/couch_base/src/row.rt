@@ -14,7 +14,7 @@ pub struct Row {
     leaves: Revs,
 }
 
-// By hand, so that it is proved once: docs/DECISIONS.md, "Letting values go".
+// Written by hand so that it is proved once: docs/DECISIONS.md, "Letting values go".
 impl Drop for Row {
     fn drop(self) {
         let Row {
@@ -36,35 +36,35 @@ impl Model for Row {
 impl Row {
     ghost use Rattle.couch_base.specs.Feed.{RowValue};
 
-    /// The row of these parts.
+    /// Creates a row from its parts.
     pub(crate) fn new(seq: u64, id: DocId, leaves: Revs) -> Row
         ensures { result ≡ record { seq = seq; id = id; leaves = leaves } }
     {
         Row { seq, id, leaves }
     }
 
-    /// The sequence of the document's latest change.
+    /// Returns the sequence of the document's latest change.
     pub fn seq(&self) -> u64
         ensures { result ≡ self.now.seq }
     {
         self.seq
     }
 
-    /// The document's id.
+    /// Returns the document's id.
     pub fn id(&self) -> &DocId
         ensures { result.now ≡ self.now.id }
     {
         &self.id
     }
 
-    /// All leaves of the document, winner first.
+    /// Returns all leaves of the document, winner first.
     pub fn leaves(&self) -> &[Rev]
         ensures { result.now ≡ self.now.leaves }
     {
         self.leaves.as_slice()
     }
 
-    /// The same row.
+    /// Copies the row.
     pub fn copy(&self, alloc: Global) -> Result<Row, AllocError>
         ensures copied { IfOk result (λ r. r ≡ self.now) }
     {

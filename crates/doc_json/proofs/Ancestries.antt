@@ -1,4 +1,4 @@
--- The ancestry of a document's members is that of the document.
+-- The ancestry of a serialized document's members is that of the document.
 use Rattle.proof_prelude.proofs.{◌≡◌, ℕ, ◌-◌, ◌^◌, ◌≤◌, List, [], ◌∷◌, length, map, false, cond, Some, None, option_map, option_and_then, Ok, refl, ap, ◌∙◌, arith, nat_eq, AllByRecursion, cond-true, cond-false, lt-ltb, le-ltb, ne_eqb}
 use Rattle.rev_core.specs.{RevId, IsRev, rev_tie_self, FallsByOne, IsAncestry, numbered, ancestry_read, named}
 use Rattle.doc_json.specs.{sigs_of, numbered_from, revisions_read, matched}
@@ -30,12 +30,12 @@ sigs_back (r ∷ revs) each =
     ap (λ b. option_and_then (λ sig. option_map (λ more. sig ∷ more) (sigs_of (sig_items revs))) (cond b (Some r.sig) None)) each.0.sig
     ∙ ap (option_map (λ more. r.sig ∷ more)) (sigs_back revs each.1)
 
--- `_revisions`
+-- from `_revisions`
 pub revisions_back : (head : RevId) (older : List RevId) → IsAncestry (head ∷ older) → revisions_read (revisions_value head older) ≡ Ok (head ∷ older)
 revisions_back head older h =
     let small = lt-ltb head.generation (2 ^ 32) h.each.0.high in
     ap (numbered_from (Some head.generation)) (sigs_back (head ∷ older) h.each) ∙ cond-true _ _ _ small ∙ ap (named faults.BadRevisions) (ancestry_back head older h.each h.falls)
 
--- beside `_rev`
+-- given `_rev`
 pub matched_back : (head : RevId) (older : List RevId) → matched (Some head) (head ∷ older) ≡ Ok (head ∷ older)
 matched_back head older = cond-true _ _ _ (rev_tie_self head)

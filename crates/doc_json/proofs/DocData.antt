@@ -1,4 +1,4 @@
--- The value that the text of a document is, with its members in the order of the text.
+-- The value that the serialized form of a document denotes, with its members in the order of the text.
 use Rattle.proof_prelude.proofs.{◌≡◌, ℕ, List, [], ◌∷◌, ◌++◌, Bool, true, false, Some, option_map, codes, refl, sym, ap, ◌∙◌, arith, append_assoc, decimal, AllByRecursion}
 use Rattle.json.specs.Print.{quoted, escape, escape_byte}
 use Rattle.serde_json.specs.Data.{Data, Items, no_items, item, Members, no_members, member, object, boolean, number, string, array, unsigned}
@@ -24,7 +24,7 @@ abbrev pub doc_members : List ℕ → RevId → List RevId → Bool → Members 
 doc_members id head older deleted ms =
     member (codes "_id") (string id) (member (codes "_rev") (string (rev_text head)) (member (codes "_revisions") (revisions_data head older) (with_flag deleted ms)))
 
--- ---- its text
+-- ---- the text
 
 sig_quoted : (r : RevId) → IsRev r → quoted r.sig ≡ sig_text r
 sig_quoted r h = ap (λ s. 34 ∷ (s ++ 34 ∷ [])) (escape-sig_bytes r.sig (sig_bytes r.sig h.sig))
@@ -69,7 +69,7 @@ doc_members_text id head older deleted ms body rev each is = unfold doc_text rev
     ∙ sym (append_assoc ((codes "{\"_id\":" ++ quoted id) ++ revs_text revs) (deleted_text deleted) (rest_text (compact_text (object ms))))
     ∙ ap (λ b. ((codes "{\"_id\":" ++ quoted id) ++ revs_text revs) ++ deleted_text deleted ++ rest_text b) (sym is))
 
--- ---- what it reads as
+-- ---- reading the text
 
 pub sig_items_read : (revs : List RevId) → of_items (items_outline (sig_items revs)) ≡ Some (sig_items revs)
 sig_items_read [] = refl

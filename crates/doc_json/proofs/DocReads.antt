@@ -12,7 +12,7 @@ pub is_some-option_map : {A B : Type 0} (f : A → B) (o : Option A) → is_some
 is_some-option_map f None = refl
 is_some-option_map f (Some x) = refl
 
--- the value of a result that has one
+-- the value of an Ok result
 pub ok_value : {A E : Type 0} (r : Result A E) → IsOk r → (x : A) × (r ≡ Ok x)
 ok_value (Ok x) h = (x, refl)
 ok_value (Err e) h = absurd (false≢true h)

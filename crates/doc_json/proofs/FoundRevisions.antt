@@ -1,4 +1,4 @@
--- The members `_rev` and `_revisions`, before anything of them is copied.
+-- The members `_rev` and `_revisions`, before any part is copied.
 use Rattle.proof_prelude.proofs.{◌≡◌, ℕ, ◌^◌, ◌<◌, ◌≤◌, List, [], ◌∷◌, length, map, Bool, true, false, cond, nat_eq, nat_lt, nat_le, Option, Some, None, is_some, option_map, option_and_then, Result, Ok, Err, is_ok, codes, slice_get, inl, inr, refl, sym, ap, ◌∙◌, arith, eq_by_cmp, lt-leb, cases_lt, false≢true, lt-ltb, le-ltb, le-leb, ne_eqb}
 use Rattle.serde_json.specs.Data.{Data}
 use Rattle.serde_json.specs.Find.{get, as_str}
@@ -70,7 +70,7 @@ pub head_none : (r : RevId) (s : ℕ) (sigs : List (List ℕ)) → None ≡ slic
 head_none r s [] e = refl
 head_none r s (first ∷ sigs) e = absurd (cc)
 
--- ---- what a good document has
+-- ---- the members of an accepted document
 
 pub revs_by : (d : Data) (rev : Option RevId) → rev_member (get (codes "_rev") d) ≡ Ok rev → revs_read d ≡ with_revisions (get (codes "_revisions") d) rev
 revs_by d rev e = unfold revs_read in ap (λ r. r >>= with_revisions (get (codes "_revisions") d)) e

@@ -1,4 +1,4 @@
--- Numbers that are no floats, by what is asked of them.
+-- Numbers that are not floats, by the result of their conversions.
 use Rattle.proof_prelude.proofs.{◌≡◌, ℕ, ℤ, pos, negsuc, true, Some, None, int_lt, SFits, w64, arith, signed_decimal}
 use Rattle.serde_json.specs.Data.{Num, unsigned, negative}
 use Rattle.serde_json.specs.Find.{as_u64, as_i64}
@@ -12,7 +12,7 @@ pub is_unsigned : (x : Num) (n : ℕ) → as_u64 x ≡ Some n → x ≡ unsigned
 is_unsigned (unsigned m) n e = cc
 is_unsigned _ n e = cc
 
--- a number that is neither unsigned nor a float is below zero
+-- a number that is neither unsigned nor a float is negative
 pub is_below_zero : (x : N) (z : ℤ) → is_valid x ≡ true → as_i64 (num_of x) ≡ Some z → as_u64 (num_of x) ≡ None → (num_of x ≡ negative z) × (int_lt z (pos 0) ≡ true)
 is_below_zero (PosInt n) z valid e none = cc
 is_below_zero (NegInt y) z valid e none = (cc, cc)

@@ -15,11 +15,11 @@ turned : (xs ys : List ℕ) (b : Bool) → b ≡ bytes_eq xs ys → bytes_eq ys 
 turned xs ys true e = (bytes_eq-Decides ys xs).1 (sym ((bytes_eq-Decides xs ys).0 (sym e)))
 turned xs ys false e = false_from_ne_true _ (λ t. false≢true (e ∙ (bytes_eq-Decides xs ys).1 (sym ((bytes_eq-Decides ys xs).0 t))))
 
--- the member of a name, or what is behind
+-- the member with a name, or the rest
 pub looked_at : (k name : List ℕ) (d : Data) (ms : Members) (b : Bool) → b ≡ bytes_eq name k → get_member k (member name d ms) ≡ cond b (Some d) (get_member k ms)
 looked_at k name d ms b e = chosen (slice_cmp nat_cmp k name) d (get_member k ms) b (is_eq-slice_cmp k name ∙ turned name k b e)
 
--- one member more was looked at
+-- one more member
 pub one_more : (k name : List ℕ) (d : Data) (ms : Members) (o found out : Option Data)
     → found ≡ option_or o (get_member k (member name d no_members)) → option_or o (get_member k (member name d ms)) ≡ out → option_or found (get_member k ms) ≡ out
 one_more k name d ms (Some x) found out e h = ap (λ t. option_or t (get_member k ms)) e ∙ h

@@ -1,9 +1,9 @@
--- What marks tell of ids.
+-- What the table says about ids.
 use Rattle.proof_prelude.proofs.{◌≡◌, ℕ, ◌<◌, ◌==◌, Bool, true, false, ◌||◌, List, [], ◌∷◌, ◌++◌, length, get_or, set, refl, sym, ap, ◌∙◌, subst, false≢true, eqb-false, list_any, AllByRecursion, bytes_eq, bytes_decides, eqb-true, get_or-set_same, get_or-set_other, length-set}
 use Rattle.doc_json.specs.{AreMarks, is_marked, is_marked_of, place_of}
 use Rattle.doc_json.proofs.ChosenBytes.{each_more}
 
--- a mark stays where another is made
+-- an entry stays true when another is set
 stays : (places : ℕ) (marks : List Bool) (n : ℕ) (id : List ℕ) → n < length marks → is_marked_of places marks id ≡ true → is_marked_of places (set marks n true) id ≡ true
 stays places marks n id within h = go (n == place_of places id) refl
   where
@@ -15,7 +15,7 @@ all_stay : (places : ℕ) (marks : List Bool) (n : ℕ) (ids : List (List ℕ)) 
 all_stay places marks n [] within h = tt
 all_stay places marks n (id ∷ ids) within h = (stays places marks n id within h.0, all_stay places marks n ids within h.1)
 
--- one id more is marked
+-- one more id is entered
 pub marked_more : (places : ℕ) (marks : List Bool) (ids : List (List ℕ)) (id : List ℕ) (n : ℕ) → length marks ≡ places → n ≡ place_of places id → n < places → AreMarks marks ids → AreMarks (set marks n true) (ids ++ id ∷ [])
 marked_more places marks ids id n size is small m =
     let within : n < length marks = subst (λ k. n < k) (sym size) small in
@@ -29,7 +29,7 @@ marked_more places marks ids id n size is small m =
           (each_more (λ x. is_marked_of places (set marks n true) x ≡ true) ids id (all_stay places marks n ids within there) own);
     }
 
--- an id whose place isn't marked is none of them
+-- an id whose entry is false is not in the list
 unmarked : (marks : List Bool) (ids : List (List ℕ)) (q : List ℕ) → AllByRecursion (λ id. is_marked marks id ≡ true) ids → is_marked marks q ≡ false → list_any (bytes_eq q) ids ≡ false
 unmarked marks [] q all none = refl
 unmarked marks (id ∷ ids) q all none = go (unmarked marks ids q all.1 none) (bytes_eq q id) refl

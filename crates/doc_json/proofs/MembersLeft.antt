@@ -1,4 +1,4 @@
--- Members that are left of a walk over them.
+-- The remaining members of an iteration.
 use Rattle.proof_prelude.proofs.{ℕ, suc}
 use Rattle.serde_json.specs.Data.{Members, no_members, member}
 

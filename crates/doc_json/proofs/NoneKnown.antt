@@ -1,4 +1,4 @@
--- Where no text is known to be plain, nothing is said of any.
+-- Flags that claim nothing are true of all data.
 use Rattle.proof_prelude.proofs.{false, false≢true}
 use Rattle.serde_json.specs.Data.{Data, string, array, object, Items, no_items, item, Members, no_members, member}
 use Rattle.json_values.specs.{ArePlain, AreItemsPlain, AreMembersPlain}

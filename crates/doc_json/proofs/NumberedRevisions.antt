@@ -1,4 +1,4 @@
--- The revisions that a start and a list of signatures give.
+-- The revisions of a start and a list of signatures.
 use Rattle.proof_prelude.proofs.{◌≡◌, ℕ, ◌-◌, ◌^◌, ◌<◌, ◌≤◌, ◌⊎◌, List, [], ◌∷◌, length, map, Bool, true, false, cond, nat_eq, nat_lt, Option, Some, None, option_map, Result, Ok, Err, inl, inr, refl, sym, ap, ◌∙◌, subst, arith, AllByRecursion, lt-ltb, le-ltb, ne_eqb, eq-eqb}
 use Rattle.serde_json.specs.Data.{Data}
 use Rattle.serde_json.specs.Find.{as_str}
@@ -9,7 +9,7 @@ use Rattle.doc_json.specs.{sig_of, sigs_of, numbered_from, DocFault}
 use Rattle.doc_json.specs.declared.fault.DocFault.TheVariants as faults
 use Rattle.doc_json.proofs.FoundRevisions.{both, none_left, sigs_count}
 
--- the tests of `numbered_from`: a small start, no signature, too many
+-- the tests of `numbered_from`: the start is small, there is no signature, there are too many
 abbrev tested : Bool → Bool → Bool → List RevId → Result (List RevId) DocFault
 tested small none many revs =
     cond small (named {E = RevFault} faults.BadRevisions (cond none (Err rev_faults.NoIds) (cond many (Err rev_faults.StartTooSmall) (Ok revs)))) (Err faults.BadRevisions)

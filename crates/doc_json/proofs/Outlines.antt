@@ -1,4 +1,4 @@
--- The text of data whose numbers read as themselves and whose members stand in order.
+-- The serialized form of data whose numbers read back and whose members are in order.
 use Rattle.proof_prelude.proofs.{◌≡◌, ℕ, List, [], Bool, true, false, cond, Some, option_map, option_and_then, Less, Greater, nat_cmp, refl, sym, ap, ap₂, ◌∙◌, subst, arith, if◌then◌else◌, or_parts, nat_list_cmp_total, slice_cmp, ordering_reverse, match_ordering}
 use Rattle.json.specs.Json as json
 use Rattle.json.specs.Lex.{tokens}
@@ -12,7 +12,7 @@ use Rattle.doc_json.specs.{IsWritten, is_special, plain_members, AllReadBack, It
 use Rattle.doc_json.proofs.BodyReads.{is_written}
 use Rattle.doc_json.proofs.WrittenTexts.{compact_tokens, depth-outline}
 
--- ---- members that are put in one after another
+-- ---- members that are inserted one after another
 
 abbrev onto : Members → Members → Members
 onto no_members more = more
@@ -42,7 +42,7 @@ middle : (found : Members) (k : List ℕ) (d : Data) (ms : Members) → IsInOrde
 middle no_members k d ms h = h.1
 middle (member l e found) k d ms h = middle found k d ms h.2
 
--- the outline has numbers that can be written, none is a float, and it reads as the data
+-- the numbers of the outline can be written, none is a float, and the outline reads as the data
 mutual
   outlined : (d : Data) → AllReadBack d → IsOrdered d → has_float d ≡ false → HasNumbers (outline d) × (blank (outline d) ≡ outline d) × (of_json (outline d) ≡ Some d)
   outlined (number n) h o e = (h.0, ap json.number (unless_float-number_of _ n h.1 ∙ ap (λ b. cond b [] (number_text n)) e), ap (option_map number) h.1)
@@ -69,13 +69,13 @@ mutual
       let read = ap (option_and_then (λ e. of_members (members_outline ms) (put k e found))) one.2 ∙ ap (of_members (members_outline ms)) (put_last found k d ms o) in
       ((one.0, more.0), ap₂ (json.member k) one.1 more.1, read ∙ more.2 ∙ ap Some (sym (onto-one found k d ms)))
 
--- the text of such data is what a writer promises
+-- the compact form of such data is what the writer guarantees
 pub written_text : (d : Data) (text : List ℕ) → text ≡ compact_text d → AllReadBack d → IsOrdered d → has_float d ≡ false → IsWritten text d
 written_text d text is numbers order exact =
     let all = outlined d numbers order exact in
     is_written d (json_tokens (outline d)) text (outline d, refl, all.2, omega (arith, depth-outline d), all.1) (is ∙ sym (print-outline d)) (ap tokens is ∙ compact_tokens d all.0) exact
 
--- ---- the plain members stand in order too
+-- ---- the plain members are in order too
 
 behind_if : (b : Bool) (k l : List ℕ) (d : Data) (ms : Members) → slice_cmp nat_cmp k l ≡ Less → AllBehind k ms → AllBehind k (if b then ms else member l d ms)
 behind_if true k l d ms less h = h

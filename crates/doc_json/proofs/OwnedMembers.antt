@@ -8,6 +8,6 @@ behind_all : (k : String Global) (es : List Entry) → AllByRecursion (λ y. str
 behind_all k [] h = tt
 behind_all k (e ∷ es) h = (h.0, behind_all k es h.1)
 
--- the names behind the first
+-- the names after the first
 pub behind_first : (e : Entry) (es : List Entry) → IsStrictlySortedBy string_cmp (keys_of (e ∷ es)) → AllBehind (string_bytes e.0) (members_view es) × IsStrictlySortedBy string_cmp (keys_of es)
 behind_first e es h = unfold IsStrictlySortedBy in (behind_all e.0 es h.0, h.1)

@@ -1,4 +1,4 @@
--- One member more of an object whose members without a leading `_` are pushed.
+-- One more member of an object whose members without a leading `_` are appended.
 use Rattle.proof_prelude.proofs.{◌≡◌, ℕ, List, ◌∷◌, ◌++◌, Bool, true, false, if◌then◌else◌, sym, ap, ◌∙◌, subst, append_assoc, or_parts}
 use Rattle.json.specs.Print.{quoted}
 use Rattle.serde_json.specs.Data.{Data, Members, member}

@@ -1,4 +1,4 @@
--- The text of a document is read as that document.
+-- The serialized form of a document reads as that document.
 use Rattle.proof_prelude.proofs.{◌≡◌, ℕ, ◌≤◌, List, [], ◌∷◌, Bool, true, false, Option, Some, None, option_map, option_and_then, is_some, Ok, codes, refl, sym, ap, ◌∙◌, subst, arith, or_parts}
 use Rattle.json.specs.Lex.{tokens}
 use Rattle.json.specs.Tree as tree
@@ -88,7 +88,7 @@ module _ (id : List ℕ) (head : RevId) (older : List RevId) (deleted : Bool) (b
   doc = record { id = id; ancestry = head ∷ older; deleted = deleted; body = body }
 
   module _ (h : IsDocument doc) where
-    -- what stands beside the special members
+    -- the members beside the special ones
     accepted_back : (out : Members) → IsBeside (members_outline h.body.members) (special_members id head older deleted) out → of_members (members_outline h.body.members) no_members ≡ Some h.body.members
         → doc_read (object out) ≡ Ok doc
     accepted_back out b back =
@@ -142,6 +142,6 @@ by_list : (id : List ℕ) (revs : List RevId) (deleted : Bool) (body : List ℕ)
 by_list id [] deleted body h d e = absurd (omega (arith, h.ancestry.nonempty))
 by_list id (head ∷ older) deleted body h d e = read_parts id head older deleted body h d e
 
--- what the text of a document reads as, where it is read, is the document
+-- if the serialized form of a document is read, the result is the document
 pub read_back : (doc : Document) → IsDocument doc → (d : Data) → read (doc_text doc) ≡ Some d → doc_read d ≡ Ok doc
 read_back doc h d e = by_list doc.id doc.ancestry doc.deleted doc.body h d e

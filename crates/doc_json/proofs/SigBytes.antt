@@ -1,4 +1,4 @@
--- Signatures and revision ids are written as JSON texts without escapes.
+-- Signatures and revision ids need no escapes as JSON strings.
 use Rattle.proof_prelude.proofs.{◌≡◌, ℕ, ◌<◌, List, [], ◌∷◌, ◌++◌, true, false, inl, inr, refl, sym, ap, ap₂, ◌∙◌, arith, rules, list_all, decimal, fold, and_parts, and_from, cases_lt, nat_tests, list_all-append, digits_decimal, IsNumeralModel, numerals_by_fold, true≢false}
 use Rattle.json.specs.Print.{escape, escape_byte}
 use Rattle.json.proofs.Printed.Strings.{escape_byte_plain}

@@ -1,9 +1,9 @@
--- Signatures joined by commas, one after another.
+-- Signatures separated by commas, one after another.
 use Rattle.proof_prelude.proofs.{◌≡◌, ℕ, zero, suc, ◌+◌, ◌<◌, List, [], ◌∷◌, ◌++◌, length, take, get_or, refl, sym, ap, ◌∙◌, arith, append_assoc, take_more}
 use Rattle.rev_core.specs.{RevId}
 use Rattle.doc_json.specs.{sig_text, sig_texts}
 
--- one signature more
+-- one more signature
 sig_texts-push : (first : RevId) (revs : List RevId) (r : RevId) → sig_texts (first ∷ (revs ++ r ∷ [])) ≡ sig_texts (first ∷ revs) ++ 44 ∷ sig_text r
 sig_texts-push first [] r = refl
 sig_texts-push first (next ∷ revs) r =

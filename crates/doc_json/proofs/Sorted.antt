@@ -12,7 +12,7 @@ abbrev pub Above : List ℕ → Members → Type 0
 Above k no_members = ⊤
 Above k (member name d ms) = (slice_cmp nat_cmp k name ≡ Less) × Above k ms
 
--- each name is less than those behind it
+-- each name is less than the following ones
 abbrev pub IsSorted : Members → Type 0
 IsSorted no_members = ⊤
 IsSorted (member name d ms) = Above name ms × IsSorted ms
@@ -47,7 +47,7 @@ pub IsSorted-put : (k : List ℕ) (d : Data) (ms : Members) → IsSorted ms → 
 IsSorted-put k d no_members h = (tt, tt)
 IsSorted-put k d (member name e ms) h = IsSorted-put_at _ k name d e ms refl h (IsSorted-put k d ms h.1)
 
--- ---- the plain ones
+-- ---- the plain members
 
 put_first : (k : List ℕ) (d : Data) (ms : Members) → Above k ms → put k d ms ≡ member k d ms
 put_first k d no_members h = refl
@@ -61,7 +61,7 @@ Above-plain : (k : List ℕ) (ms : Members) → Above k ms → Above k (plain_me
 Above-plain k no_members h = tt
 Above-plain k (member name d ms) h = Above-if (is_special name) k name d ms (plain_members ms) h.0 (Above-plain k ms h.1)
 
--- a plain member in front, in place of another, or behind
+-- a plain member that is prepended, replaced or appended
 plain_in_front : (k : List ℕ) (d : Data) (ms : Members) → is_special k ≡ false → Above k ms → plain_members (member k d ms) ≡ put k d (plain_members ms)
 plain_in_front k d ms plain h = rw plain (sym (put_first k d (plain_members ms) (Above-plain k ms h)))
 
@@ -96,14 +96,14 @@ pub unknown-put : (k : List ℕ) (d : Data) (ms : Members) → is_unknown k ≡ 
 unknown-put k d no_members known = rw known refl
 unknown-put k d (member name e ms) known = unknown-put_at (slice_cmp nat_cmp k name) k name d e ms known (unknown-put k d ms known)
 
--- ---- members that are read, one after another, into others
+-- ---- members that are read and inserted one after another
 
 -- no name is special
 abbrev pub ArePlain : json.Members → Type 0
 ArePlain json.no_members = ⊤
 ArePlain (json.member name j ms) = (is_special name ≡ false) × ArePlain ms
 
--- what stands beside the special members is what would stand there without them
+-- the members beside the special ones are as they would be without them
 pub record IsBeside (ms : json.Members) (found out : Members) : Type 0 where
   pub plain : of_members ms (plain_members found) ≡ Some (plain_members out)
   pub special : (k : List ℕ) → is_special k ≡ true → get_member k out ≡ get_member k found

@@ -1,4 +1,4 @@
--- The bodies of documents: docs/PROFILE.md, "Documents".
+-- Bodies of documents: docs/PROFILE.md, "Documents".
 use Rattle.std.specs.Prelude.{◌≡◌, ◌≤◌, ℕ, false, List, Result, Ok, Some}
 use Rattle.serde_json.specs.Data.{Data, object, Members, depth}
 use Rattle.serde_json.specs.Find.{as_object}
@@ -9,24 +9,24 @@ use Rattle.doc_json.specs.Members.{has_special, plain_members}
 use Rattle.doc_json.specs.declared.fault.DocFault.{DocFault}
 use Rattle.doc_json.specs.declared.fault.DocFault.TheVariants as faults
 
--- the text that `serde_json` writes for a value without a refused number, with what its writer promises of it
+-- the string that `serde_json` writes for a value without refused numbers, with the guarantees of its writer
 pub record IsWritten (text : List ℕ) (d : Data) : Type 0 where
   pub compact : text ≡ compact_text d
   pub order : IsInOrder text d
   pub reads_back : depth d ≤ max_depth → read text ≡ Some d
 
--- the compact text of an object without special members and without refused numbers
+-- the compact form of an object without special members and without refused numbers
 pub record IsBody (text : List ℕ) : Type 0 where
   pub members : Members
   pub plain : has_special members ≡ false
   pub exact : members_have_float members ≡ false
   pub written : IsWritten text (object members)
 
--- the text of the members without a leading `_`
+-- the compact form of the members without a leading `_`
 abbrev pub body_text : Members → List ℕ
 body_text ms = compact_text (object (plain_members ms))
 
--- what reading a value as a body gives
+-- the result of reading a value as a body
 unfoldable pub body_read : Data → Result (List ℕ) DocFault
 body_read d = do
   ms ← or_refused faults.NotObject (as_object d)

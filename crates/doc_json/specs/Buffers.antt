@@ -1,4 +1,4 @@
--- What a buffer held stands at its beginning still.
+-- The previous content of a buffer is kept as its prefix.
 use Rattle.std.specs.Prelude.{◌≡◌, ℕ, List, ◌++◌}
 
 pub record Keeps (old new : List ℕ) : Type 0 where

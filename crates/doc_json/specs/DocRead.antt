@@ -1,5 +1,4 @@
--- What reading a value as a document gives: docs/PROFILE.md, "What `read_doc` accepts". The first refusal is the
--- answer.
+-- The result of reading a value as a document: docs/PROFILE.md, "What `read_doc` accepts". The first error is returned.
 use Rattle.std.specs.Prelude.{ℕ, Bool, false, List, codes, Option, Some, None, option_and_then, is_some, Result, Ok}
 use Rattle.serde_json.specs.Data.{Data}
 use Rattle.serde_json.specs.Find.{get, as_str, as_bool, as_object}
@@ -20,7 +19,7 @@ id_of o = or_refused faults.NoId (option_and_then as_str o) >>= doc_id_read
 abbrev pub id_member : Data → Result (List ℕ) DocFault
 id_member d = id_of (get (codes "_id") d)
 
--- the member `_deleted`, false where it is absent
+-- the member `_deleted`, false if it is missing
 abbrev pub flag_of : Option Data → Result Bool DocFault
 flag_of None = Ok false
 flag_of (Some d) = or_refused faults.SpecialMember (as_bool d)

@@ -1,4 +1,4 @@
--- The text of a document: docs/PROFILE.md, "What `write_doc` writes".
+-- The serialized form of a document: docs/PROFILE.md, "What `write_doc` writes".
 use Rattle.std.specs.Prelude.{ℕ, Bool, List, [], ◌∷◌, ◌++◌, map, drop, codes, decimal, if◌then◌else◌}
 use Rattle.std.specs.List.{join_with_byte}
 use Rattle.std.specs.Str.{bytes_eq}
@@ -8,12 +8,12 @@ use Rattle.rev_core.specs.Rev.{RevId}
 use Rattle.rev_core.specs.Text.{rev_text}
 use Rattle.doc_json.specs.Document.{Document}
 
--- the newest revision's text
+-- the newest revision
 abbrev pub head_text : List RevId → List ℕ
 head_text [] = []
 head_text (r ∷ rest) = rev_text r
 
--- its generation in decimal
+-- the generation of the newest revision in decimal
 abbrev pub start_text : List RevId → List ℕ
 start_text [] = []
 start_text (r ∷ rest) = decimal r.generation
@@ -22,18 +22,18 @@ start_text (r ∷ rest) = decimal r.generation
 abbrev pub sig_text : RevId → List ℕ
 sig_text r = 34 ∷ (r.sig ++ 34 ∷ [])
 
--- the signatures, joined by commas
+-- the signatures, separated by commas
 abbrev pub sig_texts : List RevId → List ℕ
 sig_texts revs = join_with_byte 44 (map sig_text revs)
 
 abbrev pub deleted_text : Bool → List ℕ
 deleted_text deleted = if deleted then codes ",\"_deleted\":true" else []
 
--- the body's members, and the end
+-- the body's members, and the end of the object
 abbrev pub rest_text : List ℕ → List ℕ
 rest_text body = if bytes_eq body (codes "{}") then codes "}" else 44 ∷ drop 1 body
 
--- `_rev` and `_revisions`, each behind a comma
+-- `_rev` and `_revisions`, each after a comma
 unfoldable pub revs_text : List RevId → List ℕ
 revs_text revs =
     codes ",\"_rev\":\"" ++ head_text revs ++ codes "\",\"_revisions\":{\"start\":" ++ start_text revs

@@ -21,14 +21,14 @@ use std::alloc::{AllocError, Global};
 use std::marker::Model;
 use std::sync::ArcSlice;
 
-/// The body of a document: the compact text of a JSON object without members that begin with `_`, and
-/// without numbers other than 64-bit integers. A body shares its text with its copies.
+/// The body of a document: the compact serialized form of a JSON object without members that begin with `_`, and
+/// without numbers other than 64-bit integers. Copies of a body share its bytes.
 #[derive(Debug)]
 pub struct Body {
     text: ArcSlice<u8>,
 }
 
-// By hand, so that it is proved once: docs/DECISIONS.md, "Letting values go".
+// Written by hand so that it is proved once: docs/DECISIONS.md, "Letting values go".
 impl Drop for Body {
     fn drop(self) {
         let Body { text: _ } = self;
@@ -53,7 +53,7 @@ impl Body {
     ghost use Rattle.std.specs.Arc.{arc_slice_items};
     ghost use Rattle.doc_json.specs.Body.{IsBody};
 
-    /// The body of a text that is one.
+    /// Wraps bytes that are known to be a body.
     pub fn from_text(text: ArcSlice<u8>) -> Body
         requires { IsBody (arc_slice_items text) }
         ensures { result ≡ arc_slice_items text }
@@ -61,7 +61,7 @@ impl Body {
         Body { text }
     }
 
-    /// The text.
+    /// Returns the serialized body.
     pub fn text(&self) -> &[u8]
         ensures text { result.now ≡ self.now }
         ensures body { IsBody self.now }
@@ -69,7 +69,7 @@ impl Body {
         self.text.as_slice()
     }
 
-    /// The text, shared.
+    /// Returns the serialized body as a shared reference.
     pub fn share(&self) -> Result<ArcSlice<u8>, AllocError>
         ensures shared { IfOk result (λ text. arc_slice_items text ≡ self.now) }
         ensures body { IsBody self.now }
@@ -77,7 +77,7 @@ impl Body {
         self.text.clone()
     }
 
-    /// The same body, which shares its text with this one.
+    /// Copies the body; the copy shares its bytes.
     pub fn copy(&self) -> Result<Body, AllocError>
         ensures copied { IfOk result (λ b. b ≡ self.now) }
     {
@@ -87,29 +87,30 @@ impl Body {
     }
 }
 
-/// The body that a JSON value is.
+/// Reads a JSON value as a body.
 ///
-/// The first of these refusals is the answer: `NotObject` where it is no object; `SpecialMember` where it has
-/// a member that begins with `_`; `Fraction` where it holds, at any depth, a number that is neither an i64 nor
-/// a u64. `Memory` stands only in the place of a body.
+/// # Errors
+///
+/// Checked in this order:
+///
+/// - `NotObject`: the value is not an object.
+/// - `SpecialMember`: a member begins with `_`.
+/// - `Fraction`: the value contains, at any depth, a number that is neither an i64 nor a u64.
+/// - `Memory`: an allocation failed. Returned only if the call would otherwise succeed.
 pub fn read_body(alloc: Global, value: &Value) -> Result<Body, DocFault>
     ensures { GivesUnlessMemory result (body_read (view value.now)) }
 {
     body_of(alloc, value, NONE_KNOWN)
 }
 
-/// The body that a line's JSON value is, as `read_body` reads one.
-///
-/// The first of these refusals is the answer: `NotObject` where it is no object; `SpecialMember` where it has
-/// a member that begins with `_`; `Fraction` where it holds, at any depth, a number that is neither an i64 nor
-/// a u64. `Memory` stands only in the place of a body.
+/// Reads a value inside a line as a body. Errors are those of `read_body`.
 pub fn read_line_body(alloc: Global, part: &LinePart<'_, '_>) -> Result<Body, DocFault>
     ensures { GivesUnlessMemory result (body_read (line_view part.now)) }
 {
     body_of(alloc, part.value(), part.plain())
 }
 
-/// The body that a value is, of whose texts some are known to be plain.
+/// Reads a value as a body. `plain` says which of its strings are known to need no escapes.
 fn body_of<'v, V: JsonValue<'v>>(
     alloc: Global,
     value: &'v V,
@@ -134,7 +135,7 @@ where
     Ok(Body::from_text(text))
 }
 
-/// The body of an object's members without a leading `_`.
+/// Builds the body from an object's members without a leading `_`.
 pub(crate) fn plain_body<'v, V: JsonValue<'v>>(
     alloc: Global,
     members: &'v V::Object,
@@ -149,7 +150,7 @@ pub(crate) fn plain_body<'v, V: JsonValue<'v>>(
     Ok(Body::from_text(text))
 }
 
-/// The compact text of an object's members without a leading `_`, to be shared.
+/// Serializes the members without a leading `_` into shared bytes.
 fn plain_written<'v, V: JsonValue<'v>>(
     alloc: Global,
     members: &'v V::Object,
@@ -165,7 +166,7 @@ fn plain_written<'v, V: JsonValue<'v>>(
     ArcSlice::from_vec(text)
 }
 
-/// The compact text of a value, to be shared.
+/// Serializes a value into shared bytes.
 fn written<'v, V: JsonValue<'v>>(
     alloc: Global,
     value: &'v V,

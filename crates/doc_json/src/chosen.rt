@@ -1,4 +1,4 @@
-//! Chosen documents.
+//! Selections of documents.
 ghost use Rattle.std.specs.Prelude.{◌≡◌, ◌<◌, ◌∷◌, [], nat_eq, length, refl};
 ghost use Rattle.std.specs.List.{AllByRecursion};
 ghost use Rattle.std.specs.List.Sorted.{IsStrictlySortedBy};
@@ -21,19 +21,19 @@ use std::hash::{Hash, Hasher};
 use std::marker::Model;
 use std::sync::ArcSlice;
 
-/// The most ids of a choice.
+/// The maximum number of ids in a selection.
 const MOST: usize = 1000;
 
-/// The ids of the documents that are chosen: 1 to 1,000, in byte order, none twice.
+/// The ids of the selected documents: 1 to 1,000, in byte order, without duplicates.
 ///
-/// A choice shares its ids with its copies.
+/// Copies of a selection share its ids.
 pub struct Chosen {
     ids: ArcSlice<DocId>,
-    /// Where the ids fall, so that most others are told apart by one look.
+    /// A table of where the ids fall, which rejects most other ids with one lookup.
     marks: ArcSlice<bool>,
 }
 
-// By hand, so that it is proved once: docs/DECISIONS.md, "Letting values go".
+// Written by hand so that it is proved once: docs/DECISIONS.md, "Letting values go".
 impl Drop for Chosen {
     fn drop(self) {
         let Chosen { ids: _, marks: _ } = self;
@@ -61,10 +61,13 @@ impl Chosen {
     ghost use Rattle.doc_json.specs.Answers.{GivesUnlessMemory};
     ghost use Rattle.doc_json.specs.Chosen.{chosen_answer, is_chosen, IsChoice};
 
-    /// The choice of these documents, each once, in byte order.
+    /// Creates a selection of these documents. Sorts the ids and removes duplicates.
     ///
-    /// `NoneChosen` where there are none; `TooManyChosen` where there are more than 1,000 without repeats. `Memory`
-    /// stands only in the place of a choice.
+    /// # Errors
+    ///
+    /// - `NoneChosen`: `ids` is empty.
+    /// - `TooManyChosen`: there are more than 1,000 distinct ids.
+    /// - `Memory`: an allocation failed. Returned only if the call would otherwise succeed.
     pub fn new(ids: Vec<DocId>) -> Result<Chosen, DocFault>
         ensures answer { GivesUnlessMemory result (chosen_answer ids.items) }
         ensures choice { IfOk result IsChoice }
@@ -82,7 +85,7 @@ impl Chosen {
         Ok(Chosen { ids, marks })
     }
 
-    /// The ids, in byte order.
+    /// Returns the ids in byte order.
     pub fn ids(&self) -> &[DocId]
         ensures ids { result.now ≡ self.now }
         ensures choice { IsChoice self.now }
@@ -90,14 +93,14 @@ impl Chosen {
         self.ids.as_slice()
     }
 
-    /// Whether a document is among them.
+    /// Whether the document is selected.
     pub fn has(&self, id: &DocId) -> bool
         ensures { result ≡ is_chosen (Some self.now) id.now }
     {
         is_marked(self.marks.as_slice(), id) && self.ids().binary_search(id).is_ok()
     }
 
-    /// The same choice, which shares its ids with this one.
+    /// Copies the selection; the copy shares its ids.
     pub fn copy(&self) -> Result<Chosen, AllocError>
         ensures copied { IfOk result (λ c. c ≡ self.now) }
     {
@@ -108,7 +111,7 @@ impl Chosen {
     }
 }
 
-/// Whether a choice has a document: without a choice all are chosen.
+/// Whether a document is selected. Without a selection, all documents are.
 pub fn is_chosen(chosen: Option<&Chosen>, id: &DocId) -> bool
     ensures { result ≡ is_chosen (option_copied chosen.entry) id.now }
 {
@@ -118,7 +121,7 @@ pub fn is_chosen(chosen: Option<&Chosen>, id: &DocId) -> bool
     }
 }
 
-/// The ids in byte order, each once.
+/// Sorts ids and removes duplicates.
 fn in_order(ids: Vec<DocId>) -> Vec<DocId>
     ensures ids { result.items ≡ ids_of ids.items }
     ensures rising { IsStrictlySortedBy (slice_cmp nat_cmp) result.items }
@@ -130,7 +133,7 @@ fn in_order(ids: Vec<DocId>) -> Vec<DocId>
     ids
 }
 
-/// The reading of each id tells the proof that it is a text.
+/// Gives proofs the fact that each id is a string of bytes.
 fn are_texts(ids: &[DocId])
     ensures { AllByRecursion IsText ids.now }
 {

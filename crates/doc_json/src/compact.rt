@@ -1,4 +1,4 @@
-//! The compact text of a value, or of an object's members, written from where they stand.
+//! Serializing a value, or the members of an object, in compact form.
 ghost use Rattle.std.specs.Prelude.{◌≡◌, ◌++◌, ◌∷◌, true, false, OnOk, IfOk};
 ghost use Rattle.json.specs.Print.{quoted};
 ghost use Rattle.serde_json.specs.Data.{object};
@@ -16,12 +16,12 @@ use crate::text::push_name;
 use json_values::PlainTexts;
 use std::alloc::{AllocError, Global};
 
-/// The room that a text begins with, in bytes: most bodies of small documents need no more. The allocator gives as much
-/// where fewer by up to 15 are asked for.
+/// The initial capacity of a buffer, in bytes. Most small documents need no more. The allocator rounds up by as much as
+/// 15 bytes to this size.
 const SHORT: usize = 136;
 
-/// The compact text of the object of the members without a leading `_`, in a buffer with fewer than 32 bytes to spare, or
-/// fewer than 16 where it is short and memory is there.
+/// Serializes the object of the members without a leading `_`. The buffer has fewer than 32 spare bytes; fewer than 16
+/// if the text is short and the allocation for a smaller buffer succeeds.
 pub(crate) fn plain_text<'v, V: JsonValue<'v>>(
     alloc: Global,
     members: &'v V::Object,
@@ -37,7 +37,7 @@ pub(crate) fn plain_text<'v, V: JsonValue<'v>>(
     Ok(fitted(alloc, trimmed(out)))
 }
 
-/// The compact text of a value, in a buffer with fewer than 32 bytes to spare.
+/// Serializes a value. The buffer has fewer than 32 spare bytes.
 pub(crate) fn value_text<'v, V: JsonValue<'v>>(
     alloc: Global,
     value: &'v V,
@@ -53,7 +53,7 @@ pub(crate) fn value_text<'v, V: JsonValue<'v>>(
     Ok(trimmed(out))
 }
 
-/// The text, in a buffer with fewer than 32 bytes to spare: so few would not come free as a block of their own.
+/// Shrinks the buffer if it has 32 or more spare bytes; the allocator cannot reuse less.
 fn trimmed(text: Vec<u8>) -> Vec<u8>
     ensures { result.items ≡ text.items }
 {
@@ -64,8 +64,8 @@ fn trimmed(text: Vec<u8>) -> Vec<u8>
     text
 }
 
-/// The text, of which one that is short and leaves a step of the allocator unused is copied to a buffer of its own length,
-/// where memory is there.
+/// Copies a short text to a buffer of its exact length if that saves an allocator size step and the allocation
+/// succeeds.
 fn fitted(alloc: Global, text: Vec<u8>) -> Vec<u8>
     ensures { result.items ≡ text.items }
 {
@@ -79,7 +79,7 @@ fn fitted(alloc: Global, text: Vec<u8>) -> Vec<u8>
     }
 }
 
-/// The object of the members without a leading `_`.
+/// Serializes the object of the members without a leading `_`.
 fn push_plain<'v, V: JsonValue<'v>>(
     members: &'v V::Object,
     plain: PlainTexts,
@@ -103,7 +103,7 @@ fn push_plain<'v, V: JsonValue<'v>>(
     Ok(())
 }
 
-/// A member, unless its name begins with `_`. Answers whether something stands before what comes next.
+/// Serializes a member, unless its name begins with `_`. Returns whether a comma is needed before the next one.
 fn push_unless_special<'v, V: JsonValue<'v>>(
     name: &str,
     member: &'v V,

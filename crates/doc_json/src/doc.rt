@@ -37,7 +37,7 @@ impl Model for Doc {
 impl Doc {
     ghost use Rattle.std.specs.Prelude.{◌≡◌, IfOk};
 
-    /// The document of these parts.
+    /// Creates a document from its parts.
     pub fn new(id: DocId, ancestry: Ancestry, deleted: bool, body: Body) -> Doc
         ensures parts { result
             ≡ record { id = id; ancestry = ancestry; deleted = deleted; body = body } }
@@ -54,7 +54,7 @@ impl Doc {
         }
     }
 
-    /// The id.
+    /// Returns the id.
     pub fn id(&self) -> &DocId
         ensures part { result.now ≡ self.now.id }
         ensures document { IsDocument self.now }
@@ -62,7 +62,7 @@ impl Doc {
         &self.id
     }
 
-    /// The ancestry, whose newest revision is the document's.
+    /// Returns the ancestry, whose newest revision is the document's.
     pub fn ancestry(&self) -> &Ancestry
         ensures part { result.now ≡ self.now.ancestry }
         ensures document { IsDocument self.now }
@@ -78,7 +78,7 @@ impl Doc {
         self.deleted
     }
 
-    /// The body.
+    /// Returns the body.
     pub fn body(&self) -> &Body
         ensures part { result.now ≡ self.now.body }
         ensures document { IsDocument self.now }
@@ -86,7 +86,7 @@ impl Doc {
         &self.body
     }
 
-    /// The id, the ancestry, whether it is deleted, and the body.
+    /// Splits the document into id, ancestry, deleted flag and body.
     pub fn into_parts(self) -> (DocId, Ancestry, bool, Body)
         ensures parts { self ≡ record {
           id = result.0;
@@ -99,7 +99,7 @@ impl Doc {
         (self.id, self.ancestry, self.deleted, self.body)
     }
 
-    /// The same document.
+    /// Copies the document.
     pub fn copy(&self, alloc: Global) -> Result<Doc, AllocError>
         ensures copied { IfOk result (λ d. d ≡ self.now) }
     {

@@ -1,4 +1,4 @@
-//! The ids of documents.
+//! Ids of documents.
 ghost use Rattle.std.specs.Prelude.{◌≡◌, ◌∷◌, [], Ok, Err, IfErr, OnOk, nat_eq, refl};
 ghost use Rattle.std.specs.Ordering.{nat_cmp, as_partial_cmp};
 ghost use Rattle.std.specs.Cmp;
@@ -14,7 +14,7 @@ use std::cmp::Ordering;
 use std::hash::{Hash, Hasher};
 use std::marker::Model;
 
-/// The text of an id: in place where it has at most 32 bytes, so that it takes no memory of its own.
+/// The string of an id: stored inline if it has at most 32 bytes.
 #[derive(Debug, Drop)]
 enum IdText {
     LookupHint(NearText),
@@ -25,7 +25,7 @@ impl IdText {
     ghost use Rattle.std.specs.Prelude.{◌≡◌, IfOk};
     ghost use Rattle.doc_json.specs.IdText.{text_of};
 
-    /// The text, kept.
+    /// Stores a string.
     fn keep(alloc: Global, text: &str) -> Result<IdText, AllocError>
         ensures kept { IfOk result (λ t. text_of t ≡ text.now) }
     {
@@ -35,7 +35,7 @@ impl IdText {
         Ok(IdText::Far(String::from_str(alloc, text)?))
     }
 
-    /// The same text.
+    /// Copies the string.
     fn copy(&self, alloc: Global) -> Result<IdText, AllocError>
         ensures copied { IfOk result (λ t. text_of t ≡ text_of self.now) }
     {
@@ -45,7 +45,7 @@ impl IdText {
         }
     }
 
-    /// The text.
+    /// Returns the string.
     fn as_str(&self) -> &str
         ensures { result.now ≡ text_of self.now }
     {
@@ -56,16 +56,15 @@ impl IdText {
     }
 }
 
-/// The id of a document: a text that is not empty, and that begins with `_` only where it is `_design/`
-/// and at least one character more.
+/// The id of a document: a nonempty string that does not begin with `_`, or `_design/` and at least one more character.
 ///
-/// Ids are ordered as the bytes of their texts are.
+/// Ids are ordered by their bytes.
 #[derive(Debug)]
 pub struct DocId {
     text: IdText,
 }
 
-// By hand, so that it is proved once: docs/DECISIONS.md, "Letting values go".
+// Written by hand so that it is proved once: docs/DECISIONS.md, "Letting values go".
 impl Drop for DocId {
     fn drop(self) {
         let DocId { text: _ } = self;
@@ -90,10 +89,13 @@ impl DocId {
     ghost use Rattle.doc_json.specs.Answers.{GivesUnlessMemory};
     ghost use Rattle.doc_json.specs.DocId.{doc_id_read};
 
-    /// The id that a text spells, which is that text.
+    /// Parses a document id.
     ///
-    /// `NoId` where it is empty; `ReservedId` where it begins with `_` and is no design document's id. `Memory`
-    /// stands only in the place of an id.
+    /// # Errors
+    ///
+    /// - `NoId`: the string is empty.
+    /// - `ReservedId`: the string begins with `_` and is not the id of a design document.
+    /// - `Memory`: an allocation failed. Returned only if the call would otherwise succeed.
     pub fn parse(alloc: Global, text: &str) -> Result<DocId, DocFault>
         ensures { GivesUnlessMemory result (doc_id_read text.now) }
     {
@@ -101,7 +103,7 @@ impl DocId {
         Ok(DocId::of_checked(alloc, text)?)
     }
 
-    /// The id of a text that is one.
+    /// Wraps a string that is known to be a document id.
     pub(crate) fn of_checked(alloc: Global, text: &str) -> Result<DocId, AllocError>
         requires { doc_id_read text.now ≡ Ok text.now }
         ensures id { IfOk result (λ a. a ≡ text.now) }
@@ -110,7 +112,7 @@ impl DocId {
         Ok(DocId { text })
     }
 
-    /// The text.
+    /// Returns the string.
     pub fn text(&self) -> &str
         ensures text { result.now ≡ self.now }
         ensures id { doc_id_read self.now ≡ Ok self.now }
@@ -118,7 +120,7 @@ impl DocId {
         self.text.as_str()
     }
 
-    /// The same id.
+    /// Copies the id.
     pub fn copy(&self, alloc: Global) -> Result<DocId, AllocError>
         ensures copied { IfOk result (λ a. a ≡ self.now) }
     {
@@ -175,7 +177,7 @@ impl Hash for DocId {
     }
 }
 
-/// Why a text is no id, where it is none.
+/// Checks whether a string is a document id, and returns the error if it is not.
 pub(crate) fn check_id(text: &str) -> Result<(), DocFault>
     ensures ok { OnOk result (doc_id_read text.now ≡ Ok text.now) }
     ensures err { IfErr result (λ e. doc_id_read text.now ≡ Err e) }
@@ -189,7 +191,7 @@ pub(crate) fn check_id(text: &str) -> Result<(), DocFault>
     Ok(())
 }
 
-/// Whether a text begins with `_`.
+/// Whether a string begins with `_`.
 pub(crate) fn is_special(text: &str) -> bool
     ensures { result ≡ is_special text.now }
 {
@@ -199,7 +201,7 @@ pub(crate) fn is_special(text: &str) -> bool
     }
 }
 
-/// Whether a text is `_design/` and at least one character more.
+/// Whether a string is `_design/` and at least one more character.
 fn is_design(text: &str) -> bool
     ensures { result ≡ is_design text.now }
 {

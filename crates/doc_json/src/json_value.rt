@@ -1,4 +1,4 @@
-//! The JSON values that documents are read from.
+//! The interface to JSON values that documents are read from.
 ghost use Rattle.std.specs.Prelude.{◌≡◌, ◌++◌, false, map, option_map, MatchOption, IfSome, OnOk};
 ghost use Rattle.serde_json.specs.Data.{Data, Members, no_members, member};
 ghost use Rattle.serde_json.specs.Find.{get, as_object, as_array, as_str, as_bool, as_number};
@@ -12,15 +12,15 @@ use json_values::PlainTexts;
 use serde_json::Number;
 use std::alloc::AllocError;
 
-/// A JSON value that documents are read from: `serde_json`'s, or one of a line.
+/// A JSON value that a document is read from: `serde_json`'s, or one inside a line.
 ///
-/// A clause sees it as its data (`seen`). That its members stand in byte order of their names is known of some values by
-/// who holds them (`in_order`), of others by their type.
+/// A clause sees it as its data (`seen`). Whether its members are in byte order of their names is known for some types
+/// from the caller (`in_order`), for others from the type.
 pub(crate) trait JsonValue<'v>: Sized + 'v {
     /// The members of an object.
     type Object;
 
-    /// The members that are left of a walk over them.
+    /// An iterator over members.
     type Members: Drop;
 
     ghost seen: { Self → Data };
@@ -35,48 +35,48 @@ pub(crate) trait JsonValue<'v>: Sized + 'v {
 
     ghost left_in_order: { Self.Members → Type 0 };
 
-    /// The text, where this is one.
+    /// Returns the string, if the value is a string.
     fn as_str(&'v self) -> Option<&'v str>
         ensures { option_map (λ s. s.now) result ≡ as_str (seen self.now) };
 
-    /// The truth value, where this is one.
+    /// Returns the Boolean, if the value is a Boolean.
     fn as_bool(&'v self) -> Option<bool>
         ensures { result ≡ as_bool (seen self.now) };
 
-    /// The number, where this is one.
+    /// Returns the number, if the value is a number.
     fn as_number(&'v self) -> Option<&'v Number>
         ensures { option_map (λ n. number_view n.now) result ≡ as_number (seen self.now) };
 
-    /// The items, where this is a list.
+    /// Returns the items, if the value is an array.
     fn as_array(&'v self) -> Option<&'v Vec<Self>>
         ensures { option_map (λ v. items_of (map seen v.now.items)) result ≡ as_array (seen self.now) };
 
-    /// The members, where this is an object.
+    /// Returns the members, if the value is an object.
     fn as_object(&'v self) -> Option<&'v Self::Object>
         ensures members { option_map (λ o. members_seen o.now) result ≡ as_object (seen self.now) }
         ensures order { IfSome result (λ o. in_order self.now → members_in_order o.now) };
 
-    /// The member of a name, where this is an object.
+    /// Returns the member with a name, if the value is an object that has it.
     fn get(&'v self, name: &str) -> Option<&'v Self>
         ensures { option_map (λ v. seen v.now) result ≡ get name.now (seen self.now) };
 
-    /// A walk over members.
+    /// Starts an iteration over members.
     fn walk(members: &'v Self::Object) -> Self::Members
         ensures members { left result ≡ members_seen members.now }
         ensures order { members_in_order members.now → left_in_order result };
 
-    /// The next of the members that are left, with its name.
+    /// Returns the next member with its name.
     fn next_member(members: &mut Self::Members) -> Option<(&'v str, &'v Self)>
         ensures members { MatchOption result (left members.old ≡ no_members)
             (λ m. left members.old ≡ member m.0.now (seen m.1.now) (left members.new)) }
         ensures order { IfSome result (λ m. left_in_order members.old
             → AllBehind m.0.now (left members.new) × in_order m.1.now × left_in_order members.new) };
 
-    /// Whether this is, or holds at any depth, a number that is neither an i64 nor a u64.
+    /// Whether the value is or contains, at any depth, a number that is neither an i64 nor a u64.
     fn has_fraction(&'v self) -> bool
         ensures { result ≡ has_float (seen self.now) };
 
-    /// The compact text, behind what a buffer holds. Some of its texts are known to be plain.
+    /// Appends the compact serialized form to a buffer. `plain` says which strings are known to need no escapes.
     fn push(&'v self, plain: PlainTexts, out: &mut Vec<u8>) -> Result<(), AllocError>
         requires exact { has_float (seen self.now) ≡ false }
         requires order { in_order self.now }

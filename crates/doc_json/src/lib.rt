@@ -1,7 +1,7 @@
-//! Documents of CouchDB as JSON: what is read from a value, and the text that is written.
+//! CouchDB documents in JSON: reading them from values, and writing them.
 //!
-//! The rules stand in docs/PROFILE.md: "Document ids", "Documents", "What `read_doc` accepts" and
-//! "What `write_doc` writes".
+//! The rules are in docs/PROFILE.md: "Document ids", "Documents", "What `read_doc` accepts" and "What `write_doc`
+//! writes".
 #![tactic(auto)]
 
 mod body;

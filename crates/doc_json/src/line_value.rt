@@ -1,4 +1,4 @@
-//! The values of lines, as documents are read from them.
+//! `JsonValue` for the values of lines.
 ghost use Rattle.std.specs.Prelude.{◌≡◌, ◌++◌, ◌∷◌, false, OnOk};
 ghost use Rattle.std.specs.Slice.Iter.{iter_rest};
 ghost use Rattle.json_values.specs.LineView.{line_view, line_items, line_members};
@@ -93,7 +93,7 @@ impl<'v, 'a: 'v> JsonValue<'v> for LineValue<'a> {
     }
 }
 
-/// Whether a value is, or holds at any depth, a number that is neither an i64 nor a u64.
+/// Whether a value is or contains, at any depth, a number that is neither an i64 nor a u64.
 #[cycle(fraction)]
 #[inline(always)]
 pub fn has_fraction(value: &LineValue<'_>) -> bool
@@ -109,7 +109,7 @@ pub fn has_fraction(value: &LineValue<'_>) -> bool
     }
 }
 
-/// Whether an item of a list does.
+/// Whether an item is or contains such a number.
 #[cycle(fraction)]
 #[inline(never)]
 fn items_have_fraction(items: &Vec<LineValue<'_>>) -> bool
@@ -123,7 +123,7 @@ fn items_have_fraction(items: &Vec<LineValue<'_>>) -> bool
     false
 }
 
-/// Whether a member of an object does.
+/// Whether a member is or contains such a number.
 #[cycle(fraction)]
 #[inline(never)]
 fn members_have_fraction(members: &Vec<(&str, LineValue<'_>)>) -> bool
@@ -137,7 +137,7 @@ fn members_have_fraction(members: &Vec<(&str, LineValue<'_>)>) -> bool
     false
 }
 
-/// A value.
+/// Appends the serialized form of a value.
 #[cycle(push)]
 #[inline(always)]
 fn push_value(value: &LineValue<'_>, plain: PlainTexts, out: &mut Vec<u8>) -> Result<(), AllocError>
@@ -157,7 +157,7 @@ fn push_value(value: &LineValue<'_>, plain: PlainTexts, out: &mut Vec<u8>) -> Re
     }
 }
 
-/// The items of a list, between brackets.
+/// Appends the items of an array, in brackets.
 #[cycle(push)]
 #[inline(never)]
 fn push_items(
@@ -181,7 +181,7 @@ fn push_items(
     Ok(())
 }
 
-/// The members of an object, between braces.
+/// Appends the members of an object, in braces.
 #[cycle(push)]
 #[inline(never)]
 fn push_members(

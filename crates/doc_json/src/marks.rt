@@ -1,4 +1,4 @@
-//! Marks of ids: where a few ids are looked for among many, most others are told apart by one look.
+//! A table that rejects most ids that are not in a list, with one lookup.
 ghost use Rattle.std.specs.Prelude.{◌≡◌, ◌<◌, ◌-◌, true, IfOk, length, drop};
 ghost use Rattle.std.specs.Arc.{arc_slice_items};
 ghost use Rattle.doc_json.specs.Marks.{AreMarks, is_marked, place_of};
@@ -7,26 +7,26 @@ use crate::doc_id::DocId;
 use std::alloc::{AllocError, Global};
 use std::sync::ArcSlice;
 
-/// How many places there are for each id.
+/// The number of table entries per id.
 const PLACES_EACH: usize = 8;
 
-/// The fewest ids that places are made for.
+/// The minimum number of ids for which a table is sized.
 const FEWEST: usize = 8;
 
-/// The most ids that places are made for.
+/// The maximum number of ids for which a table is sized.
 const MOST: usize = 1024;
 
-/// The most places.
+/// The maximum number of entries.
 const PLACES: usize = MOST * PLACES_EACH;
 
-/// The last eight bytes of a text, or all of them where there are fewer.
+/// Returns the last eight bytes of a string, or all if it is shorter.
 fn ending(bytes: &[u8]) -> &[u8]
     ensures { result.now ≡ drop (length bytes.now - 8) bytes.now }
 {
     &bytes[bytes.len().saturating_sub(8)..]
 }
 
-/// The place of an id among so many, by the last bytes of its text.
+/// Returns the table index of an id, computed from its last bytes.
 fn place_of(id: &DocId, places: usize) -> usize
     requires { 0 < places }
     ensures within { result < places }
@@ -39,14 +39,14 @@ fn place_of(id: &DocId, places: usize) -> usize
     place % places
 }
 
-/// How many places are made for so many ids.
+/// Returns the table size for a number of ids.
 fn places_for(ids: usize) -> usize
     ensures { 0 < result }
 {
     ids.max(FEWEST).min(MOST) * PLACES_EACH
 }
 
-/// Marks the place of each id.
+/// Builds the table: the entry of each id is true.
 pub(crate) fn mark(alloc: Global, ids: &[DocId]) -> Result<ArcSlice<bool>, AllocError>
     ensures marks { IfOk result (λ marks. AreMarks (arc_slice_items marks) ids.now) }
 {
@@ -59,7 +59,7 @@ pub(crate) fn mark(alloc: Global, ids: &[DocId]) -> Result<ArcSlice<bool>, Alloc
     Ok(ArcSlice::from_vec(marks)?)
 }
 
-/// Whether the place of an id is marked.
+/// Whether the entry of an id is true.
 pub(crate) fn is_marked(marks: &[bool], id: &DocId) -> bool
     requires { 0 < length marks.now }
     ensures { result ≡ is_marked marks.now id.now }

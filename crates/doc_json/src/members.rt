@@ -12,7 +12,7 @@ use crate::doc_id::is_special;
 use crate::json_value::JsonValue;
 use json_values::is_same_text;
 
-/// Whether there is a member with a leading `_`.
+/// Whether a member begins with `_`.
 pub(crate) fn has_special<'v, V: JsonValue<'v>>(members: &'v V::Object) -> bool
     ensures { result ≡ has_special (V.members_seen members.now) }
 {
@@ -25,8 +25,8 @@ pub(crate) fn has_special<'v, V: JsonValue<'v>>(members: &'v V::Object) -> bool
     false
 }
 
-/// The members of a document with a leading `_`, each where it is there, whether there is one that no document has, and
-/// whether a member without a leading `_` is, or holds at any depth, a number that is neither an i64 nor a u64.
+/// The members of a document that begin with `_`, whether there is an unknown one, and whether any other member is or
+/// contains a number that is neither an i64 nor a u64.
 #[derive_where(Clone, Copy)]
 pub(crate) struct FoundMembers<'v, V> {
     pub(crate) id: Option<&'v V>,
@@ -38,7 +38,7 @@ pub(crate) struct FoundMembers<'v, V> {
     pub(crate) has_fraction: bool,
 }
 
-/// Finds the members with a leading `_`, and looks at the others, in one walk over all members.
+/// Finds the members that begin with `_`, and checks the others, in one pass.
 pub(crate) fn find_members<'v, V: JsonValue<'v>>(members: &'v V::Object) -> FoundMembers<'v, V>
     ensures id { option_map (λ v. V.seen v.now) result.id
         ≡ get_member (codes "_id") (V.members_seen members.now) }
@@ -70,7 +70,7 @@ pub(crate) fn find_members<'v, V: JsonValue<'v>>(members: &'v V::Object) -> Foun
     found
 }
 
-/// What is found with one more member.
+/// Adds one member to what was found.
 fn looked<'v, V: JsonValue<'v>>(
     found: FoundMembers<'v, V>,
     name: &str,
@@ -109,7 +109,7 @@ fn looked<'v, V: JsonValue<'v>>(
     }
 }
 
-/// What is found with one more member with a leading `_`.
+/// Adds one member that begins with `_` to what was found.
 fn with_special<'v, V: JsonValue<'v>>(
     found: FoundMembers<'v, V>,
     name: &str,
@@ -144,7 +144,7 @@ fn with_special<'v, V: JsonValue<'v>>(
     }
 }
 
-/// What was found for a name, or this member where it has that name.
+/// Returns what was found for a name, or this member if it has the name.
 fn kept<'v, V: JsonValue<'v>>(
     found: Option<&'v V>,
     name: &str,
@@ -164,7 +164,7 @@ fn kept<'v, V: JsonValue<'v>>(
     }
 }
 
-/// Whether a name begins with `_` and is none of those that a document may have.
+/// Whether a name begins with `_` and is not one that a document may have.
 pub(crate) fn is_unknown(name: &str) -> bool
     ensures { result ≡ is_unknown name.now }
 {
@@ -174,7 +174,7 @@ pub(crate) fn is_unknown(name: &str) -> bool
     !is_special_name(name)
 }
 
-/// Whether a name is one of those that a document may have.
+/// Whether a name is one of the special names that a document may have.
 fn is_special_name(name: &str) -> bool
     ensures { result ≡ list_any (bytes_eq name.now) special_names }
 {

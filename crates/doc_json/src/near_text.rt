@@ -1,15 +1,15 @@
-//! Texts of few bytes, in place.
+//! Short strings, stored inline.
 ghost use Rattle.std.specs.Prelude.{◌≡◌, IfSome};
 
 use std::fmt::{Debug, Error, Formatter, Write};
 use std::marker::Model;
 
-/// The most bytes of a text in place.
+/// The maximum number of bytes of an inline string.
 const MOST_BYTES: usize = 32;
 
-/// A text of at most 32 bytes: it stands in front, and zeros behind it.
+/// A string of at most 32 bytes, followed by zeros.
 ///
-/// There may be very many, so the length takes four bytes, and no `usize`.
+/// The length has four bytes instead of a `usize`, because there may be very many ids.
 #[derive(Drop)]
 pub(crate) struct NearText {
     len: u32,
@@ -27,7 +27,7 @@ impl Model for NearText {
 }
 
 impl NearText {
-    /// The text, where it has so few bytes.
+    /// Stores the string, or returns `None` if it is too long.
     pub(crate) fn keep(text: &str) -> Option<NearText>
         ensures { IfSome result (λ t. t ≡ text.now) }
     {
@@ -43,7 +43,7 @@ impl NearText {
         })
     }
 
-    /// The same text. It is copied with its whole room, which is of a size that the compiler knows.
+    /// Copies the string. All 32 bytes are copied, so the compiler knows the size.
     pub(crate) fn copy(&self) -> NearText
         ensures { result ≡ self.now }
     {
@@ -53,7 +53,7 @@ impl NearText {
         }
     }
 
-    /// The text.
+    /// Returns the string.
     pub(crate) fn as_str(&self) -> &str
         ensures { result.now ≡ self.now }
     {

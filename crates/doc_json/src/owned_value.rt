@@ -1,4 +1,4 @@
-//! `serde_json`'s values, as documents are read from them.
+//! `JsonValue` for the values of `serde_json`.
 ghost use Rattle.std.specs.Prelude.{◌≡◌, ◌++◌, ◌∷◌, false, OnOk};
 ghost use Rattle.std.specs.List.Sorted.{IsStrictlySortedBy};
 ghost use Rattle.std.specs.Map.{keys_of};
@@ -16,7 +16,7 @@ use serde_json::{Map, Number, Value};
 use std::alloc::AllocError;
 use std::collections::btree_map;
 
-/// What is known of the texts of such a value: nothing.
+/// Nothing is known about the strings of such a value.
 pub(crate) const NONE_KNOWN: PlainTexts = PlainTexts {
     names: false,
     values: false,
@@ -80,13 +80,13 @@ impl<'v> JsonValue<'v> for Value {
         has_fraction(self)
     }
 
-    // No text of the value is known to be plain.
+    // No string of the value is known to need no escapes.
     fn push(&'v self, _plain: PlainTexts, out: &mut Vec<u8>) -> Result<(), AllocError> {
         push_value(self, out)
     }
 }
 
-/// Whether a value is, or holds at any depth, a number that is neither an i64 nor a u64.
+/// Whether a value is or contains, at any depth, a number that is neither an i64 nor a u64.
 #[cycle(fraction)]
 #[inline(always)]
 fn has_fraction(value: &Value) -> bool
@@ -102,7 +102,7 @@ fn has_fraction(value: &Value) -> bool
     }
 }
 
-/// Whether an item of a list does.
+/// Whether an item is or contains such a number.
 #[cycle(fraction)]
 #[inline(never)]
 fn items_have_fraction(items: &Vec<Value>) -> bool
@@ -116,7 +116,7 @@ fn items_have_fraction(items: &Vec<Value>) -> bool
     false
 }
 
-/// Whether a member of an object does.
+/// Whether a member is or contains such a number.
 #[cycle(fraction)]
 #[inline(never)]
 fn members_have_fraction(members: &Map<String, Value>) -> bool
@@ -130,7 +130,7 @@ fn members_have_fraction(members: &Map<String, Value>) -> bool
     false
 }
 
-/// A value.
+/// Appends the serialized form of a value.
 #[cycle(push)]
 #[inline(always)]
 fn push_value(value: &Value, out: &mut Vec<u8>) -> Result<(), AllocError>
@@ -150,7 +150,7 @@ fn push_value(value: &Value, out: &mut Vec<u8>) -> Result<(), AllocError>
     }
 }
 
-/// The items of a list, between brackets.
+/// Appends the items of an array, in brackets.
 #[cycle(push)]
 #[inline(never)]
 fn push_items(items: &Vec<Value>, out: &mut Vec<u8>) -> Result<(), AllocError>
@@ -171,7 +171,7 @@ fn push_items(items: &Vec<Value>, out: &mut Vec<u8>) -> Result<(), AllocError>
     Ok(())
 }
 
-/// The members of an object, between braces.
+/// Appends the members of an object, in braces.
 #[cycle(push)]
 #[inline(never)]
 fn push_members(members: &Map<String, Value>, out: &mut Vec<u8>) -> Result<(), AllocError>

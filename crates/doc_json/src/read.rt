@@ -19,30 +19,37 @@ use json_values::{LinePart, PlainTexts};
 use serde_json::Value;
 use std::alloc::Global;
 
-/// The document that a JSON value is. Members `_conflicts`, `_deleted_conflicts`, `_revs_info` and
-/// `_local_seq` are passed over.
+/// Reads a JSON value as a document. The members `_conflicts`, `_deleted_conflicts`, `_revs_info` and `_local_seq` are
+/// ignored.
 ///
-/// The first of these refusals is the answer: `NotObject`; `NoId` where `_id` is absent, no text, or empty;
-/// `ReservedId` where it begins with `_` and is no design document's; `Attachments` where there is a member
-/// `_attachments`; `SpecialMember` where another member begins with `_` and is not known, or `_deleted` is
-/// neither true nor false; `NoRev` where `_rev` is no revision id, or neither `_rev` nor `_revisions` is
-/// there; `BadRevisions` where `_revisions` is no ancestry; `RevMismatch` where `_rev` is not its newest
-/// revision; `Fraction` where a member without a leading `_` holds, at any depth, a number that is neither
-/// an i64 nor a u64. `Memory` stands only in the place of a document.
+/// # Errors
+///
+/// Checked in this order:
+///
+/// - `NotObject`: the value is not an object.
+/// - `NoId`: `_id` is missing, not a string, or empty.
+/// - `ReservedId`: `_id` begins with `_` and is not the id of a design document.
+/// - `Attachments`: there is a member `_attachments`.
+/// - `SpecialMember`: another member that begins with `_` is unknown, or `_deleted` is not a Boolean.
+/// - `NoRev`: `_rev` is not a revision id, or both `_rev` and `_revisions` are missing.
+/// - `BadRevisions`: `_revisions` is not an ancestry.
+/// - `RevMismatch`: `_rev` is not the newest revision of `_revisions`.
+/// - `Fraction`: a member without a leading `_` contains, at any depth, a number that is neither an i64 nor a u64.
+/// - `Memory`: an allocation failed. Returned only if the call would otherwise succeed.
 pub fn read_doc(alloc: Global, value: &Value) -> Result<Doc, DocFault>
     ensures { GivesUnlessMemory result (doc_read (view value.now)) }
 {
     document_of(alloc, value, NONE_KNOWN)
 }
 
-/// The document that a line's JSON value is, as `read_doc` reads one.
+/// Reads a value inside a line as a document. Errors are those of `read_doc`.
 pub fn read_line_doc(alloc: Global, part: &LinePart<'_, '_>) -> Result<Doc, DocFault>
     ensures { GivesUnlessMemory result (doc_read (line_view part.now)) }
 {
     document_of(alloc, part.value(), part.plain())
 }
 
-/// The document that a value is, of whose texts some are known to be plain.
+/// Reads a value as a document. `plain` says which of its strings are known to need no escapes.
 fn document_of<'v, V: JsonValue<'v>>(
     alloc: Global,
     value: &'v V,
@@ -77,7 +84,7 @@ where
     Ok(Doc::new(id, ancestry, deleted, body))
 }
 
-/// The text of the id that a member `_id` is.
+/// Reads the member `_id`.
 fn read_id<'v, V: JsonValue<'v>>(member: Option<&'v V>) -> Result<&'v str, DocFault>
     ensures id { IfOk result (λ text. id_of (option_map (λ v. V.seen v.now) member.entry) ≡ Ok text.now) }
     ensures read { IfOk result (λ text. doc_id_read text.now ≡ Ok text.now) }
@@ -93,7 +100,7 @@ fn read_id<'v, V: JsonValue<'v>>(member: Option<&'v V>) -> Result<&'v str, DocFa
     Ok(text)
 }
 
-/// The flag of a member `_deleted`, false where it is absent.
+/// Reads the member `_deleted`, which is false if missing.
 fn read_flag<'v, V: JsonValue<'v>>(member: Option<&'v V>) -> Result<bool, DocFault>
     ensures { result ≡ flag_of (option_map (λ v. V.seen v.now) member.entry) }
 {

@@ -13,7 +13,7 @@ use crate::json_value::JsonValue;
 use rev_core::{Ancestry, Rev, Sig};
 use std::alloc::{AllocError, Global};
 
-/// The revision id of a member `_rev`, where it is there.
+/// Reads the member `_rev`, if there is one.
 pub(crate) fn read_rev<'v, V: JsonValue<'v>>(member: Option<&'v V>) -> Result<Option<Rev>, DocFault>
     ensures { result ≡ rev_member (option_map (λ v. V.seen v.now) member.entry) }
 {
@@ -29,7 +29,7 @@ pub(crate) fn read_rev<'v, V: JsonValue<'v>>(member: Option<&'v V>) -> Result<Op
     }
 }
 
-/// The ancestry that a member `_revisions` gives beside what `_rev` gave, or that memory for it was refused.
+/// Reads the member `_revisions`, given the value of `_rev`. The inner error means that an allocation failed.
 pub(crate) fn read_revisions<'v, V: JsonValue<'v>>(
     alloc: Global,
     member: Option<&'v V>,
@@ -50,7 +50,7 @@ pub(crate) fn read_revisions<'v, V: JsonValue<'v>>(
     }
 }
 
-/// The ancestry of a lone revision id.
+/// Creates the ancestry of a single revision.
 pub(crate) fn alone(alloc: Global, rev: Rev) -> Result<Ancestry, AllocError>
     ensures { IfOk result (λ a. a ≡ rev ∷ []) }
 {
@@ -60,7 +60,7 @@ pub(crate) fn alone(alloc: Global, rev: Rev) -> Result<Ancestry, AllocError>
     Ok(Ancestry::from_revs(revs))
 }
 
-/// The ancestry that a value of `_revisions` gives beside what `_rev` gave, or that memory for it was refused.
+/// Reads a value of `_revisions`, given the value of `_rev`. The inner error means that an allocation failed.
 fn read_numbered<'v, V: JsonValue<'v>>(
     alloc: Global,
     value: &'v V,
@@ -79,7 +79,7 @@ fn read_numbered<'v, V: JsonValue<'v>>(
     match numbered_from(alloc, start, ids) {
         Ok(Some(ancestry)) => matched(ancestry, rev),
         Ok(None) => Err(DocFault::BadRevisions),
-        // What is refused does not rest on memory.
+        // The reported error must not depend on whether an allocation failed.
         Err(refused) => match check_numbered(start, ids, rev) {
             Ok(()) => Ok(Err(refused)),
             Err(fault) => Err(fault),
@@ -87,7 +87,7 @@ fn read_numbered<'v, V: JsonValue<'v>>(
     }
 }
 
-/// The ancestry, where a revision that is there is its newest.
+/// Returns the ancestry if `_rev` is missing or is its newest revision.
 pub(crate) fn matched(
     ancestry: Ancestry,
     rev: Option<Rev>,
@@ -104,7 +104,7 @@ pub(crate) fn matched(
     Ok(Ok(ancestry))
 }
 
-/// The ancestry of a start and a list of signatures, where they give one.
+/// Reads an ancestry from a start and a list of signatures. `None` if they do not form one.
 fn numbered_from<'v, V: JsonValue<'v>>(
     alloc: Global,
     start: u64,
@@ -125,7 +125,7 @@ fn numbered_from<'v, V: JsonValue<'v>>(
     }
 }
 
-/// The revisions of a list of signatures, from a generation downwards.
+/// Reads a list of signatures as revisions, from a generation downwards.
 fn numbered<'v, V: JsonValue<'v>>(
     alloc: Global,
     start: u32,
@@ -147,7 +147,7 @@ fn numbered<'v, V: JsonValue<'v>>(
     Ok(Some(revs))
 }
 
-/// Why a start and a list give no ancestry beside what `_rev` gave.
+/// Checks whether a start and a list form an ancestry that agrees with `_rev`, and returns the error if not.
 fn check_numbered<'v, V: JsonValue<'v>>(
     start: u64,
     ids: &'v Vec<V>,
@@ -167,14 +167,14 @@ fn check_numbered<'v, V: JsonValue<'v>>(
     Ok(())
 }
 
-/// The number of a member `start`.
+/// Returns the number of the member `start`.
 fn start_of<'v, V: JsonValue<'v>>(value: &'v V) -> Option<u64>
     ensures { result ≡ start_of (V.seen value.now) }
 {
     value.get("start")?.as_number()?.as_u64()
 }
 
-/// The list of a member `ids`.
+/// Returns the list of the member `ids`.
 fn ids_of<'v, V: JsonValue<'v>>(value: &'v V) -> Option<&'v Vec<V>>
     ensures { option_map (λ v. items_of (map V.seen v.now.items)) result
         ≡ option_and_then as_array (get (codes "ids") (V.seen value.now)) }
@@ -182,8 +182,7 @@ fn ids_of<'v, V: JsonValue<'v>>(value: &'v V) -> Option<&'v Vec<V>>
     value.get("ids")?.as_array()
 }
 
-/// Whether a start is a generation, and a list is one of signatures, at least one and at most as many as the
-/// start says.
+/// Whether the start is a generation, and the list has 1 to `start` items that are all signatures.
 fn are_ids<'v, V: JsonValue<'v>>(start: u64, ids: &'v Vec<V>) -> bool
     ensures { result ≡ is_ok (numbered_from (Some start) (sigs_of (items_of (map V.seen ids.now.items)))) }
 {
@@ -197,7 +196,7 @@ fn are_ids<'v, V: JsonValue<'v>>(start: u64, ids: &'v Vec<V>) -> bool
     1 <= count && count <= start
 }
 
-/// Whether each item is a signature.
+/// Whether all items are signatures.
 fn are_sigs<'v, V: JsonValue<'v>>(items: &'v Vec<V>) -> bool
     ensures { result ≡ is_some (sigs_of (items_of (map V.seen items.now.items))) }
 {
@@ -209,7 +208,7 @@ fn are_sigs<'v, V: JsonValue<'v>>(items: &'v Vec<V>) -> bool
     true
 }
 
-/// Whether `_rev`, where it is there, is the newest revision of `_revisions`.
+/// Whether `_rev` is missing or is the newest revision of `_revisions`.
 fn agrees<'v, V: JsonValue<'v>>(rev: Option<Rev>, start: u64, ids: &'v Vec<V>) -> bool
     ensures { (revs : List RevId) → numbered_from (Some start) (sigs_of (items_of (map V.seen ids.now.items))) ≡ Ok revs
         → result ≡ agrees rev revs }
@@ -223,7 +222,7 @@ fn agrees<'v, V: JsonValue<'v>>(rev: Option<Rev>, start: u64, ids: &'v Vec<V>) -
     }
 }
 
-/// The first item as a signature.
+/// Returns the first item as a signature.
 fn first_sig<'v, V: JsonValue<'v>>(items: &'v Vec<V>) -> Option<Sig>
     ensures { result ≡ option_and_then (λ v. sig_of (as_str (V.seen v))) (slice_get items.now.items 0) }
 {
@@ -233,7 +232,7 @@ fn first_sig<'v, V: JsonValue<'v>>(items: &'v Vec<V>) -> Option<Sig>
     }
 }
 
-/// Whether a revision is that of a generation and a signature.
+/// Whether a revision has this generation and signature.
 pub(crate) fn is_revision(rev: Rev, generation: u64, sig: Sig) -> bool
     ensures { result ≡ eq_by_cmp rev_cmp rev (record { generation = generation; sig = sig }) }
 {
@@ -241,7 +240,7 @@ pub(crate) fn is_revision(rev: Rev, generation: u64, sig: Sig) -> bool
     u64::from(rev.generation()) == generation && same_sig
 }
 
-/// The signature that a value is.
+/// Returns a value as a signature.
 fn sig_of<'v, V: JsonValue<'v>>(value: &'v V) -> Option<Sig>
     ensures { result ≡ sig_of (as_str (V.seen value.now)) }
 {

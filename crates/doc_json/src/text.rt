@@ -1,4 +1,4 @@
-//! Texts and integers, pushed as JSON behind what a buffer holds.
+//! Appending strings and integers as JSON to a buffer.
 ghost use Rattle.std.specs.Prelude.{◌≡◌, ◌<◌, ◌≤◌, ◌++◌, [], ◌∷◌, false, take, decimal, OnOk};
 ghost use Rattle.std.specs.Fmt.{signed_decimal};
 ghost use Rattle.std.specs.Char.{digit_char};
@@ -15,7 +15,7 @@ use json_values::{is_plain, plain_end};
 use serde_json::Number;
 use std::alloc::AllocError;
 
-/// A comma, where something stands before.
+/// Appends a comma, if `later` is true.
 #[inline(always)]
 pub(crate) fn push_comma(out: &mut Vec<u8>, later: bool) -> Result<(), AllocError>
     ensures { OnOk result (out.new.items ≡ out.old.items ++ comma_if later) }
@@ -26,7 +26,8 @@ pub(crate) fn push_comma(out: &mut Vec<u8>, later: bool) -> Result<(), AllocErro
     Ok(())
 }
 
-/// The name of a member with its colon, behind a comma where something stands before. It may be known to be plain.
+/// Appends the name of a member and a colon, after a comma if `later` is true. `is_plain` says whether the name is
+/// known to need no escapes.
 #[inline(always)]
 pub(crate) fn push_name(
     out: &mut Vec<u8>,
@@ -43,9 +44,9 @@ pub(crate) fn push_name(
     Ok(())
 }
 
-/// A text in quotation marks, behind what a buffer holds. Mostly each of its bytes stands for itself.
+/// Appends a string in quotation marks. Usually it needs no escapes.
 ///
-/// Where memory is refused, a part of it may stand there. What the buffer held stands before it in any case.
+/// If an allocation fails, a part of the string may have been appended; the previous content is kept in any case.
 pub fn push_text(out: &mut Vec<u8>, text: &str) -> Result<(), AllocError>
     ensures text { OnOk result (out.new.items ≡ out.old.items ++ quoted text.now) }
     ensures kept { Keeps out.old.items out.new.items }
@@ -56,7 +57,7 @@ pub fn push_text(out: &mut Vec<u8>, text: &str) -> Result<(), AllocError>
     push_standing(out, text)
 }
 
-/// A text in quotation marks, which may be known to be plain.
+/// Appends a string in quotation marks. `is_plain` says whether it is known to need no escapes.
 #[inline(always)]
 pub(crate) fn push_known_text(
     out: &mut Vec<u8>,
@@ -72,7 +73,7 @@ pub(crate) fn push_known_text(
     }
 }
 
-/// A text between quotation marks, as it stands.
+/// Appends a string in quotation marks, without escapes.
 #[inline(always)]
 fn push_standing(out: &mut Vec<u8>, text: &str) -> Result<(), AllocError>
     ensures text { OnOk result (out.new.items ≡ out.old.items ++ 34 ∷ (text.now ++ 34 ∷ [])) }
@@ -84,7 +85,7 @@ fn push_standing(out: &mut Vec<u8>, text: &str) -> Result<(), AllocError>
     Ok(())
 }
 
-/// A text in quotation marks: what stands for itself as a whole, and each other byte as its escape.
+/// Appends a string in quotation marks: runs that need no escapes are copied, each other byte is escaped.
 #[inline(never)]
 fn push_escaped(out: &mut Vec<u8>, text: &str) -> Result<(), AllocError>
     ensures text { OnOk result (out.new.items ≡ out.old.items ++ quoted text.now) }
@@ -105,7 +106,7 @@ fn push_escaped(out: &mut Vec<u8>, text: &str) -> Result<(), AllocError>
     }
 }
 
-/// The escape of a byte.
+/// Appends the escape of a byte.
 #[inline(never)]
 fn push_escape(out: &mut Vec<u8>, byte: u8) -> Result<(), AllocError>
     ensures text { OnOk result (out.new.items ≡ out.old.items ++ escape_byte byte) }
@@ -115,7 +116,7 @@ fn push_escape(out: &mut Vec<u8>, byte: u8) -> Result<(), AllocError>
     out.extend_from_slice(&escape[..len])
 }
 
-/// The escape of a byte, and how long it is.
+/// Returns the escape of a byte, and its length.
 fn escape_of(byte: u8) -> ([u8; 6], usize)
     ensures value { take result.1 result.0 ≡ escape_byte byte }
     ensures bound { result.1 ≤ 6 }
@@ -130,7 +131,7 @@ fn escape_of(byte: u8) -> ([u8; 6], usize)
     ([byte, 0, 0, 0, 0, 0], 1)
 }
 
-/// The letter of a byte's short escape, or 0 where it has none.
+/// Returns the letter of a byte's short escape, or 0 if it has none.
 fn letter(byte: u8) -> u8
     ensures { result ≡ escape_letter byte }
 {
@@ -145,7 +146,7 @@ fn letter(byte: u8) -> u8
     }
 }
 
-/// A hex digit.
+/// Returns a hexadecimal digit.
 fn hex(digit: u8) -> u8
     requires { digit < 16 }
     ensures { result ≡ digit_char digit }
@@ -157,7 +158,7 @@ fn hex(digit: u8) -> u8
     }
 }
 
-/// An integer in decimal.
+/// Appends an integer in decimal.
 #[inline(always)]
 pub(crate) fn push_integer(out: &mut Vec<u8>, n: &Number) -> Result<(), AllocError>
     requires { is_float (number_view n.now) ≡ false }
@@ -170,7 +171,7 @@ pub(crate) fn push_integer(out: &mut Vec<u8>, n: &Number) -> Result<(), AllocErr
     }
 }
 
-/// A whole number. One digit is pushed without a buffer.
+/// Appends an unsigned integer. A single digit needs no buffer.
 #[inline(always)]
 fn push_whole(out: &mut Vec<u8>, n: u64) -> Result<(), AllocError>
     ensures { OnOk result (out.new.items ≡ out.old.items ++ decimal n) }
@@ -182,7 +183,7 @@ fn push_whole(out: &mut Vec<u8>, n: u64) -> Result<(), AllocError>
     push_digits(out, n)
 }
 
-/// A whole number of any length.
+/// Appends an unsigned integer of any length.
 #[inline(never)]
 fn push_digits(out: &mut Vec<u8>, n: u64) -> Result<(), AllocError>
     ensures { OnOk result (out.new.items ≡ out.old.items ++ decimal n) }
@@ -191,7 +192,7 @@ fn push_digits(out: &mut Vec<u8>, n: u64) -> Result<(), AllocError>
     out.extend_from_slice(buffer.format(n).as_bytes())
 }
 
-/// An integer below zero.
+/// Appends a negative integer.
 #[inline(never)]
 fn push_signed(out: &mut Vec<u8>, n: i64) -> Result<(), AllocError>
     ensures { OnOk result (out.new.items ≡ out.old.items ++ signed_decimal n) }

@@ -12,10 +12,10 @@ use itoa::Buffer;
 use rev_core::{Ancestry, Rev};
 use std::alloc::{AllocError, Global};
 
-/// The text of a document, in compact form with its members in the order `_id`, `_rev`, `_revisions`,
-/// `_deleted` where it is deleted, and those of the body.
+/// Serializes a document in compact form, with the members `_id`, `_rev`, `_revisions`, `_deleted` if it is deleted,
+/// and those of the body, in this order.
 ///
-/// Where `serde_json` reads the text, `read_doc` gives the document back.
+/// If `serde_json` can read the result, `read_doc` returns the document.
 pub fn write_doc(alloc: Global, doc: &Doc) -> Result<Vec<u8>, AllocError>
     ensures text { IfOk result (λ v. v.items ≡ doc_text doc.now) }
     ensures reads_back { (d : Data) → read (doc_text doc.now) ≡ Some d → doc_read d ≡ Ok doc.now }
@@ -25,8 +25,8 @@ pub fn write_doc(alloc: Global, doc: &Doc) -> Result<Vec<u8>, AllocError>
     Ok(out)
 }
 
-/// Writes the text of a document behind what a buffer holds. Where memory is refused, a part of it may stand there; what
-/// the buffer held stands before it in any case.
+/// Appends the serialized document to a buffer. If an allocation fails, a part may have been appended; the previous
+/// content is kept in any case.
 pub fn push_doc(out: &mut Vec<u8>, doc: &Doc) -> Result<(), AllocError>
     ensures text { OnOk result (out.new.items ≡ out.old.items ++ doc_text doc.now) }
     ensures kept { Keeps out.old.items out.new.items }
@@ -36,13 +36,13 @@ pub fn push_doc(out: &mut Vec<u8>, doc: &Doc) -> Result<(), AllocError>
     push_parts(out, doc)
 }
 
-/// The parts of a document's text, for all of which there is mostly room from the start.
+/// Appends the parts of a document. Reserves enough for most documents first.
 fn push_parts(out: &mut Vec<u8>, doc: &Doc) -> Result<(), AllocError>
     ensures text { OnOk result (out.new.items ≡ out.old.items ++ doc_text doc.now) }
     ensures kept { Keeps out.old.items out.new.items }
 {
     let body = doc.body().text();
-    // A signature mostly has 32 bytes, and stands in quotation marks behind a comma.
+    // Most signatures have 32 bytes, plus quotation marks and a comma.
     let sigs = doc.ancestry().revs().len().saturating_mul(36);
     out.reserve(body.len().saturating_add(sigs).saturating_add(256))?;
     out.extend_from_slice(b"{\"_id\":")?;
@@ -52,7 +52,7 @@ fn push_parts(out: &mut Vec<u8>, doc: &Doc) -> Result<(), AllocError>
     push_rest(out, body)
 }
 
-/// `_rev` and `_revisions`, each behind a comma.
+/// Appends `_rev` and `_revisions`, each after a comma.
 fn push_revs(out: &mut Vec<u8>, ancestry: &Ancestry) -> Result<(), AllocError>
     ensures text { OnOk result (out.new.items ≡ out.old.items ++ revs_text ancestry.now) }
     ensures kept { Keeps out.old.items out.new.items }
@@ -67,7 +67,7 @@ fn push_revs(out: &mut Vec<u8>, ancestry: &Ancestry) -> Result<(), AllocError>
     Ok(())
 }
 
-/// The newest revision.
+/// Appends the newest revision.
 fn push_head(out: &mut Vec<u8>, ancestry: &Ancestry) -> Result<(), AllocError>
     ensures text { OnOk result (out.new.items ≡ out.old.items ++ head_text ancestry.now) }
     ensures kept { Keeps out.old.items out.new.items }
@@ -79,7 +79,7 @@ fn push_head(out: &mut Vec<u8>, ancestry: &Ancestry) -> Result<(), AllocError>
     Ok(())
 }
 
-/// The newest revision's generation.
+/// Appends the newest revision's generation.
 fn push_start(out: &mut Vec<u8>, ancestry: &Ancestry) -> Result<(), AllocError>
     ensures text { OnOk result (out.new.items ≡ out.old.items ++ start_text ancestry.now) }
     ensures kept { Keeps out.old.items out.new.items }
@@ -87,7 +87,7 @@ fn push_start(out: &mut Vec<u8>, ancestry: &Ancestry) -> Result<(), AllocError>
     push_number(out, ancestry.head().generation())
 }
 
-/// A number in decimal.
+/// Appends a number in decimal.
 fn push_number(out: &mut Vec<u8>, number: u32) -> Result<(), AllocError>
     ensures text { OnOk result (out.new.items ≡ out.old.items ++ decimal number) }
     ensures kept { Keeps out.old.items out.new.items }
@@ -97,7 +97,7 @@ fn push_number(out: &mut Vec<u8>, number: u32) -> Result<(), AllocError>
     Ok(())
 }
 
-/// The signatures, each in quotation marks.
+/// Appends the signatures, each in quotation marks.
 fn push_sigs(out: &mut Vec<u8>, revs: &[Rev]) -> Result<(), AllocError>
     ensures text { OnOk result (out.new.items ≡ out.old.items ++ sig_texts revs.now) }
     ensures kept { Keeps out.old.items out.new.items }
@@ -111,7 +111,7 @@ fn push_sigs(out: &mut Vec<u8>, revs: &[Rev]) -> Result<(), AllocError>
     Ok(())
 }
 
-/// A signature in quotation marks.
+/// Appends a signature in quotation marks.
 fn push_sig(out: &mut Vec<u8>, rev: &Rev) -> Result<(), AllocError>
     ensures text { OnOk result (out.new.items ≡ out.old.items ++ sig_text rev.now) }
     ensures kept { Keeps out.old.items out.new.items }
@@ -122,14 +122,14 @@ fn push_sig(out: &mut Vec<u8>, rev: &Rev) -> Result<(), AllocError>
     Ok(())
 }
 
-/// The mark of a deleted document.
+/// Returns the member `_deleted` of a deleted document, or an empty string.
 fn deleted_text(deleted: bool) -> &'static [u8]
     ensures { result.now ≡ deleted_text deleted }
 {
     if deleted { b",\"_deleted\":true" } else { b"" }
 }
 
-/// The body's members, and the end of the object.
+/// Appends the body's members, and the end of the object.
 fn push_rest(out: &mut Vec<u8>, body: &[u8]) -> Result<(), AllocError>
     ensures text { OnOk result (out.new.items ≡ out.old.items ++ rest_text body.now) }
     ensures kept { Keeps out.old.items out.new.items }

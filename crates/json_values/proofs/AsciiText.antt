@@ -1,4 +1,4 @@
--- ASCII, sixteen bytes at a time, of which the last may overlap those before.
+-- ASCII tests of sixteen bytes at a time; the last vector may overlap the previous one.
 use Rattle.proof_prelude.proofs.{◌≡◌, ℕ, [], ◌∷◌, ◌++◌, ◌+◌, ◌-◌, ◌<◌, ◌≤◌, ◌⊎◌, inl, inr, List, length, take, get_or, ap, subst, ◌∙◌, arith, IsAscii, cases_order, get_or_past, get_or-chunk, get_or-take}
 use lib.Lanes.{chunk}
 

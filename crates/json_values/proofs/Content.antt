@@ -1,4 +1,4 @@
--- The steps of `content`, at a place of the text.
+-- The steps of `content`, at an index of the text.
 use Rattle.proof_prelude.proofs.{◌≡◌, ℕ, suc, ◌+◌, ◌-◌, ◌<◌, ◌≤◌, Bool, true, false, not, ◌||◌, cond, ◌&&◌, ◌==◌, nat_lt, List, [], ◌∷◌, ◌++◌, length, take, drop, get_or, Option, Some, None, option_and_then, refl, sym, ap, ◌∙◌, arith, drop_more, drop_all, or_parts, not-true, prefix_len, len_utf8, append_assoc, drop-drop, take-take, length-take-le, get_or-drop, length-drop, eqb-true, true≢false, ne_eqb, lt-ltb, le-ltb}
 use Rattle.std.specs.Char.{encode_utf8}
 use Rattle.json.specs.Text.{code_unit, short_escape, is_high_surrogate, is_low_surrogate, surrogate_pair, Within, plain, after_backslash, after_u, after_high, prepend, content}
@@ -71,12 +71,12 @@ run_byte true x n xs e ih = unfold content in
     (λ i. cond (tests.0 i) (Some []) (cond (tests.1 i) (content after_backslash xs) (cond (none.1 i) None (prepend (x ∷ []) (ih i)))))
     ∙ prepend-prepend (x ∷ []) (take n xs) _ ∙ ap (λ k. prepend (take k (x ∷ xs)) (content plain (drop k (x ∷ xs)))) next
 
--- plain bytes stand for themselves
+-- bytes without escapes represent themselves
 pub content-run : (xs : List ℕ) → content plain xs ≡ prepend (take (prefix_len is_plain xs) xs) (content plain (drop (prefix_len is_plain xs) xs))
 content-run [] = sym (prepend-nil _)
 content-run (x ∷ xs) = run_byte (is_plain x) x (prefix_len is_plain xs) xs refl (content-run xs)
 
--- ---- from i up to the place where the plain bytes stop
+-- ---- from i up to the end of the unescaped run
 
 module _ (d : List ℕ) (i stop : ℕ) (is : stop ≡ i + prefix_len is_plain (drop i d)) where
   pub content-to_stop : content plain (drop i d) ≡ prepend (take (stop - i) (drop i d)) (content plain (drop stop d))
@@ -108,7 +108,7 @@ pub stops_there : (xs : List ℕ) → prefix_len is_plain xs < length xs → is_
 stops_there [] h = let no : ⊥ = omega arith in absurd no
 stops_there (x ∷ xs) h = stops_byte (is_plain x) x (prefix_len is_plain xs) xs refl (stops_there xs) h
 
--- a stop that is no quote and no control byte is a backslash
+-- a byte that ends the run, and is neither a quotation mark nor a control byte, is a backslash
 pub stop_is_backslash : (d : List ℕ) (i stop : ℕ) → stop ≡ i + prefix_len is_plain (drop i d) → stop < length d → (get_or d stop 0 ≡ 34 → ⊥) → 32 ≤ get_or d stop 0 → get_or d stop 0 ≡ 92
 stop_is_backslash d i stop is h q l =
     let x = get_or d stop 0 in
@@ -126,7 +126,7 @@ take-append-add : (xs ys : List ℕ) (n : ℕ) → take (length xs + n) (xs ++ y
 take-append-add [] ys n = let e : 0 + n ≡ n = omega arith in ap (λ k. take k ys) e
 take-append-add (x ∷ xs) ys n = let e : suc (length xs) + n ≡ suc (length xs + n) = omega arith in ap (λ k. take k (x ∷ (xs ++ ys))) e ∙ ap (λ l. x ∷ l) (take-append-add xs ys n)
 
--- what was written past n is dropped
+-- what was written after n is dropped
 pub cut_back : (out old run : List ℕ) (at k n : ℕ) → n ≤ k → at ≤ length old → take (at + k) out ≡ take at old ++ take k run → take (at + n) out ≡ take at old ++ take n run
 cut_back out old run at k n le within e =
     let long = length-take-le at old within in

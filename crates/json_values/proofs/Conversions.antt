@@ -1,4 +1,4 @@
--- What was read, under a conversion that may refuse it.
+-- Reading, followed by a conversion that may fail.
 use Rattle.proof_prelude.proofs.{◌≡◌, List, Option, Some, None, option_map, refl, ap, ◌∙◌}
 use Rattle.json.specs.Token.{Token}
 use Rattle.json.specs.Json.{parse_map}
@@ -26,7 +26,7 @@ converted-none f none (Some p) = ap (option_map (λ b. (b, p.1))) (none p.0)
 
 -- ---- back from the conversion
 
--- what is behind a conversion that gave something
+-- what was read before a conversion that succeeded
 abbrev pub Behind : {A B : Type 0} → (A → Option B) → Option (A × List Token) → B → List Token → Type 0
 Behind {A} f o b rest = (a : A) × (o ≡ Some (a, rest)) × (f a ≡ Some b)
 
@@ -50,6 +50,6 @@ no_value : {B : Type 0} (left : List Token) (x : Option B) → option_map {U = B
 no_value left None e = refl
 no_value left (Some y) e = absurd (cc)
 
--- what was read and refused is refused by the conversion
+-- if the conversion of a value fails, so does the conversion of what was read
 pub refused_value : {A B : Type 0} (f : A → Option B) (a : A) (left : List Token) → converted f (Some (a, left)) ≡ None → f a ≡ None
 refused_value f a left e = no_value left (f a) e

@@ -1,4 +1,4 @@
--- What a value is read as, by its first token.
+-- How a value is read, by its first token.
 use Rattle.proof_prelude.proofs.{◌≡◌, ◌≢◌, ℕ, ◌-◌, ◌<◌, List, [], ◌∷◌, length, Bool, true, false, Bor, Option, Some, None, option_map, refl, ap, ◌∙◌, false≢true, true≢false}
 use Rattle.json.specs.Token.{Token}
 use Rattle.json.specs.Json as json
@@ -44,7 +44,7 @@ read-deep_array depth rest none = unfold value in ap (λ n. converted of_json (v
 pub read-deep_object : (depth : ℕ) (rest : List Token) → depth ≡ 0 → converted of_json (value depth (Token.begin_object ∷ rest)) ≡ None
 read-deep_object depth rest none = unfold value in ap (λ n. converted of_json (value n (Token.begin_object ∷ rest))) none
 
--- ---- a string that is no name, and one that is no value
+-- ---- a string that is not a name, and one that is not a value
 
 pub not_a_key : (t : reader.Token) (rest : List Token) → ((s : Bor (List ℕ)) → t ≢ Key s) → begins_key (token_of t ∷ rest) ≡ false
 not_a_key (Key s) rest other = absurd (other s refl)
@@ -72,7 +72,7 @@ endless (Token.end_object ∷ ts) none rest e = absurd (true≢false none)
 endless (Token.key s ∷ ts) none rest e = true≢false (ap named e)
 endless _ none rest e = cc
 
--- where neither a name nor an end comes, no member does
+-- if neither a name nor an end comes next, no member does
 pub neither : (ts : List Token) → begins_key ts ≡ false → ((rest : List Token) → read_key ts ≢ Some (None, rest)) → read_key ts ≡ None
 neither (Token.end_object ∷ ts) other going = absurd (going ts refl)
 neither (Token.key s ∷ ts) other going = absurd (true≢false other)

@@ -1,4 +1,4 @@
--- Numbers of few digits and nothing else.
+-- Numbers that consist of a few digits.
 use Rattle.proof_prelude.proofs.{◌≡◌, ◌≢◌, ℕ, ◌+◌, ◌-◌, ◌<◌, ◌≤◌, ◌^◌, Bool, true, false, ◌||◌, ◌==◌, cond, leb-true, List, length, take, drop, get_or, Some, refl, sym, ap, ◌∙◌, subst, arith, T, drop-drop, length-drop, false≢true, and_parts, get_or_default, drop-take, digit_at, is_ascii_digit, IsInRange, AllDigits, digits_value, ne_eqb, eq-eqb, eqb-true, get_or-take, length-take-le}
 use Rattle.fast_float.specs.Text.{minus, scan, with_sign}
 use Rattle.serde_json.specs.Data.{Num, unsigned, negative}
@@ -11,7 +11,7 @@ use Rattle.json_values.proofs.Lanes.{upto_sound}
 use Rattle.json_values.proofs.NumberReads.{number_of-minus, number_of-no_minus, from_digits, below_digits}
 use Rattle.json_values.proofs.Wording.{number_at}
 
--- a word that begins with no letter is a number
+-- a word that does not begin with a letter is a number
 pub word-number : (t : List ℕ) → head t < 58 → word t ≡ number_before t (after_number t)
 word-number t low = unfold word in
     let a : (head t == 116) ≡ false = ne_eqb _ _ (λ (e : head t ≡ 116). omega arith) in
@@ -19,7 +19,7 @@ word-number t low = unfold word in
     let c : (head t == 110) ≡ false = ne_eqb _ _ (λ (e : head t ≡ 110). omega arith) in
     rw (a, b, c) refl
 
--- ---- what begins with a digit, and what ends a word
+-- ---- words that begin with a digit, and the end of a word
 
 pub digit_range : (x : ℕ) → is_ascii_digit x ≡ true → IsInRange 48 57 x
 digit_range x e = let h = and_parts _ _ e in (leb-true 48 x h.0, leb-true x 57 h.1)
@@ -62,7 +62,7 @@ minus_or_not d i start false from to first is apart =
 pub minus_place : (d : List ℕ) (i start : ℕ) → i ≤ start → start ≤ length d → drop start d ≡ after_minus (drop i d) → start ≢ i → (head (drop i d) ≡ 45) × (start ≡ i + 1)
 minus_place d i start from to is apart = minus_or_not d i start (head (drop i d) == 45) from to refl is apart
 
--- ---- digits alone, and digits behind a minus sign
+-- ---- digits alone, and digits after a minus sign
 
 module _ (d : List ℕ) (i len n : ℕ) (some : 0 < len) (small : n < 2 ^ 63) where
   pub plain_integer : i + len ≤ length d → AllDigits 10 (take len (drop i d)) → digits_value 10 (take len (drop i d)) ≡ n → after_whole (drop i d) ≡ Some (drop len (drop i d)) → ends_word (drop (i + len) d) ≡ true
@@ -117,7 +117,7 @@ module _ (d : List ℕ) (i len n : ℕ) (some : 0 < len) (small : n < 2 ^ 63) wh
         number = ap number_of text ∙ number_of-minus s sign ∙ ap (λ x. number_from true (scan x)) left ∙ below_digits (take len (drop (i + 1) d)) n (omega (arith, size)) digits value above (omega arith);
       }
 
--- the number at i is one word, and behind it the next lexeme is looked for
+-- the number at i is one word, and the next lexeme is searched after it
 module _ (d : List ℕ) (i : ℕ) (n : Num) (end : ℕ) (at : IntegerAt d i n end) where
   pub integer_word : word (drop i d) ≡ number (take (end - i) (drop i d))
   integer_word = word-number (drop i d) at.first ∙ (number_at d i end at.within at.after at.from at.bound at.ended).0

@@ -1,9 +1,9 @@
--- A mask that is computed lane by lane is held to a predicate at each of the 256 bytes.
+-- A mask that is computed per lane agrees with a predicate, checked for all 256 bytes.
 use Rattle.proof_prelude.proofs.{IsAscii, leb, leb-false, ◌≡◌, ℕ, zero, suc, ◌%◌, ◌^◌, ◌<◌, ◌≤◌, ltb, Bool, true, false, not, ◌&&◌, cond, eqb, T, ◌⊎◌, inl, inr, List, [], ◌∷◌, map, length, refl, sym, ap, ap₂, ◌∙◌, subst, arith, w8, Fits, not-suc-le-zero, mask_l-mod, cases_order, length-map}
 use lib.Bits.{bit_or}
 use lib.Lanes.{zip2, mask_l, top, Each1}
 
--- a fact of each number below n, by computation
+-- a fact about all numbers below n, by computation
 abbrev pub upto : (ℕ → Bool) → ℕ → Bool
 upto p zero = true
 upto p (suc n) = p n && upto p n

@@ -1,4 +1,4 @@
--- Values of a line: level by level, lists that grow at their end, and members that are put in.
+-- Values of a line, level by level: lists that grow at their end, and inserted members.
 use Rattle.proof_prelude.proofs.{◌≡◌, ℕ, List, [], ◌∷◌, ◌++◌, Option, Some, None, Ordering, Less, Equal, Greater, nat_cmp, Vec, Bor, Global, refl, ap, rules, match_ordering, slice_cmp}
 use Rattle.json.specs.Token.{Token}
 use Rattle.json.specs.Json.{parse_map}
@@ -14,7 +14,7 @@ view-Array v = search (rules, the_lemmas)
 pub view-Object : (v : Vec Named Global) → line_view (Object v) ≡ object (line_members v.items)
 view-Object v = search (rules, the_lemmas)
 
--- the data of values, and then more
+-- appends the data of values
 abbrev pub items_onto : List LineValue → Items → Items
 items_onto [] more = more
 items_onto (v ∷ vs) more = item (line_view v) (items_onto vs more)
@@ -33,7 +33,7 @@ parse_map-items_onto vs v (Some p) = ap (λ ds. Some (ds, p.1)) (items_onto-item
 
 -- ---- members
 
--- a member that is put in, and its data
+-- the data of an inserted member
 pub members-put : (name : Bor (List ℕ)) (v : LineValue) (es : List Named) → line_members (put_entry name v es) ≡ put name.now (line_view v) (line_members es)
 members-put name v [] = refl
 members-put name v (e ∷ es) = by (slice_cmp nat_cmp name.now e.0.now) (members-put name v es)

@@ -1,4 +1,4 @@
--- The last element of a list is moved to a place, past one other at a time.
+-- The last element of a list is moved to an index by swapping neighbours.
 use Rattle.proof_prelude.proofs.{◌≡◌, ℕ, ◌+◌, ◌-◌, ◌<◌, ◌≤◌, List, [], ◌∷◌, ◌++◌, length, take, drop, get_or, refl, sym, ap, ◌∙◌, arith, append_assoc, set-append_seam, get_or-append_seam, take_more, drop_more, drop_all, set-append_right, swap, slice_set, take_all, length-append, length-take-le, get_or-append-add}
 
 module _ {X : Type 0} where
@@ -28,7 +28,7 @@ module _ {X : Type 0} where
       ap (λ l. swap l i (i + 1)) shape ∙ ap (λ n. swap (a ++ y ∷ last ∷ b) n (n + 1)) (sym size) ∙ adjacent a y last b
       ∙ ap (λ l. a ++ last ∷ l) (sym (drop_more front i last within))
 
-  -- where nothing has moved yet
+  -- before the first swap
   pub stays_last : (all front : List X) (last : X) (i : ℕ) → length all ≡ i + 1 → all ≡ front ++ last ∷ [] → all ≡ take i front ++ last ∷ drop i front
   stays_last all front last i size is =
       let long : length front ≤ i = omega (arith, ap length is, length-append front (last ∷ []), size) in

@@ -1,4 +1,4 @@
--- Names of one first byte, by their second ones.
+-- The order of names with the same first byte, by their second bytes.
 use Rattle.proof_prelude.proofs.{◌≡◌, ℕ, ◌<◌, List, [], ◌∷◌, length, get_or, Ordering, Less, Equal, Greater, nat_cmp, sym, ap, ◌∙◌, arith, ordering_then, nat_cmp_is, slice_cmp}
 
 by_second : (x u y v : ℕ) (o rest : Ordering) → x ≡ y → nat_cmp u v ≡ o → ordering_then (nat_cmp x y) (ordering_then (nat_cmp u v) rest) ≡ ordering_then o rest

@@ -1,4 +1,4 @@
--- Which numeral a number's text is read by, and what digits alone are read as.
+-- Which numeral represents a number's text, and the value of digits alone.
 use Rattle.proof_prelude.proofs.{◌≡◌, ℕ, ◌^◌, ◌<◌, ◌≤◌, List, [], ◌++◌, length, drop, get_or, true, false, ◌==◌, Some, refl, sym, ap, ◌∙◌, append-nil, lt-ltb, le-leb, suc, zero, pos, negsuc, ◌-ℤ◌, SFits, w64, to_z, of_z, to_z-of_z, arith, to_z_pos, AllDigits, digits_value}
 use Rattle.fast_float.specs.Text.{minus, scan, Parts, IsWellFormed, with_sign}
 use Rattle.fast_float.proofs.Writing.{scan-text_of}
@@ -30,7 +30,7 @@ below_digits s n some all value above fits =
     let same : digits_value 10 (s ++ []) ≡ n = ap (digits_value 10) (append-nil s) ∙ value in
     ap (number_from true) (scan-digits s all) ∙ rw (lt-ltb _ _ some, same) (rw (lt-ltb _ _ above, le-leb _ _ fits))
 
--- what is made of the opposite of n
+-- the number made from the opposite of n
 pub opposite : (n : ℕ) → 0 < n → n < 2 ^ 63 → of_integer (to_z w64 (of_z w64 (pos 0 -ℤ to_z w64 n))) ≡ negative (with_sign true n)
 opposite zero some small = let no : ⊥ = omega arith in absurd no
 opposite (suc m) some small =

@@ -1,4 +1,4 @@
--- What was read is in order.
+-- Values that were read are in order.
 use Rattle.proof_prelude.proofs.{◌≡◌, ℕ, List, Option, Some, None, option_map, option_and_then, Ordering, Less, Equal, Greater, nat_cmp, refl, ap, subst, ◌∙◌, ⊤, match_ordering, ordering_reverse, slice_cmp, nat_list_cmp_total}
 use Rattle.json.specs.Lex.{tokens}
 use Rattle.json.specs.Json as json

@@ -1,4 +1,4 @@
--- A member of a value that is in order is in order, and its texts are as plain.
+-- A member of an ordered value is ordered, and its strings need no more escapes.
 use Rattle.proof_prelude.proofs.{◌≡◌, ℕ, List, Option, Some, Ordering, Less, Equal, Greater, nat_cmp, sym, subst, IfSome, match_ordering, slice_cmp}
 use Rattle.serde_json.specs.Data.{Data, object, Members, no_members, member}
 use Rattle.serde_json.specs.Find.{get, get_member}

@@ -1,4 +1,4 @@
--- What the lexer passes over, at a place of the text.
+-- What the lexer skips, at an index of the text.
 use Rattle.proof_prelude.proofs.{◌≡◌, ℕ, suc, ◌+◌, ◌<◌, ◌≤◌, Bool, true, false, ◌&&◌, ◌||◌, ◌==◌, cond, List, [], ◌∷◌, length, drop, get_or, Option, Some, None, refl, sym, ap, ◌∙◌, arith, drop-drop, false≢true, or_parts, not-true, and_parts, drop_more, prefix_len, is_digit, eqb-true}
 use Rattle.json.specs.Text.{Within, content, code_unit}
 use Rattle.json.specs.Word.{is_operator, is_space, head}
@@ -30,7 +30,7 @@ pub lex-operator : (t : List ℕ) → class (head t) ≡ operator → (0 < lengt
 lex-operator [] e = unfold lex in absurd (false≢true (ap is_mark e))
 lex-operator (x ∷ xs) e = unfold lex in (omega arith, mark_byte (class x) x xs (λ m. lex m xs) (ap is_mark e))
 
--- ---- within a string
+-- ---- inside a string
 
 pub lex-quote : (t : List ℕ) → head t ≡ 34 → drop 1 (lex between t) ≡ lex in_string (drop 1 t)
 lex-quote [] e = unfold lex in let no : ⊥ = omega (arith, e) in absurd no
@@ -97,7 +97,7 @@ in_string-low_half d i u h b e =
     in_string-backslash d i (omega arith) b ∙ in_escape-any d (i + 1) (omega arith) ∙ ap (λ k. lex in_string (drop k d)) two
     ∙ in_string-unit d (i + 2) u (omega arith) e ∙ ap (λ k. lex in_string (drop k d)) six
 
--- an escape that is read on from a later place
+-- an escape that continues at a later index
 pub escape_from : (d : List ℕ) (i j : ℕ) (w v : Within) (r : Option (ℕ × ℕ)) → content w (drop i d) ≡ content v (drop j d) → lex (mode w) (drop i d) ≡ lex (mode v) (drop j d) → i ≤ j → Escape d v j r → Escape d w i r
 escape_from d i j w v None same passed le e = same ∙ e
 escape_from d i j w v (Some p) same passed le e = (same ∙ e.0, omega (arith, e.1), e.2, omega (arith, e.3), e.4, passed ∙ e.5)

@@ -1,4 +1,4 @@
--- Texts that are plain stay so while more is read.
+-- Strings that need no escapes stay so while more is read.
 use Rattle.proof_prelude.proofs.{◌≡◌, ℕ, suc, ◌+◌, Bool, true, false, cond, List, [], ◌∷◌, ◌++◌, length, take, Ordering, Less, Equal, Greater, nat_cmp, Bor, refl, sym, ap, ◌∙◌, subst, arith, match_ordering, slice_cmp, prefix_len}
 use Rattle.serde_json.specs.Data.{Data, string, array, object, Items, no_items, item, Members, no_members, member, put}
 use Rattle.json_values.specs.{put_entry, line_view, line_items, line_members, PlainIf, ArePlain, AreItemsPlain, AreMembersPlain, Narrows, PlainTexts, LineValue}
@@ -7,7 +7,7 @@ use Rattle.json_values.proofs.LineReads.{Named, members-put}
 one_more : (n : ℕ) → 1 + n ≡ suc n
 one_more n = omega arith
 
--- what comes before the first that fails passes
+-- the prefix before the first failing element passes the test
 pub passing_front : (p : ℕ → Bool) (xs : List ℕ) → prefix_len p (take (prefix_len p xs) xs) ≡ length (take (prefix_len p xs) xs)
 passing_front p [] = refl
 passing_front p (x ∷ xs) = by (p x) refl (passing_front p xs)

@@ -1,4 +1,4 @@
--- What `punctuate` gives, by the first byte of the text.
+-- The result of `punctuate`, by the first byte of the text.
 use Rattle.proof_prelude.proofs.{◌≡◌, ◌≢◌, ℕ, Bool, true, false, cond, ◌==◌, List, [], ◌∷◌, drop, Option, Some, None, ◌⊎◌, inl, inr, refl, sym, ap, ◌∙◌, subst, false≢true, or_cases, ⊤, true≢false, eqb-true}
 use Rattle.json.specs.Token.{Token, begin_object, end_object, begin_array, end_array, key, string, number, boolean, null, bad}
 use Rattle.json.specs.Text.{content, plain}
@@ -38,7 +38,7 @@ number_word : (t : List ℕ) (o : Option (List ℕ)) → IsWord (number_before t
 number_word t None = tt
 number_word t (Some r) = either (ends_word r) _ bad tt tt
 
--- each word is one of four
+-- each word is one of four kinds
 pub by_word : (Q : Token → Type 0) → ((s : List ℕ) → Q (number s)) → ((b : Bool) → Q (boolean b)) → Q null → Q bad → (k : Token) → IsWord k → Q k
 by_word Q n b u x (number s) w = n s
 by_word Q n b u x (boolean v) w = b v
@@ -110,7 +110,7 @@ no_colon t ends other_byte =
     first_cases t (λ ls. begins_colon ls ≡ false) (λ b. ap begins_colon (ap (lex between) (ends b) ∙ lex-nil)) (λ o h. refl) (λ k w. refl)
     (six (λ x. head t ≡ x → begins_colon (operator_lexeme x ∷ rest t) ≡ false) (λ e. refl) (λ e. refl) (λ e. refl) (λ e. refl) (λ e. absurd (other_byte e)) (λ e. refl))
 
--- ---- where a value may begin
+-- ---- positions at which a value may begin
 
 pub allowed : (b : Bool) (t : Token) (k : Place → List Token) (next : Place) → b ≡ true → if_allowed b t k next ≡ t ∷ k next
 allowed b t k next e = ap (λ x. if_allowed x t k next) e
@@ -141,7 +141,7 @@ pub closing : (t : List ℕ) → (head t ≡ 125) ⊎ (head t ≡ 93) → class 
 closing t (inl e) = ap class e
 closing t (inr e) = ap class e
 
--- ---- from the places of a text
+-- ---- from the positions of a text
 
 pub begun : (place : reader.Place) (t : List ℕ) (ts : List Token) → begins_at place ≡ true → ((p : Place) → may_begin p ≡ true → punctuate p (lex between t) ≡ ts) → tokens_at place t ≡ ts
 begun Fresh t ts e f = f fresh refl
@@ -189,9 +189,9 @@ not_begun AfterValue t e passed solid a b =
 not_begun AfterComma t e passed solid a b = absurd (true≢false e)
 not_begun Failed t e passed solid a b = refl
 
--- ---- where another token comes first
+-- ---- texts in which another token comes first
 
--- what is said of tokens by the first of them, and holds of none, of words and of what opens
+-- a property of the first token that is false for no token, for words and for opening brackets
 module _ (P : List Token → Type 0) (none : P []) (a_number : (s : List ℕ) (ts : List Token) → P (number s ∷ ts)) (a_boolean : (b : Bool) (ts : List Token) → P (boolean b ∷ ts))
     (a_null : (ts : List Token) → P (null ∷ ts))
     (a_bad : (ts : List Token) → P (bad ∷ ts)) (an_object : (ts : List Token) → P (begin_object ∷ ts)) (an_array : (ts : List Token) → P (begin_array ∷ ts)) where
@@ -211,7 +211,7 @@ module _ (P : List Token → Type 0) (none : P []) (a_number : (s : List ℕ) (t
   texted p (Some s) true k name text = guarded (may_begin p) (key s) k after_key (name s (k after_key))
   texted p (Some s) false k name text = guarded (may_begin p) (string s) k after_value (text s (k after_value))
 
-  -- the text begins with none of the bytes for which it does not hold
+  -- the text begins with none of the bytes for which the property may hold
   module _ (t : List ℕ) (ends : Ends t) (name : head t ≡ 34 → (s : List ℕ) (ts : List Token) → P (key s ∷ ts)) (text : head t ≡ 34 → (s : List ℕ) (ts : List Token) → P (string s ∷ ts))
       (brace : head t ≡ 125 → (ts : List Token) → P (end_object ∷ ts)) (bracket : head t ≡ 93 → (ts : List Token) → P (end_array ∷ ts)) where
     from : (p : Place) → P (punctuate p []) → (head t ≡ 44 → P (punctuate p (comma ∷ rest t))) → P (punctuate p (colon ∷ rest t)) → P (punctuate p (lex between t))
@@ -234,7 +234,7 @@ module _ (P : List Token → Type 0) (none : P []) (a_number : (s : List ℕ) (t
   refused_first Failed = none
   refused_first _ = a_bad []
 
--- no array closes
+-- no array ends
 pub no_end_array : (place : reader.Place) (t : List ℕ) → Ends t → NotBeforeComma place t → head t ≢ 93 → after_end_array (tokens_at place t) ≡ None
 no_end_array place t ends passed apart =
     other_first (λ ts. after_end_array ts ≡ None) refl (λ s ts. refl) (λ b ts. refl) (λ ts. refl) (λ ts. refl) (λ ts. refl) (λ ts. refl)
@@ -243,7 +243,7 @@ no_end_array place t ends passed apart =
 pub refused_no_end : (place : reader.Place) → after_end_array (refused_at place) ≡ None
 refused_no_end = refused_first (λ ts. after_end_array ts ≡ None) refl (λ s ts. refl) (λ b ts. refl) (λ ts. refl) (λ ts. refl) (λ ts. refl) (λ ts. refl)
 
--- no name comes
+-- no name comes next
 pub no_key : (place : reader.Place) (t : List ℕ) → Ends t → NotBeforeComma place t → head t ≢ 34 → begins_key (tokens_at place t) ≡ false
 no_key place t ends passed apart =
     other_first (λ ts. begins_key ts ≡ false) refl (λ s ts. refl) (λ b ts. refl) (λ ts. refl) (λ ts. refl) (λ ts. refl) (λ ts. refl)

@@ -1,4 +1,4 @@
--- A member that is put among others.
+-- Inserting a member among others.
 use Rattle.proof_prelude.proofs.{◌≡◌, ℕ, ◌+◌, ◌<◌, length, take, drop, List, [], ◌∷◌, ◌++◌, Ordering, Less, Equal, Greater, nat_cmp, Bor, refl, sym, ap, ◌∙◌, match_ordering, ordering_reverse, slice_cmp, AllByRecursion, IsStrictlySortedBy, nat_list_cmp_total, alike_right, take-set, drop-set, slice_set, take-append-drop}
 use Rattle.json_values.specs.{Entry, names_of, IsRising, put_entry}
 
@@ -12,7 +12,7 @@ further k l (y ∷ ks) less all = (nat_list_cmp_total.trans k l y less all.0, fu
 turned : (k l : List ℕ) → slice_cmp nat_cmp k l ≡ Less → slice_cmp nat_cmp l k ≡ Greater
 turned k l less = nat_list_cmp_total.antisymm l k ∙ ap ordering_reverse less
 
--- a list with another element at a place
+-- a list with another element at an index
 pub set_between : {X : Type 0} (xs : List X) (i : ℕ) (y : X) → i < length xs → take i xs ++ y ∷ drop (i + 1) xs ≡ slice_set xs i y
 set_between xs i y within =
     ap (λ ys. ys ++ y ∷ drop (i + 1) xs) (sym (take-set xs i y)) ∙ ap (λ ys. take i (slice_set xs i y) ++ ys) (sym (drop-set xs i y within)) ∙ take-append-drop i (slice_set xs i y)
@@ -20,7 +20,7 @@ set_between xs i y within =
 pub rising_none : (T : Type 0) → IsRising {T = T} []
 rising_none T = unfold IsStrictlySortedBy in tt
 
--- the first ones of members in order are in order
+-- a prefix of members in order is in order
 pub rising_front : (T : Type 0) (es more : List (Entry T)) → IsRising (es ++ more) → IsRising es
 unfolding IsStrictlySortedBy
 rising_front T [] more r = tt
@@ -59,7 +59,7 @@ module _ {T : Type 0} (name : Bor (List ℕ)) (v : T) where
   pub put_after : (e : Entry T) (es : List (Entry T)) → slice_cmp nat_cmp name.now e.0.now ≡ Greater → put_entry name v (e ∷ es) ≡ e ∷ put_entry name v es
   put_after e es is = ap (λ o. match_ordering o ((name, v) ∷ e ∷ es) ((e.0, v) ∷ es) (e ∷ put_entry name v es)) is
 
-  -- a member that comes behind those before it goes to the end
+  -- a member that goes after the first ones is inserted after them
   pub put_behind : (es more : List (Entry T)) → IsRising (es ++ (name, v) ∷ more) → put_entry name v es ≡ es ++ (name, v) ∷ []
   unfolding IsStrictlySortedBy
   put_behind [] more r = refl
@@ -73,7 +73,7 @@ module _ {T : Type 0} (name : Bor (List ℕ)) (v : T) where
   at_end last k [] all = all.0
   at_end last k (x ∷ xs) all = at_end last k xs all.1
 
-  -- what its name comes before stays behind it
+  -- a member that goes before an entry is inserted before it
   pub put_front : (es : List (Entry T)) (e : Entry T) → slice_cmp nat_cmp name.now e.0.now ≡ Less → put_entry name v (es ++ e ∷ []) ≡ put_entry name v es ++ e ∷ []
   put_front [] e is = put_before e [] is
   put_front (x ∷ es) e is = by (slice_cmp nat_cmp name.now x.0.now) (put_front es e is)
@@ -85,7 +85,7 @@ module _ {T : Type 0} (name : Bor (List ℕ)) (v : T) where
       by Equal more = refl
       by Greater more = ap (λ xs. x ∷ xs) more
 
-  -- one of the last name takes its place
+  -- a member with the name of the last one replaces its value
   pub put_tied : (es : List (Entry T)) (last : Entry T) → IsRising (es ++ last ∷ []) → slice_cmp nat_cmp name.now last.0.now ≡ Equal → put_entry name v (es ++ last ∷ []) ≡ es ++ (last.0, v) ∷ []
   unfolding IsStrictlySortedBy
   put_tied [] last r is = put_over last [] is
@@ -93,7 +93,7 @@ module _ {T : Type 0} (name : Bor (List ℕ)) (v : T) where
       let less : slice_cmp nat_cmp e.0.now name.now ≡ Less = alike_right nat_list_cmp_total name.now last.0.now e.0.now is ∙ at_end last e.0.now es r.0 in
       put_after e (es ++ last ∷ []) (turned e.0.now name.now less) ∙ ap (λ xs. e ∷ xs) (put_tied es last r.1 is)
 
-  -- so does one that comes behind the last
+  -- a member that goes after the last one is appended
   pub put_last : (es : List (Entry T)) (last : Entry T) → IsRising (es ++ last ∷ []) → slice_cmp nat_cmp name.now last.0.now ≡ Greater → put_entry name v (es ++ last ∷ []) ≡ (es ++ last ∷ []) ++ (name, v) ∷ []
   unfolding IsStrictlySortedBy
   put_last [] last r is = put_after last [] is

@@ -1,4 +1,4 @@
--- One lexeme at a time: what stands first, and what is left after it.
+-- One lexeme at a time: the first lexeme, and the rest.
 use Rattle.proof_prelude.proofs.{◌≡◌, ℕ, ◌+◌, ◌<◌, false, List, [], ◌∷◌, length, drop, get_or, add-zero, lt_of_not-le, refl, sym, ap, ◌∙◌, arith, get_or_default, get_or_past, drop-drop, get_or-drop, true≢false}
 use Rattle.json.specs.Token.{bad}
 use Rattle.json.specs.Text.{content, plain}

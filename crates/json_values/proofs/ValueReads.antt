@@ -1,4 +1,4 @@
--- Lists and objects, a turn of the grammar at a time, under the conversion to data.
+-- Lists and objects, one step of the grammar at a time, under the conversion to data.
 use Rattle.proof_prelude.proofs.{◌≡◌, ℕ, zero, suc, ◌-◌, ◌<◌, ◌≤◌, List, length, Option, Some, None, option_map, option_and_then, refl, ap, ◌∙◌}
 use Rattle.json.specs.Token.{Token}
 use Rattle.json.specs.Json as json
@@ -8,7 +8,7 @@ use Rattle.serde_json.specs.Data.{Data, no_items, item, Members, put}
 use Rattle.serde_json.specs.Read.{of_json, of_items, of_members, converted}
 use Rattle.json_values.proofs.Conversions.{converted-parse_map, converted-option_map, converted-same, converted-none, behind, refused_value}
 
--- ---- a value that was refused
+-- ---- a value whose conversion failed
 
 refused_then : {B D : Type 0} (f : B → Option D) (add : json.Json → B → B) → ((j : json.Json) → of_json j ≡ None → (b : B) → f (add j b) ≡ None) → (more : Parse B) (o : Option (json.Json × List Token))
     → converted of_json o ≡ None → converted f (option_and_then (λ p. parse_map (add p.0) (more p.1)) o) ≡ None

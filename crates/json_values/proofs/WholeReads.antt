@@ -1,4 +1,4 @@
--- What the whole of a text is read as.
+-- The result of reading a complete text.
 use Rattle.proof_prelude.proofs.{◌≡◌, ℕ, ◌<◌, List, [], ◌∷◌, length, Option, Some, option_and_then, ap, ◌∙◌, arith}
 use Rattle.json.specs.Token.{Token}
 use Rattle.json.specs.Lex.{lex, punctuate, tokens}
@@ -13,7 +13,7 @@ whole o = option_and_then of_json (option_and_then (λ p. if_last p.0 p.1) o)
 pub read-all : (text : List ℕ) (d : Data) → converted of_json (value max_depth (tokens text)) ≡ Some (d, []) → read text ≡ Some d
 read-all text d e = let j = behind of_json (value max_depth (tokens text)) d [] e in ap whole j.1 ∙ j.2
 
--- where there are tokens there is a text
+-- a text that has tokens is not empty
 pub some_text : (text : List ℕ) → 0 < length (tokens text) → 0 < length text
 some_text [] some = unfold lex punctuate in some
 some_text (c ∷ text) some = unfold lex punctuate in omega arith

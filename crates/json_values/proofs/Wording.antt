@@ -1,4 +1,4 @@
--- Numbers and literals, and where the lexer goes on behind them.
+-- Numbers and literals, and where the lexer continues after them.
 use Rattle.proof_prelude.proofs.{◌≡◌, ℕ, ◌+◌, ◌-◌, ◌<◌, ◌≤◌, List, [], ◌∷◌, ◌++◌, length, take, drop, true, is_some, ◌&&◌, cond, nat_eq, Some, refl, sym, ap, ap₂, ◌∙◌, arith, drop-drop, length-append, false≢true, Decides-eqb, starts_is, starts_with, length-drop, length-take-le, take-append-drop}
 use Rattle.json.specs.Token as spec
 use Rattle.json.specs.Token.{number, bad}
@@ -8,7 +8,7 @@ use Rattle.json.specs.Align.{is_good}
 use Rattle.json.proofs.Printed.Numbers.{number_alone, lex-number}
 use Rattle.json_values.specs.{IsLiteral}
 
--- w is t, which is good, and behind the n bytes from i on the next lexeme is looked for
+-- the word w is the good token t of n bytes at i, and the next lexeme is searched after it
 abbrev pub Stands : List ℕ → ℕ → spec.Token → spec.Token → ℕ → Type 0
 Stands d i w t end = (w ≡ t) × (is_good w ≡ true) × (i < end) × (end ≤ length d) × (lex between (drop end d) ≡ drop 1 (lex between (drop i d)))
 

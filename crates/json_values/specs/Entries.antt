@@ -1,4 +1,4 @@
--- Members as they are read, each a name and a value, in the order of their names.
+-- Members while they are read: names with values, in the order of their names.
 use Rattle.std.specs.Prelude.{◌≡◌, ℕ, List, [], ◌∷◌, ◌++◌, map, take, drop, Some, slice_get, slice_set}
 use Rattle.std.specs.Borrow.{Bor}
 use Rattle.std.specs.BTreeMap.{insert_entry}
@@ -12,26 +12,26 @@ Entry T = Bor (List ℕ) × T
 abbrev pub names_of : {T : Type 0} → List (Entry T) → List (List ℕ)
 names_of es = map (λ e. e.0.now) es
 
--- each name comes before those behind it
+-- each name is less than the following ones
 abbrev pub IsRising : {T : Type 0} → List (Entry T) → Type 0
 IsRising es = IsStrictlySortedBy (slice_cmp nat_cmp) (names_of es)
 
--- the members with one more: one of its name keeps its place and takes the value
+-- the members with one more; a member with the same name keeps its position and gets the value
 abbrev pub put_entry : {T : Type 0} → Bor (List ℕ) → T → List (Entry T) → List (Entry T)
 put_entry k v es = insert_entry (λ a b. slice_cmp nat_cmp a.now b.now) es k v
 
--- a member of that name stands at that place
+-- index i is that of the member named k
 abbrev pub IsPlaceOf : {T : Type 0} → List ℕ → List (Entry T) → ℕ → Type 0
 IsPlaceOf {T} k es i = (name : Bor (List ℕ)) → name.now ≡ k → (v : T) → (e : Entry T) → slice_get es i ≡ Some e → put_entry name v es ≡ slice_set es i (e.0, v)
 
--- a member of that name is to be put in at that place
+-- index i is where a member named k must be inserted
 abbrev pub IsGapFor : {T : Type 0} → List ℕ → List (Entry T) → ℕ → Type 0
 IsGapFor {T} k es i = (name : Bor (List ℕ)) → name.now ≡ k → (v : T) → put_entry name v es ≡ take i es ++ (name, v) ∷ drop i es
 
--- a member of that name is to be put in behind all others
+-- a member named k must be appended
 abbrev pub ComesLast : {T : Type 0} → List ℕ → List (Entry T) → Type 0
 ComesLast {T} k es = (name : Bor (List ℕ)) → name.now ≡ k → (v : T) → put_entry name v es ≡ es ++ (name, v) ∷ []
 
--- the last member stands at a place, before those that stood there
+-- the last member has been moved to index i
 abbrev pub MovesLast : {T : Type 0} → List (Entry T) → ℕ → List (Entry T) → Type 0
 MovesLast {T} old i new = (es : List (Entry T)) (last : Entry T) → old ≡ es ++ last ∷ [] → new ≡ take i es ++ last ∷ drop i es

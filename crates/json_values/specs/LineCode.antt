@@ -1,4 +1,4 @@
--- How values of lines are told apart.
+-- An encoding of the values of lines.
 use Rattle.std.specs.Coded.{Coded}
 use denote.Signature.{static_lft}
 use Rattle.json_values.specs.declared.line.LineValue.{LineValue}

@@ -1,16 +1,16 @@
--- Data whose objects have their members in the order of their names.
+-- Values whose objects have their members in the order of their names.
 use Rattle.std.specs.Prelude.{◌≡◌, ℕ, List, ⊤}
 use Rattle.std.specs.Ordering.{nat_cmp}
 use Rattle.std.specs.declared.cmp.Ordering.TheVariants.{Less}
 use Rattle.std.specs.Cmp.Lexicographic.{slice_cmp}
 use Rattle.serde_json.specs.Data.{Data, null, boolean, number, string, array, object, Items, no_items, item, Members, no_members, member}
 
--- each name comes behind this one
+-- each name is greater than k
 abbrev pub AllBehind : List ℕ → Members → Type 0
 AllBehind k no_members = ⊤
 AllBehind k (member l d ms) = (slice_cmp nat_cmp k l ≡ Less) × AllBehind k ms
 
--- at any depth each name comes behind those before it
+-- at any depth, each name is greater than the previous ones
 abbrev mutual
   pub IsOrdered : Data → Type 0
   IsOrdered null = ⊤

@@ -1,4 +1,4 @@
--- What is known of the texts of data: that no byte of them needs an escape.
+-- Which strings of the data are known to need no escapes.
 use Rattle.std.specs.Prelude.{◌≡◌, ℕ, Bool, true, List, length, ⊤, refl}
 use Rattle.std.specs.Coded.{Coded, code_by, coded×, coded_bool}
 use Rattle.std.specs.List.{prefix_len}
@@ -7,11 +7,11 @@ use Rattle.json.specs.Token.{Token}
 use Rattle.serde_json.specs.Data.{Data, null, boolean, number, string, array, object, Items, no_items, item, Members, no_members, member}
 use Rattle.json_values.specs.declared.plain_texts.PlainTexts.{PlainTexts}
 
--- a text has no quotation mark, no backslash and no control byte, where that is known
+-- if `known`, the string has no quotation mark, no backslash and no control byte
 abbrev pub PlainIf : Bool → List ℕ → Type 0
 PlainIf known s = known ≡ true → prefix_len is_plain s ≡ length s
 
--- at any depth the texts are plain that are known to be
+-- at any depth, the strings that are claimed to need no escapes need none
 abbrev mutual
   pub ArePlain : PlainTexts → Data → Type 0
   ArePlain known null = ⊤
@@ -29,11 +29,11 @@ abbrev mutual
   AreMembersPlain known no_members = ⊤
   AreMembersPlain known (member k d ms) = PlainIf known.names k × ArePlain known d × AreMembersPlain known ms
 
--- no more is known than before
+-- the new flags claim no more than the old ones
 abbrev pub Narrows : PlainTexts → PlainTexts → Type 0
 Narrows old new = (new.names ≡ true → old.names ≡ true) × (new.values ≡ true → old.values ≡ true)
 
--- the text of a token is plain, where that is known
+-- the string of a token needs no escapes, if that is claimed
 abbrev pub IsPlainToken : PlainTexts → Token → Type 0
 IsPlainToken known Token.begin_object = ⊤
 IsPlainToken known Token.end_object = ⊤

@@ -1,15 +1,15 @@
-//! What a reader refuses.
+//! Errors of a reader.
 
 use std::alloc::{AllocError, AllocFailed};
 use thiserror::Error;
 
-/// Why bytes are not read.
+/// Why a read failed.
 #[derive(Clone, Copy, Debug, PartialEq, Eq, Error)]
 pub enum ReadFault {
-    /// They are no JSON value in UTF-8, one that nests deeper than 127, or one with a number too large for a float.
+    /// The bytes are not one JSON value in UTF-8, or nest deeper than 127, or contain a number too large for a float.
     #[error("not JSON")]
     NotJson,
-    /// An allocation was refused.
+    /// An allocation failed.
     #[error("out of memory")]
     Memory,
 }

@@ -1,4 +1,4 @@
-//! Lexemes of a text, read one after another.
+//! Lexemes of a text, read in order.
 ghost use Rattle.std.specs.Prelude.{◌≡◌, ◌≢◌, ◌≤◌, ℕ, List, [], length, drop, true, Some, None, MatchOption, IfSome};
 ghost use Rattle.json.specs.Text.{content, plain};
 ghost use Rattle.json.specs.Word.{head, word};
@@ -18,15 +18,15 @@ use json::Token;
 use serde_json::Number;
 use std::marker::Model;
 
-/// A text, and how far it is read. A clause sees the text from the next lexeme on.
+/// A text and the position up to which it has been read. A clause sees the text from the next lexeme on.
 #[derive(Drop)]
 pub(crate) struct Lexer<'a> {
     text: &'a str,
-    /// Where the next lexeme begins.
+    /// The position of the next lexeme.
     at: usize,
-    /// Where texts go that were escaped. It is as long as the text that is left.
+    /// The buffer for unescaped strings. It is at least as long as the remaining text.
     room: &'a mut [u8],
-    /// What is known of the texts before.
+    /// What is known about the strings read so far.
     plain: PlainTexts,
 }
 
@@ -45,7 +45,7 @@ impl<'a> Model for Lexer<'a> {
 }
 
 impl<'a> Lexer<'a> {
-    /// The lexemes of a text.
+    /// Creates a lexer for a text.
     #[inline(always)]
     pub(crate) fn new(text: &'a str, room: &'a mut [u8]) -> Lexer<'a>
         requires { length text.now ≤ length room.old }
@@ -64,7 +64,7 @@ impl<'a> Lexer<'a> {
         }
     }
 
-    /// The first byte of the next lexeme, or a space at the end.
+    /// Returns the first byte of the next lexeme, or a space at the end.
     #[inline(always)]
     pub(crate) fn peek(&self) -> u8
         ensures value { result ≡ head self.now.text }
@@ -73,7 +73,7 @@ impl<'a> Lexer<'a> {
         byte_at(self.text.as_bytes(), self.at)
     }
 
-    /// What is known of the texts before.
+    /// Returns what is known about the strings read so far.
     #[inline(always)]
     pub(crate) fn plain(&self) -> PlainTexts
         ensures { result ≡ self.now.plain }
@@ -81,7 +81,7 @@ impl<'a> Lexer<'a> {
         self.plain
     }
 
-    /// Passes over a bracket, a brace, a comma or a colon.
+    /// Skips a bracket, a brace, a comma or a colon.
     #[inline(always)]
     pub(crate) fn skip(&mut self)
         requires { class (head self.old.text) ≡ operator }
@@ -91,7 +91,7 @@ impl<'a> Lexer<'a> {
         self.at = after_blanks(self.text.as_bytes(), self.at + 1);
     }
 
-    /// The number or the literal that comes next.
+    /// Reads the next number or literal.
     #[inline(always)]
     pub(crate) fn word(&mut self) -> Option<Token<'a>>
         requires { class (head self.old.text) ≡ other }
@@ -105,8 +105,8 @@ impl<'a> Lexer<'a> {
         Some(token)
     }
 
-    /// The number that comes next, where it is few digits and nothing else, behind a minus sign or none. Where another
-    /// lexeme comes next, it still does.
+    /// Reads the next number if it has only a few digits, with an optional minus sign. If another lexeme comes next,
+    /// nothing is read.
     #[inline(always)]
     pub(crate) fn integer(&mut self) -> Option<Number>
         ensures kept { result ≡ None → self.new ≡ self.old }
@@ -121,7 +121,7 @@ impl<'a> Lexer<'a> {
         Some(number)
     }
 
-    /// The content of the string that comes next.
+    /// Reads the content of the next string.
     #[inline(always)]
     pub(crate) fn string(&mut self) -> Option<&'a str>
         requires { head self.old.text ≡ 34 }
@@ -145,7 +145,7 @@ impl<'a> Lexer<'a> {
         Some(&text[start..stop])
     }
 
-    /// The content of a string that has escapes.
+    /// Reads the content of a string with escapes.
     #[inline(never)]
     fn escaped_string(&mut self) -> Option<&'a str>
         requires { head self.old.text ≡ 34 }

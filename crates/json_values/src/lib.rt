@@ -1,4 +1,4 @@
-//! JSON values read one after another.
+//! A reader for a sequence of JSON values.
 #![tactic(auto)]
 
 mod fault;

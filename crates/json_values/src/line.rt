@@ -1,4 +1,4 @@
-//! JSON values whose texts stand where they were read.
+//! JSON values that borrow their strings from the text.
 ghost use Rattle.std.specs.Prelude.{◌≡◌, ◌≢◌, IsTrue, length, option_map, is_some, option_and_then};
 ghost use Rattle.std.specs.Str.{bytes_eq};
 ghost use Rattle.serde_json.specs.Find.{get, get_member, as_object, as_array, as_str, as_bool, as_number, as_u64};
@@ -6,8 +6,8 @@ ghost use Rattle.json_values.specs.LineView.{line_view, line_items, line_members
 
 use serde_json::Number;
 
-/// A JSON value whose texts stand in the line that it was read from, or beside it where they were escaped. Members
-/// stand in byte order of their names, each name once.
+/// A JSON value whose strings are slices of the line that it was read from, or of the reader's buffer if they had
+/// escapes. Members are in byte order of their names, and each name occurs once.
 pub enum LineValue<'a> {
     Null,
     Bool(bool),
@@ -17,7 +17,7 @@ pub enum LineValue<'a> {
     Object(Vec<(&'a str, LineValue<'a>)>),
 }
 
-// By hand, so that a value that owns no memory is let go of without a call.
+// Written by hand, so that dropping a value that owns no memory needs no call.
 impl<'a> Drop for LineValue<'a> {
     #[cycle(dropping)]
     #[inline(always)]
@@ -33,14 +33,14 @@ impl<'a> Drop for LineValue<'a> {
     }
 }
 
-/// Lets go of the items of a list.
+/// Drops the items of an array.
 #[cycle(dropping)]
 #[inline(never)]
 fn drop_items(items: Vec<LineValue<'_>>) {
     let _items = items;
 }
 
-/// Lets go of the members of an object.
+/// Drops the members of an object.
 #[cycle(dropping)]
 #[inline(never)]
 fn drop_members(members: Vec<(&str, LineValue<'_>)>) {
@@ -48,7 +48,7 @@ fn drop_members(members: Vec<(&str, LineValue<'_>)>) {
 }
 
 impl<'a> LineValue<'a> {
-    /// The member of a name, where this is an object.
+    /// Returns the member with a name, if the value is an object that has it.
     pub fn get(&self, name: &str) -> Option<&LineValue<'a>>
         ensures { option_map (λ v. line_view v.now) result ≡ get name.now (line_view self.now) }
     {
@@ -58,7 +58,7 @@ impl<'a> LineValue<'a> {
         }
     }
 
-    /// The members, where this is an object.
+    /// Returns the members, if the value is an object.
     pub fn as_object(&self) -> Option<&Vec<(&'a str, LineValue<'a>)>>
         ensures { option_map (λ m. line_members m.now.items) result ≡ as_object (line_view self.now) }
     {
@@ -69,14 +69,14 @@ impl<'a> LineValue<'a> {
         }
     }
 
-    /// Whether this is an object.
+    /// Whether the value is an object.
     pub fn is_object(&self) -> bool
         ensures { result ≡ is_some (as_object (line_view self.now)) }
     {
         self.as_object().is_some()
     }
 
-    /// The items, where this is a list.
+    /// Returns the items, if the value is an array.
     pub fn as_array(&self) -> Option<&Vec<LineValue<'a>>>
         ensures { option_map (λ v. line_items v.now.items) result ≡ as_array (line_view self.now) }
     {
@@ -87,7 +87,7 @@ impl<'a> LineValue<'a> {
         }
     }
 
-    /// The text, where this is one.
+    /// Returns the string, if the value is a string.
     pub fn as_str(&self) -> Option<&'a str>
         ensures { option_map (λ s. s.now) result ≡ as_str (line_view self.now) }
     {
@@ -98,7 +98,7 @@ impl<'a> LineValue<'a> {
         }
     }
 
-    /// The truth value, where this is one.
+    /// Returns the Boolean, if the value is a Boolean.
     pub fn as_bool(&self) -> Option<bool>
         ensures { result ≡ as_bool (line_view self.now) }
     {
@@ -109,7 +109,7 @@ impl<'a> LineValue<'a> {
         }
     }
 
-    /// The number, where this is one from 0 to 2^64 - 1.
+    /// Returns the number, if the value is a number from 0 to 2^64 - 1.
     pub fn as_u64(&self) -> Option<u64>
         ensures { result ≡ option_and_then as_u64 (as_number (line_view self.now)) }
     {
@@ -120,7 +120,7 @@ impl<'a> LineValue<'a> {
     }
 }
 
-/// The member of a name.
+/// Finds the member with a name.
 fn find<'v, 'a>(members: &'v Vec<(&'a str, LineValue<'a>)>, name: &str) -> Option<&'v LineValue<'a>>
     ensures { option_map (λ v. line_view v.now) result ≡ get_member name.now (line_members members.now.items) }
 {
@@ -132,8 +132,7 @@ fn find<'v, 'a>(members: &'v Vec<(&'a str, LineValue<'a>)>, name: &str) -> Optio
     None
 }
 
-/// Whether two texts are the same. Mostly their lengths or their last bytes tell, which a caller that knows one of the
-/// texts compares at once.
+/// Whether two strings are equal. Compares lengths and last bytes first, which usually decide.
 #[inline(always)]
 pub fn is_same_text(a: &str, b: &str) -> bool
     ensures { result ≡ bytes_eq a.now b.now }
@@ -148,7 +147,7 @@ pub fn is_same_text(a: &str, b: &str) -> bool
     a == b
 }
 
-/// Whether two texts of one length have other last bytes.
+/// Whether the last bytes of two strings of the same length differ.
 #[inline(always)]
 fn ends_apart(x: &[u8], y: &[u8]) -> bool
     requires { length x.now ≡ length y.now }

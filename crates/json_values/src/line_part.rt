@@ -1,4 +1,4 @@
-//! A line that was read, and the values that are its parts.
+//! A line that was read, and the values inside it.
 ghost use Rattle.std.specs.Prelude.{◌≡◌, IsTrue, option_map};
 ghost use Rattle.serde_json.specs.Data.{object, no_members};
 ghost use Rattle.serde_json.specs.Find.{get};
@@ -11,7 +11,8 @@ use crate::plain_texts::PlainTexts;
 use std::alloc::Global;
 use std::marker::Model;
 
-/// The value of a line. A clause sees that value. At each depth its members stand in byte order of their names.
+/// A line: a JSON value and what is known about its strings. A clause sees the value. At each depth, the members are in
+/// byte order of their names.
 #[derive(Drop)]
 pub struct Line<'a> {
     value: LineValue<'a>,
@@ -36,7 +37,7 @@ impl<'a> Model for Line<'a> {
 }
 
 impl<'a> Line<'a> {
-    /// The line of a value.
+    /// Creates the line of a value.
     pub(crate) fn new(value: LineValue<'a>, plain: PlainTexts) -> Line<'a>
         requires order { IsOrdered (line_view value) }
         requires plain { ArePlain plain (line_view value) }
@@ -45,7 +46,7 @@ impl<'a> Line<'a> {
         Line { value, plain }
     }
 
-    /// The line of an object without members.
+    /// Creates the line of an empty object.
     pub fn empty_object(alloc: Global) -> Line<'a>
         ensures { line_view result ≡ object no_members }
     {
@@ -56,7 +57,7 @@ impl<'a> Line<'a> {
         Line::new(LineValue::Object(Vec::new(alloc)), plain)
     }
 
-    /// The value.
+    /// Returns the value.
     #[inline(always)]
     pub fn value(&self) -> &LineValue<'a>
         ensures { result.now ≡ self.now }
@@ -64,7 +65,7 @@ impl<'a> Line<'a> {
         &self.value
     }
 
-    /// The value as a part.
+    /// Returns the value of the line as a part.
     pub fn part(&self) -> LinePart<'_, 'a>
         ensures { result ≡ self.now }
     {
@@ -74,7 +75,7 @@ impl<'a> Line<'a> {
         }
     }
 
-    /// The member of a name, where the value is an object.
+    /// Returns the member with a name, if the value is an object that has it.
     #[inline(always)]
     pub fn get(&self, name: &str) -> Option<LinePart<'_, 'a>>
         ensures { option_map line_view result ≡ get name.now (line_view self.now) }
@@ -89,8 +90,7 @@ impl<'a> Line<'a> {
     }
 }
 
-/// A value that stands in a line. A clause sees that value. At each depth its members stand in byte order of their
-/// names.
+/// A value inside a line. A clause sees the value. At each depth, the members are in byte order of their names.
 #[derive(Drop)]
 pub struct LinePart<'v, 'a> {
     value: &'v LineValue<'a>,
@@ -115,7 +115,7 @@ impl<'v, 'a> Model for LinePart<'v, 'a> {
 }
 
 impl<'v, 'a> LinePart<'v, 'a> {
-    /// The value.
+    /// Returns the value.
     #[inline(always)]
     pub fn value(&self) -> &'v LineValue<'a>
         ensures value { result.now ≡ self.now }
@@ -124,7 +124,7 @@ impl<'v, 'a> LinePart<'v, 'a> {
         self.value
     }
 
-    /// Which texts of the value are known to be plain.
+    /// Returns which strings of the value are known to need no escapes.
     #[inline(always)]
     pub fn plain(&self) -> PlainTexts
         ensures { ArePlain result (line_view self.now) }

@@ -1,4 +1,4 @@
-//! The members of an object as they are read, in byte order of their names.
+//! The members of an object while it is read, in byte order of their names.
 ghost use Rattle.std.specs.Prelude.{◌≡◌, ◌<◌, ◌≤◌, [], length, slice_index, true, OnOk, IfOk, IfErr};
 ghost use Rattle.std.specs.Ordering.{nat_cmp};
 ghost use Rattle.std.specs.Cmp.Lexicographic.{slice_cmp};
@@ -10,20 +10,20 @@ use std::cmp::Ordering;
 use std::collections::BTreeMap;
 use std::mem;
 
-/// How many members are put in their order one by one, where they come out of it.
+/// The number of members up to which a member out of order is inserted into a list.
 const FEW: usize = 64;
 
-/// The members of an object, each name once.
+/// The members of an object; each name occurs once.
 #[derive(Drop)]
 pub(crate) enum Members<'a, T> {
-    /// They are few, or came in order.
+    /// A list: there are few members, or they came in order.
     Listed(Vec<(&'a str, T)>),
-    /// They are many, and came out of order.
+    /// A map: there are many members, and they came out of order.
     Mapped(BTreeMap<&'a str, T>),
 }
 
 impl<'a, T: Drop> Members<'a, T> {
-    /// No members, with room for so many.
+    /// Creates an empty list with the given capacity.
     #[inline(always)]
     pub(crate) fn new(alloc: Global, room: usize) -> Result<Members<'a, T>, AllocError>
         ensures { IfOk result (λ members. entries_of members ≡ []) }
@@ -31,7 +31,7 @@ impl<'a, T: Drop> Members<'a, T> {
         Ok(Members::Listed(Vec::with_capacity(alloc, room)?))
     }
 
-    /// Puts a member among those that are there. One of its name keeps its place and takes the value.
+    /// Inserts a member. A member with the same name keeps its position and gets the new value.
     #[inline(always)]
     pub(crate) fn put(&mut self, alloc: Global, name: &'a str, value: T) -> Result<(), AllocError>
         requires { IsRising (entries_of self.old) }
@@ -46,7 +46,7 @@ impl<'a, T: Drop> Members<'a, T> {
         }
     }
 
-    /// Whether there are many members in a list, and one of this name does not come last.
+    /// Whether the list has many members and a member with this name would not be the last.
     #[inline(always)]
     fn is_full(&self, name: &str) -> bool
         requires { IsRising (entries_of self.now) }
@@ -57,7 +57,7 @@ impl<'a, T: Drop> Members<'a, T> {
         }
     }
 
-    /// Goes over to a map.
+    /// Converts the list to a map.
     #[inline(never)]
     fn go_over(&mut self, alloc: Global) -> Result<(), AllocError>
         requires { IsRising (entries_of self.old) }
@@ -70,7 +70,7 @@ impl<'a, T: Drop> Members<'a, T> {
         Ok(())
     }
 
-    /// The members, in byte order of their names.
+    /// Returns the members in byte order of their names.
     #[inline(always)]
     pub(crate) fn into_vec(self, alloc: Global) -> Result<Vec<(&'a str, T)>, AllocError>
         ensures { IfOk result (λ v. v.items ≡ entries_of self.entry) }
@@ -82,7 +82,7 @@ impl<'a, T: Drop> Members<'a, T> {
     }
 }
 
-/// The map of members that stand in order.
+/// Creates a map from members that are in order.
 fn map_of<'a, T: Drop>(
     alloc: Global,
     entries: Vec<(&'a str, T)>,
@@ -97,7 +97,7 @@ fn map_of<'a, T: Drop>(
     Ok(map)
 }
 
-/// Puts a member into a map.
+/// Inserts a member into a map.
 #[inline(never)]
 fn put_mapped<'a, T: Drop>(
     map: &mut BTreeMap<&'a str, T>,
@@ -110,7 +110,7 @@ fn put_mapped<'a, T: Drop>(
     Ok(())
 }
 
-/// Puts a member into a list: at its end, and from there to its place.
+/// Inserts a member into a list: appends it, then moves it to its position.
 #[inline(always)]
 fn put_listed<'a, T: Drop>(
     entries: &mut Vec<(&'a str, T)>,
@@ -133,7 +133,7 @@ fn put_listed<'a, T: Drop>(
     }
 }
 
-/// Moves the last member to a place, past one other at a time. Mostly these are none or few.
+/// Moves the last member to an index by swapping it with its neighbours, of which there are usually few.
 #[inline(always)]
 fn move_last<'a, T>(entries: &mut Vec<(&'a str, T)>, place: usize)
     requires { place < length entries.old.items }
@@ -146,7 +146,7 @@ fn move_last<'a, T>(entries: &mut Vec<(&'a str, T)>, place: usize)
     }
 }
 
-/// The order of two names, by their bytes. Mostly the first ones tell.
+/// Compares two names by their bytes. The first bytes usually decide.
 #[inline(always)]
 fn order_of(a: &str, b: &str) -> Ordering
     ensures { result ≡ slice_cmp nat_cmp a.now b.now }
@@ -165,7 +165,7 @@ fn order_of(a: &str, b: &str) -> Ordering
     }
 }
 
-/// The order of two names whose first bytes are the same. Mostly the second ones tell.
+/// Compares two names with the same first byte. The second bytes usually decide.
 #[inline(always)]
 fn order_behind(a: &str, b: &str) -> Ordering
     requires { (0 < length a.now) × (0 < length b.now) × (slice_index a.now 0 ≡ slice_index b.now 0) }
@@ -184,7 +184,7 @@ fn order_behind(a: &str, b: &str) -> Ordering
     a.cmp(&b)
 }
 
-/// Whether a member of a name goes behind all others.
+/// Whether a member with this name goes after all others.
 #[inline(always)]
 fn comes_last<T>(entries: &[(&str, T)], name: &str) -> bool
     requires { IsRising entries.now }
@@ -199,8 +199,8 @@ fn comes_last<T>(entries: &[(&str, T)], name: &str) -> bool
     }
 }
 
-/// The place of the member of a name, or where there is none, the place at which it is to be put in. The last members
-/// are looked at first: mostly names come nearly in order.
+/// Returns the index of the member with a name as `Ok`, or the index at which to insert it as `Err`. Searches from the
+/// end, since names usually come nearly in order.
 #[inline(always)]
 fn place_of<T>(entries: &[(&str, T)], name: &str) -> Result<usize, usize>
     requires { IsRising entries.now }

@@ -8,10 +8,10 @@ ghost use Rattle.serde_json.specs.View.{number_view};
 use fast_float::Numeral;
 use serde_json::Number;
 
-/// The most that one more digit is taken behind.
+/// The greatest value to which another digit is appended.
 const FULL: u64 = 1_000_000_000_000_000_000;
 
-/// The number that a token writes, where it is in range.
+/// Parses a number token, if the number is in range.
 pub(crate) fn read_number(text: &str) -> Option<Number>
     ensures { option_map number_view result ≡ number_of text.now }
 {
@@ -23,7 +23,7 @@ pub(crate) fn read_number(text: &str) -> Option<Number>
     }
 }
 
-/// The number that a token without a sign writes. Mostly it is a few digits, which are summed as they are passed.
+/// Parses a number token without a sign. Usually it has a few digits, which are summed in one loop.
 #[inline(always)]
 fn read_from_zero(bytes: &[u8]) -> Option<Number>
     ensures { option_map number_view result ≡ number_from false (scan bytes.now) }
@@ -34,7 +34,7 @@ fn read_from_zero(bytes: &[u8]) -> Option<Number>
     }
 }
 
-/// The number that a token behind a minus sign writes.
+/// Parses the part of a number token after a minus sign.
 #[inline(always)]
 fn read_below_zero(bytes: &[u8]) -> Option<Number>
     ensures { option_map number_view result ≡ number_from true (scan bytes.now) }
@@ -45,7 +45,7 @@ fn read_below_zero(bytes: &[u8]) -> Option<Number>
     }
 }
 
-/// The number that digits write, where they are nothing else and not too many.
+/// Parses a string that consists only of digits, unless there are too many.
 #[inline(always)]
 fn few_digits(bytes: &[u8]) -> Option<u64>
     ensures some { IfSome result (λ n. 0 < length bytes.now) }
@@ -65,7 +65,7 @@ fn few_digits(bytes: &[u8]) -> Option<u64>
     Some(n)
 }
 
-/// Whether a minus sign comes first.
+/// Whether the first byte is a minus sign.
 fn has_minus(bytes: &[u8]) -> bool
     ensures sign { result ≡ (slice_index bytes.now 0 == minus) }
     ensures some { IsTrue result → 0 < length bytes.now }
@@ -73,7 +73,7 @@ fn has_minus(bytes: &[u8]) -> bool
     !bytes.is_empty() && bytes[0] == b'-'
 }
 
-/// The number of a numeral without a sign.
+/// Converts a numeral without a sign.
 #[inline(never)]
 fn from_zero(numeral: &Numeral<'_>) -> Option<Number>
     ensures { option_map number_view result ≡ number_from false numeral.now }
@@ -84,7 +84,7 @@ fn from_zero(numeral: &Numeral<'_>) -> Option<Number>
     }
 }
 
-/// The number of a numeral behind a minus sign.
+/// Converts a numeral after a minus sign.
 #[inline(never)]
 fn below_zero(numeral: &Numeral<'_>) -> Option<Number>
     ensures { option_map number_view result ≡ number_from true numeral.now }
@@ -95,7 +95,7 @@ fn below_zero(numeral: &Numeral<'_>) -> Option<Number>
     }
 }
 
-/// The nearest float, where it is finite.
+/// Returns the nearest float, if it is finite.
 fn nearest(negative: bool, numeral: &Numeral<'_>) -> Option<Number>
     ensures { option_map number_view result ≡ float_of negative numeral.now }
 {

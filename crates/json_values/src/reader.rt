@@ -1,4 +1,4 @@
-//! The reader, and what it keeps from read to read.
+//! The reader and its buffer.
 ghost use Rattle.std.specs.Prelude.{◌≡◌, ◌≤◌, ◌<◌, length, Some, None, IfOk, OnOk, OnErr, IsUtf8};
 ghost use Rattle.serde_json.specs.Data.{depth};
 ghost use Rattle.serde_json.specs.Read.{max_depth, read as read_text};
@@ -12,30 +12,33 @@ use crate::utf8::text_of;
 use crate::values;
 use std::alloc::{AllocError, Global};
 
-/// The deepest nesting that is read.
+/// The maximum nesting depth.
 const MAX_DEPTH: usize = 127;
 
-/// Reads one JSON value after another, and keeps the room that this takes: what is kept grows to the length of the
-/// longest text. No read depends on an earlier one, nor on how that ended.
+/// Reads JSON values, and reuses its buffer for all of them. The buffer grows to the length of the longest text. No
+/// read depends on an earlier one, or on its result.
 #[derive(Drop)]
 pub struct ValueReader {
-    /// Where texts go that were escaped.
+    /// The buffer for unescaped strings.
     room: Vec<u8>,
 }
 
 impl ValueReader {
-    /// A reader that has kept nothing yet.
+    /// Creates a reader with an empty buffer.
     pub fn new(alloc: Global) -> ValueReader {
         ValueReader {
             room: Vec::new(alloc),
         }
     }
 
-    /// The JSON value that bytes are; of a key's members the last one stays. Its texts stand in the bytes, or in the
-    /// reader where they were escaped.
+    /// Reads one JSON value. If an object has several members of one name, the last one counts. Strings of the value
+    /// are slices of `bytes`, or of the reader's buffer if they had escapes.
     ///
-    /// `NotJson` where they are no UTF-8, are not one JSON text, nest deeper than 127, or hold a number too large for
-    /// a float. `Memory` may come in the place of any answer, but for no bytes.
+    /// # Errors
+    ///
+    /// - `NotJson`: the bytes are not UTF-8, are not one JSON value, nest deeper than 127, or contain a number too
+    ///   large for a float.
+    /// - `Memory`: an allocation failed. Possible for any input that is not empty.
     pub fn read_line<'a>(
         &'a mut self,
         alloc: Global,
@@ -55,7 +58,7 @@ impl ValueReader {
     }
 }
 
-/// Makes room for that many bytes.
+/// Grows the buffer to at least `len` bytes.
 fn make_room(room: &mut Vec<u8>, len: usize) -> Result<(), AllocError>
     ensures ok { OnOk result (len ≤ length room.new.items) }
     ensures full { OnErr result (length room.old.items < len) }
@@ -66,7 +69,7 @@ fn make_room(room: &mut Vec<u8>, len: usize) -> Result<(), AllocError>
     Ok(())
 }
 
-/// The value that a text is, with nothing behind it, whose texts stand in it or in the room.
+/// Reads a text that is one value, with strings from the text or the buffer.
 fn read_whole<'a>(alloc: Global, text: &'a str, room: &'a mut [u8]) -> Result<Line<'a>, ReadFault>
     requires { length text.now ≤ length room.old }
     ensures ok { IfOk result (λ line. read_text text.now ≡ Some (line_view line)) }

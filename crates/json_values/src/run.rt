@@ -1,4 +1,4 @@
-//! Passing over blanks, over digits, and over the plain text of a string.
+//! Skipping blanks, digits, and the unescaped content of a string.
 ghost use Rattle.std.specs.Prelude.{◌≡◌, ◌+◌, ◌<◌, ◌≤◌, length, drop, get_or, true, IsTrue};
 ghost use Rattle.std.specs.Prelude.{map};
 ghost use Rattle.std.specs.List.{prefix_len};
@@ -11,7 +11,7 @@ ghost use Rattle.json.specs.Run.{is_stop, is_plain};
 
 use std::simd::prelude::*;
 
-/// The byte at a place, or a space past the end.
+/// Returns the byte at an index, or a space past the end.
 #[inline(always)]
 pub(crate) fn byte_at(text: &[u8], i: usize) -> u8
     ensures value { result ≡ get_or text.now i 32 }
@@ -28,7 +28,7 @@ pub(crate) fn is_space(c: u8) -> bool
     (c == b' ') | (c == b'\t') | (c == b'\n') | (c == b'\r')
 }
 
-/// The first place from a place on where no blank stands.
+/// Returns the first index from `from` on that has no blank.
 #[inline(always)]
 pub(crate) fn after_blanks(text: &[u8], from: usize) -> usize
     requires { from ≤ length text.now }
@@ -43,7 +43,7 @@ pub(crate) fn after_blanks(text: &[u8], from: usize) -> usize
     i
 }
 
-/// Which of sixteen bytes end the plain text of a string.
+/// Returns a mask of the bytes among sixteen that end an unescaped run.
 #[inline(always)]
 fn stops_16(v: u8x16) -> u64
     ensures { result ≡ mask_l (map is_stop v) }
@@ -53,7 +53,7 @@ fn stops_16(v: u8x16) -> u64
         | v.simd_lt(u8x16::splat(0x20))).to_bitmask()
 }
 
-/// Which of eight bytes do.
+/// Returns a mask of the bytes among eight that end an unescaped run.
 #[inline(always)]
 fn stops_8(v: u8x8) -> u64
     ensures { result ≡ mask_l (map is_stop v) }
@@ -63,7 +63,7 @@ fn stops_8(v: u8x8) -> u64
         | v.simd_lt(u8x8::splat(0x20))).to_bitmask()
 }
 
-/// Which of four bytes do.
+/// Returns a mask of the bytes among four that end an unescaped run.
 #[inline(always)]
 fn stops_4(v: u8x4) -> u64
     ensures { result ≡ mask_l (map is_stop v) }
@@ -73,7 +73,8 @@ fn stops_4(v: u8x4) -> u64
         | v.simd_lt(u8x4::splat(0x20))).to_bitmask()
 }
 
-/// The first quotation mark, backslash or control byte from a place on, or the length, byte by byte.
+/// Returns the index of the first quotation mark, backslash or control byte from `from` on, or the length. Scans byte
+/// by byte.
 #[inline(always)]
 fn plain_end_slowly(text: &[u8], from: usize) -> usize
     requires { from ≤ length text.now }
@@ -86,7 +87,7 @@ fn plain_end_slowly(text: &[u8], from: usize) -> usize
     i
 }
 
-/// The same of fewer than eight bytes.
+/// As `plain_end`, for a text of fewer than eight bytes.
 #[inline(always)]
 fn plain_end_4(text: &[u8], from: usize) -> usize
     requires { from ≤ length text.now }
@@ -102,7 +103,7 @@ fn plain_end_4(text: &[u8], from: usize) -> usize
     plain_end_slowly(text, from + 4)
 }
 
-/// The same of the last bytes of eight or more.
+/// As `plain_end`, for the last eight bytes of a text or fewer.
 #[inline(always)]
 fn plain_end_of_8(text: &[u8], from: usize) -> usize
     requires { (8 ≤ length text.now) × (length text.now ≤ from + 8) × (from ≤ length text.now) }
@@ -116,7 +117,7 @@ fn plain_end_of_8(text: &[u8], from: usize) -> usize
     text.len()
 }
 
-/// The same of fewer than sixteen bytes.
+/// As `plain_end`, for a text of which fewer than sixteen bytes remain.
 #[inline(never)]
 fn plain_end_short(text: &[u8], from: usize) -> usize
     requires { (from ≤ length text.now) × (length text.now < from + 16) }
@@ -135,7 +136,7 @@ fn plain_end_short(text: &[u8], from: usize) -> usize
     plain_end_of_8(text, from + 8)
 }
 
-/// The same of the last bytes, fewer than sixteen.
+/// As `plain_end`, for the last bytes of a text, fewer than sixteen.
 #[inline(always)]
 fn plain_end_last(text: &[u8], from: usize) -> usize
     requires { (from ≤ length text.now) × (length text.now < from + 16) }
@@ -152,7 +153,7 @@ fn plain_end_last(text: &[u8], from: usize) -> usize
     text.len()
 }
 
-/// The first quotation mark, backslash or control byte from a place on, or the length.
+/// Returns the index of the first quotation mark, backslash or control byte from `from` on, or the length.
 #[inline(always)]
 pub fn plain_end(text: &[u8], from: usize) -> usize
     requires { from ≤ length text.now }
@@ -170,7 +171,7 @@ pub fn plain_end(text: &[u8], from: usize) -> usize
     plain_end_last(text, i)
 }
 
-/// Whether no byte is a quotation mark, a backslash or a control byte.
+/// Returns true only if no byte is a quotation mark, a backslash or a control byte.
 #[inline(always)]
 pub fn is_plain(text: &[u8]) -> bool
     ensures { IsTrue result → prefix_len is_plain text.now ≡ length text.now }
@@ -188,7 +189,7 @@ pub fn is_plain(text: &[u8]) -> bool
     stops_16(u8x16::from_slice(&text[text.len() - 16..])) == 0
 }
 
-/// The same of fewer than sixteen bytes. The last eight or four are looked at beside the first.
+/// As `is_plain`, for fewer than sixteen bytes. Tests the first and the last eight (or four) bytes, which may overlap.
 #[inline(always)]
 fn is_plain_short(text: &[u8]) -> bool
     requires { length text.now < 16 }
@@ -203,7 +204,7 @@ fn is_plain_short(text: &[u8]) -> bool
     is_plain_8(text)
 }
 
-/// The same of four to eight.
+/// As `is_plain`, for four to eight bytes.
 #[inline(always)]
 fn is_plain_4(text: &[u8]) -> bool
     requires { (4 ≤ length text.now) × (length text.now ≤ 8) }
@@ -214,7 +215,7 @@ fn is_plain_4(text: &[u8]) -> bool
     (first == 0) & (last == 0)
 }
 
-/// The same of eight to sixteen.
+/// As `is_plain`, for eight to sixteen bytes.
 #[inline(always)]
 fn is_plain_8(text: &[u8]) -> bool
     requires { (8 ≤ length text.now) × (length text.now ≤ 16) }
@@ -225,7 +226,7 @@ fn is_plain_8(text: &[u8]) -> bool
     (first == 0) & (last == 0)
 }
 
-/// The first byte from a place on that is no digit, or the length.
+/// Returns the index of the first byte from `from` on that is not a digit, or the length.
 #[inline(always)]
 pub(crate) fn digits_end(text: &[u8], from: usize) -> usize
     requires { from ≤ length text.now }

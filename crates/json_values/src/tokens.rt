@@ -1,4 +1,4 @@
-//! The tokens of a text: its lexemes, with the commas and colons between them checked.
+//! The tokens of a text: its lexemes, with commas and colons checked.
 ghost use Rattle.std.specs.Prelude.{◌≡◌, ◌≢◌, ◌≤◌, ◌⊎◌, ℕ, List, [], ◌∷◌, length, true, false, Some, None, IfOk, IfSome, MatchOption, MatchResult};
 ghost use Rattle.std.specs.Bool.{MatchBool};
 ghost use Rattle.json.specs.Word.{head};
@@ -19,7 +19,7 @@ use json::{Invalid, Token};
 use serde_json::Number;
 use std::marker::Model;
 
-/// Where a text is read on.
+/// The grammatical position from which a text is read on.
 #[derive(Clone, Copy, Drop)]
 pub(crate) enum Place {
     AfterComma,
@@ -29,7 +29,7 @@ pub(crate) enum Place {
 }
 
 impl Place {
-    /// Whether a list or an object may end here.
+    /// Whether an array or an object may end here.
     #[inline(always)]
     fn may_close(self) -> bool
         ensures { result ≡ closes_at self }
@@ -46,7 +46,7 @@ impl Place {
     }
 }
 
-/// The tokens of a text. A clause sees those that are still to come.
+/// The tokens of a text. A clause sees the remaining tokens.
 #[derive(Drop)]
 pub(crate) struct Tokens<'a> {
     lexer: Lexer<'a>,
@@ -67,7 +67,7 @@ impl<'a> Model for Tokens<'a> {
     ghost invariant = { λ a. NotBeforeComma a.place a.lexer.text };
 }
 
-/// Passes over the comma that may follow a value.
+/// Skips the comma that may follow a value.
 #[inline(always)]
 fn after_value(lexer: &mut Lexer<'_>) -> Place
     ensures same { tokens_at result lexer.new.text ≡ punctuate after_value (lex between lexer.old.text) }
@@ -82,7 +82,7 @@ fn after_value(lexer: &mut Lexer<'_>) -> Place
     }
 }
 
-/// The string or the name that comes next.
+/// Reads the next string or name.
 #[inline(always)]
 fn string<'a>(lexer: &mut Lexer<'a>) -> (Token<'a>, Place)
     requires { head lexer.old.text ≡ 34 }
@@ -102,7 +102,7 @@ fn string<'a>(lexer: &mut Lexer<'a>) -> (Token<'a>, Place)
     }
 }
 
-/// The token that begins with a byte, where a value or a name may begin.
+/// Reads the token that begins with byte `c`, at a position at which a value or a name may begin.
 #[inline(always)]
 fn begin<'a>(lexer: &mut Lexer<'a>, c: u8) -> (Token<'a>, Place)
     requires first { (head lexer.old.text ≡ c) × (is_blank (class c) ≡ false) }
@@ -129,7 +129,7 @@ fn begin<'a>(lexer: &mut Lexer<'a>, c: u8) -> (Token<'a>, Place)
     }
 }
 
-/// The end of a list or of an object.
+/// Reads the end of an array or object.
 #[inline(always)]
 fn close<'a>(lexer: &mut Lexer<'a>, c: u8) -> (Token<'a>, Place)
     requires { (head lexer.old.text ≡ c) × ((c ≡ 125) ⊎ (c ≡ 93)) }
@@ -146,7 +146,7 @@ fn close<'a>(lexer: &mut Lexer<'a>, c: u8) -> (Token<'a>, Place)
     }
 }
 
-/// The one bad token, and none after it.
+/// Returns the bad token, after which there are no others.
 #[cold]
 fn refuse<'a>(place: Place) -> (Option<Token<'a>>, Place)
     ensures { Yields (refused_at place) result.0 [] × (result.1 ≡ Place.Failed) }
@@ -158,7 +158,7 @@ fn refuse<'a>(place: Place) -> (Option<Token<'a>>, Place)
     }
 }
 
-/// The next token, and where the text is read on behind it.
+/// Reads the next token, and returns it with the next position.
 #[inline(always)]
 fn read<'a>(lexer: &mut Lexer<'a>, place: Place) -> (Option<Token<'a>>, Place)
     requires { NotBeforeComma place lexer.old.text }
@@ -190,7 +190,7 @@ fn read<'a>(lexer: &mut Lexer<'a>, place: Place) -> (Option<Token<'a>>, Place)
 }
 
 impl<'a> Tokens<'a> {
-    /// The tokens of a text. Strings with escapes are written to the room, and all others stand in the text.
+    /// Creates the tokens of a text. Strings with escapes are written to `room`; all others are slices of the text.
     #[inline(always)]
     pub(crate) fn new(text: &'a str, room: &'a mut [u8]) -> Tokens<'a>
         requires { length text.now ≤ length room.old }
@@ -202,7 +202,7 @@ impl<'a> Tokens<'a> {
         }
     }
 
-    /// What is known of the texts that were taken.
+    /// Returns what is known about the strings read so far.
     #[inline(always)]
     pub(crate) fn plain(&self) -> PlainTexts
         ensures { result ≡ self.now.plain }
@@ -210,7 +210,7 @@ impl<'a> Tokens<'a> {
         self.lexer.plain()
     }
 
-    /// The next token.
+    /// Reads the next token.
     #[inline(always)]
     pub(crate) fn next(&mut self) -> Option<Token<'a>>
         ensures token { MatchOption result ((self.old.tokens ≡ []) × (self.new.tokens ≡ []))
@@ -223,7 +223,8 @@ impl<'a> Tokens<'a> {
         token
     }
 
-    /// Takes the name of a member, where one comes next. Where none does, the next name or end stays what it was.
+    /// Reads the next token if it is the name of a member. Otherwise a following name or end of an object can still be
+    /// read.
     #[inline(always)]
     pub(crate) fn take_key(&mut self) -> Option<&'a str>
         ensures name { MatchOption result
@@ -244,7 +245,8 @@ impl<'a> Tokens<'a> {
         None
     }
 
-    /// Takes the text that comes next. None is taken where something else comes next. `Invalid` where no value does.
+    /// Reads the next token if it is a string. If another token comes next, returns `None` and reads nothing. Returns
+    /// `Invalid` if the next token begins no value.
     #[inline(always)]
     pub(crate) fn take_text(&mut self) -> Result<Option<&'a str>, Invalid>
         ensures text { MatchResult result
@@ -265,8 +267,7 @@ impl<'a> Tokens<'a> {
         Err(Invalid)
     }
 
-    /// Takes the number that comes next, where it is few digits and nothing else, behind a minus sign or none. Where none
-    /// does, nothing is taken.
+    /// Reads the next token if it is a number of a few digits with an optional minus sign. Otherwise reads nothing.
     #[inline(always)]
     pub(crate) fn take_integer(&mut self) -> Option<Number>
         ensures number { MatchOption result (self.new ≡ self.old)
@@ -282,7 +283,7 @@ impl<'a> Tokens<'a> {
         Some(number)
     }
 
-    /// Takes the brace that ends an object, if it is next.
+    /// Reads the closing brace of an object, if it is next.
     #[inline(always)]
     pub(crate) fn take_end_object(&mut self) -> bool
         ensures end { MatchBool result (read_key self.old.tokens ≡ Some (None, self.new.tokens))
@@ -297,8 +298,8 @@ impl<'a> Tokens<'a> {
         true
     }
 
-    /// For how many items or members a list or an object begins with room, where its first is next: most have no more.
-    /// None where it ends at once.
+    /// Returns the capacity for an array or object whose first element is next: eight, since most have no more, or 0 if
+    /// it ends here.
     #[inline(always)]
     pub(crate) fn room(&self) -> usize {
         let next = self.lexer.peek();
@@ -309,7 +310,7 @@ impl<'a> Tokens<'a> {
         }
     }
 
-    /// Takes the bracket that ends a list, if it is next.
+    /// Reads the closing bracket of an array, if it is next.
     #[inline(always)]
     pub(crate) fn take_end_array(&mut self) -> bool
         ensures end { MatchBool result (after_end_array self.old.tokens ≡ Some self.new.tokens)

@@ -1,4 +1,4 @@
-//! The content of a string that has escapes, written to a buffer.
+//! Unescaping the content of a string into a buffer.
 ghost use Rattle.std.specs.Prelude.{◌≡◌, ◌+◌, ◌-◌, ◌<◌, ◌≤◌, ◌++◌, length, take, drop, get_or, Some, None, MatchOption, IfSome};
 ghost use Rattle.std.specs.Char.{digit_value};
 ghost use Rattle.std.specs.Str.{IsUtf8, IsCharBoundary};
@@ -9,7 +9,7 @@ ghost use Rattle.json_values.specs.Escapes.{Escape};
 use crate::run::plain_end;
 use std::simd::prelude::*;
 
-/// Writes bytes at a place.
+/// Writes bytes at an index.
 #[inline(always)]
 fn append(out: &mut [u8], at: usize, bytes: &[u8])
     requires { at + length bytes.now ≤ length out.old }
@@ -19,7 +19,7 @@ fn append(out: &mut [u8], at: usize, bytes: &[u8])
     out[at..at + bytes.len()].copy_from_slice(bytes);
 }
 
-/// Writes the bytes from `from` to `to`, by whole vectors where both sides have room for the excess.
+/// Copies the bytes from `from` to `to`. Copies complete vectors if both sides have space for the excess bytes.
 #[inline(always)]
 fn append_run(out: &mut [u8], at: usize, text: &[u8], from: usize, to: usize)
     requires { (from ≤ to) × (to ≤ length text.now) × (at + (to - from) ≤ length out.old) }
@@ -39,7 +39,7 @@ fn append_run(out: &mut [u8], at: usize, text: &[u8], from: usize, to: usize)
     }
 }
 
-/// What a hex digit stands for, or 36.
+/// Returns the value of a hexadecimal digit, or 36.
 fn digit(c: u8) -> u32
     ensures value { result ≡ digit_value c }
     ensures ascii { result < 16 → c < 128 }
@@ -52,7 +52,7 @@ fn digit(c: u8) -> u32
     }
 }
 
-/// The code unit that four hex digits spell.
+/// Returns the code unit of four hexadecimal digits.
 fn hex4(text: &[u8], i: usize) -> Option<u32>
     requires { i + 4 ≤ length text.now }
     ensures value { result
@@ -73,7 +73,7 @@ fn hex4(text: &[u8], i: usize) -> Option<u32>
     }
 }
 
-/// What an escape of one letter stands for.
+/// Returns the byte that an escape of one letter denotes.
 fn short(x: u8) -> Option<u8>
     ensures value { result ≡ short_escape x }
     ensures ascii { IfSome result (λ c. (c < 128) × (x < 128)) }
@@ -89,7 +89,7 @@ fn short(x: u8) -> Option<u8>
     }
 }
 
-/// The second half of a surrogate pair, at i.
+/// Reads the second half of a surrogate pair at index `i`.
 fn low_half(text: &[u8], i: usize, high: u32) -> Option<(char, usize)>
     requires { (i ≤ length text.now) × (0xd800 ≤ high) × (high < 0xdc00) }
     ensures { Escape text.now (after_high high) i result }
@@ -105,7 +105,7 @@ fn low_half(text: &[u8], i: usize, high: u32) -> Option<(char, usize)>
     Some((c, i + 6))
 }
 
-/// What follows `\u`, at i.
+/// Reads the rest of an escape after `\u`, at index `i`.
 fn unicode(text: &[u8], i: usize) -> Option<(char, usize)>
     requires { i ≤ length text.now }
     ensures { Escape text.now after_u i result }
@@ -121,7 +121,7 @@ fn unicode(text: &[u8], i: usize) -> Option<(char, usize)>
     Some((c, i + 4))
 }
 
-/// What follows a backslash, at i: its character, and where the text goes on.
+/// Reads the rest of an escape after its backslash, at index `i`: the character, and the index after the escape.
 fn escape(text: &[u8], i: usize) -> Option<(char, usize)>
     requires { i ≤ length text.now }
     ensures { Escape text.now after_backslash i result }
@@ -136,7 +136,8 @@ fn escape(text: &[u8], i: usize) -> Option<(char, usize)>
     Some((c as char, i + 1))
 }
 
-/// Writes the content that begins at `start`. Answers its length, and the place behind its closing quotation mark.
+/// Writes the content of the string that begins at `start`. Returns the length written, and the index after the closing
+/// quotation mark.
 #[inline(never)]
 pub(crate) fn unescape(text: &str, start: usize, out: &mut [u8]) -> Option<(usize, usize)>
     requires boundary { IsCharBoundary text.now start }

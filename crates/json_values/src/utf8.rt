@@ -1,10 +1,10 @@
-//! Whether bytes are UTF-8.
+//! Checking UTF-8.
 ghost use Rattle.std.specs.Prelude.{◌≡◌, MatchOption, IsTrue};
 ghost use Rattle.std.specs.Str.{IsAscii, IsUtf8};
 
 use std::simd::prelude::*;
 
-/// The text that bytes are, where they are UTF-8. Mostly they are ASCII.
+/// Returns the bytes as a string if they are UTF-8. Usually they are ASCII, which is tested first.
 #[inline(never)]
 pub(crate) fn text_of(bytes: &[u8]) -> Option<&str>
     ensures { MatchOption result (¬ (IsUtf8 bytes.now)) (λ s. (s.now ≡ bytes.now) × IsUtf8 bytes.now) }
@@ -18,7 +18,7 @@ pub(crate) fn text_of(bytes: &[u8]) -> Option<&str>
     }
 }
 
-/// Whether bytes are ASCII.
+/// Returns true only if all bytes are ASCII.
 #[inline(always)]
 fn is_ascii(bytes: &[u8]) -> bool
     ensures { IsTrue result → IsAscii bytes.now }
@@ -36,7 +36,7 @@ fn is_ascii(bytes: &[u8]) -> bool
     is_ascii_16(u8x16::from_slice(&bytes[bytes.len() - 16..]))
 }
 
-/// Whether sixteen bytes are.
+/// Returns true only if sixteen bytes are ASCII.
 #[inline(always)]
 fn is_ascii_16(v: u8x16) -> bool
     ensures { IsTrue result → IsAscii v }
@@ -44,7 +44,7 @@ fn is_ascii_16(v: u8x16) -> bool
     v.simd_ge(u8x16::splat(128)).to_bitmask() == 0
 }
 
-/// Whether fewer bytes are.
+/// As `is_ascii`, for fewer than sixteen bytes.
 fn is_ascii_slowly(bytes: &[u8]) -> bool
     ensures { IsTrue result → IsAscii bytes.now }
 {

@@ -1,4 +1,4 @@
-//! From tokens to a value whose texts stand where they were read.
+//! Building values from tokens.
 ghost use Rattle.std.specs.Prelude.{◌≡◌, ◌<◌, length, false, Some, None, IfOk, OnOk};
 ghost use Rattle.json.specs.Json.{value, items, members, read_key};
 ghost use Rattle.serde_json.specs.Data.{no_members};
@@ -16,7 +16,7 @@ use crate::tokens::Tokens;
 use json::Token;
 use std::alloc::Global;
 
-/// The value that the next tokens are, of at most this nesting. Mostly it is a text.
+/// Reads the next value, of at most this nesting depth. Tries a string first, since most values are strings.
 #[cycle(read)]
 #[inline(always)]
 pub(crate) fn read_value<'a>(
@@ -39,7 +39,7 @@ pub(crate) fn read_value<'a>(
     }
 }
 
-/// The same, where it may be no text. Mostly it is a whole number.
+/// Reads the next value if it is not a string. Tries an integer first, since most other values are integers.
 #[cycle(read)]
 #[inline(always)]
 fn read_no_text<'a>(
@@ -61,7 +61,8 @@ fn read_no_text<'a>(
     }
 }
 
-/// The same, where it may be neither. It is a call, so that what comes before it is small enough to be none.
+/// Reads the next value if it is neither a string nor an integer. A separate function, so that its callers are small
+/// enough to be inlined.
 #[cycle(read)]
 #[inline(never)]
 fn read_other<'a>(
@@ -104,7 +105,7 @@ fn read_other<'a>(
     }
 }
 
-/// The items up to the end of a list.
+/// Reads the items up to the end of an array.
 #[cycle(read)]
 #[inline(never)]
 fn read_items<'a>(
@@ -129,7 +130,7 @@ fn read_items<'a>(
     Ok(found)
 }
 
-/// The members up to the end of an object.
+/// Reads the members up to the end of an object.
 #[cycle(read)]
 #[inline(never)]
 fn read_members<'a>(
@@ -159,7 +160,7 @@ fn read_members<'a>(
     }
 }
 
-/// The members that were read, where the brace comes next that ends their object.
+/// Reads the closing brace of an object and returns its members.
 #[inline(always)]
 fn end_members<'a>(
     alloc: Global,

@@ -1,4 +1,4 @@
-//! Numbers and the three literals.
+//! Numbers and the literals `true`, `false` and `null`.
 ghost use Rattle.std.specs.Prelude.{◌≡◌, ◌<◌, ◌≤◌, ◌^◌, ◌||◌, length, take, drop, Some, IfSome};
 ghost use Rattle.std.specs.Str.Parse.{AllDigits, digits_value};
 ghost use Rattle.serde_json.specs.View.{number_view};
@@ -11,7 +11,7 @@ use crate::run::{byte_at, digits_end};
 use json::Token;
 use serde_json::Number;
 
-/// The most that one more digit is taken behind.
+/// The greatest value to which another digit is appended.
 const FULL: u64 = 100_000_000_000_000_000;
 
 /// Whether a byte ends a word.
@@ -29,7 +29,7 @@ fn is_delimiter(c: u8) -> bool
     operator | space
 }
 
-/// Where digits end, of which there is at least one.
+/// Returns the end of a nonempty run of digits.
 #[inline(always)]
 fn digits(text: &[u8], i: usize) -> Option<usize>
     requires { i ≤ length text.now }
@@ -39,7 +39,7 @@ fn digits(text: &[u8], i: usize) -> Option<usize>
     if end == i { None } else { Some(end) }
 }
 
-/// Where the whole part of a number ends.
+/// Returns the end of the integer part of a number.
 #[inline(always)]
 fn whole(text: &[u8], i: usize) -> Option<usize>
     requires { i ≤ length text.now }
@@ -52,7 +52,7 @@ fn whole(text: &[u8], i: usize) -> Option<usize>
     }
 }
 
-/// Where the fraction ends, if there is one.
+/// Returns the end of the fraction, if there is one.
 #[inline(always)]
 fn fraction(text: &[u8], i: usize) -> Option<usize>
     requires { i ≤ length text.now }
@@ -65,7 +65,7 @@ fn fraction(text: &[u8], i: usize) -> Option<usize>
     }
 }
 
-/// Where a sign ends, if there is one.
+/// Returns the end of the sign, if there is one.
 #[inline(always)]
 fn sign_end(text: &[u8], i: usize) -> usize
     requires { i ≤ length text.now }
@@ -76,7 +76,7 @@ fn sign_end(text: &[u8], i: usize) -> usize
     if (c == b'-') | (c == b'+') { i + 1 } else { i }
 }
 
-/// Where a minus ends, if there is one.
+/// Returns the end of the minus sign, if there is one.
 #[inline(always)]
 fn minus_end(text: &[u8], i: usize) -> usize
     requires { i ≤ length text.now }
@@ -86,7 +86,7 @@ fn minus_end(text: &[u8], i: usize) -> usize
     if byte_at(text, i) == b'-' { i + 1 } else { i }
 }
 
-/// Where the exponent ends, if there is one.
+/// Returns the end of the exponent, if there is one.
 #[inline(always)]
 fn exponent(text: &[u8], i: usize) -> Option<usize>
     requires { i ≤ length text.now }
@@ -99,7 +99,7 @@ fn exponent(text: &[u8], i: usize) -> Option<usize>
     digits(text, sign_end(text, i + 1))
 }
 
-/// Where a number ends.
+/// Returns the end of a number.
 #[inline(always)]
 fn number_end(text: &[u8], from: usize) -> Option<usize>
     requires { from ≤ length text.now }
@@ -110,7 +110,7 @@ fn number_end(text: &[u8], from: usize) -> Option<usize>
     exponent(text, power)
 }
 
-/// The number at a place, and where it ends.
+/// Reads the number at an index, and returns it with its end.
 #[inline(always)]
 fn number<'a>(text: &'a str, from: usize) -> Option<(Token<'a>, usize)>
     requires { from < length text.now }
@@ -126,7 +126,7 @@ fn number<'a>(text: &'a str, from: usize) -> Option<(Token<'a>, usize)>
     }
 }
 
-/// The literal of a name at a place, and where it ends.
+/// Reads a literal with this name at an index, and returns it with its end.
 #[inline(always)]
 fn literal<'a>(
     text: &[u8],
@@ -146,7 +146,7 @@ fn literal<'a>(
     }
 }
 
-/// The number or the literal at a place, and where it ends.
+/// Reads the number or literal at an index, and returns it with its end.
 #[inline(always)]
 pub(crate) fn word<'a>(text: &'a str, from: usize) -> Option<(Token<'a>, usize)>
     requires { from < length text.now }
@@ -161,7 +161,7 @@ pub(crate) fn word<'a>(text: &'a str, from: usize) -> Option<(Token<'a>, usize)>
     }
 }
 
-/// The number that the digits at the front write, and how many they are, where they are not too many.
+/// Returns the value and the number of the digits at the front, unless there are too many.
 #[inline(always)]
 fn digits_sum(rest: &[u8]) -> Option<(u64, usize)>
     ensures bounds { IfSome result (λ r. (0 < r.1) × (r.1 ≤ length rest.now) × (r.0 < 2 ^ 63)) }
@@ -184,7 +184,7 @@ fn digits_sum(rest: &[u8]) -> Option<(u64, usize)>
     if i == 0 { None } else { Some((n, i)) }
 }
 
-/// The number that is few digits and nothing else, behind a minus sign or none, at a place, and where it ends.
+/// Reads a number of a few digits with an optional minus sign at an index, and returns it with its end.
 #[inline(always)]
 pub(crate) fn integer(text: &[u8], from: usize) -> Option<(Number, usize)>
     requires { from ≤ length text.now }

@@ -1,4 +1,4 @@
-//! A write filter of one's own, and a replication both ways: an office, and a phone that takes no large document.
+//! A custom write filter, and replication in both directions: an office, and a phone that refuses large documents.
 use anyhow::{Result, bail};
 use doc_json::{Doc, DocId, read_body, write_doc};
 use repl_log::Moment;
@@ -7,7 +7,7 @@ use rev_tree::SessionId;
 use serde_json::Value;
 use std::alloc::Global;
 
-/// Refuses each document whose body has more bytes than `most`.
+/// Refuses each document whose body has more than `most` bytes.
 #[derive(Drop)]
 struct Small {
     most: usize,
@@ -27,7 +27,7 @@ impl WriteFilter for Small {
     }
 }
 
-/// Writes on both sides, replicates both ways, and shows what is where.
+/// Writes on both sides, replicates in both directions, and prints what is on each side.
 pub fn run(rt: &HostRuntime) -> Result<()> {
     let mut office = Peer::new(rt.alloc(), 1, Rules { deny: None });
     let mut phone = Peer::new(rt.alloc(), 2, Small { most: 40 });
@@ -54,7 +54,7 @@ fn edit<F: WriteFilter>(alloc: Global, peer: &mut Peer<F>, id: &str, json: &str)
     Ok(())
 }
 
-/// Replicates each way, and prints what each target wrote and refused.
+/// Replicates in both directions, and prints what each target wrote and refused.
 fn meet(rt: &HostRuntime, office: &mut Peer<Rules>, phone: &mut Peer<Small>) -> Result<()> {
     let there = plan(1)?;
     let back = plan(2)?;
@@ -69,7 +69,7 @@ fn meet(rt: &HostRuntime, office: &mut Peer<Rules>, phone: &mut Peer<Small>) -> 
     Ok(())
 }
 
-/// All documents, by one thread, as the session of this number.
+/// Creates a plan for all documents, with this session number.
 fn plan(session: u128) -> Result<Plan> {
     Ok(Plan {
         session: SessionId(session),
@@ -81,7 +81,7 @@ fn plan(session: u128) -> Result<Plan> {
     })
 }
 
-/// Prints a document's winner, or that it is not there.
+/// Prints a document's winner, or that it does not exist.
 fn show<F: WriteFilter>(rt: &HostRuntime, peer: &Peer<F>, id: &str) -> Result<()> {
     let name = DocId::parse(rt.alloc(), id)?;
     let Some(winner) = peer.db().tree(&name).and_then(|tree| tree.winner()) else {

@@ -1,4 +1,4 @@
-//! Three laptops and a hub: four peers of one net, which write by themselves and meet by the hub, twice.
+//! Three laptops and a hub: four peers of one network, which write independently and synchronize through the hub twice.
 use anyhow::Result;
 use doc_json::{DocId, read_body};
 use repl_log::Moment;
@@ -10,10 +10,10 @@ use serde_json::Value;
 use std::alloc::Global;
 use std::str::from_utf8;
 
-/// The peers by their places; the first is the hub.
+/// The peers, by place; the first is the hub.
 const NAMES: [&str; 4] = ["hub", "ann", "ben", "cleo"];
 
-/// Has the laptops write and meet, twice, and audits every two.
+/// Lets the laptops write and synchronize, twice, and audits every pair.
 pub fn run(rt: &HostRuntime) -> Result<()> {
     let mut net = Net::new(rt.alloc());
     for uuid in 1..5u64 {
@@ -29,7 +29,7 @@ pub fn run(rt: &HostRuntime) -> Result<()> {
     Ok(())
 }
 
-/// Each laptop writes a document of its own.
+/// Each laptop writes a document.
 fn first_day(alloc: Global, net: &mut Net<Rules>) -> Result<Rev> {
     let milk = edit(alloc, net, 1, "milk", None, r#"{"litres":1}"#)?;
     edit(alloc, net, 2, "bread", None, r#"{"loaves":1}"#)?;
@@ -37,14 +37,14 @@ fn first_day(alloc: Global, net: &mut Net<Rules>) -> Result<Rev> {
     Ok(milk)
 }
 
-/// Two of them change one document, each by itself.
+/// Two laptops change the same document independently.
 fn second_day(alloc: Global, net: &mut Net<Rules>, milk: Rev) -> Result<()> {
     edit(alloc, net, 1, "milk", Some(milk), r#"{"litres":2}"#)?;
     edit(alloc, net, 3, "milk", Some(milk), r#"{"litres":3}"#)?;
     Ok(())
 }
 
-/// Edits a document at a place: adds a revision behind `parent`, or the first one where none is named.
+/// Edits a document at a place: adds a revision as a child of `parent`, or the first one if there is no parent.
 fn edit(
     alloc: Global,
     net: &mut Net<Rules>,
@@ -67,7 +67,7 @@ fn meet(alloc: Global, net: &mut Net<Rules>, session: u128) -> Result<()> {
     Ok(())
 }
 
-/// A plan for each laptop, whose sessions count on from a first one.
+/// Creates a plan for each laptop, with consecutive session numbers.
 fn plans(alloc: Global, first: u128) -> Result<Vec<Plan>> {
     let mut plans = Vec::new(alloc);
     for number in 0..3u64 {
@@ -83,7 +83,7 @@ fn plans(alloc: Global, first: u128) -> Result<Vec<Plan>> {
     Ok(plans)
 }
 
-/// Prints what each peer says of the milk: its winner, and how many leaves there are.
+/// Prints, for each peer, the winner of the document `milk` and its number of leaves.
 fn tell(rt: &HostRuntime, net: &Net<Rules>) -> Result<()> {
     let id = DocId::parse(rt.alloc(), "milk")?;
     for (place, name) in NAMES.iter().enumerate() {
@@ -95,7 +95,7 @@ fn tell(rt: &HostRuntime, net: &Net<Rules>) -> Result<()> {
     Ok(())
 }
 
-/// The body of a document's winner, and the number of its leaves.
+/// Returns the body of a document's winner, and the number of its leaves.
 fn winner(alloc: Global, peer: &Peer<Rules>, id: &DocId) -> Result<(String, usize)> {
     let Some(tree) = peer.db().tree(id) else {
         return Ok((String::new(alloc), 0));
@@ -110,7 +110,7 @@ fn winner(alloc: Global, peer: &Peer<Rules>, id: &DocId) -> Result<(String, usiz
     Ok((text, tree.leaf_count()))
 }
 
-/// How many of the audits between every two peers find a hole.
+/// Returns the number of audits between two peers that find a hole.
 fn holes(alloc: Global, net: &Net<Rules>) -> Result<usize> {
     let mut found = 0usize;
     for source in 0..NAMES.len() {
@@ -123,7 +123,7 @@ fn holes(alloc: Global, net: &Net<Rules>) -> Result<usize> {
     Ok(found)
 }
 
-/// Whether an audit found one.
+/// Whether an audit found a hole.
 fn is_hole(found: Audit) -> bool {
     match found {
         Audit::Clean => false,

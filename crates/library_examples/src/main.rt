@@ -1,4 +1,5 @@
-//! The libraries in use, four times. Each module stands by itself: its `run` is what the `main` of such a program would be.
+//! Four examples of using the libraries. Each module is independent: its `run` is what the `main` of a program would
+//! be.
 #![tactic(auto)]
 
 mod backup;

@@ -1,5 +1,5 @@
-//! A replication by threads that is watched: a shop of a thousand orders and its copy as two peers, four fetchers and four
-//! writers, and a viewer who reads beside them how far they are. What the viewer sees goes to standard error.
+//! A replication by threads with a progress display: a shop of a thousand orders and its copy as two peers, four
+//! fetchers and four writers, and a viewer that reads the progress meanwhile. The progress goes to standard error.
 ghost use Rattle.std.specs.Prelude.{◌≡◌, vec_len};
 ghost use Rattle.std.specs.List.{All};
 ghost use Rattle.progress_board.specs.Seats.{CameWith};
@@ -19,16 +19,16 @@ use std::sync::atomic::{AtomicBool, Ordering};
 use std::thread;
 use std::thread::{Threads, yield_now};
 
-/// How many orders the shop has.
+/// The number of orders.
 const ORDERS: u64 = 1_000;
 
-/// How many threads fetch, and how many write.
+/// The number of fetcher threads, and of writer threads.
 const WORKERS: usize = 4;
 
-/// How often the viewer looks at most.
+/// The maximum number of times the viewer reads the board.
 const LOOKS: u64 = 10_000_000;
 
-/// Copies the shop while a viewer watches.
+/// Copies the shop while a viewer reads the progress.
 pub fn run<R: Threads + Wait + Print + Eprint + Sync>(rt: &R, alloc: Global) -> Result<()> {
     let mut shop = Peer::new(alloc, 1, Rules { deny: None });
     let copy = Peer::new(alloc, 2, Rules { deny: None });
@@ -63,7 +63,7 @@ pub fn run<R: Threads + Wait + Print + Eprint + Sync>(rt: &R, alloc: Global) -> 
     Ok(())
 }
 
-/// Writes the orders, each a document of its own.
+/// Writes the orders, each as a document.
 fn write_orders(alloc: Global, shop: &mut Peer<Rules>) -> Result<()> {
     let value = Value::from_slice(alloc, br#"{"bread":1}"#)?;
     let body = read_body(alloc, &value)?;
@@ -74,7 +74,7 @@ fn write_orders(alloc: Global, shop: &mut Peer<Rules>) -> Result<()> {
     Ok(())
 }
 
-/// Runs the pool with a viewer beside it: what the run gives back, and what the viewer saw last.
+/// Runs the pool with a viewer. Returns the result of the run, and what the viewer saw last.
 fn run_watched<R: Threads + Wait + Eprint + Sync>(
     rt: &R,
     alloc: Global,
@@ -113,7 +113,7 @@ fn run_watched<R: Threads + Wait + Eprint + Sync>(
     )
 }
 
-/// Reads the board until the run has ended, and tells each time that it is further. The last reading is behind the end.
+/// Reads the board until the run has ended, and prints each new progress. The last reading is after the end.
 fn watch<R: Eprint>(rt: &R, board: &Board, ended: &AtomicBool, viewer: BoardSeat) -> (u64, u64)
     requires { CameWith board.now viewer }
 {

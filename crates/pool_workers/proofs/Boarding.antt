@@ -1,4 +1,4 @@
--- What seats at a board show, as they go out and come back.
+-- What seats of a board show when they are given out and returned.
 use Rattle.proof_prelude.proofs.{◌≡◌, ℕ, ◌+◌, ◌≤◌, List, [], ◌∷◌, ◌++◌, length, Option, None, Some, option_to_list, All, refl, sym, ap, ◌∙◌, subst, arith, All-nil, All-cons, All-head, All-tail, append-nil, append_assoc}
 use Rattle.progress_board.specs.{Board, BoardSeat}
 use Rattle.pool_workers.specs.{total, WorksAt, IsRisen, AreRisen, AreSeated, AreSeats, AreBack, HaveShown, held, Halt}
@@ -9,16 +9,16 @@ total_append : {V : Type 0} (f : V → ℕ) (xs ys : List V) → total f (xs ++ 
 total_append f [] ys = omega arith
 total_append f (x ∷ xs) ys = let s = total_append f xs ys in omega (arith, s)
 
--- where a part of a list is replaced by one of which f is n more in all
+-- replacing a part of a list by one whose f is greater by n
 total_mid : {V : Type 0} (f : V → ℕ) (ps gs ts qs : List V) (n : ℕ) → total f ts ≡ total f gs + n → total f (ps ++ ts ++ qs) ≡ total f (ps ++ (gs ++ qs)) + n
 total_mid f ps gs ts qs n h = omega (arith, total_append f (ps ++ ts) qs, total_append f ps ts, total_append f ps (gs ++ qs), total_append f gs qs, h)
 
--- no list with an element in it is empty
+-- a list with an element is not empty
 no_parts : {V : Type 0} (ps rs : List V) → ps ++ rs ≡ [] → (ps ≡ []) × (rs ≡ [])
 no_parts [] rs e = (refl, e)
 no_parts {V} (p ∷ ps) rs e = let l : length (p ∷ ps ++ rs) ≡ 0 = ap (length {A = V}) e in absurd (omega (arith, l))
 
--- the last of those who hold seats holds the first
+-- the last of those who hold seats holds the first seat
 pub held_push : {X : Type 0} (f : X → Option BoardSeat) (xs : List X) (x : X) → held f (xs ++ x ∷ []) ≡ option_to_list (f x) ++ held f xs
 held_push f [] x = sym (append-nil (option_to_list (f x)))
 held_push f (y ∷ xs) x = ap (λ l. l ++ option_to_list (f y)) (held_push f xs x) ∙ append_assoc (option_to_list (f x)) (held f xs) (option_to_list (f y))
@@ -65,13 +65,13 @@ module _ (b : Board) where
       let k = all_parts ps rs (All-tail (WorksAt b) p (ps ++ rs) h) in
       (All-cons (WorksAt b) p ps (All-head (WorksAt b) p (ps ++ rs) h) k.0, k.1)
 
--- ---- with a board or without one
+-- ---- with or without a board
 
 pub seats_seated : (board : Option Board) (out workers : ℕ) (xs : List BoardSeat) → AreSeats board out workers xs → AreSeated board xs
 seats_seated None out workers xs h = h
 seats_seated (Some b) out workers xs h = h.1
 
--- so many are enough for fewer
+-- enough seats for n are enough for fewer
 pub seats_fewer : (board : Option Board) (m n : ℕ) (xs : List BoardSeat) → m ≤ n → AreSeats board 0 n xs → AreSeats board 0 m xs
 seats_fewer None m n xs less h = h
 seats_fewer (Some b) m n xs less h = (omega (arith, less, h.0), h.1)
@@ -100,7 +100,7 @@ pub back_length : (board : Option Board) (xs ys : List BoardSeat) → AreBack bo
 back_length None xs ys h = ap (length {A = BoardSeat}) (h.1 ∙ sym h.0)
 back_length (Some b) xs ys h = are_risen_length b xs ys h
 
--- where one of those who hold seats gives its own back
+-- one of those who hold seats returns its own
 pub back_one : (board : Option Board) (given ps gs ts qs : List BoardSeat) → AreBack board given (ps ++ (gs ++ qs)) → AreBack board gs ts → AreBack board given (ps ++ ts ++ qs)
 back_one board given ps gs ts qs h k =
     let all = seated_parts board ps (gs ++ qs) (back_seated board given (ps ++ (gs ++ qs)) h) in
@@ -121,7 +121,7 @@ shown_one (Some b) a n o p q given ps gs ts qs h k free = (
   λ none. let f = free none in omega (arith, total_mid (λ (s : BoardSeat). s.read) ps gs ts qs n (k.1 f.1), h.1 f.0),
 )
 
--- ---- a seat that went out alone, and came back
+-- ---- a seat that was given out alone and returned
 
 pub back_last : (board : Option Board) (left gs ts : List BoardSeat) → AreSeated board (left ++ gs) → AreBack board gs ts → AreBack board (left ++ gs) (left ++ ts)
 back_last board left gs ts h k = back_append board left left gs ts (back_same board left (seated_parts board left gs h).0) k

@@ -1,4 +1,4 @@
--- How many documents a source has for all leaves of its page.
+-- The number of documents that a source has for all leaves of its page.
 use Rattle.proof_prelude.proofs.{◌≡◌, ℕ, zero, suc, ◌+◌, Bool, true, not, is_some, List, [], ◌∷◌, filter, length, length-append, refl, sym, ap, ◌∙◌, subst, arith, inl, inr, list_any, sum_by, FinMap, get-empty, cond-true, or_left, length-map, sum_by-cons}
 use Rattle.rev_core.specs.{RevId, rev_cmp, is_among, rev_tie_self}
 use Rattle.rev_tree.specs.{TreeValue, ancestors, has, leaves, leaves_above, missing, no_revisions, walk}
@@ -13,7 +13,7 @@ filter-whole p [] h = refl
 filter-whole p (x ∷ xs) h =
     cond-true (p x) (x ∷ filter p xs) (filter p xs) (h x (inl refl)) ∙ ap (λ l. x ∷ l) (filter-whole p xs (λ y m. h y (inr m)))
 
--- a walk begins with its revision
+-- a traversal begins with its revision
 walk-self : (parents : FinMap rev_cmp RevId) (n : ℕ) (r : RevId) → is_among r (walk parents n r) ≡ true
 walk-self parents zero r = or_left _ _ (rev_tie_self r)
 walk-self parents (suc n) r = or_left _ _ (rev_tie_self r)
@@ -24,11 +24,11 @@ above-leaves t =
     filter-whole (λ leaf. list_any (λ r. is_among r (ancestors t leaf)) (leaves t)) (leaves t)
     (λ leaf m. any_from (λ r. is_among r (ancestors t leaf)) leaf (leaves t) m (walk-self t.parents leaf.generation leaf))
 
--- of a document that isn't there all revisions are missing
+-- a document that does not exist lacks all revisions
 all-missing : (revs : List RevId) → missing no_revisions revs ≡ revs
 all-missing revs = filter-whole (λ r. not (has no_revisions r)) revs (λ r m. ap (λ o. not (is_some o)) (get-empty rev_cmp r))
 
--- the rows name the leaves of their documents
+-- the rows list the leaves of their documents
 abbrev IsWhole : DatabaseValue → List RowValue → Type 0
 IsWhole source rows = (r : RowValue) → Among r rows → r.leaves ≡ leaves (tree_of source.docs r.id)
 
@@ -58,7 +58,7 @@ page-whole source plan w law next r m =
     let k = chosen_member plan.chosen source w.lo source.update_seq r fed in
     subst (λ (x : RowValue). x.leaves ≡ leaves (tree_of source.docs x.id)) (sym k.2) (ap leaves (sym (tree_of-member source.docs k.0 law.distinct k.1)))
 
--- where all leaves of a page are asked, the source has a document for each
+-- if all leaves of a page are requested, the source has a document for each
 pub counted_page : (source db : DatabaseValue) (plan : Plan) (w : WindowValue) (a : AskedValue) → LawfulDatabase source → IsNext source plan w → db.docs ≡ [] → a ≡ revs_diff db w → length (open_revs source a).docs ≡ leaf_count w
 counted_page source db plan w a law next none asked =
     ap (λ (x : AskedValue). length (fetched source.docs x.docs)) asked

@@ -1,4 +1,4 @@
--- What is kept of the target under the lock stays kept by each call.
+-- Each call keeps the invariant of the target behind the lock.
 use Rattle.proof_prelude.proofs.{◌≡◌, ℕ, ◌+◌, ◌≤◌, Bool, Option, Some, Result, Ok, Err, length, refl, sym, ap, ◌∙◌, subst, arith}
 use Rattle.rev_tree.specs.{SessionId}
 use Rattle.doc_json.specs.Document.{Document}
@@ -15,7 +15,7 @@ module _ {F : Type 0} (refuses : F → Document → Bool) (source : DatabaseValu
   pub starts : (given : F × PeerValue) (session : SessionId) → read_in given.1.sessions session ≡ 0 → HasNoWindows session given.1.sessions → TargetKeeps refuses source plan (Some (given, session)) session 0 plan.stop_after given
   starts given session none fresh = (given, refl, (refl, grown-same (refuses given.0) source plan.chosen session given.1), none, starts_pages source plan session given.1.sessions fresh)
 
-  -- by a call that reads nothing
+  -- a call that reads nothing
   pub grows : (given : Option ((F × PeerValue) × SessionId)) (session : SessionId) (total : ℕ) (more left : Option ℕ) (now next : F × PeerValue) (c : Call) → TargetKeeps refuses source plan given session total more now → next.0 ≡ now.0 → IsFrom source plan.chosen session c
       → read_in (after_call (refuses now.0) now.1 c).sessions session ≡ read_in now.1.sessions session → next.1 ≡ after_call (refuses now.0) now.1 c → KeepsPages source plan session left next.1.sessions → TargetKeeps refuses source plan given session total left next
   grows given session total more left now next c h same from reads is pages =
@@ -36,7 +36,7 @@ module _ {F : Type 0} (refuses : F → Document → Bool) (source : DatabaseValu
       grows given session total more less now next (Append session w) h same (refl, next_page source plan w from) (append_reads now.1 session w) is
       (pages_append source plan session more less now.1 w next.1 done from one gives is h.4)
 
-  -- or not at all
+  -- a page is not stored
   pub stays : (given : Option ((F × PeerValue) × SessionId)) (session : SessionId) (total : ℕ) (more : Option ℕ) (now next : F × PeerValue) → TargetKeeps refuses source plan given session total more now → next.0 ≡ now.0 → next.1 ≡ now.1 → TargetKeeps refuses source plan given session total more next
   stays given session total more now next h same is = subst (TargetKeeps refuses source plan given session total more) (λ i. (sym same i, sym is i)) h
 
@@ -64,7 +64,7 @@ module _ {F : Type 0} (refuses : F → Document → Bool) (source : DatabaseValu
         pages_settle source plan session more (refuses now.0) now.1 parcel result next.1 gives h.4,
       )
 
--- ---- no more documents are taken than a parcel has
+-- ---- no more documents are consumed than a parcel has
 
 module _ (refuses : Document → Bool) (p : PeerValue) (id : SessionId) (parcel : ParcelValue) (q : PeerValue) where
   at_most : (s : SessionValue) (w : WindowValue) (result : Result Settled TargetFault) → SettlesAt refuses p parcel s w result q → taken result (length parcel.docs) ≤ length parcel.docs

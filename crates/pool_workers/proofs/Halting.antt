@@ -1,4 +1,4 @@
--- A run halts only where the gate allows it, or where a worker's call is refused.
+-- A run halts only if the gate allows it, or a worker's call fails.
 use Rattle.proof_prelude.proofs.{◌≡◌, ◌⊎◌, ⊎_elim, Option, None, Some, IfSome, sym, subst, inl, inr}
 use Rattle.pool_workers.specs.{AllowsOn, Allows, IsHaltOn, fault_of, IsOneFault, IsOneOf, Place, Halt, PoolFault}
 use Rattle.pool_workers.specs.declared.fault.Halt.TheVariants as halts
@@ -11,7 +11,7 @@ allowed_halt B P halts.BoardFull a = a
 allowed_halt B P halts.Memory a = tt
 allowed_halt B P halts.Lost a = tt
 
--- what may halt without a board may halt beside one
+-- a halt that is allowed without a board is allowed with one
 allowed_on : (B : Type 0) (P : Place → Type 0) (h : Halt) → Allows P h → AllowsOn B P h
 allowed_on B P (halts.Stopped place) a = a
 allowed_on B P (halts.Refused fault) a = a
@@ -36,7 +36,7 @@ merged_halt B P (Some fault) a b c told ia ib ic =
       ]
     ]))
 
--- what holds of two halts holds of the one that is told
+-- a property of two halts holds for the reported one
 pub one_of : (P : Halt → Type 0) (o a b : Option Halt) → P halts.CountFull → IfSome o (IsOneOf a b) → IfSome a P → IfSome b P → IfSome o P
 one_of P None a b full told ia ib = tt
 one_of P (Some h) a b full told ia ib =

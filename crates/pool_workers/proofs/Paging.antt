@@ -22,7 +22,7 @@ next_page source plan w n = record {
   is = n.2;
 }
 
--- ---- how many
+-- ---- the number of windows
 
 allowed_none : (o : Option ℕ) → AllowsMore o 0 o
 allowed_none None = refl

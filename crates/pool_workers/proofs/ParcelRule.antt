@@ -1,4 +1,4 @@
--- Each move keeps the rule of the parcels.
+-- Each step keeps the rule of the parcels.
 use Rattle.proof_prelude.proofs.{◌≡◌, ◌≢◌, ℕ, ◌+◌, ◌-◌, ◌<◌, List, [], ◌∷◌, ◌++◌, length, set, sym, refl, ap, ◌∙◌, subst, ⊎_elim, arith}
 use mathlib.Core.Option.{some, some-ne-none}
 use lib.ListN.{get_elem?}

@@ -1,4 +1,4 @@
--- What a worker's call on the target may be refused for.
+-- The errors of a worker's call on the target.
 use Rattle.proof_prelude.proofs.{Bool, cond, Option, None, Some, Result, Ok, Err, IfErr, sym, subst, cond_both, list_all}
 use Rattle.rev_tree.specs.{SessionId}
 use Rattle.doc_json.specs.Document.{Document}

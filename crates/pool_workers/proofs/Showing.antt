@@ -1,10 +1,10 @@
--- What a run shows while it goes, from what its writers' seats show.
+-- What a run shows while it runs, from what its writers' seats show.
 use Rattle.proof_prelude.proofs.{◌≡◌, ℕ, ◌+◌, ◌≤◌, List, [], ◌∷◌, ◌++◌, length, Option, None, Some, option_to_list, All, sym, ap, ◌∙◌, subst, arith, length-append, All-push, All-pop, append_assoc}
 use Rattle.progress_board.specs.{Board, BoardSeat}
 use Rattle.pool_workers.specs.{AreSeated, AreBack, HaveShown, held, Halt}
 use Rattle.pool_workers.proofs.Boarding.{held_push, seated_parts, back_same, back_append, back_one, shown_none, shown_one}
 
--- what holds of each element holds of the last, and of the others
+-- a property of each element holds for the last one and for the others
 pub all_popped : {X : Type 0} (xs ys : List X) (x : X) (P : X → Type 0) → xs ≡ ys ++ x ∷ [] → All P xs → All P ys × P x
 all_popped xs ys x P e h = All-pop P xs ys (Some x) e h
 
@@ -17,7 +17,7 @@ back_is board given now h e = subst (AreBack board given) e (back_same board giv
 pub shown_start : (board : Option Board) (n : ℕ) (xs : List BoardSeat) → n ≡ 0 → HaveShown board n None xs xs
 shown_start board n xs e = subst (λ m. HaveShown board m None xs xs) (sym e) (shown_none board xs)
 
--- ---- as seats go out
+-- ---- giving out seats
 
 module _ {X : Type 0} where
   pub held_same : (given seats : List BoardSeat) (xs ys : List X) (f : X → Option BoardSeat) → given ≡ seats ++ held f xs → ys ≡ xs → given ≡ seats ++ held f ys
@@ -34,7 +34,7 @@ module _ {X : Type 0} where
       subst (λ l. AreBack board given (new ++ held f l)) (sym same)
       (subst (λ l. AreBack board l (new ++ held f xs)) (sym e) (back_append board seats new (held f xs) (held f xs) k (back_same board (held f xs) parts.1)))
 
-  -- ---- as they come back
+  -- ---- returning seats
 
   held_out : (seats : List BoardSeat) (xs ys : List X) (x : X) (f : X → Option BoardSeat) → xs ≡ ys ++ x ∷ [] → seats ++ held f xs ≡ seats ++ (option_to_list (f x) ++ held f ys)
   held_out seats xs ys x f e = ap (λ l. seats ++ held f l) e ∙ ap (λ l. seats ++ l) (held_push f ys x)

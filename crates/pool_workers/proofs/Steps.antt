@@ -1,4 +1,4 @@
--- What a worker knows after one message.
+-- What a worker knows after one more message.
 use Rattle.proof_prelude.proofs.{◌≡◌, ℕ, ◌+◌, ◌≤◌, ◌==◌, if◌then◌else◌, List, [], ◌∷◌, ◌++◌, length, refl, ap, ◌∙◌, arith, length-append, map-append, nat_tests}
 use Rattle.pool_workers.specs.{weigh, times, once_below, WindowView, WindowMessage, Covers, ParcelView, ParcelMessage, parcel_view, parcels, Accounts, amounts, names}
 use Rattle.pool_workers.proofs.Sums.{weigh-append}
@@ -6,7 +6,7 @@ use Rattle.pool_workers.proofs.Sums.{weigh-append}
 pub amounts-append : (xs ys : List (ℕ × ℕ)) → amounts (xs ++ ys) ≡ amounts xs + amounts ys
 amounts-append xs ys = weigh-append (λ n a. a) xs ys
 
--- what is known of a fetcher's pass once it sent a parcel
+-- what a fetcher's pass knows after it has sent a parcel
 abbrev pub SentOne : ParcelView → ℕ × ℕ → ParcelView → Type 0
 SentOne v p w = (w ≡ parcel_view 1 w.sent []) × (length w.sent ≡ length v.sent + 1) × (amounts w.sent ≡ amounts v.sent + p.1) × (names w.sent ≡ names v.sent ++ p.0 ∷ [])
 
@@ -40,7 +40,7 @@ got_one v w p is e =
       omega (arith, amounts-append v.got one),
     )
 
--- what a pass has once it took another in
+-- what a pass knows after it has merged another one
 abbrev pub Gathers : ParcelView → ParcelView → ParcelView → Type 0
 Gathers v u w =
     (amounts w.sent ≡ amounts v.sent + amounts u.sent)
@@ -68,7 +68,7 @@ weigh_none : (h : ℕ → ℕ → ℕ) (xs : List (ℕ × ℕ)) → length xs �
 weigh_none h [] e = refl
 weigh_none h (x ∷ xs) e = absurd (omega arith)
 
--- where as many were got as sent, what was got weighs what was sent
+-- if as many were received as sent, what was received weighs what was sent
 pub settles : {S : Type 0} (v : ParcelView) (items : List (ParcelMessage S)) → Accounts v items → length v.sent ≡ length v.got → (h : ℕ → ℕ → ℕ) → weigh h v.sent ≡ weigh h v.got
 settles v items know same h =
     let ones = know (λ n a. 1) in
@@ -83,11 +83,11 @@ names_times k (x ∷ xs) = let s = names_times k xs in omega (arith, s)
 pub below_once : (x n : ℕ) → once_below x n ≤ 1
 below_once x n = grind (arith, nat_tests)
 
--- each window is taken once at most
+-- each window is taken at most once
 pub taken_once : {S : Type 0} (v : WindowView) (items : List (WindowMessage S)) → Covers v items → (k : ℕ) → times k v.taken ≤ 1
 taken_once v items know k = let c = know k in let b = below_once k v.count in omega (arith, c, b)
 
--- each parcel is got once at most, where what was sent is what was taken
+-- each parcel is received at most once, if the windows sent are those taken
 pub got_once : {S : Type 0} (v : ParcelView) (items : List (ParcelMessage S)) (taken : List ℕ) → Accounts v items → taken ≡ names v.sent → ((k : ℕ) → times k taken ≤ 1) → (k : ℕ) → times k (names v.got) ≤ 1
 got_once v items taken know same once k =
     let a = know (λ n x. if n == k then 1 else 0) in

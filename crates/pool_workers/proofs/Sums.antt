@@ -5,7 +5,7 @@ use lib.ListN.{get_elem?}
 use Rattle.pool_workers.specs.{total, weigh, times, once_below}
 
 module _ {V : Type 0} where
-  -- the sum after one view changed
+  -- the sum after one view has changed
   pub total_set : (f : V → ℕ) (views : List V) (port : ℕ) (v w : V) → get_elem? views port ≡ some v → total f (set views port w) + f v ≡ total f views + f w
   total_set f [] port v w e = absurd (some-ne-none v (sym e))
   total_set f (x ∷ xs) zero v w e = let s : f x ≡ f v = ap f (some-injective x v e) in omega arith
@@ -20,7 +20,7 @@ module _ {V : Type 0} where
   total_member f (x ∷ xs) zero v e = let s : f x ≡ f v = ap f (some-injective x v e) in omega arith
   total_member f (x ∷ xs) (suc p) v e = let s = total_member f xs p v e in omega (arith, s)
 
-  -- where f is 0 of each view of which r is 0
+  -- f is 0 for each view for which r is 0
   abbrev pub Follows : (V → ℕ) → (V → ℕ) → List V → Type 0
   Follows r f views = (port : ℕ) (u : V) → get_elem? views port ≡ some u → r u ≡ 0 → f u ≡ 0
 
@@ -60,10 +60,10 @@ once_more x n = grind (arith, nat_tests)
 pub none_below : (x : ℕ) → once_below x 0 ≡ 0
 none_below x = grind (arith, nat_tests)
 
--- what holds of each element holds of each but the first
+-- a property of each element holds for all but the first
 pub all_rest : {X : Type 0} (xs : List X) (x : X) (rest : List X) (P : X → Type 0) → xs ≡ x ∷ rest → All P xs → All P rest
 all_rest xs x rest P e h = All-tail P x rest (subst (λ l. All P l) e h)
 
--- what holds of each element holds of the first
+-- a property of each element holds for the first
 pub all_first : {X : Type 0} (xs : List X) (x : X) (rest : List X) (P : X → Type 0) → xs ≡ x ∷ rest → All P xs → P x
 all_first xs x rest P e h = All-head P x rest (subst (λ l. All P l) e h)

@@ -1,4 +1,4 @@
--- Each move keeps the rule of the windows.
+-- Each step keeps the rule of the windows.
 use Rattle.proof_prelude.proofs.{◌≡◌, ◌≢◌, ℕ, ◌+◌, ◌-◌, ◌<◌, List, [], ◌∷◌, ◌++◌, set, sym, refl, ap, ◌∙◌, subst, ⊎_elim, arith}
 use mathlib.Core.Option.{some, some-ne-none}
 use lib.ListN.{get_elem?}
@@ -9,7 +9,7 @@ use Rattle.pool_workers.specs.{total, times, once_below, WindowView, WindowMessa
 use Rattle.pool_workers.proofs.Sums.{total_set, total_snoc, total_whole, times-append, once_more, none_below}
 use Rattle.pool_workers.specs.declared.windows.WindowMessage.TheVariants.{Window, End}
 
--- what one view owes
+-- the obligation of one view
 abbrev Role : WindowView → Type 0
 Role v = (v.reads ≡ 0 → v.count ≡ 0) × (v.parts ≡ 0 → (v.taken ≡ []) × (v.reads ≡ 0))
 
@@ -57,7 +57,7 @@ module _ {S : Type 0} where
         refl,
       )
 
-  -- the caller tells the end
+  -- the caller sends the end
   pub tells_end : (n port : ℕ) (v : WindowView) → 0 < v.parts → Pushes (Numbered {S = S}) n port v End (λ w. w ≡ has_read {S = S} v End)
   tells_end n port v part items views room b at =
       let x : WindowMessage S = End in

@@ -8,15 +8,15 @@ use Rattle.progress_board.specs.declared.seat.BoardSeat.{BoardSeat}
 use Rattle.pool_workers.specs.Sums.{total}
 use Rattle.pool_workers.specs.declared.fault.Halt.{Halt}
 
--- the seat is one of a worker of this board
+-- the seat is a worker's seat of this board
 abbrev pub WorksAt : Board → BoardSeat → Type 0
 WorksAt b s = CameWith b s × (s.works ≡ true)
 
--- nothing was read or settled by the seat, and it has seen nothing
+-- the seat has read and settled nothing, and has seen nothing
 abbrev pub HasNothing : BoardSeat → Type 0
 HasNothing s = (s.read ≡ 0) × (s.settled ≡ 0) × (seen_read s ≡ 0) × (seen_settled s ≡ 0)
 
--- the same worker's seat, whose words haven't fallen
+-- the seat of the same worker, whose counters have not fallen
 abbrev pub IsRisen : Board → BoardSeat → BoardSeat → Type 0
 IsRisen b s t = WorksAt b t × (t.number ≡ s.number) × (s.read ≤ t.read) × (s.settled ≤ t.settled)
 
@@ -26,77 +26,78 @@ AreRisen b [] [] = Unit {0}
 AreRisen b (s ∷ given) (t ∷ now) = IsRisen b s t × AreRisen b given now
 AreRisen b given now = ⊥
 
--- what they have read, and settled
+-- the total that the seats have read, or settled
 abbrev pub read_on : List BoardSeat → ℕ
 read_on seats = total (λ (s : BoardSeat). s.read) seats
 
 abbrev pub settled_on : List BoardSeat → ℕ
 settled_on seats = total (λ (s : BoardSeat). s.settled) seats
 
--- both have risen by n
+-- both totals have risen by n
 abbrev pub HaveRisenBy : ℕ → List BoardSeat → List BoardSeat → Type 0
 HaveRisenBy n given now = (read_on now ≡ read_on given + n) × (settled_on now ≡ settled_on given + n)
 
--- ---- with a board or without one
+-- ---- with or without a board
 
--- a word may be found full where there is a board
+-- a counter may be full if there is a board
 abbrev pub MayFill : Option Board → Type 0
 MayFill None = ⊥
 MayFill (Some b) = Unit {0}
 
--- with a board, seats of its workers; without one, none
+-- with a board, the seats are its workers' seats; without one, there are none
 abbrev pub AreSeated : Option Board → List BoardSeat → Type 0
 AreSeated None seats = seats ≡ []
 AreSeated (Some b) seats = All (WorksAt b) seats
 
--- with a board, seats of its workers, which with `out` others are one for each worker or more; without one, none
+-- with a board, the seats are its workers' seats, and with `out` others at least one for each worker; without one,
+-- there are none
 abbrev pub AreSeats : Option Board → ℕ → ℕ → List BoardSeat → Type 0
 AreSeats None out workers seats = seats ≡ []
 AreSeats (Some b) out workers seats = (workers ≤ length seats + out) × All (WorksAt b) seats
 
--- the seats come back
+-- the seats are returned
 abbrev pub AreBack : Option Board → List BoardSeat → List BoardSeat → Type 0
 AreBack None given now = (given ≡ []) × (now ≡ [])
 AreBack (Some b) given now = AreRisen b given now
 
--- n documents are shown as settled and, where nothing was stopped, as read
+-- n documents are shown as settled and, if nothing was stopped, as read
 abbrev pub HaveShown : Option Board → ℕ → Option Halt → List BoardSeat → List BoardSeat → Type 0
 HaveShown None n stopped given now = Unit {0}
 HaveShown (Some b) n stopped given now =
     (settled_on now ≡ settled_on given + n) × (stopped ≡ None → read_on now ≡ read_on given + n)
 
--- ---- one writer's seat
+-- ---- the seat of one writer
 
 abbrev pub IsSeated : Option Board → Option BoardSeat → Type 0
 IsSeated None None = Unit {0}
 IsSeated (Some b) (Some s) = WorksAt b s
 IsSeated board seat = ⊥
 
--- n documents more are shown as read
+-- n more documents are shown as read
 abbrev pub HasRead : Option Board → ℕ → Option BoardSeat → Option BoardSeat → Type 0
 HasRead None n s t = t ≡ s
 HasRead (Some b) n (Some s) (Some t) =
     WorksAt b t × (t.number ≡ s.number) × (t.read ≡ s.read + n) × (t.settled ≡ s.settled)
 HasRead (Some b) n s t = ⊥
 
--- n documents more would pass the limit of what a seat shows as read
+-- n more documents would exceed the maximum of the seat's read counter
 abbrev pub IsFullFor : ℕ → Option BoardSeat → Type 0
 IsFullFor n None = ⊥
 IsFullFor n (Some s) = most < s.read + n
 
--- no more are shown as settled than as read, were it n more
+-- n more documents may be shown as settled without exceeding those read
 abbrev pub HasRoom : Option Board → ℕ → Option BoardSeat → Type 0
 HasRoom (Some b) n (Some s) = s.settled + n ≤ s.read
 HasRoom board n seat = Unit {0}
 
--- what is shown as settled has grown as from a to b
+-- the settled counter has grown by the difference between a and z
 abbrev pub HasSettled : Option Board → ℕ → ℕ → Option BoardSeat → Option BoardSeat → Type 0
 HasSettled None a z s t = t ≡ s
 HasSettled (Some b) a z (Some s) (Some t) =
     WorksAt b t × (t.number ≡ s.number) × (t.read ≡ s.read) × (t.settled + a ≡ s.settled + z)
 HasSettled (Some b) a z s t = ⊥
 
--- and what is shown as read, where nothing was stopped
+-- the settled counter has grown by the difference between a and z, and so has the read counter if nothing was stopped
 abbrev pub HasWritten : Option Board → ℕ → ℕ → Option Halt → Option BoardSeat → Option BoardSeat → Type 0
 HasWritten None a z stopped s t = t ≡ s
 HasWritten (Some b) a z stopped (Some s) (Some t) =
@@ -104,14 +105,14 @@ HasWritten (Some b) a z stopped (Some s) (Some t) =
     × (stopped ≡ None → t.read + a ≡ s.read + z)
 HasWritten (Some b) a z stopped s t = ⊥
 
--- why a writing halts
+-- why a write halts, if it does
 abbrev pub halt_in : Result (Unit {0}) Halt → Option Halt
 halt_in (Ok done) = None
 halt_in (Err halt) = Some halt
 
--- ---- the seats that are out
+-- ---- seats in use
 
--- the seats that others hold, of whom the last holds the first
+-- the seats that others hold; the last of them holds the first seat
 abbrev pub held : {X : Type 0} → (X → Option BoardSeat) → List X → List BoardSeat
 held f [] = []
 held f (x ∷ xs) = held f xs ++ option_to_list (f x)

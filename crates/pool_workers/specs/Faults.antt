@@ -1,4 +1,4 @@
--- Why a run of the pool doesn't end well: docs/PROFILE.md, "The pool".
+-- Why a run of the pool fails: docs/PROFILE.md, "The pool".
 use Rattle.std.specs.Prelude.{◌≡◌, ◌⊎◌, Option, Some}
 use Rattle.repl_peer.specs.declared.fault.TargetFault.{TargetFault}
 use Rattle.repl_peer.specs.declared.fault.TargetFault.TheVariants as refusals
@@ -8,8 +8,8 @@ use Rattle.pool_workers.specs.declared.fault.Halt.TheVariants as halts
 use Rattle.pool_workers.specs.declared.fault.PoolFault.{PoolFault}
 use Rattle.pool_workers.specs.declared.fault.PoolFault.TheVariants as faults
 
--- a fault of a run that was not refused early: a halt by the gate stands where the gate allows one, a full board where
--- one may be found, and a hole nowhere
+-- the error of a run that was not rejected early: `Halted` only if the gate allows it, `BoardFull` only if possible,
+-- and `Hole` never
 abbrev pub IsLateOn : Type 0 → (Place → Type 0) → PoolFault → Type 0
 IsLateOn may_fill may_stop faults.NoWorkers = ⊥
 IsLateOn may_fill may_stop faults.TooManyWorkers = ⊥
@@ -20,19 +20,19 @@ IsLateOn may_fill may_stop (faults.Halted place) = may_stop place
 IsLateOn may_fill may_stop faults.BoardFull = may_fill
 IsLateOn may_fill may_stop fault = Unit {0}
 
--- ---- from the halts of workers
+-- ---- errors from the halts of workers
 
--- what a worker's call on the target may be refused for: that a session is unfinished is told at the end alone
+-- an error of a worker's call on the target; `Unfinished` is reported only at the end
 abbrev pub IsStepFault : TargetFault → Type 0
 IsStepFault (refusals.Unfinished low_water) = ⊥
 IsStepFault fault = Unit {0}
 
--- a fault that a halt is told as
+-- an error to which a halt is converted
 abbrev pub IsHaltOn : Type 0 → (Place → Type 0) → PoolFault → Type 0
 IsHaltOn may_fill may_stop (faults.Refused fault) = IsStepFault fault
 IsHaltOn may_fill may_stop fault = IsLateOn may_fill may_stop fault
 
--- how a run tells a halt
+-- the error for a halt
 abbrev pub fault_of : Halt → PoolFault
 fault_of (halts.Stopped place) = faults.Halted place
 fault_of (halts.Refused fault) = faults.Refused fault
@@ -41,28 +41,28 @@ fault_of halts.BoardFull = faults.BoardFull
 fault_of halts.Memory = faults.Memory
 fault_of halts.Lost = faults.Memory
 
--- a halt that stands where the gate allows one, a full board where one may be found, and a refusal of a worker's call
+-- a halt by the gate only if it is allowed, a full board only if possible, and an error of a worker's call
 abbrev pub AllowsOn : Type 0 → (Place → Type 0) → Halt → Type 0
 AllowsOn may_fill may_stop (halts.Stopped place) = may_stop place
 AllowsOn may_fill may_stop (halts.Refused fault) = IsStepFault fault
 AllowsOn may_fill may_stop halts.BoardFull = may_fill
 AllowsOn may_fill may_stop halt = Unit {0}
 
--- of one that shows nothing
+-- the same for a worker without a board
 abbrev pub Allows : (Place → Type 0) → Halt → Type 0
 Allows may_stop halt = AllowsOn ⊥ may_stop halt
 
--- a full count, and a full board, are told only where they are due
+-- `CountFull` and `BoardFull` are reported only if their conditions hold
 abbrev pub SaysFull : Type 0 → Type 0 → Halt → Type 0
 SaysFull count board halts.CountFull = count
 SaysFull count board halts.BoardFull = board
 SaysFull count board halt = Unit {0}
 
--- neither is told
+-- neither is reported
 abbrev pub SaysNoFull : Halt → Type 0
 SaysNoFull halt = SaysFull ⊥ ⊥ halt
 
--- the fault is that of one of three halts
+-- the error is that of one of three halts
 abbrev pub IsOneFault : Option Halt → Option Halt → Option Halt → PoolFault → Type 0
 IsOneFault a b c fault =
     (halt : Halt) × (fault ≡ fault_of halt) × ((a ≡ Some halt) ⊎ ((b ≡ Some halt) ⊎ (c ≡ Some halt)))

@@ -1,8 +1,8 @@
--- What a gate's answer says: docs/PROFILE.md, "The pool".
+-- The meaning of a gate's result: docs/PROFILE.md, "The pool".
 use Rattle.pool_workers.specs.declared.gate.Turn.{Turn}
 use Rattle.pool_workers.specs.declared.gate.Turn.TheVariants.{Go, Stop}
 
--- `Stop` is answered only where it is allowed
+-- `Stop` is returned only if it is allowed
 abbrev pub Stops : Turn → Type 0 → Type 0
 Stops Go allowed = Unit {0}
 Stops Stop allowed = allowed

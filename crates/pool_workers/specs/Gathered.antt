@@ -1,4 +1,4 @@
--- What is known once the workers have ended: docs/PROFILE.md, "The pool".
+-- What is known after the workers have ended: docs/PROFILE.md, "The pool".
 use Rattle.std.specs.Prelude.{◌≡◌, ◌⊎◌, ℕ, length, sum, Option, None, Some, IfSome}
 use Rattle.crossbeam_channel.specs.Claims.{view}
 use Rattle.pool_workers.specs.Faults.{AllowsOn, Allows}
@@ -12,30 +12,30 @@ use Rattle.pool_workers.specs.declared.gather.WrittenAll.{WrittenAll}
 use Rattle.pool_workers.specs.declared.parcels.ParcelView.{ParcelView}
 use Rattle.pool_workers.specs.declared.windows.WindowView.{WindowView}
 
--- where no fetcher was stopped, the counts are those of what was sent, which is what was taken
+-- if no fetcher was stopped, the counts are those of what was sent, and the windows sent are those taken
 abbrev pub FetchedKnows : WindowView → ParcelView → FetchedAll → Type 0
 FetchedKnows w p t =
     t.stopped ≡ None → (sum t.counts.items ≡ amounts p.sent) × (t.sent ≡ length p.sent) × (w.taken ≡ names p.sent)
 
--- where no writer was stopped, the counts are those of what was got
+-- if no writer was stopped, the counts are those of what was received
 abbrev pub WrittenKnows : ParcelView → ℕ → WrittenAll → Type 0
 WrittenKnows p amount t = t.stopped ≡ None → (amount ≡ amounts p.got) × (t.got ≡ length p.got)
 
--- one of the two, or a full count
+-- one of the two halts, or `CountFull`
 abbrev pub IsOneOf : Option Halt → Option Halt → Halt → Type 0
 IsOneOf a b h = (a ≡ Some h) ⊎ ((b ≡ Some h) ⊎ (h ≡ CountFull))
 
 module _ {S L : Type 0} where
-  -- the passes have every part, and the share has a part of each writer
+  -- the passes have all parts, and the share has the part of each writer
   abbrev pub IsWhole : ℕ → Ended S L → Type 0
   IsWhole workers e = ((view e.windows).parts ≡ 1024) × ((view e.parcels).parts ≡ 1024) × (e.all.parts ≡ workers)
 
-  -- where no worker was stopped, the counts are those of what was sent and got
+  -- if no worker was stopped, the counts are those of what was sent and received
   abbrev pub Tells : Ended S L → Type 0
   Tells e =
       FetchedKnows (view e.windows) (view e.parcels) e.fetched × WrittenKnows (view e.parcels) e.all.amount e.written
 
-  -- each stop is where the gate allows one, or a full board
+  -- each halt is allowed by the gate, or is a full board
   abbrev pub StopsWhere : Type 0 → (Place → Type 0) → Ended S L → Type 0
   StopsWhere may_fill may_stop e =
       IfSome e.read (Allows may_stop) × IfSome e.fetched.stopped (Allows may_stop)

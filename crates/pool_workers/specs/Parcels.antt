@@ -10,13 +10,13 @@ use Rattle.pool_workers.specs.declared.parcels.ParcelMessage.TheVariants.{Parcel
 abbrev pub parcel_view : ℕ → List (ℕ × ℕ) → List (ℕ × ℕ) → ParcelView
 parcel_view parts sent got = record { parts = parts; sent = sent; got = got }
 
--- a pass with no part has sent and got nothing
+-- a pass without parts has sent and received nothing
 abbrev pub IdleIsEmpty : List ParcelView → Type 0
 IdleIsEmpty views =
     (port : ℕ) (v : ParcelView) → get_elem? views port ≡ some v → v.parts ≡ 0 → (v.sent ≡ []) × (v.got ≡ [])
 
 module _ {S : Type 0} where
-  -- the parcels among messages, each by its number and how many documents it has
+  -- the parcels among messages, each by its number and its number of documents
   abbrev pub parcels : List (ParcelMessage S) → List (ℕ × ℕ)
   parcels [] = []
   parcels (Parcel number parcel ∷ xs) = (number, length parcel.docs) ∷ parcels xs
@@ -28,7 +28,7 @@ module _ {S : Type 0} where
   abbrev pub has_got : ParcelView → ParcelMessage S → ParcelView
   has_got v x = parcel_view v.parts v.sent (v.got ++ parcels (x ∷ []))
 
-  -- what was sent is what was got and what is queued, each number with its amount, as often as it was sent
+  -- what was sent is what was received and what is queued; each number with its amount, equally often
   abbrev pub Balanced : List (ParcelMessage S) → List ParcelView → Type 0
   Balanced items views =
       (total (λ (v : ParcelView). v.parts) views ≡ 1024)
@@ -36,6 +36,6 @@ module _ {S : Type 0} where
       ≡ total (λ (v : ParcelView). weigh h v.got) views + weigh h (parcels items))
       × IdleIsEmpty views
 
-  -- what the pass that has every part knows
+  -- what the pass with all parts knows
   abbrev pub Accounts : ParcelView → List (ParcelMessage S) → Type 0
   Accounts v items = (h : ℕ → ℕ → ℕ) → weigh h v.sent ≡ weigh h v.got + weigh h (parcels items)

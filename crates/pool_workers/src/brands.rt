@@ -1,9 +1,10 @@
-//! What a run knows of its source and its target: type parameters with ghost members, which one call picks.
+//! What a run knows about its source and its target: type parameters with ghost members, which one call chooses.
 //!
-//! Of a value under a lock or in a channel nothing is known but its type's invariant, and that may name these members.
+//! Only the type's invariant is known about a value behind a lock or in a channel, and the invariant may refer to these
+//! members.
 use std::marker::Brand;
 
-/// What the source holds, and by which plan it is read.
+/// The source's database, and the plan by which it is read.
 pub trait SourceBrand {
     ghost use Rattle.couch_base.specs.Database.{DatabaseValue};
     ghost use Rattle.repl_target.specs.declared.replication.Plan.{Plan};
@@ -29,7 +30,7 @@ impl SourceBrand for Brand {
     } };
 }
 
-/// Which target was given, and which session is the run's.
+/// The given target, and the run's session.
 pub trait TargetBrand<F> {
     ghost use Rattle.std.specs.Prelude.{Option};
     ghost use Rattle.repl_peer.specs.peer.Peer.{PeerValue};

@@ -26,7 +26,7 @@ impl<S: SourceBrand> Channels<S> {
     ghost use Rattle.pool_workers.specs.Parcels.{parcel_view};
     ghost use Rattle.pool_workers.specs.Windows.{window_view};
 
-    /// Both channels, empty, of so many places each, and the first pass of each. The only error is want of memory.
+    /// Creates both channels, each with this capacity, and the first pass of each. Fails only if an allocation fails.
     pub fn open(
         alloc: Global,
         capacity: usize,

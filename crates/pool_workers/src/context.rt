@@ -1,4 +1,4 @@
-//! What all threads of a run share.
+//! The state that all threads of a run share.
 
 use crate::brands::{SourceBrand, TargetBrand};
 use crate::channels::Channels;
@@ -10,9 +10,9 @@ use std::alloc::Global;
 use std::sync::Mutex;
 use std::sync::ledger::Ledger;
 
-/// What all threads of a run share: the runtime and the allocator, the two channels, the source, the target behind its
-/// lock, what is known of it as it was given, the gate, the plan, the board, where there is one, and how many workers
-/// there are of each crew. Each step of a worker is a method of it.
+/// The state that all threads of a run share: the runtime and the allocator, the two channels, the source, the target
+/// behind its lock, what is known about the target as it was given, the gate, the plan, the board (if there is one),
+/// and the number of workers in each group. The steps of a worker are methods of it.
 #[derive(Drop)]
 pub struct Context<'e, F: WriteFilter, S: SourceBrand, T: TargetBrand<F>, L: Ledger, G, R> {
     pub rt: &'e R,

@@ -1,4 +1,4 @@
-//! The workers of a run: what each promises, and how one is started.
+//! The workers of a run: what each guarantees, and how one is started.
 ghost use Rattle.std.specs.Prelude.{◌≡◌, ◌<◌, [], IfSome, IfOk, IfErr, option_copied, option_to_list};
 ghost use Rattle.crossbeam_channel.specs.Claims.{view, IsSeatAt};
 ghost use Rattle.crossbeam_channel.specs.Ends.{sends_on};
@@ -24,7 +24,7 @@ use std::sync::Wait;
 use std::sync::ledger::{Ledger, Share};
 use std::thread::{Promise, PromisedHandle, Scope};
 
-/// What a fetcher gives back.
+/// The guarantee of a fetcher.
 #[derive(Drop)]
 pub struct FetcherPromise<'a, S: SourceBrand, G: Gate> {
     pub channels: &'a Channels<S>,
@@ -37,7 +37,7 @@ impl<'a, S: SourceBrand, G: Gate> Promise<Fetcher<S>> for FetcherPromise<'a, S, 
         × IfSome r.stopped (Allows (G.may_stop p.gate.now)) };
 }
 
-/// What a writer gives back, and the seat that it was given.
+/// The guarantee of a writer, with the seat that it was given.
 #[derive(Drop)]
 pub struct WriterPromise<'a, S: SourceBrand, G: Gate> {
     pub channels: &'a Channels<S>,
@@ -61,7 +61,7 @@ impl<
     G: Gate + Sync,
     R: Wait + Sync,
 > Context<'e, F, S, T, L, G, R> {
-    /// Starts a fetcher. `None` where no thread can be made.
+    /// Starts a fetcher. Returns `None` if a thread cannot be created.
     pub fn start_fetcher<'s, E>(
         &'e self,
         scope: &Scope<'s, E>,
@@ -97,8 +97,8 @@ impl<
         scope.spawn_with(promise, work).ok()
     }
 
-    /// Starts a writer; there are so many others. The error is its seat, where no thread can be made: then all of them
-    /// are told the end of the parcels, and it takes that end here.
+    /// Starts a writer, in addition to `others` writers. If a thread cannot be created, sends the end message to all of
+    /// them, receives one itself, and returns the seat as an error.
     pub fn start_writer<'s, E>(
         &'e self,
         scope: &Scope<'s, E>,

@@ -1,4 +1,4 @@
-//! Telling the ends of the windows and of the parcels.
+//! Sending the end of the windows and of the parcels.
 ghost use Rattle.std.specs.Prelude.{◌≡◌, ◌<◌};
 ghost use Rattle.crossbeam_channel.specs.Claims.{view, IsSeatAt};
 ghost use Rattle.crossbeam_channel.specs.Ends.{sends_on};
@@ -9,7 +9,7 @@ use crate::parcels::{ParcelMessage, ParcelPass, Sends};
 use crate::windows::{Reads, WindowMessage, WindowPass};
 use std::sync::Wait;
 
-/// Tells the fetchers the end of the windows, by one message for each.
+/// Sends the end of the windows, one message to each fetcher.
 pub fn end_windows<S: SourceBrand, R: Wait>(
     rt: &R,
     channels: &Channels<S>,
@@ -27,7 +27,7 @@ pub fn end_windows<S: SourceBrand, R: Wait>(
     }
 }
 
-/// Tells writers the end of the parcels, by so many messages, where no fetcher tells it.
+/// Sends `missing` end messages to the writers, in place of fetchers that were not started.
 pub fn end_parcels<S: SourceBrand, R: Wait>(
     rt: &R,
     channels: &Channels<S>,

@@ -1,4 +1,4 @@
-//! Why a worker halts, and why a run doesn't end well.
+//! Why a worker halts, and why a run fails.
 ghost use Rattle.std.specs.Prelude.{◌≡◌, None, IfSome};
 ghost use Rattle.pool_workers.specs.Faults.{fault_of, IsOneFault};
 ghost use Rattle.pool_workers.specs.declared.fault.Halt.TheVariants as halts;
@@ -11,20 +11,20 @@ use rev_core::Rev;
 use std::alloc::AllocError;
 use thiserror::Error;
 
-/// Why a worker, or the reading of the windows, takes no further step.
+/// Why a worker, or the reading of windows, stopped.
 #[derive(Debug, Drop)]
 pub enum Halt {
     /// The gate stopped it.
     Stopped(Place),
-    /// A call on the target is refused.
+    /// A call on the target failed.
     Refused(TargetFault),
-    /// A count would pass its limit.
+    /// A count would exceed its maximum.
     CountFull,
-    /// The worker's count on the board would pass its limit.
+    /// The worker's counter on the board would exceed its maximum.
     BoardFull,
-    /// An allocation was refused.
+    /// An allocation failed.
     Memory,
-    /// A channel was cut, or a window came beyond those that the plan allows.
+    /// A channel was disconnected, or a window came that the plan does not allow.
     Lost,
 }
 
@@ -36,7 +36,7 @@ impl From<AllocError> for Halt {
     }
 }
 
-/// Why a run of the pool doesn't end well.
+/// Why a run of the pool failed.
 #[derive(Debug, Drop, Error)]
 pub enum PoolFault {
     /// The plan has no workers.
@@ -45,30 +45,30 @@ pub enum PoolFault {
     /// The plan has more than 64 workers.
     #[error("a pool has 1 to 64 workers")]
     TooManyWorkers,
-    /// The plan's windows have no rows, or more than 10,000.
+    /// The window size of the plan is 0 or exceeds 10,000.
     #[error("a window has 1 to 10000 rows")]
     BadBatch,
-    /// The source and the target have one UUID.
+    /// The source and the target have the same UUID.
     #[error("a database is not replicated into itself")]
     SamePeer,
-    /// A step is refused.
+    /// A step failed.
     #[error(transparent)]
     Refused(TargetFault),
-    /// The gate answered `Stop` at this place.
+    /// The gate returned `Stop` at this place.
     #[error("stopped by the gate")]
     Halted(Place),
-    /// The first leaf of the source's feed above the start that a run has left uncovered. It never comes: the run's
-    /// contract excludes it (`runs`: `early`), and no code makes it.
+    /// The first leaf of the source's feed above the start that a run left uncovered. Never returned: the contract of a
+    /// run excludes it (`runs`: `early`), and no code creates it.
     #[error("a leaf of the source is not covered")]
     Hole { seq: u64, id: DocId, rev: Rev },
-    /// A fetcher's count of documents would pass 9,007,199,254,740,991.
+    /// A fetcher's count of documents would exceed 9,007,199,254,740,991.
     #[error("a count of documents is full")]
     CountFull,
-    /// A writer's count on the board of documents read would pass 9,007,199,254,740,991. Only a run with a board tells
-    /// it.
+    /// A writer's count of documents read, on the board, would exceed 9,007,199,254,740,991. Possible only for a run
+    /// with a board.
     #[error("a worker's count on the board is full")]
     BoardFull,
-    /// An allocation was refused, or a thread can't be made.
+    /// An allocation failed, or a thread cannot be created.
     #[error("out of memory")]
     Memory,
 }
@@ -96,7 +96,7 @@ impl From<Halt> for PoolFault {
     }
 }
 
-/// One of the halts of the reading, the fetchers and the writers, where there is one.
+/// Returns one of the halts of reading, fetchers and writers, if there is one.
 pub fn merge(read: Option<Halt>, fetched: Option<Halt>, written: Option<Halt>) -> Option<PoolFault>
     ensures none { result ≡ None → (read ≡ None) × (fetched ≡ None) × (written ≡ None) }
     ensures some { IfSome result (IsOneFault read fetched written) }

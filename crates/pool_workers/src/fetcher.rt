@@ -1,4 +1,4 @@
-//! What one fetcher does.
+//! The steps of a fetcher.
 ghost use Rattle.std.specs.Prelude.{◌≡◌, ◌⊎◌, ◌+◌, ◌-◌, ◌^◌, ◌<◌, [], ◌∷◌, ◌++◌, length, IfSome, None, IfErr, MatchBool};
 ghost use Rattle.crossbeam_channel.specs.Claims.{view, IsSeatAt};
 ghost use Rattle.crossbeam_channel.specs.Ends.{sends_on, receives_on};
@@ -21,8 +21,7 @@ use std::alloc::AllocError;
 use std::sync::Wait;
 use std::sync::ledger::Ledger;
 
-/// A fetcher: what it knows of both channels, its counts of the parcels that it sent and of the documents that it
-/// fetched, and why it was stopped.
+/// A fetcher: what it knows about both channels, the numbers of parcels sent and documents fetched, and why it stopped.
 #[derive(Drop)]
 pub struct Fetcher<S: SourceBrand> {
     pub windows: WindowPass<S>,
@@ -32,7 +31,7 @@ pub struct Fetcher<S: SourceBrand> {
     pub stopped: Option<Halt>,
 }
 
-/// Asks the gate: an error where it answers `Stop`.
+/// Asks the gate. Returns an error if it returns `Stop`.
 pub fn pass<G: Gate, R: Wait>(rt: &R, gate: &G, place: Place) -> Result<(), Halt>
     ensures place { IfErr result (λ halt. halt ≡ Halt.Stopped place) }
     ensures allowed { IfErr result (Allows (G.may_stop gate.now)) }
@@ -44,7 +43,7 @@ pub fn pass<G: Gate, R: Wait>(rt: &R, gate: &G, place: Place) -> Result<(), Halt
     }
 }
 
-/// Sends a parcel, and says whether it did.
+/// Sends a parcel. Returns whether it was sent.
 fn put<S: SourceBrand, R: Wait>(
     rt: &R,
     parcels: &ParcelSender<S>,
@@ -67,7 +66,7 @@ fn put<S: SourceBrand, R: Wait>(
 }
 
 impl<S: SourceBrand> Fetcher<S> {
-    /// A fetcher that has taken no window.
+    /// Creates a fetcher that has taken no window.
     pub fn new(windows: WindowPass<S>, parcels: ParcelPass<S>) -> Fetcher<S>
         requires windows { view windows ≡ window_view 1 0 0 [] }
         requires parcels { view parcels ≡ parcel_view 1 [] [] }
@@ -85,7 +84,7 @@ impl<S: SourceBrand> Fetcher<S> {
         }
     }
 
-    /// Sends what was fetched and counted.
+    /// Sends a parcel that is already counted.
     fn hand_over<R: Wait>(
         &mut self,
         rt: &R,
@@ -108,7 +107,7 @@ impl<S: SourceBrand> Fetcher<S> {
         }
     }
 
-    /// Counts what was fetched, and sends it. `CountFull` only where one of its counts would pass its limit.
+    /// Counts a parcel and sends it. Returns `CountFull` only if one of its counts would exceed its maximum.
     fn send<G: Gate, R: Wait>(
         &mut self,
         rt: &R,
@@ -142,7 +141,7 @@ impl<S: SourceBrand> Fetcher<S> {
         self.hand_over(rt, parcels, number, fetched);
     }
 
-    /// Tells one writer the end of the parcels.
+    /// Sends the end of the parcels to one writer.
     fn tell_end<R: Wait>(&mut self, rt: &R, parcels: &ParcelSender<S>)
         requires seat { IsSeatAt (sends_on parcels.now) self.old.parcels }
         requires knows { FetcherKnows [] self.old }
@@ -164,12 +163,13 @@ impl<F: WriteFilter, S: SourceBrand, T: TargetBrand<F>, L: Ledger, G: Gate, R: W
     G,
     R,
 > {
-    /// Asks what the target misses of a page, and lets the lock go.
+    /// Requests what the target lacks of a page, and releases the lock.
     fn ask(&self, page: &Paged<S>) -> Result<Asked, AllocError> {
         self.target.lock(self.rt).diff(self.alloc, page)
     }
 
-    /// What the source has of what the target misses of a page, unless the gate stops the fetcher or memory runs out.
+    /// Determines what the source has of what the target lacks of a page. Fails if the gate stops the fetcher or an
+    /// allocation fails.
     fn bring(&self, number: u64, page: Paged<S>) -> Result<Found<S>, Halt>
         requires source { S.source ≡ self.now.source.now.1.db }
         ensures allowed { IfErr result (Allows (G.may_stop self.now.gate.now)) }
@@ -211,7 +211,7 @@ impl<F: WriteFilter, S: SourceBrand, T: TargetBrand<F>, L: Ledger, G: Gate, R: W
         }
     }
 
-    /// Takes one message. False at the end of the windows.
+    /// Receives one message. Returns false at the end of the windows.
     pub fn take_window(&self, fetcher: &mut Fetcher<S>) -> bool
         requires source { S.source ≡ self.now.source.now.1.db }
         requires window_seat { IsSeatAt (receives_on self.now.channels.now.from_reader) fetcher.old.windows }
@@ -239,7 +239,7 @@ impl<F: WriteFilter, S: SourceBrand, T: TargetBrand<F>, L: Ledger, G: Gate, R: W
         }
     }
 
-    /// Takes windows until their end, fetches them, and sends their parcels. Then it tells the end.
+    /// Receives windows until their end, fetches them, and sends their parcels. Then sends the end.
     pub fn fetch_all(&self, windows: WindowPass<S>, parcels: ParcelPass<S>) -> Fetcher<S>
         requires source { S.source ≡ self.now.source.now.1.db }
         requires windows { IsSeatAt (receives_on self.now.channels.now.from_reader) windows

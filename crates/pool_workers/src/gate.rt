@@ -1,52 +1,51 @@
-//! Where a run may be stopped.
+//! The places at which a run may be stopped.
 ghost use Rattle.pool_workers.specs.declared.gate.Place.{Place};
 
 use std::sync::Wait;
 
-/// A place of a run, with the number of its window; the run's windows are numbered from 0.
+/// A place in a run, with the number of its window. The windows of a run are numbered from 0.
 #[derive(Clone, Copy, Debug)]
 pub enum Place {
     /// A fetcher took the window.
     Took(u64),
-    /// It asked the target what that misses of the window.
+    /// A fetcher asked the target what it lacks of the window.
     Asked(u64),
-    /// It fetched what was asked at the source, and counted the documents.
+    /// A fetcher counted the requested documents at the source.
     Fetched(u64),
     /// A writer settled the window's parcel.
     Settled(u64),
-    /// It recorded at the target; the second number is what was recorded.
+    /// A writer recorded at the target; the second number is the recorded sequence.
     Recorded(u64, u64),
 }
 
-/// Whether a worker goes on.
+/// Whether a worker continues.
 #[derive(Clone, Copy, Debug)]
 pub enum Turn {
-    /// It goes on.
+    /// The worker continues.
     Go,
-    /// It takes no further step.
+    /// The worker takes no further step.
     Stop,
 }
 
-/// Says whether a worker goes on at a place. It is called with no lock held, from several threads where there are some, and
-/// may wait.
+/// Decides whether a worker continues at a place. Called without a lock, possibly from several threads. May block.
 pub trait Gate {
     ghost use Rattle.pool_workers.specs.Gates.{Stops};
 
-    /// Where a stop is allowed.
+    /// The places at which a stop is allowed.
     ghost may_stop: { Self → Place → Type 0 };
 
-    /// Whether the worker that has come to a place goes on.
+    /// Returns whether the worker that has reached a place continues.
     fn at<R: Wait>(&self, rt: &R, place: Place) -> Turn
         ensures { Stops result (may_stop self.now place) };
 
-    /// Whether it may hold a worker at a place until another one has come to a place of its own. Where it holds none, one
-    /// thread may do the work of several, in turn.
+    /// Whether the gate may block a worker until another one has reached some place. If it never blocks, one thread may
+    /// do the work of several workers in turn.
     fn may_block(&self) -> bool {
         true
     }
 }
 
-/// The gate that always answers `Go`.
+/// The gate that always returns `Go`.
 #[derive(Clone, Copy, Debug)]
 pub struct Open;
 

@@ -1,4 +1,4 @@
-//! Taking the workers in after they have ended.
+//! Collecting the workers after they have ended.
 ghost use Rattle.std.specs.Prelude.{◌≡◌, ◌+◌, ◌<◌, ◌≤◌, ◌++◌, [], length, None, IfSome, vec_len, vec_capacity, option_copied, option_to_list};
 ghost use Rattle.std.specs.List.{All};
 ghost use Rattle.crossbeam_channel.specs.Claims.{view, IsSeatAt};
@@ -24,7 +24,7 @@ use repl_target::WriteFilter;
 use std::sync::ledger::{Ledger, Share};
 use std::thread::Threads;
 
-/// What the fetchers did: the documents of each, the parcels of all, and why one was stopped.
+/// What the fetchers did: the documents of each, the parcels of all, and why one stopped.
 #[derive(Drop)]
 pub struct FetchedAll {
     pub counts: Vec<u64>,
@@ -32,14 +32,14 @@ pub struct FetchedAll {
     pub stopped: Option<Halt>,
 }
 
-/// What the writers did: the parcels of all, and why one was stopped.
+/// What the writers did: the parcels of all, and why one stopped.
 #[derive(Drop)]
 pub struct WrittenAll {
     pub got: u64,
     pub stopped: Option<Halt>,
 }
 
-/// Adds two counts, unless one was stopped or the sum is too large.
+/// Adds two counts, unless one was stopped or the sum overflows.
 fn count_up(
     total: u64,
     more: u64,
@@ -60,7 +60,7 @@ fn count_up(
 }
 
 impl FetchedAll {
-    /// What no fetcher did.
+    /// Creates the value for no fetchers.
     pub fn new(counts: Vec<u64>) -> FetchedAll
         ensures { result ≡ record { counts = counts; sent = 0; stopped = None } }
     {
@@ -71,7 +71,7 @@ impl FetchedAll {
         }
     }
 
-    /// Takes one fetcher in.
+    /// Adds one fetcher.
     pub fn take_in<S: SourceBrand>(
         &mut self,
         channels: &Channels<S>,
@@ -119,7 +119,7 @@ impl FetchedAll {
 }
 
 impl WrittenAll {
-    /// What no writer did.
+    /// Creates the value for no writers.
     pub fn new() -> WrittenAll
         ensures { result ≡ record { got = 0; stopped = None } }
     {
@@ -129,7 +129,7 @@ impl WrittenAll {
         }
     }
 
-    /// Takes one writer in.
+    /// Adds one writer.
     pub fn take_in<S: SourceBrand, L: Ledger>(
         &mut self,
         channels: &Channels<S>,
@@ -180,7 +180,7 @@ impl<F: WriteFilter, S: SourceBrand, T: TargetBrand<F>, L: Ledger, G: Gate, R: T
     G,
     R,
 > {
-    /// Joins the fetchers, and takes them in.
+    /// Joins the fetchers and collects them.
     pub fn join_fetchers(
         &self,
         handles: Vec<FetcherHandle<'_, S, G>>,
@@ -220,7 +220,7 @@ impl<F: WriteFilter, S: SourceBrand, T: TargetBrand<F>, L: Ledger, G: Gate, R: T
         fetched
     }
 
-    /// Joins the writers, and takes them in, the last first: so their seats come back in order.
+    /// Joins the writers and collects them, last first, so that their seats are returned in order.
     pub fn join_writers(
         &self,
         handles: Vec<WriterHandle<'_, S, L, G>>,

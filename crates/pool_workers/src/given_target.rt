@@ -1,4 +1,4 @@
-//! What is known, without the lock, of the target that a run was given.
+//! What is known about the given target without its lock.
 ghost use Rattle.std.specs.Prelude.{◌≡◌, [], Some, length, IfOk, IfSome};
 ghost use Rattle.std.specs.Option.{ForSome};
 ghost use Rattle.couch_base.specs.Database.{DatabaseValue};
@@ -12,8 +12,7 @@ use rev_tree::SessionId;
 use std::alloc::{AllocError, Global};
 use std::marker::PhantomData;
 
-/// The documents of the target that a run was given, where it had none: a database that has none either. Nothing is
-/// known where it had some.
+/// An empty database, if the given target has no documents; otherwise nothing is known.
 #[derive(Drop)]
 pub struct GivenTarget<F: WriteFilter, T: TargetBrand<F>> {
     none: Option<Database>,
@@ -23,7 +22,7 @@ pub struct GivenTarget<F: WriteFilter, T: TargetBrand<F>> {
 }
 
 impl<F: WriteFilter, T: TargetBrand<F>> GivenTarget<F, T> {
-    /// Of the target that is given.
+    /// Examines the given target.
     pub fn of(alloc: Global, target: &Peer<F>, _session: SessionId) -> GivenTarget<F, T>
         requires { T.given ≡ Some (target.now, _session) }
     {
@@ -40,7 +39,7 @@ impl<F: WriteFilter, T: TargetBrand<F>> GivenTarget<F, T> {
         }
     }
 
-    /// What the given target misses of a page, where it had no documents: all leaves of its rows. It needs no lock.
+    /// Returns what the given target lacks of a page, if it had no documents: all leaves of the rows. Needs no lock.
     pub fn diff<S: SourceBrand>(
         &self,
         alloc: Global,

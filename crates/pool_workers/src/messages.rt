@@ -1,4 +1,4 @@
-//! Messages that are what the source answers: their types keep it, and it crosses threads with them.
+//! Messages that come from the source. Their types keep this fact when they move between threads.
 ghost use Rattle.std.specs.Prelude.{◌≡◌, ◌<◌, [], true, length, IfOk};
 ghost use Rattle.std.specs.List.{sum_by};
 ghost use Rattle.couch_base.specs.Database.{DatabaseValue};
@@ -14,13 +14,13 @@ use rev_tree::SessionId;
 use std::alloc::{AllocError, Global};
 use std::marker::{Model, PhantomData};
 
-/// By so much the heap of a thread grows at once, in bytes: it holds what a parcel of 500 small documents makes.
+/// The step by which the heap of a thread grows, in bytes; enough for a parcel of 500 small documents.
 const HEAP_STEP: usize = 512 * 1024;
 
-/// Half of what a heap keeps at its end when blocks are let go of, in bytes.
+/// Half of the bytes that a heap keeps at its end when blocks are freed.
 const HEAP_KEPT: usize = 1024 * 1024;
 
-/// A page of the source by the run's plan: of its rows, with those of chosen documents.
+/// A page of the source's feed for the run's plan, with the rows of selected documents.
 #[derive(Drop)]
 pub struct Paged<S: SourceBrand> {
     ready: ReadyWindow,
@@ -40,7 +40,7 @@ impl<S: SourceBrand> Model for Paged<S> {
 }
 
 impl<S: SourceBrand> Paged<S> {
-    /// The next page of the source above a sequence, by a plan: of its rows, and of its choice.
+    /// Reads the next page of the source above a sequence, for a plan.
     pub fn read<F: WriteFilter>(
         alloc: Global,
         source: &Peer<F>,
@@ -61,7 +61,7 @@ impl<S: SourceBrand> Paged<S> {
         })
     }
 
-    /// The window.
+    /// Returns the window.
     pub fn window(&self) -> &Window
         ensures value { result.now ≡ self.now }
         ensures page { IsNext S.source S.plan self.now }
@@ -69,14 +69,14 @@ impl<S: SourceBrand> Paged<S> {
         self.ready.window()
     }
 
-    /// Makes what a target keeps of the window once it is done: `ReadyWindow::prepare`.
+    /// Builds the form that a target keeps when the window is done: `ReadyWindow::prepare`.
     pub fn prepare(&mut self, alloc: Global)
         ensures { self.new ≡ self.old }
     {
         self.ready.prepare(alloc);
     }
 
-    /// The window, with what is made of it.
+    /// Returns the window with what was prepared.
     pub fn into_ready(self) -> ReadyWindow
         ensures value { result ≡ self }
         ensures page { IsNext S.source S.plan self }
@@ -84,7 +84,7 @@ impl<S: SourceBrand> Paged<S> {
         self.ready
     }
 
-    /// The same page, of which nothing is made yet.
+    /// Copies the page, without what was prepared.
     pub fn copy(&self, alloc: Global) -> Result<Paged<S>, AllocError>
         ensures { IfOk result (λ p. p ≡ self.now) }
     {
@@ -96,7 +96,7 @@ impl<S: SourceBrand> Paged<S> {
     }
 }
 
-/// What the source answers to what was asked, which is counted and not read yet.
+/// What the source has for a request; counted, but not yet read.
 #[derive(Drop)]
 pub struct Found<S: SourceBrand> {
     page: Paged<S>,
@@ -118,7 +118,7 @@ impl<S: SourceBrand> Model for Found<S> {
 }
 
 impl<S: SourceBrand> Found<S> {
-    /// Counts what the source has of what is asked of a page.
+    /// Counts what the source has for a request for a page.
     pub fn count<F: WriteFilter>(
         alloc: Global,
         source: &Peer<F>,
@@ -136,7 +136,8 @@ impl<S: SourceBrand> Found<S> {
         })
     }
 
-    /// Of a page of which all leaves are asked: the source has a document for each, and none is looked for.
+    /// As `count`, for a request of all leaves of a page: the source has one document for each, so nothing is looked
+    /// up.
     pub fn whole<F: WriteFilter>(source: &Peer<F>, asked: Asked, page: Paged<S>) -> Found<S>
         requires source { S.source ≡ source.now.1.db }
         requires whole { (db : DatabaseValue) × (db.docs ≡ []) × (asked ≡ revs_diff db page) }
@@ -151,19 +152,19 @@ impl<S: SourceBrand> Found<S> {
         }
     }
 
-    /// How many documents it has.
+    /// Returns the number of documents.
     pub fn documents(&self) -> u128
         ensures { result ≡ length self.now.docs }
     {
         self.documents
     }
 
-    /// The page of which this was asked.
+    /// Returns the page of the request.
     pub fn page(&self, alloc: Global) -> Result<Paged<S>, AllocError> {
         self.page.copy(alloc)
     }
 
-    /// Reads it at the source, and makes its documents ready for a session of the target, where one is given.
+    /// Reads the documents at the source, and prepares them for a session of the target, if one is given.
     pub fn fetch<F: WriteFilter>(
         self,
         alloc: Global,
@@ -182,7 +183,7 @@ impl<S: SourceBrand> Found<S> {
     }
 }
 
-/// What the source answers to what was asked, read.
+/// What the source has for a request; already read.
 #[derive(Drop)]
 pub struct Fetched<S: SourceBrand> {
     ready: PreparedParcel,
@@ -202,7 +203,7 @@ impl<S: SourceBrand> Model for Fetched<S> {
 }
 
 impl<S: SourceBrand> Fetched<S> {
-    /// What the source has of what is asked of a page, its documents made ready for a session, where one is given.
+    /// Reads what the source has for a request for a page, and prepares the documents for a session, if one is given.
     pub fn fetch<F: WriteFilter>(
         alloc: Global,
         source: &Peer<F>,
@@ -224,14 +225,14 @@ impl<S: SourceBrand> Fetched<S> {
         })
     }
 
-    /// How many documents it has.
+    /// Returns the number of documents.
     pub fn documents(&self) -> u64
         ensures { result ≡ length self.now.docs }
     {
         self.ready.parcel().docs().len() as u64
     }
 
-    /// The parcel, with what is made of it.
+    /// Returns the parcel with what was prepared.
     pub fn into_ready(self) -> PreparedParcel
         ensures value { result ≡ self }
         ensures answer { IsAnswerOf S.source self }
@@ -240,7 +241,7 @@ impl<S: SourceBrand> Fetched<S> {
     }
 }
 
-/// Makes the documents of a parcel ready for a session, where one is given.
+/// Prepares the documents of a parcel for a session, if one is given.
 fn prepare(
     alloc: Global,
     ready: &mut PreparedParcel,
@@ -255,7 +256,7 @@ fn prepare(
     }
 }
 
-/// How many leaves the rows name.
+/// Returns the number of leaves in the rows.
 fn leaf_count(rows: &[Row]) -> u128
     ensures { result ≡ sum_by (λ row. length row.leaves) rows.now }
 {
@@ -266,21 +267,20 @@ fn leaf_count(rows: &[Row]) -> u128
     count
 }
 
-/// Has the heap of this thread grow by more than a page.
+/// Grows the heap of this thread by more than a page.
 ///
-/// The C library grows the heap of each thread but the first by one page at a time, and each by a call of the system,
-/// for which all threads may wait. A block that is asked for and let go of grows it at once, where the heap keeps as
-/// much: `keep_heaps`.
+/// The C library grows the heap of each thread except the first by one page per system call, for which all threads may
+/// wait. A block that is allocated and freed grows it at once, if the heap keeps that much (`keep_heaps`).
 fn grow_heap(alloc: Global) {
     if let Ok(room) = Vec::<u8>::with_capacity(alloc, HEAP_STEP) {
         drop(room);
     }
 }
 
-/// Has heaps keep what a parcel takes.
+/// Makes heaps keep the memory of a parcel.
 ///
-/// The C library gives the end of a heap back where more than 128 KiB are left there. It takes a large block from the
-/// system by itself, and once such a one was let go of, heaps keep up to twice its length.
+/// The C library releases the end of a heap if more than 128 KiB are free there. It allocates large blocks directly
+/// from the system; after one such block was freed, heaps keep up to twice its size.
 pub fn keep_heaps(alloc: Global) {
     if let Ok(room) = Vec::<u8>::with_capacity(alloc, HEAP_KEPT) {
         drop(room);

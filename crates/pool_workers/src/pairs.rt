@@ -1,7 +1,7 @@
-//! Pairs: threads that each are a fetcher and a writer in turn.
+//! Pairs: threads that are a fetcher and a writer in turn.
 //!
-//! Where the gate holds nobody, a thread that has fetched a window may settle a parcel as well: half as many threads do
-//! the work of both crews.
+//! If the gate never blocks, a thread that has fetched a window may also settle a parcel, so half as many threads do
+//! the work of both groups.
 ghost use Rattle.std.specs.Prelude.{◌≡◌, ℕ, ◌+◌, ◌-◌, ◌<◌, ◌≤◌, ◌++◌, [], true, length, None, IfSome, IfOk, IfErr, vec_len, vec_capacity, option_copied, option_to_list};
 ghost use Rattle.std.specs.List.{All};
 ghost use Rattle.crossbeam_channel.specs.Claims.{view, IsSeatAt};
@@ -33,7 +33,7 @@ use std::sync::Wait;
 use std::sync::ledger::{Ledger, Share};
 use std::thread::{Promise, PromisedHandle, Scope, Threads};
 
-/// What a pair gives back, and the seat that its writer was given.
+/// The guarantee of a pair, with the seat that its writer was given.
 #[derive(Drop)]
 pub struct PairPromise<'a, S: SourceBrand, G: Gate> {
     pub channels: &'a Channels<S>,
@@ -47,7 +47,7 @@ impl<'a, S: SourceBrand, L: Ledger, G: Gate> Promise<Pair<S, L>> for PairPromise
         × WriterShows (option_copied p.board) p.seat.value r.writer };
 }
 
-/// A pair that was started.
+/// A started pair.
 pub type PairHandle<'e, S, L, G> = PromisedHandle<Pair<S, L>, PairPromise<'e, S, G>>;
 
 impl<
@@ -59,8 +59,8 @@ impl<
     G: Gate + Sync,
     R: Wait + Sync,
 > Context<'e, F, S, T, L, G, R> {
-    /// Starts a pair; there are so many others. The error is its seat, where no thread can be made: then all of them are
-    /// told the end of the windows, and it takes that end here.
+    /// Starts a pair, in addition to `others` pairs. If a thread cannot be created, sends the end of the windows to all
+    /// of them, receives one itself, and returns the seat as an error.
     fn start_pair<'s, E>(
         &'e self,
         scope: &Scope<'s, E>,
@@ -112,8 +112,8 @@ impl<
         }
     }
 
-    /// Cuts passes and a part of the ledger off, takes the last seat, and starts a pair with them: `start_pair`. There are
-    /// so many others. `None` where no thread can be made; then its seat is back.
+    /// Splits off passes and a part of the ledger, takes the last seat, and starts a pair with them: `start_pair`.
+    /// There are `others` other pairs. Returns `None` if a thread cannot be created; the seat is then returned.
     fn spawn_pair<'s, E>(
         &'e self,
         scope: &Scope<'s, E>,
@@ -164,8 +164,8 @@ impl<
         }
     }
 
-    /// Starts the pairs, each with a seat where there is a board, the first with the last. There are fewer than asked for
-    /// where no thread can be made or memory runs out; then they are told the end of the windows.
+    /// Starts the pairs; if there is a board, each gets a seat, the first pair the last one. Starts fewer than
+    /// requested if a thread cannot be created or an allocation fails; those are then sent the end of the windows.
     fn start_pairs<'s, E>(
         &'e self,
         scope: &Scope<'s, E>,
@@ -229,7 +229,7 @@ impl<
     G: Gate + Sync,
     R: Threads + Wait + Sync,
 > Context<'e, F, S, T, L, G, R> {
-    /// Joins the pairs, and takes them in, the last first: so their seats come back in order.
+    /// Joins the pairs and collects them, last first, so that their seats are returned in order.
     fn join_pairs(
         &self,
         handles: Vec<PairHandle<'_, S, L, G>>,
@@ -286,7 +286,7 @@ impl<
         (fetched, written)
     }
 
-    /// Runs the pairs beside the reading of the windows, and gives the seats back. `None` where a thread can't be made;
+    /// Runs the pairs while the windows are read, and returns the seats. Returns `None` if a thread cannot be created;
     /// then no window is read.
     pub fn pairs_in_scope<'s, E>(
         &'e self,

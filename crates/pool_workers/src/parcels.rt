@@ -1,28 +1,28 @@
-//! The channel of parcels: its messages, what each thread knows of it, and its rule.
+//! The channel of parcels: its messages, what each thread knows about it, and its rule.
 use crate::brands::SourceBrand;
 use crate::messages::Found;
 use crossbeam_channel::protocol::{Join, Lesson, Outcome, Protocol, Split};
 use crossbeam_channel::{Pass, RuledReceiver, RuledSender};
 use std::collections::LinkedList;
 
-/// What a fetcher tells a writer.
+/// A message from a fetcher to a writer.
 #[derive(Drop)]
 pub enum ParcelMessage<S: SourceBrand> {
-    /// What the source answers for the window of this number: counted, and read by who settles it.
+    /// What the source has for the window with this number: counted by the fetcher, read by the writer.
     Parcel { number: u64, fetched: Found<S> },
-    /// No further parcel comes.
+    /// The end of the parcels.
     End,
 }
 
-/// What a thread knows of the channel: its parts of the right to know the whole, of 1,024; what it has sent and what it
-/// has got, each parcel by its number and how many documents it has. No value of it is made.
+/// What a thread knows about the channel: its parts (of 1,024) of the right to know everything; and what it has sent
+/// and received, each parcel by its number and its number of documents. Values of this type never exist at run time.
 pub struct ParcelView {
     pub parts: u64,
     pub sent: LinkedList<(u64, u64)>,
     pub got: LinkedList<(u64, u64)>,
 }
 
-/// The rule: what was sent is what was got and what is queued, each number with its documents, as often as it was sent.
+/// The rule: what was sent is what was received and what is queued; each number with its documents, equally often.
 pub struct Conserved;
 
 impl<S: SourceBrand> Protocol<ParcelMessage<S>, ParcelView> for Conserved {
@@ -34,7 +34,7 @@ impl<S: SourceBrand> Protocol<ParcelMessage<S>, ParcelView> for Conserved {
     ghost first = { parcel_view 1024 [] [] };
 }
 
-/// How a pass is cut off for a worker, and put back.
+/// Splitting a pass off for a worker, and returning it.
 pub struct ParcelCut;
 
 impl Split<ParcelView> for ParcelCut {
@@ -83,7 +83,7 @@ impl<S: SourceBrand> Lesson<ParcelMessage<S>, ParcelView> for Gets {
     ghost fact = { λ _ _. Unit {0} };
 }
 
-/// What the pass with every part learns.
+/// What the pass with all parts knows.
 pub struct Whole;
 
 impl<S: SourceBrand> Lesson<ParcelMessage<S>, ParcelView> for Whole {
@@ -92,11 +92,11 @@ impl<S: SourceBrand> Lesson<ParcelMessage<S>, ParcelView> for Whole {
     ghost fact = { Accounts };
 }
 
-/// What a thread knows of the channel of parcels.
+/// What a thread knows about the channel of parcels.
 pub type ParcelPass<S> = Pass<ParcelMessage<S>, ParcelView>;
 
-/// Its sending end.
+/// The sending end.
 pub type ParcelSender<S> = RuledSender<ParcelMessage<S>, ParcelView, Conserved>;
 
-/// Its receiving end.
+/// The receiving end.
 pub type ParcelReceiver<S> = RuledReceiver<ParcelMessage<S>, ParcelView, Conserved>;

@@ -18,11 +18,11 @@ use std::alloc::AllocError;
 use std::sync::Wait;
 use std::sync::ledger::Ledger;
 
-/// How many pages are read at most before they are stored.
+/// The maximum number of pages that are read before they are stored.
 const MOST_AHEAD: u64 = 8;
 
-/// Pages that were read one behind the other and are to be sent, copies of them that are to be stored, where the last one
-/// ends, and why no further one was read, where that was refused.
+/// Pages that were read in order and are to be sent, their copies to be stored, the end of the last one, and why
+/// reading stopped, if it failed.
 #[derive(Drop)]
 struct Ahead<S: SourceBrand> {
     pages: Vec<Paged<S>>,
@@ -31,7 +31,7 @@ struct Ahead<S: SourceBrand> {
     stopped: Option<Halt>,
 }
 
-/// Sends the window with this number, and says whether it did.
+/// Sends the window with this number. Returns whether it was sent.
 fn send_window<S: SourceBrand, R: Wait>(
     rt: &R,
     channels: &Channels<S>,
@@ -52,7 +52,7 @@ fn send_window<S: SourceBrand, R: Wait>(
         .is_ok()
 }
 
-/// Sends windows with the numbers from one on, and answers the next number.
+/// Sends windows with numbers from `number` on. Returns the next number.
 fn send_all<S: SourceBrand, R: Wait>(
     rt: &R,
     channels: &Channels<S>,
@@ -89,8 +89,8 @@ impl<F: WriteFilter, S: SourceBrand, T: TargetBrand<F>, L: Ledger, G, R: Wait> C
     G,
     R,
 > {
-    /// Stores pages at the target, one behind the other, and lets the lock go: how many were stored, and why the next one
-    /// wasn't. `Lost` where the plan allows no further one.
+    /// Stores pages at the target in order, and releases the lock. Returns the number of stored pages, and why the next
+    /// one was not stored. `Lost` if the plan allows no further window.
     fn store_all(&self, pages: Vec<Paged<S>>) -> (usize, Option<Halt>)
         ensures refused { IfSome result.1 (λ halt. (halt ≡ Halt.Lost)
             ⊎ (fault : TargetFault) × (halt ≡ Halt.Refused fault) × IsStepFault fault) }
@@ -108,7 +108,7 @@ impl<F: WriteFilter, S: SourceBrand, T: TargetBrand<F>, L: Ledger, G, R: Wait> C
         (stored, None)
     }
 
-    /// Reads the page above a sequence, and makes a copy of it ready to be stored.
+    /// Reads the page above a sequence, and prepares a copy of it for storing.
     fn read_page(&self, since: u64) -> Result<(Paged<S>, Paged<S>), AllocError>
         requires source { S.source ≡ self.now.source.now.1.db }
         requires plan { S.plan ≡ self.now.plan.now }
@@ -122,7 +122,7 @@ impl<F: WriteFilter, S: SourceBrand, T: TargetBrand<F>, L: Ledger, G, R: Wait> C
         Ok((page, copy))
     }
 
-    /// Reads the page behind the last one that was read.
+    /// Reads the page after the last one that was read.
     fn read_further(&self, ahead: &mut Ahead<S>) -> Result<(), AllocError>
         requires source { S.source ≡ self.now.source.now.1.db }
         requires plan { S.plan ≡ self.now.plan.now }
@@ -145,7 +145,7 @@ impl<F: WriteFilter, S: SourceBrand, T: TargetBrand<F>, L: Ledger, G, R: Wait> C
         Ok(())
     }
 
-    /// Reads pages above a sequence, one behind the other: so many at most, and none beyond those that the plan allows.
+    /// Reads pages above a sequence in order: at most `most`, and only as many as the plan allows.
     fn read_ahead(&self, since: u64, number: u64, most: u64) -> Ahead<S>
         requires source { S.source ≡ self.now.source.now.1.db }
         requires plan { S.plan ≡ self.now.plan.now }
@@ -181,9 +181,8 @@ impl<F: WriteFilter, S: SourceBrand, T: TargetBrand<F>, L: Ledger, G, R: Wait> C
         ahead
     }
 
-    /// Reads the pages above a sequence, so many at most, stores them at the target, one behind the other while its lock is
-    /// held once, and sends them. What is stored is sent, also where the next one is refused. The answer is where the last
-    /// one ends, and the number of the next one.
+    /// Reads at most `most` pages above a sequence, stores them at the target under one lock, and sends them. Stored
+    /// pages are sent even if the next one fails. Returns the end of the last page, and the next number.
     pub fn read_some(
         &self,
         windows: &mut WindowPass<S>,
@@ -225,8 +224,8 @@ impl<F: WriteFilter, S: SourceBrand, T: TargetBrand<F>, L: Ledger, G, R: Wait> C
         }
     }
 
-    /// Reads windows from a start, stores each at the target and sends it, until none is due: one, then two, and so on up
-    /// to eight at a time.
+    /// Reads windows from a start until no other is due; stores each at the target and sends it. Reads one, then two,
+    /// and so on up to eight at a time.
     pub fn read_windows(&self, start: u64, windows: &mut WindowPass<S>) -> Option<Halt>
         requires source { S.source ≡ self.now.source.now.1.db }
         requires plan { S.plan ≡ self.now.plan.now }

@@ -1,4 +1,4 @@
-//! What lies under the lock: the target, and a ledger of what its session has read.
+//! The state behind the lock: the target, and a ledger of what its session has read.
 ghost use Rattle.std.specs.Prelude.{◌≡◌, ℕ, ◌+◌, ◌<◌, ◌≤◌, true, length, Option, Some, None, is_some, IfSome, IfOk, IfErr, OnOk, OnErr};
 ghost use Rattle.std.specs.Coded.{coded×};
 ghost use Rattle.rev_tree.specs.declared.origin.SessionId.{SessionId};
@@ -23,10 +23,10 @@ use std::alloc::{AllocError, Global};
 use std::marker::{Model, PhantomData};
 use std::sync::ledger::{Book, Ledger, Share};
 
-/// The target of a run: the given one after calls whose messages are what the source answers. The ledger is what the
-/// run's session has read, and so many windows more may be stored in it; as many as come, where the plan sets no limit.
-/// Each method is the call of the same name on the target, for that session, `append` while the plan allows another
-/// window, and `settle_counted` is `settle` with its documents added to a share of the ledger.
+/// The target of a run: the given one, after calls whose messages come from the source. The ledger is what the run's
+/// session has read. `more` is the number of windows that may still be stored; there is no limit if the plan sets none.
+/// Each method is the call of the same name on the target, for the run's session; `append` also checks that the plan
+/// allows another window, and `settle_counted` is `settle` with its documents added to a share of the ledger.
 #[derive(Drop)]
 pub struct RunTarget<F: WriteFilter, S: SourceBrand, T: TargetBrand<F>, L: Ledger> {
     target: Peer<F>,
@@ -48,7 +48,7 @@ impl<F: WriteFilter, S: SourceBrand, T: TargetBrand<F>, L: Ledger> Model for Run
         t.target };
 }
 
-/// One window less, where another may come.
+/// Subtracts one from the number of windows that may still come.
 fn one_less(more: Option<u64>) -> Option<u64>
     requires { has_left more 0 ≡ true }
     ensures { IsOneLess more result }
@@ -59,7 +59,7 @@ fn one_less(more: Option<u64>) -> Option<u64>
     }
 }
 
-/// How many documents of a parcel of so many a settling has taken.
+/// Returns the number of documents that a settling of a parcel has consumed.
 pub fn taken_of(answer: &Result<Settled, TargetFault>, documents: u64) -> u64
     ensures { result ≡ taken answer.now documents }
 {
@@ -72,7 +72,7 @@ pub fn taken_of(answer: &Result<Settled, TargetFault>, documents: u64) -> u64
 }
 
 impl<F: WriteFilter, S: SourceBrand, T: TargetBrand<F>, L: Ledger> RunTarget<F, S, T, L> {
-    /// The given target, where nothing was read in its session, and as many windows may come as the plan allows.
+    /// Wraps the given target, in whose session nothing was read, with the number of windows that the plan allows.
     pub fn open(
         target: Peer<F>,
         session: SessionId,
@@ -96,8 +96,8 @@ impl<F: WriteFilter, S: SourceBrand, T: TargetBrand<F>, L: Ledger> RunTarget<F, 
         }
     }
 
-    /// Stores a page of the source in the run's session: `Peer::append_prepared`. `None` exactly where the plan allows no
-    /// further window; then nothing is stored.
+    /// Stores a page of the source in the run's session: `Peer::append_prepared`. Returns `None`, and stores nothing,
+    /// exactly if the plan allows no further window.
     pub fn append(&mut self, page: Paged<S>) -> Option<Result<(), TargetFault>>
         ensures filter { self.new.0 ≡ self.old.0 }
         ensures left { IfSome T.given (λ g. LetsStore S.plan g.1 (is_some result) self.old.1.sessions) }
@@ -123,14 +123,14 @@ impl<F: WriteFilter, S: SourceBrand, T: TargetBrand<F>, L: Ledger> RunTarget<F, 
         }
     }
 
-    /// What the target misses of a page.
+    /// Returns what the target lacks of a page.
     pub fn diff(&self, alloc: Global, page: &Paged<S>) -> Result<Asked, AllocError>
         ensures asked { IfOk result (λ asked. asked ≡ revs_diff self.now.1.db page.now) }
     {
         self.target.revs_diff(alloc, page.window())
     }
 
-    /// Settles what the source answers: `Peer::settle_into`. The share grows by the documents that this has taken.
+    /// Settles what the source has sent: `Peer::settle_into`. Adds the consumed documents to the share.
     pub fn settle_counted(
         &mut self,
         share: &mut Share<L>,
@@ -155,7 +155,7 @@ impl<F: WriteFilter, S: SourceBrand, T: TargetBrand<F>, L: Ledger> RunTarget<F, 
         result
     }
 
-    /// Records what is done: `Peer::record`.
+    /// Records the low water: `Peer::record`.
     pub fn record(&mut self, at: Moment) -> Result<u64, TargetFault>
         ensures filter { self.new.0 ≡ self.old.0 }
         ensures answer { IfSome T.given (λ g. result ≡ record_answer self.old.1 g.1) }
@@ -165,7 +165,7 @@ impl<F: WriteFilter, S: SourceBrand, T: TargetBrand<F>, L: Ledger> RunTarget<F, 
         self.target.record(self.session, at)
     }
 
-    /// Gives the target back, where all shares are gathered: what the run's session has read is their amount.
+    /// Returns the target, when all shares are collected: their total is what the run's session has read.
     pub fn close(self, all: &mut Share<L>) -> Peer<F>
         requires { all.old.parts ≡ L.parts }
         ensures { (session : SessionId) × (more : Option ℕ)
@@ -183,7 +183,7 @@ impl<F: WriteFilter, S: SourceBrand, T: TargetBrand<F>, L: Ledger> RunTarget<F, 
         target
     }
 
-    /// Gives the target back.
+    /// Returns the target.
     pub fn give_back(self) -> Peer<F>
         ensures { (session : SessionId) × (total : ℕ) × (more : Option ℕ)
             × TargetKeeps F.refuses S.source S.plan T.given session total more result }

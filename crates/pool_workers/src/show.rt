@@ -1,11 +1,11 @@
-//! What a writer shows on a board: at its own seat, where it has one. No lock is taken for it.
+//! Showing a writer's progress on a board, at its own seat, if it has one. Takes no lock.
 ghost use Rattle.std.specs.Prelude.{◌≡◌, ◌+◌, ◌≤◌, ◌++◌, length, IfErr, OnOk, OnErr, vec_len, vec_capacity, option_copied, option_to_list};
 ghost use Rattle.pool_workers.specs.Boards.{MayFill, IsSeated, IsFullFor, HasRead, HasRoom, HasSettled};
 
 use crate::fault::Halt;
 use progress_board::{Board, BoardSeat};
 
-/// Shows so many documents more as read. `BoardFull` where the worker's count would pass 9,007,199,254,740,991.
+/// Shows documents as read. Returns `BoardFull` if the worker's counter would exceed 9,007,199,254,740,991.
 pub fn show_read(
     board: Option<&Board>,
     seat: &mut Option<BoardSeat>,
@@ -30,7 +30,7 @@ pub fn show_read(
     }
 }
 
-/// Shows so many documents more as settled; they were shown as read.
+/// Shows documents as settled, which were shown as read before.
 pub fn show_settled(board: Option<&Board>, seat: &mut Option<BoardSeat>, documents: u64)
     requires seat { IsSeated (option_copied board) seat.old }
     requires room { HasRoom (option_copied board) documents seat.old }
@@ -45,7 +45,7 @@ pub fn show_settled(board: Option<&Board>, seat: &mut Option<BoardSeat>, documen
     let _ = board.add_settled(seat, documents);
 }
 
-/// Gives a seat back, where there is one.
+/// Returns a seat to the list, if there is one.
 pub fn give_back(seats: &mut Vec<BoardSeat>, seat: Option<BoardSeat>)
     requires { vec_len seats.old + length (option_to_list seat) ≤ vec_capacity seats.old }
     ensures items { seats.new.items ≡ seats.old.items ++ option_to_list seat }

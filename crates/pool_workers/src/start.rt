@@ -23,10 +23,10 @@ use std::sync::Wait;
 use std::sync::ledger::{Ledger, Share};
 use std::thread::{PromisedHandle, Scope};
 
-/// A fetcher that was started.
+/// A started fetcher.
 pub type FetcherHandle<'e, S, G> = PromisedHandle<Fetcher<S>, FetcherPromise<'e, S, G>>;
 
-/// A writer that was started.
+/// A started writer.
 pub type WriterHandle<'e, S, L, G> = PromisedHandle<Writer<S, L>, WriterPromise<'e, S, G>>;
 
 impl<
@@ -38,7 +38,7 @@ impl<
     G: Gate + Sync,
     R: Wait + Sync,
 > Context<'e, F, S, T, L, G, R> {
-    /// Cuts a pass of each channel off, and starts a fetcher with them.
+    /// Splits a pass of each channel off, and starts a fetcher with them.
     fn spawn_fetcher<'s, E>(
         &'e self,
         scope: &Scope<'s, E>,
@@ -67,7 +67,7 @@ impl<
         self.start_fetcher(scope, window_pass, parcel_pass)
     }
 
-    /// Starts the fetchers. There are fewer than asked for where no thread can be made or memory runs out.
+    /// Starts the fetchers. Starts fewer than requested if a thread cannot be created or an allocation fails.
     pub fn start_fetchers<'s, E>(
         &'e self,
         scope: &Scope<'s, E>,
@@ -109,8 +109,8 @@ impl<
         started
     }
 
-    /// Cuts a pass and a part of the ledger off, takes the last seat, and starts a writer with them: `start_writer`.
-    /// There are so many others. `None` where no thread can be made; then its seat is back.
+    /// Splits off a pass and a part of the ledger, takes the last seat, and starts a writer with them: `start_writer`.
+    /// There are `others` other writers. Returns `None` if a thread cannot be created; the seat is then returned.
     fn spawn_writer<'s, E>(
         &'e self,
         scope: &Scope<'s, E>,
@@ -155,8 +155,8 @@ impl<
         }
     }
 
-    /// Starts the writers, each with a seat where there is a board, the first with the last. There are fewer than asked
-    /// for where no thread can be made or memory runs out; then they are told the end of the parcels.
+    /// Starts the writers; if there is a board, each gets a seat, the first writer the last one. Starts fewer than
+    /// requested if a thread cannot be created or an allocation fails; those are then sent the end of the parcels.
     pub fn start_writers<'s, E>(
         &'e self,
         scope: &Scope<'s, E>,

@@ -25,8 +25,8 @@ use std::sync::ledger::{Ledger, Share};
 use std::thread;
 use std::thread::{Scope, Threads};
 
-/// What the caller's thread owns before the workers start: room for a count of each fetcher, all parts of what is known
-/// of both channels, the whole share of the ledger, and the seats at the board.
+/// What the caller's thread owns before the workers start: capacity for a count of each fetcher, all parts of what is
+/// known about both channels, the complete share of the ledger, and the seats of the board.
 #[derive(Drop)]
 pub struct Owned<S: SourceBrand, L: Ledger> {
     pub counts: Vec<u64>,
@@ -36,8 +36,8 @@ pub struct Owned<S: SourceBrand, L: Ledger> {
     pub seats: Vec<BoardSeat>,
 }
 
-/// What the caller's thread has once all workers have ended: all parts of what was known of both channels, the whole
-/// share of the ledger, why the reading ended early, and what the two crews did.
+/// What the caller's thread has after all workers have ended: all parts of what was known about both channels, the
+/// complete share of the ledger, why reading ended early, and what both groups did.
 #[derive(Drop)]
 pub struct Ended<S: SourceBrand, L: Ledger> {
     pub windows: WindowPass<S>,
@@ -57,8 +57,8 @@ impl<
     G: Gate + Sync,
     R: Threads + Wait + Sync,
 > Context<'e, F, S, T, L, G, R> {
-    /// Starts the fetchers, reads the windows, and joins the fetchers: why the reading ended early, and what they did.
-    /// `None` where a thread can't be made; then no window is read, and the writers are told the end.
+    /// Starts the fetchers, reads the windows, and joins the fetchers. Returns why reading ended early, and what the
+    /// fetchers did; `None` if a thread cannot be created. Then no window is read, and the writers are sent the end.
     fn fetch_in_scope<'s, E>(
         &'e self,
         scope: &Scope<'s, E>,
@@ -101,8 +101,8 @@ impl<
         Some((read, fetched))
     }
 
-    /// Runs the workers beside the reading of the windows, and gives the seats back. `None` where a thread can't be
-    /// made; then no window is read.
+    /// Runs the workers while the windows are read, and returns the seats. Returns `None` if a thread cannot be
+    /// created; then no window is read.
     fn in_scope<'s, E>(
         &'e self,
         scope: &Scope<'s, E>,
@@ -155,8 +155,8 @@ impl<
         (Some(ended), seats)
     }
 
-    /// Runs the workers in a scope of their own: `in_scope`. Where the gate holds nobody they are pairs, `pairs_in_scope`, and
-    /// a crew of one works on the caller's thread, `in_turn`.
+    /// Runs the workers in their own scope: `in_scope`. If the gate never blocks, they are pairs (`pairs_in_scope`),
+    /// and a single pair runs on the caller's thread (`in_turn`).
     pub fn with_workers(
         &'e self,
         workers: usize,

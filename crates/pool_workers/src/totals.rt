@@ -1,4 +1,4 @@
-//! What a run has done, once its workers have ended.
+//! The combined effect of a run, after its workers have ended.
 ghost use Rattle.std.specs.Prelude.{◌≡◌, ℕ, ◌≤◌, true, Option, Some, None, IfSome, length, sum, option_copied};
 ghost use Rattle.rev_tree.specs.declared.origin.SessionId.{SessionId};
 ghost use Rattle.crossbeam_channel.specs.Claims.{view, IsSeatAt};
@@ -25,8 +25,8 @@ use repl_target::{Peer, WriteFilter};
 use std::alloc::Global;
 use std::sync::ledger::Ledger;
 
-/// The target, how many documents each fetcher fetched, the seats at the board, the fault of a step, and whether as
-/// many parcels were got as sent.
+/// The target, the number of documents that each fetcher fetched, the seats of the board, the error of a step, and
+/// whether as many parcels were received as sent.
 #[derive(Drop)]
 pub struct Summed<F: WriteFilter> {
     pub target: Peer<F>,
@@ -36,7 +36,7 @@ pub struct Summed<F: WriteFilter> {
     pub complete: bool,
 }
 
-/// What the workers did, where they were started.
+/// Combines what the workers did, if they were started.
 pub fn collect<F: WriteFilter, S: SourceBrand, T: TargetBrand<F>, L: Ledger, G: Gate>(
     alloc: Global,
     channels: &Channels<S>,
@@ -73,7 +73,7 @@ pub fn collect<F: WriteFilter, S: SourceBrand, T: TargetBrand<F>, L: Ledger, G: 
     }
 }
 
-/// What the workers did: the target out of the lock, and whether as many parcels were got as sent.
+/// Combines what the workers did: the target without its lock, and whether as many parcels were received as sent.
 fn sum_up<F: WriteFilter, S: SourceBrand, T: TargetBrand<F>, L: Ledger, G: Gate>(
     channels: &Channels<S>,
     gate: &G,
@@ -127,9 +127,9 @@ fn sum_up<F: WriteFilter, S: SourceBrand, T: TargetBrand<F>, L: Ledger, G: Gate>
     }
 }
 
-/// Each window was taken by one fetcher, and each parcel got by one writer, at most; where as many were got as sent,
-/// these are the same, each number with its documents, however they are weighed. The passes learn it of both channels
-/// once they are whole.
+/// Gives proofs the facts that each window was taken by at most one fetcher, and each parcel received by at most one
+/// writer; and that if as many were received as sent, these are the same, each number with its documents. The passes
+/// have these facts once they have all parts.
 fn each_once<S: SourceBrand, L: Ledger>(channels: &Channels<S>, ended: &mut Ended<S, L>)
     requires window_seat { IsSeatAt (sends_on channels.now.to_fetchers) ended.old.windows }
     requires parcel_seat { IsSeatAt (sends_on channels.now.to_writers) ended.old.parcels }

@@ -1,8 +1,8 @@
-//! A fetcher and a writer in one thread, in turn; and a crew of one, whose thread reads the windows as well.
+//! A fetcher and a writer on one thread, in turn; and a single pair, whose thread also reads the windows.
 //!
-//! With one fetcher and one writer no two documents are settled side by side, and what one processor has read is cold for
-//! another. So no thread is started for them: the caller's thread takes each window through both channels before it reads
-//! the next one.
+//! With one fetcher and one writer, no two documents are settled at the same time, and data read by one processor is
+//! not in the cache of another. Therefore no thread is started: the caller's thread takes each window through both
+//! channels before it reads the next one.
 ghost use Rattle.std.specs.Prelude.{◌≡◌, ℕ, ◌+◌, ◌-◌, ◌<◌, ◌++◌, [], true, Option, None, Some, IfSome, option_copied, option_to_list, vec_capacity};
 ghost use Rattle.crossbeam_channel.specs.Claims.{view, IsSeatAt};
 ghost use Rattle.crossbeam_channel.specs.Ends.{sends_on};
@@ -30,7 +30,7 @@ use repl_target::{WriteFilter, has_left};
 use std::sync::Wait;
 use std::sync::ledger::{Ledger, Share};
 
-/// A fetcher and a writer that one thread is in turn.
+/// A fetcher and a writer that run on one thread in turn.
 #[derive(Drop)]
 pub struct Pair<S: SourceBrand, L: Ledger> {
     pub fetcher: Fetcher<S>,
@@ -46,7 +46,7 @@ impl<F: WriteFilter, S: SourceBrand, T: TargetBrand<F>, L: Ledger, G: Gate, R: W
     G,
     R,
 > {
-    /// Cuts a pass of each channel off, for a fetcher of this thread.
+    /// Splits a pass of each channel off, for a fetcher on this thread.
     pub fn fetcher_here(
         &self,
         windows: &mut WindowPass<S>,
@@ -73,7 +73,7 @@ impl<F: WriteFilter, S: SourceBrand, T: TargetBrand<F>, L: Ledger, G: Gate, R: W
         Fetcher::new(its_windows, its_parcels)
     }
 
-    /// Cuts a pass and the part of the ledger off, and takes a seat, where there is a board, for a writer of this thread.
+    /// Splits off a pass and the part of the ledger, and takes a seat if there is a board, for a writer on this thread.
     pub fn writer_here(
         &self,
         parcels: &mut ParcelPass<S>,
@@ -105,7 +105,7 @@ impl<F: WriteFilter, S: SourceBrand, T: TargetBrand<F>, L: Ledger, G: Gate, R: W
         Writer::new(its_parcels, share, seats.pop())
     }
 
-    /// Fetches a window, and settles a parcel, where one was sent for it. False at the end of the windows.
+    /// Fetches a window, and settles a parcel if one was sent. Returns false at the end of the windows.
     fn take_turn(&self, pair: &mut Pair<S, L>) -> bool
         requires source { S.source ≡ self.now.source.now.1.db }
         requires stand { StandBy self.now.channels.now (option_copied self.now.board) (G.may_stop self.now.gate.now)
@@ -123,7 +123,7 @@ impl<F: WriteFilter, S: SourceBrand, T: TargetBrand<F>, L: Ledger, G: Gate, R: W
         more
     }
 
-    /// Takes windows until their end, each in a turn.
+    /// Processes windows until their end, each in one turn.
     pub fn take_turns(&self, pair: Pair<S, L>) -> Pair<S, L>
         requires source { S.source ≡ self.now.source.now.1.db }
         requires stand { StandBy self.now.channels.now (option_copied self.now.board) (G.may_stop self.now.gate.now)
@@ -142,7 +142,7 @@ impl<F: WriteFilter, S: SourceBrand, T: TargetBrand<F>, L: Ledger, G: Gate, R: W
         pair
     }
 
-    /// Reads windows from a start, stores each at the target and takes it through both channels, until none is due.
+    /// Reads windows from a start until no other is due; stores each at the target, and takes it through both channels.
     fn read_in_turn(
         &self,
         start: u64,
@@ -182,7 +182,7 @@ impl<F: WriteFilter, S: SourceBrand, T: TargetBrand<F>, L: Ledger, G: Gate, R: W
         None
     }
 
-    /// Runs a crew of one beside nothing, and gives the seats back.
+    /// Runs a single pair on this thread, and returns the seats.
     pub fn in_turn(&self, start: u64, owned: Owned<S, L>) -> (Ended<S, L>, Vec<BoardSeat>)
         requires source { S.source ≡ self.now.source.now.1.db }
         requires plan { S.plan ≡ self.now.plan.now }

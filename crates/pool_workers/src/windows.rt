@@ -1,22 +1,22 @@
-//! The channel of windows: its messages, what each thread knows of it, and its rule.
+//! The channel of windows: its messages, what each thread knows about it, and its rule.
 use crate::brands::SourceBrand;
 use crate::messages::Paged;
 use crossbeam_channel::protocol::{Join, Lesson, Outcome, Protocol, Split};
 use crossbeam_channel::{Pass, RuledReceiver, RuledSender};
 use std::collections::LinkedList;
 
-/// What the page reader tells a fetcher.
+/// A message from the page reader to a fetcher.
 #[derive(Drop)]
 pub enum WindowMessage<S: SourceBrand> {
-    /// The next window, by its number.
+    /// The next window, with its number.
     Window { number: u64, page: Paged<S> },
-    /// No further window comes.
+    /// The end of the windows.
     End,
 }
 
-/// What a thread knows of the channel: its parts of the right to know the whole, of 1,024; whether it is the page
-/// reader's (1, else 0), and then how many windows it has sent; the numbers of the windows that it has taken. No value
-/// of it is made.
+/// What a thread knows about the channel: its parts (of 1,024) of the right to know everything; 1 if it is the page
+/// reader's, else 0; how many windows the page reader has sent; and the numbers of the windows that it has taken.
+/// Values of this type never exist at run time.
 pub struct WindowView {
     pub parts: u64,
     pub reads: u64,
@@ -24,7 +24,7 @@ pub struct WindowView {
     pub taken: LinkedList<u64>,
 }
 
-/// The rule: what is queued and what was taken are, without repeats, the numbers below the reader's count.
+/// The rule: what is queued and what was taken are the numbers below the reader's count, without repeats.
 pub struct InTurn;
 
 impl<S: SourceBrand> Protocol<WindowMessage<S>, WindowView> for InTurn {
@@ -36,7 +36,7 @@ impl<S: SourceBrand> Protocol<WindowMessage<S>, WindowView> for InTurn {
     ghost first = { window_view 1024 1 0 [] };
 }
 
-/// How a pass is cut off for a fetcher, and put back.
+/// Splitting a pass off for a fetcher, and returning it.
 pub struct WindowCut;
 
 impl Split<WindowView> for WindowCut {
@@ -86,7 +86,7 @@ impl<S: SourceBrand> Lesson<WindowMessage<S>, WindowView> for Takes {
     ghost fact = { λ _ _. Unit {0} };
 }
 
-/// What the pass with every part learns.
+/// What the pass with all parts knows.
 pub struct AllTaken;
 
 impl<S: SourceBrand> Lesson<WindowMessage<S>, WindowView> for AllTaken {
@@ -95,11 +95,11 @@ impl<S: SourceBrand> Lesson<WindowMessage<S>, WindowView> for AllTaken {
     ghost fact = { Covers };
 }
 
-/// What a thread knows of the channel of windows.
+/// What a thread knows about the channel of windows.
 pub type WindowPass<S> = Pass<WindowMessage<S>, WindowView>;
 
-/// Its sending end.
+/// The sending end.
 pub type WindowSender<S> = RuledSender<WindowMessage<S>, WindowView, InTurn>;
 
-/// Its receiving end.
+/// The receiving end.
 pub type WindowReceiver<S> = RuledReceiver<WindowMessage<S>, WindowView, InTurn>;

@@ -1,4 +1,4 @@
-//! What one writer does.
+//! The steps of a writer.
 ghost use Rattle.std.specs.Prelude.{◌≡◌, ◌+◌, ◌-◌, ◌^◌, ◌<◌, [], ◌∷◌, length, IfSome, IfErr, OnOk, Option, None, option_copied};
 ghost use Rattle.crossbeam_channel.specs.Claims.{view, IsSeatAt};
 ghost use Rattle.crossbeam_channel.specs.Ends.{receives_on};
@@ -24,8 +24,8 @@ use rev_tree::SessionId;
 use std::sync::Wait;
 use std::sync::ledger::{Ledger, Share};
 
-/// A writer: what it knows of the channel of parcels, its share of the ledger, its count of the parcels that it
-/// settled, its seat at the board, where there is one, and why it was stopped.
+/// A writer: what it knows about the channel of parcels, its share of the ledger, the number of parcels that it
+/// settled, its seat of the board (if there is one), and why it stopped.
 #[derive(Drop)]
 pub struct Writer<S: SourceBrand, L: Ledger> {
     pub parcels: ParcelPass<S>,
@@ -36,7 +36,7 @@ pub struct Writer<S: SourceBrand, L: Ledger> {
 }
 
 impl<S: SourceBrand, L: Ledger> Writer<S, L> {
-    /// A writer that has got no parcel.
+    /// Creates a writer that has received no parcel.
     pub fn new(parcels: ParcelPass<S>, share: Share<L>, seat: Option<BoardSeat>) -> Writer<S, L>
         requires parcels { view parcels ≡ parcel_view 1 [] [] }
         requires share { (share.parts ≡ 1) × (share.amount ≡ 0) }
@@ -65,7 +65,7 @@ impl<F: WriteFilter, S: SourceBrand, T: TargetBrand<F>, L: Ledger, G: Gate, R: W
     G,
     R,
 > {
-    /// Settles a parcel, and shows the documents that this counted as settled.
+    /// Settles a parcel, and shows the counted documents as settled.
     fn settle_and_show(
         &self,
         share: &mut Share<L>,
@@ -93,7 +93,7 @@ impl<F: WriteFilter, S: SourceBrand, T: TargetBrand<F>, L: Ledger, G: Gate, R: W
         }
     }
 
-    /// Records, and lets the lock go: what the session has recorded.
+    /// Records at the target, and releases the lock. Returns the recorded sequence.
     fn record(&self) -> Result<u64, Halt>
         ensures { IfErr result (λ halt. (fault : TargetFault) × (halt ≡ Halt.Refused fault) × IsStepFault fault) }
     {
@@ -103,7 +103,7 @@ impl<F: WriteFilter, S: SourceBrand, T: TargetBrand<F>, L: Ledger, G: Gate, R: W
         }
     }
 
-    /// Settles a parcel and records, unless the gate stops the writer or a call is refused. Its documents are shown as
+    /// Settles a parcel and records. Stops if the gate stops the writer or a call fails. The documents are shown as
     /// read before, and those that were settled as settled before the gate is asked.
     fn settle_and_record(
         &self,
@@ -126,14 +126,14 @@ impl<F: WriteFilter, S: SourceBrand, T: TargetBrand<F>, L: Ledger, G: Gate, R: W
         show_read(self.board, seat, documents)?;
         self.settle_and_show(share, seat, fetched, &mut spent)?;
         pass(self.rt, self.gate, Place::Settled(number))?;
-        // The lock is mostly still free: a writer that was waiting for it takes a while to come.
+        // The lock is usually still free: a waiting writer takes a while to wake up.
         let recorded = self.record()?;
         drop(spent);
         pass(self.rt, self.gate, Place::Recorded(number, recorded))
     }
 
-    /// The session for which a parcel is made ready before the lock is taken. None where one thread does all: nobody waits
-    /// for its lock, and what is made where it is put stays in the processor's cache.
+    /// Returns the session for which a parcel is prepared before the lock is taken. `None` if one thread does
+    /// everything: nobody waits for its lock, and data built where it is stored stays in the processor's cache.
     fn session_ahead(&self) -> Option<SessionId> {
         if self.workers > 1 {
             Some(self.plan.session)
@@ -142,7 +142,7 @@ impl<F: WriteFilter, S: SourceBrand, T: TargetBrand<F>, L: Ledger, G: Gate, R: W
         }
     }
 
-    /// Reads a parcel at the source, makes its documents ready before the lock is taken, where several writers settle,
+    /// Reads a parcel at the source, prepares its documents before the lock is taken (if several writers settle),
     /// settles it and records: `settle_and_record`.
     fn read_and_settle(
         &self,
@@ -161,7 +161,7 @@ impl<F: WriteFilter, S: SourceBrand, T: TargetBrand<F>, L: Ledger, G: Gate, R: W
         ensures shows { HasWritten (option_copied self.now.board) share.old.amount share.new.amount (halt_in result)
             seat.old seat.new }
     {
-        // The rows live as long: else they are let go of under the lock.
+        // The page must live as long; otherwise its rows are dropped under the lock.
         let page = found.page(self.alloc)?;
         let fetched = found.fetch(self.alloc, self.source, self.session_ahead())?;
         let settled = self.settle_and_record(share, seat, number, fetched);
@@ -169,8 +169,8 @@ impl<F: WriteFilter, S: SourceBrand, T: TargetBrand<F>, L: Ledger, G: Gate, R: W
         settled
     }
 
-    /// Settles the parcel that a writer got last, and counts it, or keeps why it halts. `CountFull` only where its count
-    /// is full, `BoardFull` only where the word of its seat would pass its limit.
+    /// Settles the parcel that the writer received last and counts it, or stores why it halts. `CountFull` only if its
+    /// count is full, `BoardFull` only if its counter on the board would exceed its maximum.
     fn write(&self, writer: &mut Writer<S, L>, number: u64, found: Found<S>)
         requires source { S.source ≡ self.now.source.now.1.db }
         requires knows { WriterKnows ((number, length found.docs) ∷ []) writer.old × (writer.old.stopped ≡ None) }
@@ -195,7 +195,7 @@ impl<F: WriteFilter, S: SourceBrand, T: TargetBrand<F>, L: Ledger, G: Gate, R: W
         }
     }
 
-    /// Takes one message. False at the end of the parcels.
+    /// Receives one message. Returns false at the end of the parcels.
     pub fn take_parcel(&self, writer: &mut Writer<S, L>) -> bool
         requires source { S.source ≡ self.now.source.now.1.db }
         requires seat { IsSeatAt (receives_on self.now.channels.now.from_fetchers) writer.old.parcels }
@@ -227,7 +227,7 @@ impl<F: WriteFilter, S: SourceBrand, T: TargetBrand<F>, L: Ledger, G: Gate, R: W
         }
     }
 
-    /// Takes parcels until their end, and settles them.
+    /// Receives parcels until their end, and settles them.
     pub fn write_all(
         &self,
         parcels: ParcelPass<S>,

@@ -8,7 +8,7 @@ use Rattle.atomic_table.specs.Table.{State, Me, Allows, Splits, keeps}
 use Rattle.atomic_table.proofs.Lists.{at_set, set_again}
 use Rattle.progress_board.specs.{SeatView, seat_view, dealer, dealt, hired, viewer, added_read, added_settled, SeesRead, SeesSettled, Fits, InOrder, Kept}
 
--- what a list holds after one write
+-- the elements of a list after one write
 pub at_write : (xs : List ℕ) (i n q : ℕ) (P : ℕ → Type 0) → i < length xs → (q ≡ i → P n) → (q ≢ i → P (get_or xs q 0)) → P (get_or (set xs i n) q 0)
 at_write xs i n q P lt here other =
     dite (ℕ_discrete q i) (λ e. subst P (sym (ap (λ z. get_or (set xs i n) z 0) e ∙ get_or-set_same xs i n 0 lt)) (here e))
@@ -22,7 +22,7 @@ write_same (x ∷ xs) (suc i) = ap (λ l. x ∷ l) (write_same xs i)
 grown : (xs : List ℕ) (i n j : ℕ) → i < length xs → get_or xs i 0 ≤ n → get_or xs j 0 ≤ get_or (set xs i n) j 0
 grown xs i n j lt le = at_write xs i n j (λ y. get_or xs j 0 ≤ y) lt (λ e. let s : get_or xs j 0 ≡ get_or xs i 0 = ap (λ z. get_or xs z 0) e in omega arith) (λ ne. omega arith)
 
--- the view before a step of the seat at a place
+-- the view of the seat before its step
 record Was (views : List SeatView) (a : ℕ) (u : SeatView) : Type 0 where
   seat : SeatView
   at : get_elem? views a ≡ some seat
@@ -66,7 +66,7 @@ kept_step k id words words' views v w kept here size order mine others works dea
           kept.one a b o.seat p.seat o.at p.at (o.deals ∙ du) (p.deals ∙ dy);
     }
 
--- a worker writes a word of its own, which grows: what the other seats know is as true
+-- a worker's own counter grows: what the other seats know stays true
 others : (k id p x : ℕ) (words : List ℕ) (views : List SeatView) (v : SeatView) → v.works ≡ true → Kept k words views → get_elem? views id ≡ some v → p < length words → get_or words p 0 ≤ x
     → ((j : ℕ) → j < k → j ≢ v.number → (j ≢ p) × (k + j ≢ p)) → (a : ℕ) (u : SeatView) → a ≢ id → get_elem? views a ≡ some u → Fits k (set words p x) u
 others k id p x words views v works kept here lt more away a u ne at =
@@ -90,7 +90,7 @@ others k id p x words views v works kept here lt more away a u ne at =
           (h.0, λ j from b. let s = same j b (λ e. omega arith) in (s.0 ∙ (h.1 j from b).0, s.1 ∙ (h.1 j from b).1));
     }
 
--- a worker adds to what it has read
+-- a worker adds to its read counter
 pub adds_read : (k id n : ℕ) (words : List ℕ) (views : List SeatView) (v : SeatView) → v.works ≡ true → get_or v.reads v.number 0 + n ≤ 9007199254740991 → Kept k words views → get_elem? views id ≡ some v
     → Kept k (set words v.number (get_or words v.number 0 + n)) (set views id (added_read v n))
 adds_read k id n words views v works most kept here =
@@ -131,7 +131,7 @@ adds_read k id n words views v works most kept here =
     (others k id q x words views v works kept here lt (omega arith) (λ j b ne. (ne, λ e. omega arith)))
     refl refl (λ t. refl) (omega arith)
 
--- whatever the board is, a load of what i has read
+-- a load of i's read counter, for any board
 pub load_read : {S : Type 0} (k slots id i : ℕ) (me : Me S SeatView) → i < k
     → Allows (λ (s : State S SeatView). Kept k s.words s.views) slots id me i (λ n. n) (λ n w. SeesRead me.0 i n w.0 × (w.1 ≡ me.1))
 load_read k slots id i me low s kept homes here small =
@@ -156,7 +156,7 @@ load_read k slots id i me low s kept homes here small =
       ((refl, f.read_bound i low, (kept.order i low).1, λ works own. let o = (f.own works).1 in ap (λ z. get_or s.words z 0) (sym own) ∙ sym o ∙ ap (λ z. get_or v.reads z 0) own), refl),
     )
 
--- whatever the board is, a load of what i has settled
+-- a load of i's settled counter, for any board
 pub load_settled : {S : Type 0} (k slots id i : ℕ) (me : Me S SeatView) → i < k
     → Allows (λ (s : State S SeatView). Kept k s.words s.views) slots id me (k + i) (λ n. n) (λ n w. SeesSettled me.0 i n w.0 × (w.1 ≡ me.1))
 load_settled k slots id i me low s kept homes here small =
@@ -194,7 +194,7 @@ load_settled k slots id i me low s kept homes here small =
       ((refl, f.settle_bound i low, most, λ works own. let o = (f.own works).2 in ap (λ z. get_or s.words (k + z) 0) (sym own) ∙ sym o ∙ ap (λ z. get_or v.settles z 0) own), refl),
     )
 
--- whatever the board is, a worker's addition to what it has read
+-- a worker's addition to its read counter, for any board
 pub add_read : {S : Type 0} (k slots id n : ℕ) (me : Me S SeatView) → me.0.works ≡ true → get_or me.0.reads me.0.number 0 + n ≤ 9007199254740991
     → Allows (λ (s : State S SeatView). Kept k s.words s.views) slots id me me.0.number (λ m. (m + n) % 2 ^ 64) (λ m w. (w.0 ≡ added_read me.0 n) × (w.1 ≡ me.1))
 add_read k slots id n me works most s kept homes here small =
@@ -208,7 +208,7 @@ add_read k slots id n me works most s kept homes here small =
       (refl, refl),
     )
 
--- a worker adds to what it has settled
+-- a worker adds to its settled counter
 pub adds_settled : (k id n : ℕ) (words : List ℕ) (views : List SeatView) (v : SeatView) → v.works ≡ true → get_or v.settles v.number 0 + n ≤ get_or v.reads v.number 0 → Kept k words views → get_elem? views id ≡ some v
     → Kept k (set words (k + v.number) (get_or words (k + v.number) 0 + n)) (set views id (added_settled v n))
 adds_settled k id n words views v works most kept here =
@@ -250,7 +250,7 @@ adds_settled k id n words views v works most kept here =
     (others k id (k + q) x words views v works kept here lt (omega arith) (λ j b ne. ((λ e. omega arith), λ e. ne (omega arith))))
     refl refl (λ t. refl) (omega arith)
 
--- whatever the board is, a worker's addition to what it has settled
+-- a worker's addition to its settled counter, for any board
 pub add_settled : {S : Type 0} (k slots id n : ℕ) (me : Me S SeatView) → me.0.works ≡ true → get_or me.0.settles me.0.number 0 + n ≤ get_or me.0.reads me.0.number 0
     → Allows (λ (s : State S SeatView). Kept k s.words s.views) slots id me (k + me.0.number) (λ m. (m + n) % 2 ^ 64) (λ m w. (w.0 ≡ added_settled me.0 n) × (w.1 ≡ me.1))
 add_settled k slots id n me works most s kept homes here small =
@@ -312,7 +312,7 @@ zeros zero j = refl
 zeros (suc k) zero = refl
 zeros (suc k) (suc j) = zeros k j
 
--- bounds of 0 are below all words
+-- bounds of 0 are at most the counters
 blank_bound : (k j x : ℕ) → get_or (replicate k 0) j 0 ≤ x
 blank_bound k j x = omega (arith, zeros k j)
 
@@ -335,7 +335,7 @@ splits_viewer k id v s kept here =
     (λ a u at wu wr. absurd (true≢false (sym wr)))
     (λ a u at du wr. absurd (true≢false (sym wr))))
 
--- the dealing seat goes on to the next number
+-- the creating seat advances to the next number
 kept_dealt : (k id : ℕ) (words : List ℕ) (views : List SeatView) (v : SeatView) → Kept k words views → get_elem? views id ≡ some v → v.deals ≡ true → Kept k words (set views id (dealt v))
 kept_dealt k id words views v kept here deals =
     let f = kept.fits id v here in
@@ -377,7 +377,7 @@ splits_worker k id v deals low s kept here =
     ⊎_elim (λ (h : (a ≡ id) × (w ≡ u)). subst (λ (y : SeatView). v.number < y.number) h.1 (omega arith))
     (λ (h : (a ≢ id) × (get_elem? s.views a ≡ some u)). absurd (h.0 (kept.one a id u v h.1 here du deals))) (at_set s.views id a w u at))
 
--- of two lists of one length, the greater at each place has the greater sum
+-- of two lists of the same length, the one with greater elements has the greater sum
 pub sum_le : (xs ys : List ℕ) → length xs ≡ length ys → ((j : ℕ) → get_or xs j 0 ≤ get_or ys j 0) → sum xs ≤ sum ys
 sum_le [] ys e h = omega arith
 sum_le (x ∷ xs) [] e h = absurd (omega arith)
@@ -388,7 +388,7 @@ sum_le (x ∷ xs) (y ∷ ys) e h =
     let b : sum (y ∷ ys) ≡ y + sum ys = sum_by-cons (λ (z : ℕ). z) y ys in
     omega arith
 
--- a new board, all of whose words are 0
+-- a new board, with all counters at 0
 pub kept_new : (k : ℕ) (words : List ℕ) → length words ≡ k + k → ((j : ℕ) → get_or words j 0 ≡ 0) → Kept k words (dealer k 0 ∷ [])
 kept_new k words size none =
     let v : SeatView = dealer k 0 in

@@ -1,4 +1,4 @@
--- The rule of the board's words, and what each step tells a seat: docs/PROFILE.md, "The progress board".
+-- The rule of the board's counters, and what each step shows a seat: docs/PROFILE.md, "The progress board".
 use Rattle.std.specs.Prelude.{◌≡◌, ◌+◌, ◌<◌, ◌≤◌, ℕ, Bool, true, false, List, length, max, replicate, slice_index, slice_set}
 use mathlib.Core.Option.{some}
 use lib.ListN.{get_elem?}
@@ -12,11 +12,11 @@ abbrev pub seat_view : Bool → Bool → ℕ → List ℕ → List ℕ → SeatV
 seat_view deals works number reads settles =
     record { deals = deals; works = works; number = number; reads = reads; settles = settles }
 
--- the seat that deals, of k workers, from the number n on
+-- the seat that creates the seats of k workers, from number n on
 abbrev pub dealer : ℕ → ℕ → SeatView
 dealer k n = seat_view true false n (replicate k 0) (replicate k 0)
 
--- the dealing seat after it dealt a worker
+-- the creating seat after it created a worker's seat
 abbrev pub dealt : SeatView → SeatView
 dealt v = seat_view v.deals v.works (v.number + 1) v.reads v.settles
 
@@ -28,7 +28,7 @@ hired v = seat_view false true v.number (replicate (length v.reads) 0) (replicat
 abbrev pub viewer : SeatView → SeatView
 viewer v = seat_view false false 0 (replicate (length v.reads) 0) (replicate (length v.reads) 0)
 
--- a worker's view after it added to what it has read, or settled
+-- a worker's view after it has added to its read, or its settled, counter
 abbrev pub added_read : SeatView → ℕ → SeatView
 added_read v n =
     seat_view v.deals v.works v.number (slice_set v.reads v.number (slice_index v.reads v.number + n)) v.settles
@@ -37,21 +37,22 @@ abbrev pub added_settled : SeatView → ℕ → SeatView
 added_settled v n =
     seat_view v.deals v.works v.number v.reads (slice_set v.settles v.number (slice_index v.settles v.number + n))
 
--- the bound of what i has read is now the number found, which was not below it; a worker finds its own number
+-- a load of i's read counter returned n, which is the new bound and not below the old one; a worker sees its own
+-- counter exactly
 abbrev pub SeesRead : SeatView → ℕ → ℕ → SeatView → Type 0
 SeesRead v i n w =
     (w ≡ seat_view v.deals v.works v.number (slice_set v.reads i n) v.settles)
     × (slice_index v.reads i ≤ n) × (n ≤ most) × (v.works ≡ true → v.number ≡ i → n ≡ slice_index v.reads i)
 
--- the bound of what i has settled is now the number found, which was not below it, and i has read no less; a worker
--- finds its own number
+-- a load of i's settled counter returned n, which is the new bound and not below the old one, and i has read at least
+-- n; a worker sees its own counter exactly
 abbrev pub SeesSettled : SeatView → ℕ → ℕ → SeatView → Type 0
 SeesSettled v i n w =
     (w ≡ seat_view v.deals v.works v.number (slice_set v.reads i (max (slice_index v.reads i) n))
     (slice_set v.settles i n))
     × (slice_index v.settles i ≤ n) × (n ≤ most) × (v.works ≡ true → v.number ≡ i → n ≡ slice_index v.settles i)
 
--- what a seat knows is true of the words
+-- what a seat knows about the counters is true
 pub record Fits (k : ℕ) (words : List ℕ) (v : SeatView) : Type 0 where
   pub read_size : length v.reads ≡ k
   pub settle_size : length v.settles ≡ k
@@ -64,11 +65,11 @@ pub record Fits (k : ℕ) (words : List ℕ) (v : SeatView) : Type 0 where
       → (v.works ≡ false)
       × ((j : ℕ) → v.number ≤ j → j < k → (slice_index words j ≡ 0) × (slice_index words (k + j) ≡ 0))
 
--- one worker's words, of which the settled is at most the read
+-- each worker's settled counter is at most its read counter
 abbrev pub InOrder : ℕ → List ℕ → Type 0
 InOrder k words = (j : ℕ) → j < k → (slice_index words (k + j) ≤ slice_index words j) × (slice_index words j ≤ most)
 
--- the words are in order, each seat knows what is true, and the workers' numbers differ
+-- the counters are in order, what each seat knows is true, and the workers' numbers are distinct
 pub record Kept (k : ℕ) (words : List ℕ) (views : List SeatView) : Type 0 where
   pub size : length words ≡ k + k
   pub order : InOrder k words

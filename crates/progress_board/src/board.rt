@@ -1,4 +1,4 @@
-//! A board with two words for each worker: what is added, and what is seen.
+//! A board with two counters for each worker: documents read and documents settled.
 ghost use Rattle.std.specs.Prelude.{◌≡◌, ◌+◌, ◌<◌, ◌≤◌, None, Some, true, IfErr, OnOk, OnErr, sum};
 ghost use Rattle.progress_board.specs.Rule.{SeesRead, SeesSettled};
 
@@ -6,7 +6,8 @@ use crate::fault::BoardFault;
 use crate::seat::BoardSeat;
 use crate::steps::{BoardTable, add_to_read, add_to_settled, look_at_read, look_at_settled};
 
-/// A board of counts that threads share: for each worker, the documents that it has read and those that it has settled.
+/// A board of counters that threads share: for each worker, the documents that it has read and those that it has
+/// settled.
 #[derive(Drop)]
 pub struct Board {
     table: BoardTable,
@@ -20,7 +21,7 @@ pub struct Board {
 /// The greatest count, 2^53 - 1.
 const MOST: u64 = 9_007_199_254_740_991;
 
-/// The board of a table.
+/// Creates the board of a table.
 pub(crate) fn board_of(table: BoardTable, workers: usize) -> Board
     requires { (table.shared.key ≡ workers) × (table.shared.table_id.words ≡ workers + workers) × (0 < workers)
         × (workers ≤ 64) }
@@ -32,10 +33,10 @@ pub(crate) fn board_of(table: BoardTable, workers: usize) -> Board
 impl Board {
     ghost use Rattle.progress_board.specs.Seats.{CameWith, IsLater, SameSeat, read_refusal, settled_refusal, seen_read, seen_settled, SeesItself};
 
-    /// What all workers have settled and what they have read, as this seat has seen it then, in this order.
+    /// Returns the totals of all workers, settled and read in this order, as this seat now sees them.
     ///
-    /// Settled is at most read, neither is below what the seat had seen, and a worker sees at least its own additions.
-    /// It waits for nobody, and takes no memory. The seat came with this board.
+    /// Settled is at most read, neither is below an earlier result for this seat, and a worker sees at least its own
+    /// additions. Never blocks, and does not allocate. The seat must have been created with this board.
     pub fn read(&self, seat: &mut BoardSeat) -> (u64, u64)
         requires came { CameWith self.now seat.old }
         ensures came { CameWith self.now seat.new }
@@ -50,10 +51,16 @@ impl Board {
         (settled, read)
     }
 
-    /// Adds to what this worker has read.
+    /// Adds to the documents that this worker has read.
     ///
-    /// `NotWorker` for a viewer; else `BoardFull` where its word would pass 2^53 - 1. A refusal changes nothing. It
-    /// waits for nobody, and takes no memory. The seat came with this board.
+    /// # Errors
+    ///
+    /// Checked in this order; an error changes nothing:
+    ///
+    /// - `NotWorker`: the seat is a viewer's.
+    /// - `BoardFull`: the worker's counter would exceed 2^53 - 1.
+    ///
+    /// Never blocks, and does not allocate. The seat must have been created with this board.
     pub fn add_read(&self, seat: &mut BoardSeat, n: u64) -> Result<(), BoardFault>
         requires came { CameWith self.now seat.old }
         ensures came { CameWith self.now seat.new }
@@ -78,10 +85,16 @@ impl Board {
         Ok(())
     }
 
-    /// Adds to what this worker has settled.
+    /// Adds to the documents that this worker has settled.
     ///
-    /// `NotWorker` for a viewer; else `AheadOfRead` where it would have settled more than it has read. A refusal
-    /// changes nothing. It waits for nobody, and takes no memory. The seat came with this board.
+    /// # Errors
+    ///
+    /// Checked in this order; an error changes nothing:
+    ///
+    /// - `NotWorker`: the seat is a viewer's.
+    /// - `AheadOfRead`: the worker would have settled more than it has read.
+    ///
+    /// Never blocks, and does not allocate. The seat must have been created with this board.
     pub fn add_settled(&self, seat: &mut BoardSeat, n: u64) -> Result<(), BoardFault>
         requires came { CameWith self.now seat.old }
         ensures came { CameWith self.now seat.new }
@@ -106,7 +119,7 @@ impl Board {
         Ok(())
     }
 
-    /// Loads what all workers have settled, and adds it up.
+    /// Loads the settled counters of all workers, and returns their sum.
     fn sum_settled(&self, seat: &mut BoardSeat) -> u64
         requires came { CameWith self.now seat.old }
         ensures came { CameWith self.now seat.new }
@@ -121,7 +134,7 @@ impl Board {
         sum
     }
 
-    /// Loads what all workers have read, and adds it up.
+    /// Loads the read counters of all workers, and returns their sum.
     fn sum_read(&self, seat: &mut BoardSeat) -> u64
         requires came { CameWith self.now seat.old }
         ensures came { CameWith self.now seat.new }
@@ -137,7 +150,7 @@ impl Board {
         sum
     }
 
-    /// Loads what worker `i` has settled.
+    /// Loads the settled counter of worker `i`.
     fn look_settled(&self, seat: &mut BoardSeat, i: usize) -> u64
         requires came { CameWith self.now seat.old }
         requires i { i < self.now.workers }
@@ -148,7 +161,7 @@ impl Board {
         look_at_settled(&self.table, &mut seat.place, self.workers, i)
     }
 
-    /// Loads what worker `i` has read.
+    /// Loads the read counter of worker `i`.
     fn look_read(&self, seat: &mut BoardSeat, i: usize) -> u64
         requires came { CameWith self.now seat.old }
         requires i { i < self.now.workers }

@@ -1,26 +1,26 @@
-//! What the calls of this crate refuse.
+//! Errors of this crate.
 ghost use Rattle.std.specs.Prelude.{◌≡◌};
 ghost use Rattle.progress_board.specs.declared.fault.BoardFault.TheVariants.{Memory};
 
 use std::alloc::AllocError;
 use thiserror::Error;
 
-/// Why a board isn't made, or an addition is refused.
+/// Why a call failed.
 #[derive(Clone, Copy, Debug, PartialEq, Eq, Error)]
 pub enum BoardFault {
-    /// The workers, or the viewers, are not 1 to 64.
+    /// The number of workers or of viewers is not 1 to 64.
     #[error("workers and viewers must each be 1 to 64")]
     BadSeats,
     /// The seat is a viewer's.
     #[error("a viewer adds nothing")]
     NotWorker,
-    /// What the worker has read would pass 2^53 - 1.
+    /// The worker's read counter would exceed 2^53 - 1.
     #[error("the worker's count is full")]
     BoardFull,
     /// The worker would have settled more than it has read.
     #[error("more would be settled than was read")]
     AheadOfRead,
-    /// An allocation was refused.
+    /// An allocation failed.
     #[error("out of memory")]
     Memory,
 }

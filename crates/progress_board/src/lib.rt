@@ -1,8 +1,8 @@
-//! A board of counts that threads share without a lock: how many documents each worker has read and settled, and what a
-//! viewer then sees of all of them.
+//! A board of counters that threads share without a lock: how many documents each worker has read and settled, and what
+//! a viewer sees of all of them.
 //!
-//! A worker raises its own two words alone, and a reading never goes back, never tells more settled than read, and
-//! never tells what no worker added. The rules stand in docs/PROFILE.md: "The progress board".
+//! A worker changes only its own two counters. A reading never goes back, never shows more settled than read, and never
+//! shows what no worker added. The rules are in docs/PROFILE.md: "The progress board".
 #![tactic(auto)]
 
 mod board;

@@ -1,4 +1,4 @@
-//! Making a board with its seats.
+//! Creating a board with its seats.
 ghost use Rattle.std.specs.Prelude.{◌≡◌, ◌+◌, ◌<◌, ◌≤◌, true, [], IfOk, IfErr, length, vec_len, vec_capacity};
 ghost use Rattle.progress_board.specs.Rule.{dealer, AllZero};
 ghost use Rattle.progress_board.specs.Seats.{SeatsAre, are_seats, new_fault, AreNew};
@@ -11,13 +11,13 @@ use crate::steps::{BoardTable, Place, admit, hire};
 use atomic_table::Table;
 use std::alloc::{AllocError, Global};
 
-/// The most workers of a board, and the most viewers.
+/// The maximum number of workers of a board, and of viewers.
 pub const MOST_WORKERS: u64 = 64;
 
 impl Board {
-    /// A board for so many workers, and its seats: one for each worker, then one for each viewer. Nothing is read yet.
+    /// Creates a board with all counters at 0, and its seats: one for each worker, then one for each viewer.
     ///
-    /// `BadSeats` where the workers or the viewers are not 1 to 64.
+    /// Returns `BadSeats` if the number of workers or of viewers is not 1 to 64.
     pub fn new(
         alloc: Global,
         workers: usize,
@@ -40,7 +40,7 @@ impl Board {
     }
 }
 
-/// A table of words that are all 0, with the seat that deals.
+/// Creates a table of counters at 0, with the seat that creates other seats.
 fn lay(alloc: Global, workers: usize) -> Result<(BoardTable, Place), AllocError>
     requires { (0 < workers) × (workers ≤ 64) }
     ensures { IfOk result
@@ -51,7 +51,7 @@ fn lay(alloc: Global, workers: usize) -> Result<(BoardTable, Place), AllocError>
     lay_words(alloc, words.as_slice(), workers)
 }
 
-/// A table of these words, with the seat that deals.
+/// Creates a table of these counters, with the seat that creates other seats.
 fn lay_words(
     alloc: Global,
     words: &[u64],
@@ -65,7 +65,7 @@ fn lay_words(
     Table::<(), SeatView, u64, BoardRule, Global>::of_words(alloc, words, &(workers as u64))
 }
 
-/// Adds the seats of the workers.
+/// Appends the seats of the workers.
 fn add_workers(table: &BoardTable, dealing: &mut Place, workers: usize, seats: &mut Vec<BoardSeat>)
     requires board { (table.now.shared.key ≡ workers) × (table.now.shared.table_id.words ≡ workers + workers) }
     requires desk { (dealing.old.table_id ≡ table.now.shared.table_id) × (dealing.old.me ≡ (dealer workers 0, [])) }
@@ -81,7 +81,7 @@ fn add_workers(table: &BoardTable, dealing: &mut Place, workers: usize, seats: &
     }
 }
 
-/// Adds the seats of the viewers.
+/// Appends the seats of the viewers.
 fn add_viewers(
     table: &BoardTable,
     dealing: &mut Place,

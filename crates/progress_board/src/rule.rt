@@ -1,12 +1,12 @@
-//! What a seat knows of the words, and the rule that they keep.
+//! What a seat knows about the counters, and the rule that the counters satisfy.
 //!
-//! No value of these types is ever made: they stand for what is known.
+//! No value of these types exists at run time; they represent knowledge in proofs.
 
 use atomic_table::{Play, Split, TableRule};
 use std::collections::LinkedList;
 
-/// What a seat knows: whether it deals seats out or is a worker's, its number, and a lower bound for each word, of what
-/// was read and of what was settled.
+/// What a seat knows: whether it creates seats or is a worker's, its number, and a lower bound for each read and each
+/// settled counter.
 pub struct SeatView {
     pub deals: bool,
     pub works: bool,
@@ -15,7 +15,7 @@ pub struct SeatView {
     pub settles: LinkedList<u64>,
 }
 
-/// The rule of a board of k workers: the words 0 to k - 1 are what each has read, k to 2k - 1 what each has settled.
+/// The rule of a board of k workers: counters 0 to k - 1 are what each has read, k to 2k - 1 what each has settled.
 pub struct BoardRule;
 
 impl TableRule<(), SeatView, u64> for BoardRule {
@@ -26,7 +26,7 @@ impl TableRule<(), SeatView, u64> for BoardRule {
     ghost first = { λ k. dealer k 0 };
 }
 
-/// A worker adds to what it has read.
+/// A worker adds to its read counter.
 pub struct AddsRead;
 
 impl Play<(), SeatView> for AddsRead {
@@ -36,7 +36,7 @@ impl Play<(), SeatView> for AddsRead {
     ghost then = { λ st v n w. (w.0 ≡ added_read v.0 st.first) × (w.1 ≡ v.1) };
 }
 
-/// A worker adds to what it has settled.
+/// A worker adds to its settled counter.
 pub struct AddsSettled;
 
 impl Play<(), SeatView> for AddsSettled {
@@ -46,7 +46,7 @@ impl Play<(), SeatView> for AddsSettled {
     ghost then = { λ st v n w. (w.0 ≡ added_settled v.0 st.first) × (w.1 ≡ v.1) };
 }
 
-/// A seat loads what a worker has read.
+/// A seat loads a worker's read counter.
 pub struct LooksAtRead;
 
 impl Play<(), SeatView> for LooksAtRead {
@@ -56,7 +56,7 @@ impl Play<(), SeatView> for LooksAtRead {
     ghost then = { λ st v n w. SeesRead v.0 st.word n w.0 × (w.1 ≡ v.1) };
 }
 
-/// A seat loads what a worker has settled.
+/// A seat loads a worker's settled counter.
 pub struct LooksAtSettled;
 
 impl Play<(), SeatView> for LooksAtSettled {
@@ -66,7 +66,7 @@ impl Play<(), SeatView> for LooksAtSettled {
     ghost then = { λ st v n w. SeesSettled v.0 (st.word - length v.0.reads) n w.0 × (w.1 ≡ v.1) };
 }
 
-/// The dealing seat gives a worker its number.
+/// The creating seat gives a worker its number.
 pub struct ToWorker;
 
 impl Split<SeatView> for ToWorker {
@@ -77,7 +77,7 @@ impl Split<SeatView> for ToWorker {
     ghost right = { hired };
 }
 
-/// The dealing seat lets a viewer in.
+/// The creating seat admits a viewer.
 pub struct ToViewer;
 
 impl Split<SeatView> for ToViewer {

@@ -1,12 +1,13 @@
-//! Seats at a board.
+//! Seats of a board.
 ghost use Rattle.std.specs.Prelude.{◌≡◌, ◌<◌, ◌≤◌, ℕ, true, [], length, slice_index};
 ghost use Rattle.progress_board.specs.Rule.{most, IsFresh};
 
 use crate::steps::Place;
 
-/// A seat at a board: a worker's, with its number and its own two words, or a viewer's.
+/// A seat of a board: a worker's, with its number and its own two counters, or a viewer's.
 ///
-/// It keeps what it has seen of every worker's words. Whoever holds a worker's seat is that worker.
+/// A seat stores what it has seen of every worker's counters. Only the holder of a worker's seat can change that
+/// worker's counters.
 #[derive(Drop)]
 pub struct BoardSeat {
     pub(crate) place: Place,
@@ -26,7 +27,7 @@ pub struct BoardSeat {
     ghost held: { works ≡ true → number < length place.me.0.reads },
 }
 
-/// A new seat, which has seen nothing.
+/// Creates a seat that has seen nothing.
 pub(crate) fn seat_of(place: Place, works: bool, number: usize, workers: usize) -> BoardSeat
     requires empty { place.me.1 ≡ [] }
     requires fresh { IsFresh workers works number place.me.0 }

@@ -1,4 +1,4 @@
-//! The steps on the words of a board: each is one, and no lock is taken.
+//! The steps on the counters of a board. Each is one atomic operation; none takes a lock.
 ghost use Rattle.std.specs.Prelude.{◌≡◌, ◌+◌, ◌<◌, ◌≤◌, true, [], length, slice_index};
 ghost use Rattle.progress_board.specs.Rule.{most, added_read, added_settled, dealt, hired, viewer, SeesRead, SeesSettled};
 
@@ -8,13 +8,13 @@ use crate::rule::{
 use atomic_table::{Seat, Table};
 use std::alloc::Global;
 
-/// The words of a board, two for each worker, with their rule.
+/// The counters of a board, two for each worker, with their rule.
 pub(crate) type BoardTable = Table<(), SeatView, u64, BoardRule, Global>;
 
-/// A place at the words: what a seat knows of them goes with it.
+/// Access to the counters, with what a seat knows about them.
 pub(crate) type Place = Seat<(), SeatView>;
 
-/// Loads what worker `i` has read.
+/// Loads the read counter of worker `i`.
 pub(crate) fn look_at_read(table: &BoardTable, place: &mut Place, workers: usize, i: usize) -> u64
     requires board { (table.now.shared.key ≡ workers) × (table.now.shared.table_id.words ≡ workers + workers) }
     requires place { (place.old.table_id ≡ table.now.shared.table_id) × (place.old.me.1 ≡ []) }
@@ -25,7 +25,7 @@ pub(crate) fn look_at_read(table: &BoardTable, place: &mut Place, workers: usize
     table.shared.load::<LooksAtRead>(place, i)
 }
 
-/// Adds to what this worker has read.
+/// Adds to this worker's read counter.
 pub(crate) fn add_to_read(
     table: &BoardTable,
     place: &mut Place,
@@ -43,7 +43,7 @@ pub(crate) fn add_to_read(
     table.shared.fetch_add::<AddsRead>(place, number, n);
 }
 
-/// Loads what worker `i` has settled.
+/// Loads the settled counter of worker `i`.
 pub(crate) fn look_at_settled(
     table: &BoardTable,
     place: &mut Place,
@@ -61,7 +61,7 @@ pub(crate) fn look_at_settled(
     table.shared.load::<LooksAtSettled>(place, workers + i)
 }
 
-/// Adds to what this worker has settled.
+/// Adds to this worker's settled counter.
 pub(crate) fn add_to_settled(
     table: &BoardTable,
     place: &mut Place,
@@ -82,7 +82,7 @@ pub(crate) fn add_to_settled(
         .fetch_add::<AddsSettled>(place, workers + number, n);
 }
 
-/// Cuts a worker's seat off the dealing one.
+/// Splits a worker's seat off the creating one.
 pub(crate) fn hire(table: &BoardTable, dealer: &mut Place, workers: usize) -> Place
     requires board { (table.now.shared.key ≡ workers) × (table.now.shared.table_id.words ≡ workers + workers) }
     requires dealer { (dealer.old.table_id ≡ table.now.shared.table_id) × (dealer.old.me.1 ≡ [])
@@ -93,7 +93,7 @@ pub(crate) fn hire(table: &BoardTable, dealer: &mut Place, workers: usize) -> Pl
     table.shared.split_seat::<ToWorker>(dealer)
 }
 
-/// Cuts a viewer's seat off the dealing one.
+/// Splits a viewer's seat off the creating one.
 pub(crate) fn admit(table: &BoardTable, dealer: &mut Place, workers: usize) -> Place
     requires board { (table.now.shared.key ≡ workers) × (table.now.shared.table_id.words ≡ workers + workers)
         × (0 < workers) }

@@ -1,4 +1,4 @@
--- The front of ends, a mark and ranges: what each reading of it is, and what each change makes of it.
+-- The front of ends, a mark and ranges: its derived values, and the effect of each change.
 use Rattle.proof_prelude.proofs.{◌≡◌, inl, inr, ℕ, suc, ◌<◌, ◌≤◌, ◌^◌, Bool, true, false, ◌&&◌, ◌||◌, eqb, List, [], ◌∷◌, ◌++◌, length, slice_get, Some, Ok, Err, ◌-◌, refl, sym, ap, ◌∙◌, subst, arith, and_parts, and_left, and_right, and_from, or_cases, cond-true, cond-false, lt-leb, map_push, eqb-true, ne_eqb}
 use Rattle.range_front.specs.{DoneRange, FrontWindow, end_from, end_of, appended, finished, finished_from, finish_answer, is_done, is_window, low_water, range_count, run_count, Rises, IsFront, Rising, has_window, IsBound, Apart, AtBounds, covers, joined, marked, front_of, IsKept, window_in, done_in, low_in, low_in-is, run_count-done, run_count-open, run_count-above, IsFront-appended, IsFront-finished, finish_answer-no_window, finish_answer-done, finish_answer-ok}
 use Rattle.range_front.specs.declared.fault.FrontFault.TheVariants as faults
@@ -16,7 +16,7 @@ pub window-marked : (from : ℕ) (es : List ℕ) (c : ℕ → Bool) (lo hi : ℕ
 window-marked from [] c lo hi = refl
 window-marked from (e ∷ es) c lo hi = ap (λ r. (eqb from lo && eqb e hi) || r) (window-marked e es c lo hi)
 
--- the last end is where the windows end
+-- the last end is the end of the windows
 pub end-last : (from : ℕ) (es : List ℕ) (c : ℕ → Bool) (e : ℕ) → Some e ≡ slice_get es (length es - 1) → e ≡ end_from from (marked c es)
 end-last from [] c e q = cc
 end-last from (x ∷ []) c e q = cc
@@ -24,7 +24,7 @@ end-last from (x ∷ (y ∷ es)) c e q =
     let next : length (x ∷ (y ∷ es)) - 1 ≡ suc (length (y ∷ es) - 1) = omega arith in
     end-last x (y ∷ es) c e (q ∙ ap (slice_get (x ∷ (y ∷ es))) next)
 
--- a window is done where what ends at its upper bound is
+-- a window is done exactly if its upper bound is covered
 pub done-marked : (from : ℕ) (es : List ℕ) (c : ℕ → Bool) (lo hi : ℕ) → done_in from (marked c es) lo hi ≡ (has_window from es lo hi && c hi)
 done-marked from [] c lo hi = refl
 done-marked from (e ∷ es) c lo hi =
@@ -41,7 +41,7 @@ done-marked from (e ∷ es) c lo hi =
     here true false d d' r q = refl
     here false y d d' r q = refl
 
--- tests that agree above a place mark windows above it alike
+-- tests that agree above a bound mark the windows above it alike
 marked-agree : (from : ℕ) (es : List ℕ) (c c' : ℕ → Bool) → Rising from es → ((x : ℕ) → from < x → c x ≡ c' x) → marked c es ≡ marked c' es
 marked-agree from [] c c' h a = refl
 marked-agree from (e ∷ es) c c' h a =
@@ -56,7 +56,7 @@ finished-above from (w ∷ ws) lo hi h l =
     ap (λ v. v ∷ finished_from w.hi ws lo hi) (cond-false (eqb from lo && eqb w.hi hi) (record w { done = true }) w other)
     ∙ ap (λ vs. w ∷ vs) (finished-above w.hi ws lo hi h.1 (omega (arith, h.0, l)))
 
--- the mark of one window is a test that holds there and is the same elsewhere
+-- marking one window changes the test only at that window
 pub finished-marked : (from : ℕ) (es : List ℕ) (c c' : ℕ → Bool) (lo hi : ℕ) → Rises from (marked c es) → has_window from es lo hi ≡ true → ((x : ℕ) → Grown (c x) (c' x) lo hi x) → finished_from from (marked c es) lo hi ≡ marked c' es
 finished-marked from [] c c' lo hi h w g = cc
 finished-marked from (e ∷ es) c c' lo hi h w g =
@@ -80,7 +80,7 @@ finished-marked from (e ∷ es) c c' lo hi h w g =
 
 -- ---- the low water is the mark
 
--- the first window above the mark isn't covered
+-- the first window above the mark is not covered
 open-next : (from e : ℕ) (es : List ℕ) (rs : List DoneRange) → Rising from (e ∷ es) → Apart from rs → AtBounds from (e ∷ es) rs → covers from rs e ≡ false
 open-next from e es [] h a b = lt-leb e from h.0
 open-next from e es (r ∷ rs) h a b =
@@ -105,7 +105,7 @@ low-marked from (e ∷ es) m rs h (inr more) a b =
 -- ---- the runs are the ranges
 
 mutual
-  -- from a bound at or under the mark on: the run up to the mark isn't counted
+  -- from a bound at or below the mark: the run up to the mark is not counted
   run_count-inside : (from : ℕ) (es : List ℕ) (m : ℕ) (rs : List DoneRange) → Rising from es → IsBound from es m → Apart m rs → AtBounds from es rs → run_count true (marked (covers m rs) es) ≡ length rs
   run_count-inside from [] m [] h k a b = refl
   run_count-inside from [] m (r ∷ rs) h k a b = let at : from ≡ r.lo = b.0 in let mark : from ≡ m = k in absurd (omega (arith, at, mark, a.0))
@@ -118,7 +118,7 @@ mutual
       let w : FrontWindow = record { hi = e; done = covers m rs e } in
       omega (arith, run_count-done true w (marked (covers m rs) es) (cover-under m rs e a above), run_count-inside e es m rs h.1 more a (bounds-next from e es m rs (omega (arith, above, h.0)) a b))
 
-  -- from a bound above the mark on that no range reaches
+  -- from a bound above the mark that no range reaches
   run_count-outside : (from : ℕ) (es : List ℕ) (m : ℕ) (rs : List DoneRange) → Rising from es → m < from → Apart m rs → AtBounds from es rs → run_count false (marked (covers m rs) es) ≡ length rs
   run_count-outside from [] m [] h l a b = refl
   run_count-outside from [] m (r ∷ rs) h l a b = let at : from ≡ r.lo = b.0 in let top : from ≡ r.hi = b.1 in absurd (omega (arith, at, top, a.1))
@@ -141,7 +141,7 @@ mutual
             omega (arith, run_count-open false w (marked (covers m (r ∷ rs)) es) open_yet, run_count-outside e es m (r ∷ rs) h.1 (omega (arith, l, h.0)) a (more, top, bounds-next from e es r.hi rs (omega (arith, h.0, low, a.1)) a.2 b.2))
       ]
 
--- ---- a whole front
+-- ---- a complete front
 
 pub front-rising : {start : ℕ} {es : List ℕ} {m : ℕ} {rs : List DoneRange} → IsKept start es m rs → Rising start es
 front-rising {start} {es} {m} {rs} k = rising-marked start es (covers m rs) k.front.rises
@@ -158,7 +158,7 @@ front-low start es m rs k = low_in-is start (marked (covers m rs) es) ∙ low-ma
 pub front-count : (start : ℕ) (es : List ℕ) (m : ℕ) (rs : List DoneRange) → IsKept start es m rs → range_count (front_of start es m rs) ≡ length rs
 front-count start es m rs k = run_count-above (marked (covers m rs) es) ∙ run_count-inside start es m rs (front-rising k) k.low k.apart k.bounds
 
--- ---- a window appended
+-- ---- an appended window
 
 bound-end : (from : ℕ) (es : List ℕ) (c : ℕ → Bool) (x : ℕ) → Rising from es → IsBound from es x → x ≤ end_from from (marked c es)
 bound-end from [] c x h b = omega (arith, b)
@@ -190,9 +190,9 @@ kept-appended start es m rs hi k l small =
       bounds = bounds-append start es hi rs k.bounds;
     }
 
--- ---- a window finished
+-- ---- a finished window
 
--- what `finish` answers, by whether there is such a window and whether it is covered
+-- the result of `finish`, by whether there is such a window and whether it is covered
 pub answer-none : (start : ℕ) (es : List ℕ) (m : ℕ) (rs : List DoneRange) (lo hi : ℕ) → has_window start es lo hi ≡ false → finish_answer (front_of start es m rs) lo hi ≡ Err faults.NoSuchWindow
 answer-none start es m rs lo hi none = finish_answer-no_window (front_of start es m rs) lo hi (front-window start es m rs lo hi ∙ none)
 

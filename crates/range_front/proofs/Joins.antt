@@ -1,15 +1,15 @@
--- A window joined to the mark or put among the ranges: what is covered then, and that the ranges stay apart.
+-- A window added to the mark or to the ranges: what is covered afterwards, and that the ranges stay apart.
 use Rattle.proof_prelude.proofs.{◌≡◌, ◌⊎◌, inl, inr, ℕ, zero, suc, ◌<◌, ◌≤◌, Bool, true, false, cond, leb, eqb, List, [], ◌∷◌, ◌++◌, length, take, drop, set, get_or, slice_get, Some, add-one, ◌+◌, refl, sym, ap, ◌∙◌, arith, lt-leb, eqb-false, cond-true, cond-false, cond_both, cases_lt, both_ways, slice_get_within, slice_get_read, get_or_from_slice_get, le-leb, leb-true, leb-false, eqb-true, eq-eqb, ne_eqb, insert}
 use Rattle.range_front.specs.{DoneRange, Apart, AtBounds, IsBound, Rising, has_window, covers, absorbed, put_at, put_in, joined}
 use Rattle.range_front.proofs.RisingEnds.{bound-apart}
 use Rattle.range_front.proofs.Cover.{cover-low, cover-high, cover-under, EndBelow, end-below-next}
 
--- (lo, hi] lies above the mark, and outside the ranges
+-- (lo, hi] is above the mark and outside the ranges
 abbrev pub Clear : ℕ → ℕ → ℕ → List DoneRange → Type 0
 Clear lo hi m [] = m ≤ lo
 Clear lo hi m (r ∷ rs) = (m ≤ lo) × ((hi ≤ r.lo) ⊎ Clear lo hi r.hi rs)
 
--- the first range begins at hi or above it
+-- the first range begins at or above hi
 abbrev pub Free : ℕ → List DoneRange → Type 0
 Free hi [] = Unit {0}
 Free hi (r ∷ rs) = hi ≤ r.lo
@@ -26,7 +26,7 @@ clear-free lo hi m (r ∷ rs) h c e =
       | inr later ↦ absurd (omega (arith, e, h.0, h.1, clear-mark lo hi r.hi rs later))
     ]
 
--- a window that isn't covered is clear of the ranges
+-- a window that is not covered is outside the ranges
 pub clear-from : (start : ℕ) (es : List ℕ) (lo hi m : ℕ) (rs : List DoneRange) → Rising start es → has_window start es lo hi ≡ true → lo < hi → IsBound start es m → AtBounds start es rs → Apart m rs → covers m rs hi ≡ false → Clear lo hi m rs
 clear-from start es lo hi m [] rising window l b bs h open_yet =
     elim (bound-apart start es lo hi m rising window b) [
@@ -49,22 +49,22 @@ strict {a} {b} le other = elim (cases_lt a b) [
   | inr ge ↦ absurd (other (omega (arith, le, ge)))
 ]
 
--- the window lies behind a range that ends under it
+-- the window is after a range that ends below it
 clear-behind : (lo hi : ℕ) (r : DoneRange) (rs : List DoneRange) → r.lo < r.hi → r.hi < lo → lo < hi → (hi ≤ r.lo) ⊎ Clear lo hi r.hi rs → Clear lo hi r.hi rs
 clear-behind lo hi r rs a b l (inl free) = absurd (omega (arith, a, b, l, free))
 clear-behind lo hi r rs a b l (inr later) = later
 
--- or ends where it begins
+-- the window begins where the range ends
 clear-touched : (lo hi : ℕ) (r : DoneRange) (rs : List DoneRange) → r.lo < r.hi → lo < hi → r.hi ≡ lo → (hi ≤ r.lo) ⊎ Clear lo hi r.hi rs → Clear lo hi r.hi rs
 clear-touched lo hi r rs a l at (inl free) = absurd (omega (arith, at, a, l, free))
 clear-touched lo hi r rs a l at (inr later) = later
 
--- or in front of it
+-- the window is before the range
 clear-before : (lo hi : ℕ) (r : DoneRange) (rs : List DoneRange) → lo ≤ r.hi → (r.hi ≡ lo → ⊥) → (hi ≤ r.lo) ⊎ Clear lo hi r.hi rs → hi ≤ r.lo
 clear-before lo hi r rs reach other (inl free) = free
 clear-before lo hi r rs reach other (inr later) = absurd (other (omega (arith, reach, clear-mark lo hi r.hi rs later)))
 
--- ---- what is covered, and what is kept
+-- ---- what is covered, and what stays
 
 -- what b' covers is what b covers, and (lo, hi]
 pub record Grown (b b' : Bool) (lo hi x : ℕ) : Type 0 where
@@ -72,7 +72,7 @@ pub record Grown (b b' : Bool) (lo hi x : ℕ) : Type 0 where
   pub below : x ≤ lo → b' ≡ b
   pub above : hi < x → b' ≡ b
 
--- behind a range that ends under the window
+-- after a range that ends below the window
 grown-behind : (m lo hi : ℕ) (r : DoneRange) (rs : List DoneRange) (x : ℕ) (b : Bool) → r.lo ≤ lo → lo < hi → Grown (covers r.hi rs x) b lo hi x → Grown (covers m (r ∷ rs) x) (cond (leb x r.lo) (leb x m) b) lo hi x
 grown-behind m lo hi r rs x b u l g =
     cond_both (leb x r.lo) (leb x m) b (λ z. Grown (covers m (r ∷ rs) x) z lo hi x)
@@ -89,7 +89,7 @@ grown-behind m lo hi r rs x b u l g =
       above = λ a. g.above a ∙ sym (cover-high m r rs x high);
     })
 
--- what the window makes of a mark and ranges: it is covered too, and they still stay apart, at bounds
+-- the effect of the window on a mark and ranges: it is covered too, and the ranges stay apart, with bounds of windows
 pub record Joins (start : ℕ) (es : List ℕ) (lo hi m : ℕ) (rs : List DoneRange) (made : ℕ × List DoneRange) : Type 0 where
   pub grown : (x : ℕ) → Grown (covers m rs x) (covers made.0 made.1 x) lo hi x
   pub apart : Apart made.0 made.1
@@ -143,7 +143,7 @@ module _ (start : ℕ) (es : List ℕ) (lo hi : ℕ) (l : lo < hi) (from : IsBou
         omega arith,
       ))
 
-  -- where the first range ends at lo or above it
+  -- the first range ends at or above lo
   puts_at : (m : ℕ) (r : DoneRange) (rs : List DoneRange) → m < lo → Apart m (r ∷ rs) → Clear lo hi m (r ∷ rs) → lo ≤ r.hi → IsBound start es m → AtBounds start es (r ∷ rs)
       → Joins start es lo hi m (r ∷ rs) (m, put_at r rs lo hi)
   puts_at m r rs u h c reach k b =
@@ -212,14 +212,14 @@ module _ (start : ℕ) (es : List ℕ) (lo hi : ℕ) (l : lo < hi) (from : IsBou
         bounds = (b.0, b.1, more.bounds);
       })
 
-  -- all of it, at the mark too
+  -- the complete statement, including a window at the mark
   pub joins : (m : ℕ) (rs : List DoneRange) → Apart m rs → Clear lo hi m rs → IsBound start es m → AtBounds start es rs → Joins start es lo hi m rs (joined m rs lo hi)
   joins m rs h c k b =
       cond_both (eqb m lo) (absorbed hi rs) (m, put_in rs lo hi) (Joins start es lo hi m rs)
       (λ t. let at = eqb-true m lo t in (absorbs m rs at h (clear-free lo hi m rs h c at) b).0)
       (λ t. puts_in m rs (strict (clear-mark lo hi m rs c) (λ e. eqb-false m lo t (sym e))) h c k b)
 
--- ---- the window put in at the place of the first range that ends at lo or above it
+-- ---- the window inserted at the index of the first range that ends at or above lo
 
 put_in-past : (r : DoneRange) (rs : List DoneRange) (lo hi : ℕ) → r.hi < lo → put_in (r ∷ rs) lo hi ≡ r ∷ put_in rs lo hi
 put_in-past r rs lo hi l = cond-false (leb lo r.hi) (put_at r rs lo hi) (r ∷ put_in rs lo hi) (lt-leb lo r.hi l)
@@ -227,21 +227,21 @@ put_in-past r rs lo hi l = cond-false (leb lo r.hi) (put_at r rs lo hi) (r ∷ p
 put_in-here : (r : DoneRange) (rs : List DoneRange) (lo hi : ℕ) → lo ≤ r.hi → put_in (r ∷ rs) lo hi ≡ put_at r rs lo hi
 put_in-here r rs lo hi l = cond-true (leb lo r.hi) (put_at r rs lo hi) (r ∷ put_in rs lo hi) (le-leb lo r.hi l)
 
--- the range at the place ends at lo: it grows, also over the one behind it that begins at hi
+-- the range at the index ends at lo: it grows, and absorbs the next one if that begins at hi
 put_in-left : (rs : List DoneRange) (lo hi p : ℕ) (d : DoneRange) → EndBelow rs lo p → p < length rs → (get_or rs p d).hi ≡ lo → put_in rs lo hi ≡ set (take (suc p) rs ++ (absorbed hi (drop (suc p) rs)).1) p (record { lo = (get_or rs p d).lo; hi = (absorbed hi (drop (suc p) rs)).0 })
 put_in-left [] lo hi p d b l e = absurd (omega (arith, l))
 put_in-left (r ∷ rs) lo hi zero d b l e = put_in-here r rs lo hi (omega (arith, e)) ∙ cond-true (eqb r.hi lo) _ _ (eq-eqb r.hi lo e)
 put_in-left (r ∷ rs) lo hi (suc p) d b l e =
     put_in-past r rs lo hi (b 0 r (omega arith) (omega arith)) ∙ ap (λ qs. r ∷ qs) (put_in-left rs lo hi p d (end-below-next r rs lo p b) (omega (arith, l)) e)
 
--- it begins at hi
+-- the range at the index begins at hi
 put_in-right : (rs : List DoneRange) (lo hi p : ℕ) (d : DoneRange) → EndBelow rs lo p → p < length rs → lo ≤ (get_or rs p d).hi → ((get_or rs p d).hi ≡ lo → ⊥) → (get_or rs p d).lo ≡ hi → put_in rs lo hi ≡ set rs p (record { lo = lo; hi = (get_or rs p d).hi })
 put_in-right [] lo hi p d b l u n e = absurd (omega (arith, l))
 put_in-right (r ∷ rs) lo hi zero d b l u n e = put_in-here r rs lo hi u ∙ cond-false (eqb r.hi lo) _ _ (ne_eqb r.hi lo n) ∙ cond-true (eqb r.lo hi) _ _ (eq-eqb r.lo hi e)
 put_in-right (r ∷ rs) lo hi (suc p) d b l u n e =
     put_in-past r rs lo hi (b 0 r (omega arith) (omega arith)) ∙ ap (λ qs. r ∷ qs) (put_in-right rs lo hi p d (end-below-next r rs lo p b) (omega (arith, l)) u n e)
 
--- it touches none
+-- no range touches the window
 put_in-new : (rs : List DoneRange) (lo hi p : ℕ) → EndBelow rs lo p → p ≤ length rs → ((d : DoneRange) → p < length rs → (lo ≤ (get_or rs p d).hi) × ((get_or rs p d).hi ≡ lo → ⊥) × ((get_or rs p d).lo ≡ hi → ⊥)) → put_in rs lo hi ≡ insert rs p (record { lo = lo; hi = hi })
 put_in-new [] lo hi zero b l n = refl
 put_in-new [] lo hi (suc p) b l n = absurd (omega (arith, l))
@@ -251,14 +251,14 @@ put_in-new (r ∷ rs) lo hi zero b l n =
 put_in-new (r ∷ rs) lo hi (suc p) b l n =
     put_in-past r rs lo hi (b 0 r (omega arith) (omega arith)) ∙ ap (λ qs. r ∷ qs) (put_in-new rs lo hi p (end-below-next r rs lo p b) (omega (arith, l)) (λ d k. n d (omega (arith, k))))
 
--- ---- what `join` writes, as it reads it
+-- ---- what `join` writes
 
 get-kept : (rs qs : List DoneRange) (p : ℕ) (d : DoneRange) → p < length rs → get_or (take (suc p) rs ++ qs) p d ≡ get_or rs p d
 get-kept [] qs p d l = absurd (omega (arith, l))
 get-kept (r ∷ rs) qs zero d l = refl
 get-kept (r ∷ rs) qs (suc p) d l = get-kept rs qs p d (omega (arith, l))
 
--- w stands at the place; x is read there once the ranges behind it are qs
+-- w is written at the index; x is read there when the ranges after it are qs
 pub left-written : (rs qs : List DoneRange) (lo hi p reach : ℕ) (w x : DoneRange) → EndBelow rs lo p → slice_get rs p ≡ Some w → w.hi ≡ lo → qs ≡ take (p + 1) rs ++ (absorbed hi (drop (p + 1) rs)).1 → reach ≡ (absorbed hi (drop (p + 1) rs)).0 → x ≡ get_or qs p x → set qs p (record { lo = x.lo; hi = reach }) ≡ put_in rs lo hi
 left-written rs qs lo hi p reach w x below at touches rest far read =
     let within = slice_get_within rs p w at in
@@ -288,6 +288,6 @@ new-written rs lo hi p below le apart =
     default a b zero (x ∷ xs) l = refl
     default a b (suc k) (x ∷ xs) l = default a b k xs (omega (arith, l))
 
--- where the window doesn't begin at the mark
+-- the window does not begin at the mark
 pub joined-above : (m lo hi : ℕ) (rs : List DoneRange) → (m ≡ lo → ⊥) → joined m rs lo hi ≡ (m, put_in rs lo hi)
 joined-above m lo hi rs n = cond-false (eqb m lo) (absorbed hi rs) (m, put_in rs lo hi) (ne_eqb m lo n)

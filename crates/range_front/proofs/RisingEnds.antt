@@ -1,4 +1,4 @@
--- The rising ends: the window that an end found by halving belongs to.
+-- The rising ends: the window of an end found by binary search.
 use Rattle.proof_prelude.proofs.{◌≡◌, ◌⊎◌, inl, inr, ℕ, zero, suc, ◌<◌, ◌≤◌, ◌-◌, Bool, true, false, ◌&&◌, ◌||◌, eqb, List, [], ◌∷◌, ◌++◌, length, get_or, Result, Ok, Err, refl, ap, ◌∙◌, arith, and_right, and_parts, or_from, or_cases, cases_lt, searched, IsBinarySearchResult, nat_cmp, ne_eqb, eq-eqb, eqb-true}
 use Rattle.range_front.specs.{Rising, has_window, IsBound}
 
@@ -14,7 +14,7 @@ rising-at from (e ∷ es) zero (suc j) h le l = omega (arith, from-le e es j h.1
 rising-at from (e ∷ es) (suc i) zero h le l = absurd (omega (arith, le))
 rising-at from (e ∷ es) (suc i) (suc j) h le l = rising-at e es i j h.1 (omega (arith, le)) (omega (arith, l))
 
--- where the window at a place begins
+-- the beginning of the window at an index
 abbrev pub begin_at : ℕ → List ℕ → ℕ → ℕ
 begin_at from es zero = from
 begin_at from es (suc i) = get_or es i 0
@@ -27,7 +27,7 @@ pub begin_at-before : (from : ℕ) (es : List ℕ) (i : ℕ) → (i ≡ 0 → �
 begin_at-before from es zero n = absurd (n refl)
 begin_at-before from es (suc i) n = let e : i ≡ suc i - 1 = omega arith in ap (λ k. get_or es k 0) e
 
--- no window ends at or under where they begin
+-- no window ends at or below the beginning of the first
 has-below : (from : ℕ) (es : List ℕ) (lo hi : ℕ) → Rising from es → hi ≤ from → has_window from es lo hi ≡ false
 has-below from [] lo hi h l = refl
 has-below from (e ∷ es) lo hi h l =
@@ -46,13 +46,13 @@ has-at from (x ∷ es) lo hi (suc i) h l e =
     let ne : eqb x hi ≡ false = ne_eqb x hi (λ q. omega (arith, q, e, from-le x es i h.1 (omega (arith, l)))) in
     ap (λ z. z || has_window x es lo hi) (and_right (eqb from lo) (eqb x hi) ne) ∙ has-at x es lo hi i h.1 (omega (arith, l)) e ∙ ap (λ n. eqb n lo) (begin_at-next from x es i)
 
--- no end is hi
+-- no window ends at hi
 has-none : (from : ℕ) (es : List ℕ) (lo hi : ℕ) → ((k : ℕ) → k < length es → get_or es k 0 ≡ hi → ⊥) → has_window from es lo hi ≡ false
 has-none from [] lo hi h = refl
 has-none from (e ∷ es) lo hi h =
     or_from _ _ (and_right (eqb from lo) _ (ne_eqb e hi (h 0 (omega arith)))) (has-none e es lo hi (λ k l q. h (suc k) (omega (arith, l)) q))
 
--- what the search for hi found, or missed
+-- the result of the search for hi
 pub has-found : (from : ℕ) (es : List ℕ) (lo hi i : ℕ) (r : Result ℕ ℕ) → Rising from es → IsBinarySearchResult (λ y. nat_cmp y hi) es r → r ≡ Ok i → has_window from es lo hi ≡ eqb (begin_at from es i) lo
 has-found from es lo hi i r h s e =
     let found = rw e at (searched es hi r s (λ j k le l. rising-at from es j k h le l)) in
@@ -66,7 +66,7 @@ has-missed from es lo hi i r h s e =
       | inr behind ↦ omega (arith, missed.2 k behind l, q)
     ])
 
--- ---- where windows begin and end
+-- ---- bounds of windows
 
 pub bound-le : (from : ℕ) (es : List ℕ) (x : ℕ) → Rising from es → IsBound from es x → from ≤ x
 bound-le from [] x h b = omega (arith, b)
@@ -82,7 +82,7 @@ pub bound-first : (from : ℕ) (es : List ℕ) → IsBound from es from
 bound-first from [] = refl
 bound-first from (e ∷ es) = inl refl
 
--- a window lies above where they begin, and has two bounds
+-- a window is above the beginning of the first, and has two bounds
 pub has-within : (from : ℕ) (es : List ℕ) (lo hi : ℕ) → Rising from es → has_window from es lo hi ≡ true → (from ≤ lo) × (lo < hi) × IsBound from es lo × IsBound from es hi
 has-within from [] lo hi h e = cc
 has-within from (x ∷ es) lo hi h e =
@@ -100,7 +100,7 @@ has-within from (x ∷ es) lo hi h e =
     last : x ≡ hi → IsBound x es hi
     last q = rw (← q) (bound-first x es)
 
--- no bound lies within a window
+-- no bound is inside a window
 pub bound-apart : (from : ℕ) (es : List ℕ) (lo hi x : ℕ) → Rising from es → has_window from es lo hi ≡ true → IsBound from es x → (x ≤ lo) ⊎ (hi ≤ x)
 bound-apart from [] lo hi x h e b = cc
 bound-apart from (y ∷ es) lo hi x h e b =

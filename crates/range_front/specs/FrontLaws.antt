@@ -1,4 +1,4 @@
--- Laws of fronts, for the crates above: docs/PROFILE.md, "Windows and low water".
+-- Lemmas about fronts, for dependent crates: docs/PROFILE.md, "Windows and low water".
 use Rattle.std.proofs.Common.{◌≡◌, ◌⊎◌, inl, inr, ℕ, ◌<◌, ◌≤◌, ◌^◌, true, false, ◌&&◌, ◌||◌, ◌==◌, [], ◌∷◌, ◌++◌, map, Ok, Err, sym, ap, ◌∙◌, arith}
 use Rattle.std.proofs.lemmas.Bool.{eqb-true, and_parts, or_cases}
 use Rattle.std.specs.List.{list_any}
@@ -7,7 +7,7 @@ use Rattle.range_front.specs.declared.fault.FrontFault.TheVariants as faults
 use Rattle.range_front.specs.Front.{FrontValue, Span, spans, bounds, is_window, is_done, end_of, low_water, no_windows, appended, finished, finished_from, finish_answer, IsFront}
 use Rattle.range_front.specs.WindowLaws.{low_in-is, window-within, window-bounds, done-window, from-le-low, low-le-end, low-is-end, reached-in, end-append, Rises-append, spans-append, low-append, done-append, end-finished, Rises-finished, bounds-finished_from, done-finished_from, low-finished}
 
--- ---- the law is kept
+-- ---- the invariant is kept
 
 pub IsFront-no_windows : (start : ℕ) → start < 2 ^ 64 → IsFront (no_windows start)
 IsFront-no_windows start small = record { rises = tt; in_range = small }
@@ -26,16 +26,16 @@ IsFront-finished f lo hi front =
       in_range = rw end-finished front.in_range;
     }
 
--- ---- where windows lie
+-- ---- positions of windows
 
--- a window lies between the start and the end, and isn't empty
+-- a window is between the start and the end, and is not empty
 pub is_window-within : (f : FrontValue) (lo hi : ℕ) → IsFront f → is_window f lo hi ≡ true → (f.start ≤ lo) × (lo < hi) × (hi ≤ end_of f)
 is_window-within f lo hi front window = window-within f.start f.windows lo hi front.rises window
 
 pub is_window-is_done : (f : FrontValue) (lo hi : ℕ) → is_done f lo hi ≡ true → is_window f lo hi ≡ true
 is_window-is_done f lo hi done = done-window f.start f.windows lo hi done
 
--- the windows by their bounds alone
+-- the windows by their bounds only
 pub is_window-bounds : (f : FrontValue) (lo hi : ℕ) → is_window f lo hi ≡ list_any (λ (b : ℕ × ℕ). (b.0 == lo) && (b.1 == hi)) (bounds f)
 is_window-bounds f lo hi = window-bounds f.start f.windows lo hi
 
@@ -47,15 +47,15 @@ start-le-low_water f front = rw low_in-is (from-le-low f.start f.windows front.r
 pub low_water-le-end_of : (f : FrontValue) → IsFront f → low_water f ≤ end_of f
 low_water-le-end_of f front = rw low_in-is (low-le-end f.start f.windows front.rises)
 
--- the low water is the start, or the end of a window that is done
+-- the low water is the start, or the end of a done window
 pub low_water-is_end : (f : FrontValue) → (low_water f ≡ f.start) ⊎ ((lo : ℕ) × (is_done f lo (low_water f) ≡ true))
 low_water-is_end f = rw low_in-is (low-is-end f.start f.windows)
 
--- a sequence above the start and at or under the low water lies in a window that is done
+-- a sequence above the start and at or below the low water is in a done window
 pub reached : (f : FrontValue) (q : ℕ) → IsFront f → f.start < q → q ≤ low_water f → (lo : ℕ) × (hi : ℕ) × (lo < q) × (q ≤ hi) × (is_done f lo hi ≡ true)
 reached f q front above under = reached-in f.start f.windows q front.rises above (rw low_in-is at under)
 
--- ---- a window appended
+-- ---- an appended window
 
 pub end_of-appended : (f : FrontValue) (hi : ℕ) → end_of (appended f hi) ≡ hi
 end_of-appended f hi = end-append f.start f.windows (record { hi = hi; done = false })
@@ -73,7 +73,7 @@ pub low_water-appended : (f : FrontValue) (hi : ℕ) → low_water (appended f h
 low_water-appended f hi =
     low_in-is f.start (f.windows ++ record { hi = hi; done = false } ∷ []) ∙ low-append f.start f.windows hi ∙ sym (low_in-is f.start f.windows)
 
--- ---- a window finished
+-- ---- a finished window
 
 pub end_of-finished : (f : FrontValue) (lo hi : ℕ) → end_of (finished f lo hi) ≡ end_of f
 end_of-finished f lo hi = end-finished f.start f.windows lo hi
@@ -81,11 +81,11 @@ end_of-finished f lo hi = end-finished f.start f.windows lo hi
 pub bounds-finished : (f : FrontValue) (lo hi : ℕ) → bounds (finished f lo hi) ≡ bounds f
 bounds-finished f lo hi = bounds-finished_from f.start f.windows lo hi
 
--- done afterwards is what was done, and the finished window
+-- after finishing a window, the done windows are the previous ones and the finished one
 pub is_done-finished : (f : FrontValue) (lo hi a b : ℕ) → is_done (finished f lo hi) a b ≡ (is_done f a b || (is_window f lo hi && ((lo == a) && (hi == b))))
 is_done-finished f lo hi a b = done-finished_from f.start f.windows lo hi a b
 
--- what is done afterwards was done, or is the finished window
+-- a window that is done afterwards was done before, or is the finished one
 pub is_done-finished_cases : (f : FrontValue) (lo hi a b : ℕ) → is_done (finished f lo hi) a b ≡ true → (is_done f a b ≡ true) ⊎ ((lo ≡ a) × (hi ≡ b))
 is_done-finished_cases f lo hi a b done =
     elim (or_cases (is_done f a b) (is_window f lo hi && ((lo == a) && (hi == b))) (sym (is_done-finished f lo hi a b) ∙ done)) [
@@ -99,7 +99,7 @@ pub low_water-finished : (f : FrontValue) (lo hi : ℕ) → IsFront f → low_wa
 low_water-finished f lo hi front =
     omega (arith, low_in-is f.start f.windows, low_in-is f.start (finished_from f.start f.windows lo hi), low-finished f.start f.windows lo hi front.rises)
 
--- ---- what the answers say
+-- ---- the meaning of the results
 
 pub finish_answer-no_window : (f : FrontValue) (lo hi : ℕ) → is_window f lo hi ≡ false → finish_answer f lo hi ≡ Err faults.NoSuchWindow
 finish_answer-no_window f lo hi none = rw none
@@ -110,4 +110,4 @@ finish_answer-done f lo hi done = rw (is_window-is_done f lo hi done, done)
 pub finish_answer-ok : (f : FrontValue) (lo hi : ℕ) → is_window f lo hi ≡ true → is_done f lo hi ≡ false → finish_answer f lo hi ≡ Ok tt
 finish_answer-ok f lo hi window open_yet = rw (window, open_yet)
 
--- ---- what a front means: theorems for a reader, which no proof cites
+-- ---- the meaning of a front: theorems for readers, which no proof cites

@@ -1,4 +1,4 @@
--- The laws of fronts by recursion over their windows; specs/FrontLaws.antt states them of a whole front.
+-- Lemmas about fronts by recursion over their windows; specs/FrontLaws.antt states them for complete fronts.
 use Rattle.std.proofs.Common.{◌≡◌, ◌⊎◌, inl, inr, ℕ, ◌+◌, ◌<◌, ◌≤◌, Bool, true, false, cond, ◌&&◌, ◌||◌, eqb, List, [], ◌∷◌, ◌++◌, map, refl, sym, ap, ◌∙◌, arith}
 use Rattle.std.specs.List.{list_any, take_while}
 use Rattle.std.proofs.Math.Bool.{or_assoc}
@@ -6,7 +6,7 @@ use Rattle.std.proofs.lemmas.Bool.{eqb-true, eq-eqb, both_ways, and_parts, and_f
 use Rattle.std.proofs.lemmas.List.Sums.{take_while-cons}
 use Rattle.range_front.specs.Front.{FrontWindow, Span, spans_from, end_from, finished_from, above_low_water, run_count, Rises}
 
--- ---- readings of the windows from a place on
+-- ---- the windows from a bound on
 
 abbrev pub window_in : ℕ → List FrontWindow → ℕ → ℕ → Bool
 window_in from ws lo hi = list_any (λ s. eqb s.lo lo && eqb s.hi hi) (spans_from from ws)
@@ -24,7 +24,7 @@ low_in-is from (w ∷ ws) =
     ap (end_from from) (take_while-cons (λ (v : FrontWindow). v.done) w ws)
     ∙ elim w.done as (λ b. end_from from (cond b (w ∷ take_while (λ (v : FrontWindow). v.done) ws) []) ≡ cond b (low_in w.hi ws) from) [ true ↦ low_in-is w.hi ws | false ↦ refl ]
 
--- ---- tests of one window and of the rest
+-- ---- tests of one window and of the others
 
 window_here : (x y r : Bool) → x ≡ true → y ≡ true → ((x && y) || r) ≡ true
 window_here x y r a b = or_left (x && y) r (and_from x y a b)
@@ -32,7 +32,7 @@ window_here x y r a b = or_left (x && y) r (and_from x y a b)
 done_here : (x y d r : Bool) → x ≡ true → y ≡ true → d ≡ true → ((x && (y && d)) || r) ≡ true
 done_here x y d r a b c = or_left (x && (y && d)) r (and_from x (y && d) a (and_from y d b c))
 
--- ---- where windows lie
+-- ---- positions of windows
 
 pub from-le-end : (from : ℕ) (ws : List FrontWindow) → Rises from ws → from ≤ end_from from ws
 from-le-end from [] h = omega arith
@@ -76,7 +76,7 @@ low-le-end from [] h = omega arith
 low-le-end from (w ∷ ws) h =
     cond_both w.done (low_in w.hi ws) from (λ n. n ≤ end_from w.hi ws) (λ e. low-le-end w.hi ws h.1) (λ e. omega (arith, h.0, from-le-end w.hi ws h.1))
 
--- the low water is where the windows begin, or the end of one that is done
+-- the low water is where the windows begin, or the end of a done window
 pub low-is-end : (from : ℕ) (ws : List FrontWindow) → (low_in from ws ≡ from) ⊎ ((lo : ℕ) × (done_in from ws lo (low_in from ws) ≡ true))
 low-is-end from [] = inl refl
 low-is-end from (w ∷ ws) =
@@ -87,7 +87,7 @@ low-is-end from (w ∷ ws) =
     ])
     (λ e. inl refl)
 
--- what lies above the start and at or under the low water lies in a window that is done
+-- a sequence above the start and at or below the low water is in a done window
 pub reached-in : (from : ℕ) (ws : List FrontWindow) (q : ℕ) → Rises from ws → from < q → q ≤ low_in from ws → (lo : ℕ) × (hi : ℕ) × (lo < q) × (q ≤ hi) × (done_in from ws lo hi ≡ true)
 reached-in from [] q h a l = absurd (omega arith)
 reached-in from (w ∷ ws) q h a l =
@@ -119,7 +119,7 @@ run_count-above (w ∷ ws) =
       | false ↦ λ d. omega (arith, run_count-open false w ws d, run_count-open true w ws d)
     ] refl
 
--- ---- a window more
+-- ---- one more window
 
 pub end-append : (from : ℕ) (ws : List FrontWindow) (w : FrontWindow) → end_from from (ws ++ w ∷ []) ≡ w.hi
 end-append from [] w = refl
@@ -146,9 +146,9 @@ done-append from [] hi a b = or_from _ _ (never (eqb from a) (eqb hi b)) refl
     never false y = refl
 done-append from (w ∷ ws) hi a b = ap (λ r. (eqb from a && (eqb w.hi b && w.done)) || r) (done-append w.hi ws hi a b)
 
--- ---- a window done
+-- ---- a finished window
 
--- the mark alone changes
+-- only the mark changes
 pub end-finished : (from : ℕ) (ws : List FrontWindow) (lo hi : ℕ) → end_from from (finished_from from ws lo hi) ≡ end_from from ws
 end-finished from [] lo hi = refl
 end-finished from (w ∷ ws) lo hi =
@@ -169,7 +169,7 @@ bounds-finished_from from (w ∷ ws) lo hi =
     (λ e. ap (λ bs. (from, w.hi) ∷ bs) (bounds-finished_from w.hi ws lo hi))
     (λ e. ap (λ bs. (from, w.hi) ∷ bs) (bounds-finished_from w.hi ws lo hi))
 
--- a window is done after it exactly where it was done before, or is the one that is finished
+-- a window is done afterwards exactly if it was done before or is the finished one
 pub done-finished_from : (from : ℕ) (ws : List FrontWindow) (lo hi a b : ℕ) → done_in from (finished_from from ws lo hi) a b ≡ (done_in from ws a b || (window_in from ws lo hi && (eqb lo a && eqb hi b)))
 done-finished_from from [] lo hi a b = refl
 done-finished_from from (w ∷ ws) lo hi a b =
@@ -203,7 +203,7 @@ done-finished_from from (w ∷ ws) lo hi a b =
     now x y d r i m x' y' e s t =
         rw (e, ← s, ← t) (same x y d r i)
 
--- no mark lowers the low water
+-- finishing a window does not lower the low water
 pub low-finished : (from : ℕ) (ws : List FrontWindow) (lo hi : ℕ) → Rises from ws → low_in from ws ≤ low_in from (finished_from from ws lo hi)
 low-finished from [] lo hi h = omega arith
 low-finished from (w ∷ ws) lo hi h =

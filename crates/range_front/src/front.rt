@@ -7,21 +7,21 @@ use crate::ranges::{DoneRange, is_covered, join};
 use std::alloc::{AllocError, Global};
 use std::marker::Model;
 
-/// Windows `(lo, hi]` of sequences, one behind the other from a start, each done or not.
+/// A sequence of adjacent windows `(lo, hi]` of sequences, each done or not.
 ///
-/// Windows are appended in order and finished in any order. The low water says up to where all are done. Above it the
-/// done windows are kept as ranges, of which none touches another or the low water.
+/// Windows are appended in order and finished in any order. The low water is the sequence up to which all windows are
+/// done. The done windows above it are stored as ranges that touch neither each other nor the low water.
 pub struct Front {
     start: u64,
-    /// The windows' upper bounds, rising.
+    /// The upper bounds of the windows, rising.
     ends: Vec<u64>,
     /// The low water.
     mark: u64,
-    /// The done windows above the low water, neighbours as one range, rising.
+    /// The done windows above the low water, rising; adjacent windows form one range.
     ranges: Vec<DoneRange>,
 }
 
-// By hand, so that it is proved once: docs/DECISIONS.md, "Letting values go".
+// Written by hand so that it is proved once: docs/DECISIONS.md, "Letting values go".
 impl Drop for Front {
     fn drop(self) {
         let Front {
@@ -54,7 +54,7 @@ impl Front {
     ghost use Rattle.range_front.specs.Front.{IsFront, no_windows, end_of, appended, append_answer, finished, finish_answer, is_done, low_water, range_count};
     ghost use Rattle.range_front.specs.Answers.{GivesUnlessMemory};
 
-    /// A front of no windows, from the sequence `start`. It grows by `alloc`.
+    /// Creates a front without windows that begins at the sequence `start`.
     pub fn new(alloc: Global, start: u64) -> Front
         ensures value { result.front ≡ no_windows start }
         ensures front { IsFront result.front }
@@ -67,7 +67,7 @@ impl Front {
         }
     }
 
-    /// The sequence above which the first window begins.
+    /// Returns the sequence at which the first window begins.
     pub fn start(&self) -> u64
         ensures value { result ≡ self.now.front.start }
         ensures front { IsFront self.now.front }
@@ -75,7 +75,7 @@ impl Front {
         self.start
     }
 
-    /// The sequence up to which the windows reach: the last one's upper bound, or the start if there is none.
+    /// Returns the upper bound of the last window, or the start if there is none.
     pub fn end(&self) -> u64
         ensures value { result ≡ end_of self.now.front }
         ensures front { IsFront self.now.front }
@@ -86,10 +86,14 @@ impl Front {
         }
     }
 
-    /// Adds the window `(end, hi]` behind the others, not done.
+    /// Appends the window `(end, hi]`, which is not done.
     ///
-    /// `NotRising` exactly where `hi` is not above the end; else `Memory` where no memory is left. A refusal changes
-    /// nothing.
+    /// # Errors
+    ///
+    /// Exactly if its condition holds, in this order; an error changes nothing:
+    ///
+    /// - `NotRising`: `hi` is not above the end.
+    /// - `Memory`: an allocation failed.
     pub fn append(&mut self, hi: u64) -> Result<(), FrontFault>
         ensures answer { GivesUnlessMemory result (append_answer self.old.front hi) }
         ensures ok { OnOk result (self.new.front ≡ appended self.old.front hi) }
@@ -105,9 +109,9 @@ impl Front {
         Ok(())
     }
 
-    /// Makes room, so that the next `finish` doesn't answer `Memory`, also where windows are appended before it.
+    /// Reserves space, so that the next `finish` does not return `Memory`, even if windows are appended before it.
     ///
-    /// The windows stay as they are, whatever it answers.
+    /// The windows stay the same, whether or not the allocation succeeds.
     pub fn reserve(&mut self) -> Result<(), AllocError>
         ensures room { OnOk result (0 < self.new.room) }
         ensures kept { self.new.front ≡ self.old.front }
@@ -118,8 +122,13 @@ impl Front {
 
     /// Marks the window `(lo, hi]` as done.
     ///
-    /// `NoSuchWindow` exactly where there is no such window; else `AlreadyDone` exactly where it is done; else `Memory`
-    /// where no room is left and none can be had. A refusal changes nothing.
+    /// # Errors
+    ///
+    /// Checked in this order; an error changes nothing:
+    ///
+    /// - `NoSuchWindow`: there is no such window.
+    /// - `AlreadyDone`: the window is already done.
+    /// - `Memory`: no space was reserved, and an allocation failed.
     pub fn finish(&mut self, lo: u64, hi: u64) -> Result<(), FrontFault>
         ensures answer { GivesUnlessMemory result (finish_answer self.old.front lo hi) }
         ensures reserved { 0 < self.old.room → result ≡ finish_answer self.old.front lo hi }
@@ -145,8 +154,8 @@ impl Front {
         is_window(self.start, &self.ends, lo, hi) && is_covered(self.mark, &self.ranges, hi)
     }
 
-    /// The low water: the end of the longest front of windows that are all done, the start if there is none
-    /// (docs/PROFILE.md, "Windows and low water").
+    /// Returns the low water: the end of the longest prefix of windows that are all done, or the start if the first
+    /// window is not done (docs/PROFILE.md, "Windows and low water").
     pub fn low_water(&self) -> u64
         ensures value { result ≡ low_water self.now.front }
         ensures front { IsFront self.now.front }
@@ -154,7 +163,7 @@ impl Front {
         self.mark
     }
 
-    /// How many longest runs of neighbouring done windows lie above the low water.
+    /// Returns the number of maximal runs of adjacent done windows above the low water.
     pub fn range_count(&self) -> usize
         ensures value { result ≡ range_count self.now.front }
         ensures front { IsFront self.now.front }

@@ -1,4 +1,4 @@
-//! The low water and the ranges above it.
+//! The low water, and the ranges above it.
 ghost use Rattle.std.specs.Prelude.{◌≡◌, ℕ, ◌<◌, ◌≤◌, ◌++◌, length, take, drop, OnErr, IsOk};
 ghost use Rattle.std.specs.List.Sorted.{IsPartitionPoint};
 ghost use Rattle.std.specs.Vec.{vec_len, vec_capacity};
@@ -6,14 +6,14 @@ ghost use Rattle.range_front.specs.Ranges.{Apart, covers, absorbed, joined};
 
 use std::alloc::AllocError;
 
-/// Neighbouring windows that are done: all of `(lo, hi]`.
+/// Adjacent done windows: all of `(lo, hi]` is done.
 #[derive(Clone, Copy)]
 pub(crate) struct DoneRange {
     pub(crate) lo: u64,
     pub(crate) hi: u64,
 }
 
-/// The place of the first range that ends at a bound or above it.
+/// Returns the index of the first range that ends at or above a bound.
 fn place_from(ranges: &[DoneRange], bound: u64) -> usize
     requires { (mark : ℕ) × Apart mark ranges.now }
     ensures within { result ≤ length ranges.now }
@@ -22,7 +22,8 @@ fn place_from(ranges: &[DoneRange], bound: u64) -> usize
     ranges.partition_point(|range| range.hi < bound)
 }
 
-/// Whether what ends at `hi` is done: it lies at or under the low water `mark`, or in one of the ranges above it.
+/// Whether the window that ends at `hi` is done: it is at or below the low water `mark`, or in one of the ranges above
+/// it.
 pub(crate) fn is_covered(mark: u64, ranges: &[DoneRange], hi: u64) -> bool
     requires { Apart mark ranges.now }
     ensures { result ≡ covers mark ranges.now hi }
@@ -36,7 +37,7 @@ pub(crate) fn is_covered(mark: u64, ranges: &[DoneRange], hi: u64) -> bool
     }
 }
 
-/// Takes the range at a place out where it begins at `hi`, and answers up to where the windows are then done.
+/// Removes the range at an index if it begins at `hi`. Returns the sequence up to which the windows are then done.
 fn absorb(ranges: &mut Vec<DoneRange>, place: usize, hi: u64) -> u64
     ensures reach { result ≡ (absorbed hi (drop place ranges.old.items)).0 }
     ensures rest { ranges.new.items ≡ take place ranges.old.items ++ (absorbed hi (drop place ranges.old.items)).1 }
@@ -51,7 +52,8 @@ fn absorb(ranges: &mut Vec<DoneRange>, place: usize, hi: u64) -> u64
     }
 }
 
-/// Marks `(lo, hi]`, which lies outside the ranges and above the low water: what it touches becomes one with it.
+/// Marks `(lo, hi]`, which is above the low water and outside the ranges, as done. Merges it with the ranges that it
+/// touches.
 ///
 /// An error changes nothing.
 pub(crate) fn join(

@@ -1,4 +1,4 @@
--- The whole feed has each document of a database, in their order.
+-- The complete feed has each document of a database, in order.
 use Rattle.proof_prelude.proofs.{◌≡◌, ℕ, ◌<◌, ◌≤◌, ◌&&◌, nat_lt, nat_le, cond, List, [], ◌∷◌, map, filter, None, refl, ap, ◌∙◌, inl, inr, arith, and_from, lt-ltb, le-leb}
 use Rattle.rev_tree.specs.{TreeValue}
 use Rattle.couch_base.specs.{Among, Rises, DocumentValue, DatabaseValue, LawfulDatabase, tree_of, RowValue, row_of, feed, chosen_feed, chosen-all, rises_le}

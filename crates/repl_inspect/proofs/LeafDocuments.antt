@@ -1,4 +1,4 @@
--- A content stands at each leaf, so that there is a document of it.
+-- Each leaf has a content, so there is a document for it.
 use Rattle.proof_prelude.proofs.{◌≡◌, true, false, [], Option, Some, None, is_some, refl, sym, ap, ◌∙◌, option_map, option_map_or, get, and_parts, false≢true}
 use Rattle.rev_core.specs.{RevId}
 use Rattle.rev_tree.specs.{ContentValue, TreeValue, is_leaf, ancestors}
@@ -14,7 +14,7 @@ document_there id t leaf h = go (get t.contents leaf) refl h
         ap (option_map (λ (c : ContentValue). let d : Document = record { id = id; ancestry = ancestors t leaf; deleted = c.deleted; body = c.body } in d)) e
         ∙ sym (ap (λ (o : Option ContentValue). let d : Document = record { id = id; ancestry = ancestors t leaf; deleted = option_map_or (λ (c : ContentValue). c.deleted) o false; body = option_map_or (λ (c : ContentValue). c.body) o [] } in Some d) e)
 
--- of a database's document
+-- a leaf of a database's document
 pub leaf_there : (db : DatabaseValue) → LawfulDatabase db → (id : Id) (leaf : RevId) → is_leaf (tree_of db.docs id) leaf ≡ true → document_in id (tree_of db.docs id) leaf ≡ Some (leaf_document id (tree_of db.docs id) leaf)
 leaf_there db law id leaf top =
     document_there id (tree_of db.docs id) leaf ((IsDocumentTree-tree_of db law id leaf (and_parts _ _ top).0).tree.leaf leaf top)

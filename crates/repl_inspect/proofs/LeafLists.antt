@@ -3,7 +3,7 @@ use Rattle.proof_prelude.proofs.{◌≡◌, true, not, sym, ◌∙◌, list_all,
 use Rattle.rev_tree.specs.{TreeValue, has, is_leaf, leaves, missing, any_filter, is_among-leaves}
 use Rattle.couch_base.specs.{all_members}
 
--- those of its leaves that another tree hasn't
+-- the leaves that another tree lacks are in the tree
 pub missing_known : (s t : TreeValue) → list_all (has s) (missing t (leaves s)) ≡ true
 missing_known s t =
     all_members (has s) (missing t (leaves s))

@@ -1,4 +1,4 @@
--- The documents of all leaves make the same trees again.
+-- The documents of all leaves give the same trees again.
 use Rattle.proof_prelude.proofs.{◌≡◌, ◌+◌, ◌||◌, nat_lt, true, false, List, [], ◌∷◌, ◌++◌, map, Option, Some, None, Result, Ok, Err, unwrap_or, refl, sym, ap, ◌∙◌, subst, inl, inr, Bool, ℕ, zero, suc, ◌<◌, ◌≤◌, cond, length, arith, AllByRecursion, list_any, IsOk, bytes_eq, cond_both, false≢true, or_cases, bytes_eq-Decides, option_map_or, option_or, eq_by_cmp, get, flat_map, lt-ltb}
 use Rattle.couch_base.specs.{none_some, some_is, Among, Among-left, Among-mapped, Id, DatabaseValue, LawfulDatabase, most, tree_in, tree_of, with_tree, RowValue, chosen_feed, leaf_document, put_answer, put_told, is_changed, after_put, content_of, IsLater-after_put, tree_in-with_tree, BaseFault}
 use Rattle.rev_core.specs.{rev_tie_self, RevId, rev_cmp, is_among, edges_of}
@@ -34,7 +34,7 @@ flat_all P f h (x ∷ xs) = joined P (f x) (flat_map f xs) (h x) (flat_all P f h
 
 -- ---- one load
 
--- a document that is taken contradicts nothing, and finds a sequence
+-- an accepted document contradicts nothing, and gets a sequence
 not_refused : (db : DatabaseValue) (d : Document) → IsOk (put_answer db d) → (contradiction_of db d ≡ None) × (is_full (put_answer db d) ≡ false)
 not_refused db d ok = (go (contradiction_of db d) refl ok, room (put_answer db d) ok)
   where
@@ -46,7 +46,7 @@ not_refused db d ok = (go (contradiction_of db d) refl ok, room (put_answer db d
     room (Ok put) taken = refl
     room (Err why) taken = absurd (false≢true taken)
 
--- and one that contradicts nothing is taken, where a sequence is left
+-- a document that contradicts nothing is accepted, if a sequence is left
 taken_ok : (db : DatabaseValue) (d : Document) → contradiction_of db d ≡ None → db.update_seq < most → IsOk (put_answer db d)
 taken_ok db d none room = go (contradiction_of db d) (is_same (tree_of db.docs d.id) d.ancestry) (nat_lt db.update_seq most) none (lt-ltb db.update_seq most room)
   where
@@ -56,7 +56,7 @@ taken_ok db d none room = go (contradiction_of db d) (is_same (tree_of db.docs d
     go None false true e f = refl
     go None false false e f = absurd (false≢true f)
 
--- ---- a part of a tree contradicts nothing of it
+-- ---- a part of a tree does not contradict it
 
 module _ (s t : TreeValue) (part : IsPart s t) where
   edge_agrees : (c p : RevId) → get s.parents c ≡ Some p → contradiction_at c p (get t.parents c) ≡ None
@@ -85,7 +85,7 @@ module _ (s t : TreeValue) (part : IsPart s t) where
           ∙ rest p
 
 module _ (source : DatabaseValue) (law : LawfulDatabase source) where
-  -- the tree of a document with such a leaf
+  -- the tree of a document with one more leaf
   abbrev grown : DatabaseValue → Id → RevId → Origin → TreeValue
   grown db id leaf o = merged (tree_of db.docs id) (ancestors (tree_of source.docs id) leaf) (given (tree_of source.docs id) leaf) o
 
@@ -111,7 +111,7 @@ module _ (source : DatabaseValue) (law : LawfulDatabase source) where
   loads_part p [] from part = part
   loads_part p (d ∷ ds) from part = loads_part (after_load p d) ds from.1 (put_part p.db d (next_local p) from.0 part)
 
-  -- none is refused
+  -- all documents are accepted
   loads_taken : (p : PeerValue) (ds : List Document) → AllByRecursion (IsLeafOf source) ds → IsPartOf source p.db → p.db.update_seq + length ds ≤ most → AllTaken p ds
   loads_taken p [] from part room = tt
   loads_taken p (d ∷ ds) from part room =

@@ -1,4 +1,4 @@
--- What is missing, and what is covered.
+-- Missing leaves and covered leaves.
 use Rattle.proof_prelude.proofs.{◌≡◌, ℕ, ◌+◌, not, ◌||◌, List, [], ◌∷◌, length, refl, sym, ap, ◌∙◌, subst, inl, inr, arith, list_any, or_cases, false≢true, cases_Bool, nil_from_length, sum_by-cons, sum_by}
 use Rattle.rev_core.specs.{RevId}
 use Rattle.rev_tree.specs.{has, leaves, missing}
@@ -36,13 +36,13 @@ nobody : {X : Type 0} (xs : List X) → ((x : X) → Among x xs → ⊥) → xs 
 nobody [] h = refl
 nobody (x ∷ xs) h = absurd (h x (inl refl))
 
--- ---- a source's chosen feed against a target
+-- ---- a source's selected feed and a target
 
 module _ (source target : PeerValue) (chosen : Choice) (law : LawfulDatabase source.db) where
   abbrev rows : List RowValue
   rows = chosen_feed chosen source.db 0 source.db.update_seq
 
-  -- the leaves of a row that the target's tree hasn't
+  -- the leaves of a row that the target's tree lacks
   abbrev lost : RowValue → List RevId
   lost row = missing (tree_of target.db.docs row.id) row.leaves
 
@@ -74,7 +74,7 @@ module _ (source target : PeerValue) (chosen : Choice) (law : LawfulDatabase sou
       let r = Among-map (λ (x : RowValue). compared_at source.db target.db x.id) c rows m in
       ap (λ (x : ComparisonValue). length x.missing) r.2 ∙ ap length (lost_is r.0 r.1 ∙ none r.0 r.1)))
 
-  -- none is missing: all are covered
+  -- if none is missing, all are covered
   pub covered_all : count ≡ 0 → CoversFeed source target chosen source.db.update_seq
   covered_all none row m leaf among =
       elim (cases_Bool (has (tree_of target.db.docs row.id) leaf)) [
@@ -83,7 +83,7 @@ module _ (source target : PeerValue) (chosen : Choice) (law : LawfulDatabase sou
             absurd (subst (Among leaf) (none_lost none row m) (Among-filtered (λ r. not (has (tree_of target.db.docs row.id) r)) leaf row.leaves among (ap not not_there)))
       ]
 
-  -- what is missing where all are covered was refused
+  -- if all are covered, the missing ones were refused
   pub refused_all : CoversFeed source target chosen source.db.update_seq → MissingIsRefused source target chosen
   refused_all covered row m leaf among =
       let found = Among-filter (λ r. not (has (tree_of target.db.docs row.id) r)) leaf row.leaves among in
@@ -92,7 +92,7 @@ module _ (source target : PeerValue) (chosen : Choice) (law : LawfulDatabase sou
         | inr refused ↦ refused
       ]
 
-  -- so none is missing where nothing was refused
+  -- if nothing was refused, none is missing
   pub none_missing : HasNoLedger target → CoversFeed source target chosen source.db.update_seq → count ≡ 0
   none_missing empty covered =
       lost_none (λ row m. nobody (lost row) (λ leaf among.

@@ -1,4 +1,4 @@
--- How much a database holds: docs/PROFILE.md, "Revision trees" and "Leaves and the winner".
+-- Counting the content of a database: docs/PROFILE.md, "Revision trees" and "Leaves and the winner".
 use Rattle.std.specs.Prelude.{Bool, ◌==◌, List, map, length}
 use Rattle.std.specs.List.{sum_by, count_by}
 use Rattle.std.specs.FinMap.{len}
@@ -8,12 +8,11 @@ use Rattle.repl_inspect.specs.Conflicts.{live, in_conflict}
 use Rattle.repl_inspect.specs.Counting.{counted}
 use Rattle.repl_inspect.specs.declared.census.Census.{Census}
 
--- whether a document is deleted: no leaf of it is not
+-- whether a document is deleted: it has no live leaf
 abbrev pub is_gone : TreeValue → Bool
 is_gone tree = length (live tree) == 0
 
--- how many documents there are; how many of them are deleted, and how many in conflict; and how many leaves and
--- revisions they have
+-- the numbers of documents, of deleted ones, of those in conflict, of leaves and of revisions
 abbrev pub census_of : List TreeValue → Census
 census_of trees = record {
   documents = counted (length trees);

@@ -1,7 +1,7 @@
--- What a target misses of a source's document: docs/PROFILE.md, "Missing revisions" and "Merging"; CouchDB,
--- "Replication Protocol", `_revs_diff`.
+-- What a target lacks of a source's document: docs/PROFILE.md, "Missing revisions" and "Merging"; CouchDB, "Replication
+-- Protocol", `_revs_diff`.
 --
--- No log is looked at: the two trees of the document are.
+-- Comparisons use the two trees of the document, not logs.
 use Rattle.std.specs.Prelude.{ℕ, Bool, false, not, ◌&&◌, List, [], ◌∷◌, filter, length, Option, None}
 use Rattle.std.proofs.Math.Bool.{beq}
 use Rattle.std.specs.Option.{option_map_or, option_or}
@@ -13,16 +13,15 @@ use Rattle.rev_tree.specs.Content.{ContentValue}
 use Rattle.rev_tree.specs.Tree.{TreeValue, leaves, ancestors, missing, first_contradiction}
 use Rattle.rev_tree.specs.declared.fault.Contradiction.{Contradiction}
 
--- how many leaves a source's document has; those of them that the target's tree hasn't; the first revision of their
--- ancestries to which the target gives another parent; and the leaves whose contents are known on both sides, and are
--- not the same
+-- the number of leaves of a source's document; those that the target's tree lacks; the first revision of their
+-- ancestries to which the target gives another parent; and the leaves whose contents are known on both sides and differ
 pub record ComparisonValue : Type 0 where
   pub leaves : ℕ
   pub missing : List RevId
   pub contradiction : Option Contradiction
   pub differing : List RevId
 
--- the first contradiction of some leaves' ancestries with the target's tree, leaf by leaf, newest child first
+-- the first contradiction of the ancestries of leaves with the target's tree, leaf by leaf, newest child first
 abbrev pub contradiction_under : TreeValue → TreeValue → List RevId → Option Contradiction
 contradiction_under source target [] = None
 contradiction_under source target (leaf ∷ leaves) =
@@ -32,13 +31,13 @@ contradiction_under source target (leaf ∷ leaves) =
 abbrev pub same_content : ContentValue → ContentValue → Bool
 same_content b d = beq b.deleted d.deleted && bytes_eq b.body d.body
 
--- whether both trees know a content of a revision, and not the same
+-- whether both trees have a content of a revision, and the contents differ
 abbrev pub differs : TreeValue → TreeValue → RevId → Bool
 differs source target r =
     option_map_or (λ b. option_map_or (λ d. not (same_content b d)) (get target.contents r) false)
     (get source.contents r) false
 
--- a document's tree at a source, compared with the target's
+-- compares a document's tree at a source with the target's
 abbrev pub compared : TreeValue → TreeValue → ComparisonValue
 compared source target = record {
   leaves = length (leaves source);

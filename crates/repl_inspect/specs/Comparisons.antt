@@ -1,13 +1,13 @@
--- Documents of two databases, compared: docs/PROFILE.md, "Missing revisions" and "Changes feed".
+-- Comparing documents of two databases: docs/PROFILE.md, "Missing revisions" and "Changes feed".
 use Rattle.std.specs.Prelude.{List, map}
 use Rattle.couch_base.specs.Database.{Id, DatabaseValue, tree_of}
 use Rattle.couch_base.specs.Feed.{RowValue}
 use Rattle.repl_inspect.specs.Comparing.{ComparisonValue, compared}
 
--- a document of two databases; where one hasn't it, its tree is that of no revisions
+-- compares a document of two databases; a missing document has an empty tree
 abbrev pub compared_at : DatabaseValue → DatabaseValue → Id → ComparisonValue
 compared_at source target id = compared (tree_of source.docs id) (tree_of target.docs id)
 
--- each document of some rows of the source's feed
+-- compares each document of some rows of the source's feed
 abbrev pub comparisons : DatabaseValue → DatabaseValue → List RowValue → List ComparisonValue
 comparisons source target rows = map (λ r. compared_at source target r.id) rows

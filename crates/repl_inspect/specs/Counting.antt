@@ -2,6 +2,6 @@
 use Rattle.std.specs.Prelude.{ℕ, min}
 use Rattle.couch_base.specs.Database.{most}
 
--- a count, which ends at the greatest sequence
+-- a count, capped at the greatest sequence
 abbrev pub counted : ℕ → ℕ
 counted n = min n most

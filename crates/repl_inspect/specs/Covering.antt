@@ -1,4 +1,4 @@
--- What is missing, against what is covered: docs/PROFILE.md, "Covered leaves".
+-- Missing leaves and covered leaves: docs/PROFILE.md, "Covered leaves".
 use Rattle.std.specs.Prelude.{◌≡◌, true, []}
 use Rattle.std.specs.List.{list_any}
 use Rattle.rev_core.specs.Rev.{RevId}
@@ -10,12 +10,12 @@ use Rattle.couch_base.specs.Feed.{RowValue, chosen_feed}
 use Rattle.repl_peer.specs.peer.Peer.{PeerValue, SessionValue}
 use Rattle.repl_peer.specs.peer.Covered.{in_ledger}
 
--- no session of a peer has refused anything
+-- all ledgers of a peer are empty
 abbrev pub HasNoLedger : PeerValue → Type 0
 HasNoLedger p = (s : SessionValue) → Among s p.sessions → s.ledger ≡ []
 
--- each leaf of a source's (chosen) feed that the target's trees haven't is in the ancestry of a document that a session
--- of the target refused
+-- each leaf of a source's selected feed that the target's trees lack is in the ancestry of a document that a session of
+-- the target refused
 abbrev pub MissingIsRefused : PeerValue → PeerValue → Choice → Type 0
 MissingIsRefused source target chosen =
     (row : RowValue) → Among row (chosen_feed chosen source.db 0 source.db.update_seq) → (leaf : RevId)

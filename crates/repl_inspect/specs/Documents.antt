@@ -1,4 +1,4 @@
--- A document's leaves, each as a document with its whole known ancestry: docs/PROFILE.md, "Fetching".
+-- The leaves of a document, each as a document with its known ancestry: docs/PROFILE.md, "Fetching".
 use Rattle.std.specs.Prelude.{List, map}
 use Rattle.rev_tree.specs.Tree.{TreeValue, leaves}
 use Rattle.doc_json.specs.Document.{Document}
@@ -9,6 +9,6 @@ use Rattle.couch_base.specs.Messages.{leaf_document}
 abbrev pub documents_in : Id → TreeValue → List Document
 documents_in id tree = map (leaf_document id tree) (leaves tree)
 
--- those of a database's document
+-- the leaves of a database's document
 abbrev pub documents_at : DatabaseValue → Id → List Document
 documents_at db id = documents_in id (tree_of db.docs id)

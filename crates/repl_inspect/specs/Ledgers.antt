@@ -7,8 +7,8 @@ use Rattle.repl_peer.specs.declared.fault.Reason.TheVariants as reasons
 use Rattle.repl_inspect.specs.declared.ledger.LedgerRow.{LedgerRow}
 use Rattle.repl_inspect.specs.declared.ledger.LedgerRow.TheVariants as rows
 
--- what a row of a ledger says: of a document that the filter denied its newest revision, and of one that contradicted
--- its tree the first such revision with the parent that is known and the one that was given
+-- the explanation of a ledger row: the newest revision if the filter refused the document; or the first contradicting
+-- revision with its known and its given parent
 abbrev pub Says : RefusedValue → LedgerRow → Type 0
 Says x (rows.Denied rev) = (x.reason ≡ reasons.Filtered) × (head_of x.doc.ancestry ≡ Some rev)
 Says x (rows.Contradicted rev known given) = x.reason ≡ reasons.Contradicting rev known given

@@ -1,4 +1,4 @@
--- Documents given to an empty database: docs/PROFILE.md, "Local writes", "Fetching" and "Merging".
+-- Loading documents into an empty database: docs/PROFILE.md, "Local writes", "Fetching" and "Merging".
 use Rattle.std.specs.Prelude.{◌+◌, ◌≤◌, List, [], ◌∷◌, length}
 use Rattle.std.specs.List.{flat_map}
 use Rattle.std.specs.Result.{IsOk}
@@ -12,22 +12,22 @@ use Rattle.repl_peer.specs.peer.Writing.{after_load}
 use Rattle.repl_target.specs.replication.Replication.{IsEmpty, SameDocuments}
 use Rattle.repl_inspect.specs.Documents.{documents_at}
 
--- the documents of all leaves in a database's (chosen) feed, in its order, the winner of each first
+-- the documents of all leaves in a database's selected feed, in its order, winner first
 abbrev pub all_documents : Choice → DatabaseValue → List Document
 all_documents chosen db = flat_map (λ r. documents_at db r.id) (chosen_feed chosen db 0 db.update_seq)
 
--- a peer after documents were loaded in their order
+-- the peer after loading documents in order
 abbrev pub after_loads : PeerValue → List Document → PeerValue
 after_loads p [] = p
 after_loads p (d ∷ ds) = after_loads (after_load p d) ds
 
--- none of them is refused
+-- all documents are accepted
 abbrev pub AllTaken : PeerValue → List Document → Type 0
 AllTaken p [] = Unit {0}
 AllTaken p (d ∷ ds) = IsOk (put_answer p.db d) × AllTaken (after_load p d) ds
 
--- the documents of all leaves are all taken by an empty peer that has a sequence left for each, and make each chosen
--- document as it is: the same revisions, parents and contents of leaves, and the same winner
+-- an empty peer with enough sequences accepts the documents of all leaves, and then has each selected document as it
+-- is: the same revisions, parents, contents of leaves and winner
 abbrev pub LoadBack : DatabaseValue → Type 0
 LoadBack db =
     (chosen : Choice) (p : PeerValue) → IsEmpty p → p.db.update_seq + length (all_documents chosen db) ≤ most

@@ -1,12 +1,12 @@
--- The total of some comparisons: docs/PROFILE.md, "Missing revisions" and "Merging".
+-- Totals of comparisons: docs/PROFILE.md, "Missing revisions" and "Merging".
 use Rattle.std.specs.Prelude.{List, length, is_some}
 use Rattle.std.specs.List.{sum_by, count_by}
 use Rattle.repl_inspect.specs.Comparing.{ComparisonValue}
 use Rattle.repl_inspect.specs.Counting.{counted}
 use Rattle.repl_inspect.specs.declared.total.Total.{Total}
 
--- how many documents were compared, and leaves of them; how many of these leaves are missing; how many documents
--- contradict; and how many leaves differ
+-- the numbers of compared documents, of their leaves, of missing leaves, of contradicting documents, and of differing
+-- leaves
 abbrev pub total_of : List ComparisonValue → Total
 total_of cs = record {
   documents = counted (length cs);

@@ -1,4 +1,4 @@
-//! How much a database holds.
+//! Counting the content of a database.
 ghost use Rattle.std.specs.Prelude.{◌≡◌, ◌++◌, ◌∷◌, [], ◌≤◌, List, IfOk, OnOk, OnErr, map};
 ghost use Rattle.rev_tree.specs.Tree.{TreeValue};
 ghost use Rattle.couch_base.specs.Database.{tree_of};
@@ -11,26 +11,26 @@ use couch_base::{Database, Row};
 use rev_tree::Tree;
 use std::alloc::{AllocError, Global};
 
-/// How many rows of the feed are read at once.
+/// The number of feed rows that are read at once.
 const PAGE: u64 = 1000;
 
-/// How much some documents are. Each count ends at 9,007,199,254,740,991.
+/// The counts of a set of documents. Each count is capped at 9,007,199,254,740,991.
 #[derive(Clone, Copy, Debug, PartialEq, Eq)]
 pub struct Census {
-    /// How many documents there are, deleted ones too.
+    /// The number of documents, including deleted ones.
     pub documents: u64,
-    /// How many of these have no leaf that is not deleted.
+    /// The number of documents without a live leaf.
     pub deleted: u64,
-    /// How many of these are in conflict: two or more of their leaves are not deleted.
+    /// The number of documents in conflict: with two or more live leaves.
     pub conflicts: u64,
-    /// How many leaves they have.
+    /// The number of leaves.
     pub leaves: u64,
-    /// How many revisions they have.
+    /// The number of revisions.
     pub revisions: u64,
 }
 
 impl Census {
-    /// That of no documents.
+    /// The counts of no documents.
     pub fn none() -> Census
         ensures { result ≡ census_of [] }
     {
@@ -43,7 +43,7 @@ impl Census {
         }
     }
 
-    /// Adds a document's tree to some. Where memory is refused, nothing is added.
+    /// Adds a document's tree to the counts. If an allocation fails, nothing is added.
     pub fn add(&mut self, alloc: Global, tree: &Tree) -> Result<(), AllocError>
         ensures ok { OnOk result ((earlier : List TreeValue) → self.old ≡ census_of earlier
             → self.new ≡ census_of (earlier ++ tree.now ∷ [])) }
@@ -59,7 +59,7 @@ impl Census {
     }
 }
 
-/// How much a database holds. Its feed is read in pages.
+/// Counts the content of a database. Reads the feed in pages.
 pub fn census_of(alloc: Global, database: &Database) -> Result<Census, AllocError>
     ensures { IfOk result (λ c. c ≡ census_of (trees database.now)) }
 {
@@ -74,7 +74,7 @@ pub fn census_of(alloc: Global, database: &Database) -> Result<Census, AllocErro
     Ok(census)
 }
 
-/// Adds the documents of some rows to some.
+/// Adds the documents of rows to the counts.
 fn add_rows(
     alloc: Global,
     database: &Database,

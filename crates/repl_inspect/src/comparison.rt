@@ -1,4 +1,4 @@
-//! One document of a source, compared with a target's.
+//! Comparing one document of a source with a target's.
 ghost use Rattle.std.specs.Prelude.{◌≡◌, true, filter, IfOk};
 ghost use Rattle.std.specs.List.{list_all};
 ghost use Rattle.std.specs.Option.{option_copied};
@@ -10,7 +10,7 @@ use rev_tree::{Content, Contradiction, Revs, Tree};
 use std::alloc::{AllocError, Global};
 use std::marker::Model;
 
-/// What a target misses of one document of a source.
+/// What a target lacks of one document of a source.
 pub struct Comparison {
     leaves: usize,
     missing: Revs,
@@ -18,7 +18,7 @@ pub struct Comparison {
     differing: Vec<Rev>,
 }
 
-// By hand, so that it is proved once: docs/DECISIONS.md, "Letting values go".
+// Written by hand so that it is proved once: docs/DECISIONS.md, "Letting values go".
 impl Drop for Comparison {
     fn drop(self) {
         let Comparison {
@@ -46,29 +46,29 @@ impl Model for Comparison {
 impl Comparison {
     ghost use Rattle.repl_inspect.specs.Comparing.{ComparisonValue};
 
-    /// How many leaves the source's document has.
+    /// Returns the number of leaves of the source's document.
     pub fn leaves(&self) -> usize
         ensures { result ≡ self.now.leaves }
     {
         self.leaves
     }
 
-    /// Its leaves that the target's tree hasn't, winner first.
+    /// Returns its leaves that the target's tree lacks, winner first.
     pub fn missing(&self) -> &[Rev]
         ensures { result.now ≡ self.now.missing }
     {
         self.missing.as_slice()
     }
 
-    /// The first revision of the missing leaves' ancestries to which the target gives another parent: leaf by leaf, each
-    /// from its newest revision on. For it the target would refuse that leaf.
+    /// Returns the first revision in the ancestries of the missing leaves to which the target gives another parent:
+    /// leaf by leaf, each newest first. The target would refuse that leaf.
     pub fn contradiction(&self) -> Option<Contradiction>
         ensures { result ≡ self.now.contradiction }
     {
         self.contradiction
     }
 
-    /// Its leaves of which both know a content, and not the same, winner first.
+    /// Returns its leaves of which both sides have a content, and the contents differ, winner first.
     pub fn differing(&self) -> &[Rev]
         ensures { result.now ≡ self.now.differing }
     {
@@ -96,7 +96,7 @@ pub(crate) fn compare_trees(
     })
 }
 
-/// The first contradiction of some leaves' ancestries with the target's tree. They are the source's.
+/// Returns the first contradiction of the ancestries of leaves with the target's tree. The leaves are the source's.
 fn first_under(
     alloc: Global,
     source: &Tree,
@@ -115,7 +115,7 @@ fn first_under(
     Ok(None)
 }
 
-/// The revisions of which both trees know a content, and not the same.
+/// Returns the revisions of which both trees have a content, and the contents differ.
 fn differing_of(
     alloc: Global,
     source: &Tree,
@@ -133,7 +133,7 @@ fn differing_of(
     Ok(found)
 }
 
-/// Whether both trees know a content of a revision, and not the same.
+/// Whether both trees have a content of a revision, and the contents differ.
 fn is_other(source: &Tree, target: &Tree, rev: Rev) -> bool
     ensures { result ≡ differs source.now target.now rev }
 {
@@ -146,7 +146,7 @@ fn is_other(source: &Tree, target: &Tree, rev: Rev) -> bool
     }
 }
 
-/// Whether two contents are the same.
+/// Whether two contents are equal.
 fn is_same(ours: &Content, theirs: &Content) -> bool
     ensures { result ≡ same_content ours.now theirs.now }
 {

@@ -7,8 +7,7 @@ use rev_core::Rev;
 use rev_tree::Tree;
 use std::alloc::{AllocError, Global};
 
-/// The leaves of a document that are in conflict, winner first: those that are not deleted, where they are two or more.
-/// None where they are fewer.
+/// Returns the live leaves of a document, winner first, if there are two or more; otherwise an empty list.
 pub fn conflicting(alloc: Global, tree: &Tree) -> Result<Vec<Rev>, AllocError>
     ensures { IfOk result (λ v. v.items ≡ conflicting tree.now) }
 {
@@ -19,7 +18,7 @@ pub fn conflicting(alloc: Global, tree: &Tree) -> Result<Vec<Rev>, AllocError>
     Ok(found)
 }
 
-/// The leaves that are not deleted, winner first.
+/// Returns the live leaves, winner first.
 pub(crate) fn live(alloc: Global, tree: &Tree) -> Result<Vec<Rev>, AllocError>
     ensures { IfOk result (λ v. v.items ≡ live tree.now) }
 {
@@ -27,7 +26,7 @@ pub(crate) fn live(alloc: Global, tree: &Tree) -> Result<Vec<Rev>, AllocError>
     live_of(alloc, tree, leaves.as_slice())
 }
 
-/// Those of some revisions that are not deleted.
+/// Returns those of the revisions that are not deleted.
 fn live_of(alloc: Global, tree: &Tree, revs: &[Rev]) -> Result<Vec<Rev>, AllocError>
     ensures { IfOk result (λ v. v.items ≡ filter (λ r. not (is_deleted tree.now r)) revs.now) }
 {

@@ -4,7 +4,7 @@ ghost use Rattle.repl_inspect.specs.Counting.{counted};
 
 use couch_base::MOST_SEQUENCE;
 
-/// The sum of two counts. It ends at 9,007,199,254,740,991, as what is counted of documents and revisions does.
+/// Adds two counts. The sum is capped at 9,007,199,254,740,991, as all counts of documents and revisions are.
 pub(crate) fn plus(count: u64, more: u64) -> u64
     ensures { result ≡ counted (count + more) }
 {
@@ -14,7 +14,7 @@ pub(crate) fn plus(count: u64, more: u64) -> u64
     count + more
 }
 
-/// One more where a test holds.
+/// Adds one if a test holds.
 pub(crate) fn plus_if(count: u64, holds: bool) -> u64
     ensures { result ≡ counted (count + (if holds then 1 else 0)) }
 {

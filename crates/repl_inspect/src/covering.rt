@@ -1,4 +1,4 @@
-//! The whole feed of a source, compared with a target, and what that says of the leaves that the target covers.
+//! Comparing the complete feed of a source with a target, and what that says about coverage.
 ghost use Rattle.std.specs.Prelude.{◌≡◌, IfOk};
 ghost use Rattle.std.specs.Option.{option_copied};
 ghost use Rattle.couch_base.specs.Feed.{chosen_feed};
@@ -13,11 +13,11 @@ use doc_json::Chosen;
 use repl_target::{Peer, WriteFilter};
 use std::alloc::{AllocError, Global};
 
-/// The total of what a target misses of a source's whole feed, or of that of chosen documents. No log is looked at, and
-/// the source's feed is read in pages.
+/// Returns the total of what a target lacks of a source's complete feed, or of the feed of selected documents. Ignores
+/// logs; reads the source's feed in pages.
 ///
-/// No leaf is missing: then the target covers the whole feed. And where the target covers the whole feed, each leaf that
-/// is missing stands in a ledger of the target, so that none is missing where no ledger has a row.
+/// If no leaf is missing, the target covers the complete feed. If the target covers the complete feed, each missing
+/// leaf is in a ledger of the target; so if all ledgers are empty, none is missing.
 pub fn compare_feed<F: WriteFilter, G: WriteFilter>(
     alloc: Global,
     source: &Peer<F>,

@@ -1,4 +1,4 @@
-//! A document's leaves, each as a document.
+//! The leaves of a document, each as a document.
 ghost use Rattle.std.specs.Prelude.{◌≡◌, true, map, IfOk};
 ghost use Rattle.std.specs.List.{list_all};
 ghost use Rattle.rev_tree.specs.Tree.{is_leaf};
@@ -14,11 +14,11 @@ use rev_core::Rev;
 use rev_tree::Tree;
 use std::alloc::{AllocError, Global};
 
-/// The leaves of a document, winner first, each as a document with its whole known ancestry and its content. None where
-/// the database hasn't the document.
+/// Returns the leaves of a document, winner first, each as a document with its known ancestry and its content; an empty
+/// list if the database does not have the document.
 ///
-/// Those of all rows of a feed, loaded in their order into a peer without documents and sessions that has a sequence left
-/// for each of them, are all taken, and make each chosen document as it is here.
+/// If the documents of all rows of a feed are loaded in order into a peer without documents and sessions, with enough
+/// sequences left, all are accepted, and each selected document is then as it is here.
 pub fn documents_of(alloc: Global, database: &Database, id: &DocId) -> Result<Vec<Doc>, AllocError>
     ensures documents { IfOk result (λ v. v.items ≡ documents_at database.now id.now) }
     ensures documents_load_back { LoadBack database.now }
@@ -29,7 +29,7 @@ pub fn documents_of(alloc: Global, database: &Database, id: &DocId) -> Result<Ve
     documents_at(alloc, database, id, leaves.as_slice())
 }
 
-/// Some leaves of a document, each as a document.
+/// Returns leaves of a document, each as a document.
 fn documents_at(
     alloc: Global,
     database: &Database,
@@ -47,7 +47,7 @@ fn documents_at(
     Ok(found)
 }
 
-/// A leaf of a document, at which a content always stands, as a document with its ancestry and that content.
+/// Returns a leaf of a document as a document, with its ancestry and its content; a leaf always has a content.
 pub fn leaf_document(
     alloc: Global,
     database: &Database,

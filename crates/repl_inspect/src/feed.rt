@@ -1,4 +1,4 @@
-//! Documents of a source, one and those of its whole feed, compared with a target.
+//! Comparing one document, or all documents of a source's feed, with a target.
 ghost use Rattle.std.specs.Prelude.{◌≡◌, ◌++◌, List, IfOk, OnOk};
 ghost use Rattle.std.specs.Option.{option_copied};
 ghost use Rattle.couch_base.specs.Feed.{chosen_feed};
@@ -14,11 +14,11 @@ use doc_json::{Chosen, DocId};
 use rev_tree::Tree;
 use std::alloc::{AllocError, Global};
 
-/// How many rows of the source's feed are read at once.
+/// The number of feed rows that are read at once.
 const PAGE: u64 = 1000;
 
-/// Compares a document of a source with the target's: by their trees alone, whatever was replicated. A database that
-/// hasn't the document has no revisions of it.
+/// Compares a document of a source with the target's, by their trees only; replications do not matter. A missing
+/// document counts as one without revisions.
 pub fn compare(
     alloc: Global,
     source: &Database,
@@ -33,7 +33,7 @@ pub fn compare(
     compare_trees(alloc, ours, theirs)
 }
 
-/// The total of what a target's database misses of a source's feed.
+/// Returns the total of what a target's database lacks of a source's feed.
 pub(crate) fn compare_databases(
     alloc: Global,
     source: &Database,
@@ -54,7 +54,7 @@ pub(crate) fn compare_databases(
     Ok(total)
 }
 
-/// Adds the comparisons of some rows to the total of some.
+/// Adds the comparisons of rows to a total.
 fn add_rows(
     alloc: Global,
     source: &Database,

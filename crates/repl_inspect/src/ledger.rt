@@ -4,16 +4,17 @@ ghost use Rattle.repl_inspect.specs.Ledgers.{Says};
 use repl_target::{Reason, Refused};
 use rev_core::Rev;
 
-/// Why a document was refused, and of which revision that is said.
+/// Why a document was refused, and for which revision.
 #[derive(Clone, Copy, Debug)]
 pub enum LedgerRow {
     /// The write filter refuses the document, whose newest revision this is.
     Denied { rev: Rev },
-    /// The document's ancestry gives this revision another parent than the tree knows: the first such one, newest first.
+    /// The document's ancestry gives this revision another parent than the tree; this is the first such revision,
+    /// newest first.
     Contradicted { rev: Rev, known: Rev, given: Rev },
 }
 
-/// What a row of a ledger says of its document.
+/// Explains a row of a ledger.
 pub fn ledger_row(refused: &Refused) -> LedgerRow
     ensures { Says refused.now result }
 {

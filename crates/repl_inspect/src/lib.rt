@@ -1,8 +1,8 @@
-//! What people ask of databases and of what replications left: what a target misses of a source, which documents are in
-//! conflict, how much a database holds, what was refused and why, and a document's leaves whole.
+//! Questions about databases and replications: what a target lacks of a source, which documents are in conflict, how
+//! much a database contains, what was refused and why, and the complete leaves of a document.
 //!
-//! Nothing here changes a database, and no log is looked at. The rules stand in docs/PROFILE.md: "Missing revisions",
-//! "Merging", "Leaves and the winner", "Fetching" and "Covered leaves".
+//! Nothing here changes a database or reads a log. The rules are in docs/PROFILE.md: "Missing revisions", "Merging",
+//! "Leaves and the winner", "Fetching" and "Covered leaves".
 #![tactic(auto)]
 
 mod census;

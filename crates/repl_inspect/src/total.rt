@@ -1,4 +1,4 @@
-//! The total of some comparisons.
+//! Totals of comparisons.
 ghost use Rattle.std.specs.Prelude.{◌≡◌, ◌++◌, ◌∷◌, [], List};
 ghost use Rattle.repl_inspect.specs.Comparing.{ComparisonValue};
 ghost use Rattle.repl_inspect.specs.Totals.{total_of};
@@ -6,23 +6,23 @@ ghost use Rattle.repl_inspect.specs.Totals.{total_of};
 use crate::comparison::Comparison;
 use crate::counting::{plus, plus_if};
 
-/// How much was compared, and what was found. Each count ends at 9,007,199,254,740,991.
+/// The counts of a set of comparisons. Each count is capped at 9,007,199,254,740,991.
 #[derive(Clone, Copy, Debug, PartialEq, Eq)]
 pub struct Total {
-    /// How many documents were compared.
+    /// The number of compared documents.
     pub documents: u64,
-    /// How many leaves they have at the source.
+    /// The number of their leaves at the source.
     pub leaves: u64,
-    /// How many of these leaves the target's trees haven't.
+    /// The number of these leaves that the target's trees lack.
     pub missing: u64,
-    /// How many of the documents contradict the target's tree.
+    /// The number of documents that contradict the target's tree.
     pub contradicting: u64,
-    /// How many of the leaves have another content at the target.
+    /// The number of leaves with another content at the target.
     pub differing: u64,
 }
 
 impl Total {
-    /// That of no comparisons.
+    /// The total of no comparisons.
     pub fn none() -> Total
         ensures { result ≡ total_of [] }
     {
@@ -35,7 +35,7 @@ impl Total {
         }
     }
 
-    /// Adds a comparison to the total of some.
+    /// Adds a comparison to the total.
     pub fn add(&mut self, comparison: &Comparison)
         ensures { (earlier : List ComparisonValue) → self.old ≡ total_of earlier
             → self.new ≡ total_of (earlier ++ comparison.now ∷ []) }

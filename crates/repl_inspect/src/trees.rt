@@ -1,4 +1,4 @@
-//! Trees of documents that may not be there.
+//! Trees of documents that may not exist.
 ghost use Rattle.std.specs.Prelude.{◌≡◌};
 ghost use Rattle.couch_base.specs.Database.{tree_of};
 ghost use Rattle.rev_tree.specs.Tree.{no_revisions};
@@ -7,7 +7,7 @@ use couch_base::Database;
 use doc_json::DocId;
 use rev_tree::Tree;
 
-/// The tree of a document, or that of no revisions where it is not there.
+/// Returns the tree of a document, or an empty tree if it does not exist.
 pub(crate) fn tree_or<'a>(database: &'a Database, id: &DocId, none: &'a Tree) -> &'a Tree
     requires { none.now ≡ no_revisions }
     ensures { result.now ≡ tree_of database.now.docs id.now }

@@ -1,4 +1,4 @@
--- The texts of entries, with commas between them.
+-- The texts of entries, separated by commas.
 use Rattle.proof_prelude.proofs.{◌≡◌, ℕ, zero, suc, ◌+◌, nat_lt, Bool, true, false, List, [], ◌∷◌, ◌++◌, map, take, slice_get, Some, refl, sym, ap, ◌∙◌, append_assoc, arith, take_more, none-some, slice_get_within, get_or_from_slice_get, lt-ltb, append-nil}
 use Rattle.serde_json.specs.View.{items_of}
 use Rattle.serde_json.specs.Written.{compact_text, comma_if, items_text}
@@ -7,7 +7,7 @@ use Rattle.repl_log.specs.{EntryValue, entry_json, listed}
 abbrev pub entry_text : EntryValue → List ℕ
 entry_text e = compact_text (entry_json e)
 
--- what a list of them is, up to its bracket
+-- the text of an array of entries, up to its bracket
 pub items_text-listed : (later : Bool) (es : List EntryValue) → items_text later (items_of (map entry_json es)) ≡ listed later es ++ 93 ∷ []
 items_text-listed later [] = refl
 items_text-listed later (e ∷ es) =
@@ -19,7 +19,7 @@ later_more : (es : List EntryValue) (e : EntryValue) → listed true (es ++ e �
 later_more [] e = ap (λ l. 44 ∷ l) (append-nil (entry_text e))
 later_more (x ∷ es) e = ap (λ l. 44 ∷ (entry_text x ++ l)) (later_more es e) ∙ ap (λ l. 44 ∷ l) (sym (append_assoc (entry_text x) (listed true es) (44 ∷ entry_text e)))
 
--- one more, behind a comma where it is not the first
+-- one more entry, after a comma if it is not the first
 pub listed_more : (es : List EntryValue) (i : ℕ) (e : EntryValue) → slice_get es i ≡ Some e → listed false (take (i + 1) es) ≡ listed false (take i es) ++ (comma_if (nat_lt 0 i) ++ entry_text e)
 listed_more es i e is = ap (listed false) (next es i is) ∙ go es i is
   where

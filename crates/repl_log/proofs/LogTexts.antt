@@ -1,11 +1,11 @@
--- What a log's text and those of its entries are made of, and how it grows piece by piece.
+-- The text of a log and of its entries, built piece by piece.
 use Rattle.proof_prelude.proofs.{◌≡◌, ℕ, false, List, [], ◌∷◌, ◌++◌, codes, decimal, refl, ap, ◌∙◌, append_assoc}
 use Rattle.json.specs.Print.{escape_byte, quoted}
 use Rattle.serde_json.specs.Data.{Items}
 use Rattle.serde_json.specs.Written.{compact_text, items_text}
 use Rattle.repl_log.specs.{EntryValue, entry_with, log_with}
 
--- one piece more stands there, and one less is left
+-- one more piece is written, and one fewer remains
 pub moved : {all : List ℕ} (out piece left new : List ℕ) → out ++ (piece ++ left) ≡ all → new ≡ out ++ piece → new ++ left ≡ all
 moved out piece left new whole pushed = ap (λ l. l ++ left) pushed ∙ append_assoc out piece left ∙ whole
 

@@ -19,7 +19,7 @@ Keyed es = IsKeyed (λ (e : Entry). e.session) es
 abbrev pub session_of : EntryValue → SessionId
 session_of e = e.session
 
--- an entry keeps its own law
+-- an entry satisfies its invariant
 IsSound-value_of : (e : Entry) → IsSound (value_of e)
 IsSound-value_of e = record { accounted = e.accounted; from_start = e.from_start }
 
@@ -32,7 +32,7 @@ holds-lookup es s keyed once = any-lookup value_of session_of s es keyed once
 pub recorded_of-lookup : (es : Entries) (s : SessionId) → Keyed es → EachSessionOnce es → (o : Option Entry) → lookup (at_session s) es ≡ o → recorded_of (logged es) s ≡ option_map (λ (e : EntryValue). e.recorded) (option_map value_of o)
 recorded_of-lookup es s keyed once o is = ap (option_map (λ (e : EntryValue). e.recorded)) (entry_for-lookup es s keyed once ∙ ap (option_map value_of) is)
 
--- ---- what `put` answers and leaves, at a session that is there
+-- ---- the result and effect of `put`, for an existing session
 
 module _ (es : Entries) (e x : Entry) (keyed : Keyed es) (once : EachSessionOnce es) (is : lookup (at_session e.session) es ≡ Some x) where
   stored : entry_for (logged es) e.session ≡ Some (value_of x)
@@ -49,7 +49,7 @@ module _ (es : Entries) (e x : Entry) (keyed : Keyed es) (once : EachSessionOnce
       newest_first-set value_of session_of e.session e es keyed once
       ∙ sym (cond-true (holds (logged es) e.session) (replaced (logged es) (value_of e)) (value_of e ∷ logged es) (holds-lookup es e.session keyed once ∙ ap is_some is))
 
--- ---- and at a new one
+-- ---- the result and effect of `put`, for a new session
 
 module _ (es : Entries) (e : Entry) (keyed : Keyed es) (once : EachSessionOnce es) (is : lookup (at_session e.session) es ≡ None) where
   pub not_held : holds (logged es) e.session ≡ false
@@ -63,7 +63,7 @@ module _ (es : Entries) (e : Entry) (keyed : Keyed es) (once : EachSessionOnce e
       newest_first-push value_of session_of e.session e es
       ∙ sym (cond-false (holds (logged es) e.session) (replaced (logged es) (value_of e)) (value_of e ∷ logged es) not_held)
 
--- ---- the law of both
+-- ---- the invariant in both cases
 
 abbrev pub Lawful : Entries → Type 0
 Lawful es = IsLog (logged es) × Keyed es
@@ -80,7 +80,7 @@ Lawful-new es e law once is = (
   IsKeyed-push value_of session_of e.session e es law.1 refl,
 )
 
--- ---- what `set` leaves, be the session there or new
+-- ---- the effect of `set`, for an existing or new session
 
 module _ {S : Type 0} (m : IndexMap SessionId Entry S) (e : Entry) (law : Lawful m.entries) (once : EachSessionOnce m.entries) where
   abbrev IsEntered : Entries → Type 0

@@ -1,4 +1,4 @@
--- Laws of logs, for the crates above: docs/PROFILE.md, "Replication ids and logs" and "Common checkpoint".
+-- Lemmas about logs, for dependent crates: docs/PROFILE.md, "Replication ids and logs" and "Common checkpoint".
 use Rattle.std.proofs.Common.{◌≡◌, ℕ, ◌+◌, ◌≤◌, drop, slice_get, true, false, ◌||◌, nat_eq, eqb, cond, min, List, [], ◌∷◌, Option, Some, None, is_some, option_and_then, refl, sym, ap, ◌∙◌, subst, arith}
 use Rattle.std.specs.List.{list_any, IsDistinct, AllByRecursion}
 use Rattle.std.specs.Option.{option_map}
@@ -25,7 +25,7 @@ is_some-entry_for (x ∷ log) s =
       | false ↦ is_some-entry_for log s
     ]
 
--- ---- what `put` leaves
+-- ---- the effect of `put`
 
 other_session : (e x : EntryValue) (s : SessionId) → is_of s e ≡ false → is_of e.session x ≡ true → is_of s x ≡ false
 other_session e x s other own = ap (λ n. eqb n s.0) (eqb-true x.session.0 e.session.0 own) ∙ other
@@ -56,7 +56,7 @@ entry_for-replaced log e s held =
       | false ↦ λ other. entry_for-replaced_other log e s other
     ] refl
 
--- the entry stands for its session, and every other session keeps its own
+-- the new log has the entry for its session, and every other session keeps its own
 pub ChangesOnly-with_entry : (log : List EntryValue) (e : EntryValue) → ChangesOnly log (with_entry log e) e
 ChangesOnly-with_entry log e s =
     elim (holds log e.session) as (λ b. holds log e.session ≡ b → entry_for (cond b (replaced log e) (e ∷ log)) s ≡ cond (is_of s e) (Some e) (entry_for log s)) [
@@ -72,7 +72,7 @@ session_numbers-replaced (x ∷ log) e =
       | false ↦ λ other. ap (λ ns. x.session.0 ∷ ns) (session_numbers-replaced log e)
     ] refl
 
--- ---- the law is kept
+-- ---- the invariant is kept
 
 pub IsLog-nothing : IsLog []
 unfolding IsDistinct
@@ -135,7 +135,7 @@ later source target t s n not_held c =
       lesser = c.lesser;
     }
 
--- the definition says so
+-- `common` satisfies `IsCommon`
 pub common-IsCommon : (source target : List EntryValue) (c : SessionId × ℕ) → common source target ≡ Some c → IsCommon source target c.0 c.1
 common-IsCommon source [] c h = cc h
 common-IsCommon source (t ∷ target) c h =
@@ -144,7 +144,7 @@ common-IsCommon source (t ∷ target) c h =
       | false ↦ λ not_held found. later source target t c.0 c.1 not_held (common-IsCommon source target c found)
     ] refl h
 
--- its number is at most what either side recorded
+-- the number is at most what either side recorded
 pub common-le : (source target : List EntryValue) (s : SessionId) (n : ℕ) (c : IsCommon source target s n) → (n ≤ c.at_source.recorded) × (n ≤ c.at_target.recorded)
 common-le source target s n c = let lesser = c.lesser in (omega arith, omega arith)
 
@@ -155,7 +155,7 @@ checkpoint_at-held source t =
       | None ↦ refl
     ] ∙ is_some-entry_for source t.session
 
--- there is one exactly where a session is shared
+-- there is a common checkpoint exactly if a session is shared
 pub is_some-common : (source target : List EntryValue) → is_some (common source target) ≡ list_any (λ t. holds source t.session) target
 is_some-common source [] = refl
 is_some-common source (t ∷ target) =
@@ -167,7 +167,7 @@ is_some-common source (t ∷ target) =
 pub common-none : (source target : List EntryValue) → common source target ≡ None → IsUnshared source target
 common-none source target h = sym (is_some-common source target) ∙ ap is_some h
 
--- ---- its first step: whether the source's log holds the target's newest session
+-- ---- the first step: whether the source's log has the target's newest session
 
 common-here : (source log : List EntryValue) (t : EntryValue) (found : Option EntryValue) (recorded : ℕ) → entry_for source t.session ≡ found → option_map (λ (e : EntryValue). e.recorded) found ≡ Some recorded → common source (t ∷ log) ≡ Some (t.session, min recorded t.recorded)
 common-here source log t None recorded is h = cc h
@@ -187,7 +187,7 @@ common-passed : (source log : List EntryValue) (t : EntryValue) → recorded_of 
 common-passed source log t h =
     ap (option_and_then (checkpoint_at source)) (cond-false (holds source t.session) (Some t) (shared source log) (sym (is_some-entry_for source t.session) ∙ none_recorded (entry_for source t.session) h))
 
--- ---- a walk along the target's log: what is left begins with the entry at the place
+-- ---- a scan of the target's log: the remaining entries begin with the one at the index
 
 turned : (source target : List EntryValue) (i : ℕ) (x : EntryValue) → slice_get target i ≡ Some x → common source (drop i target) ≡ common source (x ∷ drop (i + 1) target)
 turned source target i x is =
@@ -199,7 +199,7 @@ pub common-at : (source target : List EntryValue) (i recorded : ℕ) (x : EntryV
     → common source target ≡ Some (x.session, min recorded x.recorded)
 common-at source target i recorded x so_far is held = so_far ∙ turned source target i x is ∙ common-shared source (drop (i + 1) target) x recorded held
 
--- or it stands behind
+-- or the checkpoint is among the later entries
 pub common-behind : (source target : List EntryValue) (i : ℕ) (x : EntryValue) → common source target ≡ common source (drop i target) → slice_get target i ≡ Some x → recorded_of source x.session ≡ None
     → common source target ≡ common source (drop (i + 1) target)
 common-behind source target i x so_far is none = so_far ∙ turned source target i x is ∙ common-passed source (drop (i + 1) target) x none

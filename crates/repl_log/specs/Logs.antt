@@ -1,4 +1,4 @@
--- Logs, each under its replication: docs/PROFILE.md, "Replication ids and logs".
+-- Logs by replication: docs/PROFILE.md, "Replication ids and logs".
 use Rattle.std.specs.Prelude.{List, [], ◌∷◌, Result, if◌then◌else◌}
 use Rattle.repl_log.specs.declared.replication.RepId.{RepId}
 use Rattle.repl_log.specs.declared.fault.LogFault.{LogFault}
@@ -6,16 +6,16 @@ use Rattle.repl_log.specs.Entry.{EntryValue}
 use Rattle.repl_log.specs.Log.{with_entry, put_answer}
 use Rattle.repl_log.specs.RepId.{same_rep}
 
--- the log of a replication, empty where there is none
+-- the log of a replication; empty if there is none
 abbrev pub log_in : List (RepId × List EntryValue) → RepId → List EntryValue
 log_in [] rep = []
 log_in (l ∷ logs) rep = if same_rep rep l.0 then l.1 else log_in logs rep
 
--- the entry is put into the log of its replication; a new replication's log comes last
+-- stores the entry in the log of its replication; the log of a new replication is the last
 abbrev pub logs_with : List (RepId × List EntryValue) → RepId → EntryValue → List (RepId × List EntryValue)
 logs_with [] rep e = (rep, with_entry [] e) ∷ []
 logs_with (l ∷ logs) rep e = if same_rep rep l.0 then (l.0, with_entry l.1 e) ∷ logs else l ∷ logs_with logs rep e
 
--- what putting an entry answers where memory is left: no less may be recorded of its session
+-- the result of storing an entry, if no allocation fails
 abbrev pub put_answer_in : List (RepId × List EntryValue) → RepId → EntryValue → Result (Unit {0}) LogFault
 put_answer_in logs rep e = put_answer (log_in logs rep) e

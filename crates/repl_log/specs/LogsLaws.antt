@@ -1,4 +1,4 @@
--- Laws of logs by replication, for the crates above: what is looked up is the log that contracts name.
+-- Lemmas about logs by replication, for dependent crates: a lookup finds the log that contracts name.
 use Rattle.std.proofs.Common.{◌≡◌, Bool, true, false, cond, List, [], ◌∷◌, Option, Some, None, unwrap_or, refl, ap, ◌∙◌}
 use Rattle.std.specs.Map.{lookup}
 use Rattle.repl_log.specs.declared.replication.RepId.{RepId}

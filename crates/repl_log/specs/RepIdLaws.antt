@@ -1,4 +1,4 @@
--- Laws of replication ids, for the crates above: two that a test finds equal are one.
+-- Lemmas about replication ids, for dependent crates: ids that compare as equal are equal.
 use Rattle.std.proofs.Common.{◌≡◌, Bool, true, Some, None, refl, ap}
 use Rattle.std.specs.Prelude.{nat_eq}
 use Rattle.std.specs.Option.{option_eq}

@@ -1,9 +1,9 @@
--- Values that stand under their sessions, the oldest first, and what contracts see of them: the newest first.
+-- Values stored by session, oldest first, and the list that contracts see, newest first.
 use Rattle.std.specs.Prelude.{◌≡◌, ◌==◌, Bool, List, map, reverse}
 use Rattle.std.specs.List.{AllByRecursion}
 use Rattle.rev_tree.specs.declared.origin.SessionId.{SessionId}
 
--- a session is the one that is looked for
+-- whether two session ids are equal
 abbrev pub at_session : SessionId → SessionId → Bool
 at_session s k = s.0 == k.0
 
@@ -11,6 +11,6 @@ at_session s k = s.0 == k.0
 abbrev pub newest_first : {X V : Type 0} → (X → V) → List (SessionId × X) → List V
 newest_first value es = reverse (map (λ e. value e.1) es)
 
--- each value stands under its own session
+-- each value is stored under its own session
 abbrev pub IsKeyed : {X : Type 0} → (X → SessionId) → List (SessionId × X) → Type 0
 IsKeyed session es = AllByRecursion (λ e. session e.1 ≡ e.0) es

@@ -1,4 +1,4 @@
--- Laws of values that stand under their sessions, for the crates above.
+-- Lemmas about values stored by session, for dependent crates.
 use Rattle.std.proofs.Common.{◌≡◌, ◌==◌, ◌&&◌, ◌||◌, Bool, true, false, cond, if◌then◌else◌, List, [], ◌∷◌, ◌++◌, map, Option, Some, None, is_some, reverse, refl, sym, ap, ◌∙◌, subst}
 use Rattle.std.specs.List.{find, list_any, IsDistinct, AllByRecursion}
 use Rattle.std.specs.Option.{option_map, option_or}
@@ -15,7 +15,7 @@ use Rattle.indexmap.specs.IndexMap.{insert_entry}
 use Rattle.rev_tree.specs.declared.origin.SessionId.{SessionId}
 use Rattle.repl_log.specs.Stored.{at_session, newest_first, IsKeyed}
 
--- no session comes twice
+-- no session occurs twice
 abbrev pub EachSessionOnce : {X : Type 0} → List (SessionId × X) → Type 0
 EachSessionOnce es = IsDistinct at_session (keys_of es)
 
@@ -34,7 +34,7 @@ absent-lookup : {X : Type 0} (s : SessionId) (es : List (SessionId × X)) → Al
 absent-lookup s [] none = refl
 absent-lookup s (e ∷ es) none = ap (λ b. cond b (Some e.1) (lookup (at_session s) es)) none.0 ∙ absent-lookup s es none.1
 
--- where a session is there, its value takes the place
+-- inserting at an existing session replaces its value
 pub insert_entry-present : {X : Type 0} (s : SessionId) (es : List (SessionId × X)) (x y : X) → lookup (at_session s) es ≡ Some y → insert_entry at_session es s x ≡ set_value (at_session s) es x
 insert_entry-present s [] x y is = cc is
 insert_entry-present s (e ∷ es) x y is =
@@ -43,7 +43,7 @@ insert_entry-present s (e ∷ es) x y is =
       | false ↦ λ rest. ap (λ l. e ∷ l) (insert_entry-present s es x y rest)
     ] is
 
--- what a value's own session is, and what is seen of it
+-- given the session of a value, and its model
 module _ {X V : Type 0} (value : X → V) (session : V → SessionId) where
   abbrev named : SessionId → V → Bool
   named s v = (session v).0 == s.0
@@ -60,13 +60,13 @@ module _ {X V : Type 0} (value : X → V) (session : V → SessionId) where
   pub newest_first-cons : (e : SessionId × X) (es : List (SessionId × X)) → newest_first value (e ∷ es) ≡ newest_first value es ++ value e.1 ∷ []
   newest_first-cons e es = reverse_onto (map (λ (e : SessionId × X). value e.1) es) (value e.1) []
 
-  -- a further value is the newest
+  -- one more value is the newest
   pub newest_first-push : (s : SessionId) (x : X) (es : List (SessionId × X)) → newest_first value (es ++ (s, x) ∷ []) ≡ value x ∷ newest_first value es
   newest_first-push s x es = ap reverse (map_push (λ (e : SessionId × X). value e.1) es (s, x)) ∙ reverse-append (map (λ (e : SessionId × X). value e.1) es) (value x ∷ [])
 
-  -- ---- look-ups
+  -- ---- lookups
 
-  -- what a table has at a session, where it passes a further test
+  -- the value that a table has at a session, if it passes a further test
   abbrev pub chosen : (V → Bool) → Option X → Option V
   chosen q None = None
   chosen q (Some x) = if q (value x) then Some (value x) else None
@@ -96,7 +96,7 @@ module _ {X V : Type 0} (value : X → V) (session : V → SessionId) where
   chosen-always None = refl
   chosen-always (Some x) = refl
 
-  -- the value of a session is what the table has there
+  -- the value of a session is the one that the table has there
   pub find-lookup : (s : SessionId) (es : List (SessionId × X)) → IsKeyed own es → EachSessionOnce es → find (named s) (newest_first value es) ≡ option_map value (lookup (at_session s) es)
   find-lookup s es keyed once =
       find-chosen (λ _. true) (named s) s (λ v. sym (and-true (named s v))) es keyed once ∙ chosen-always (lookup (at_session s) es)
@@ -129,7 +129,7 @@ module _ {X V : Type 0} (value : X → V) (session : V → SessionId) where
   put_over-set s x [] keyed once = refl
   put_over-set s x (e ∷ es) keyed once = put_step s x e es keyed once.0 (put_over-set s x es keyed.1 once.1) (at_session s e.0) refl
 
-  -- a write at a session puts the value in its place
+  -- a write at an existing session replaces its value
   pub newest_first-set : (s : SessionId) (x : X) (es : List (SessionId × X)) → IsKeyed own es → EachSessionOnce es → newest_first value (set_value (at_session s) es x) ≡ map (put_over s x) (newest_first value es)
   newest_first-set s x es keyed once = ap reverse (put_over-set s x es keyed once) ∙ sym (map-reverse (put_over s x) (map (λ e. value e.1) es))
 

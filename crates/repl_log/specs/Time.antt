@@ -1,31 +1,31 @@
--- The IMF-fixdate text of a moment (RFC 9110, 5.6.7), by httpdate's calendar and form.
+-- The IMF-fixdate of a timestamp (RFC 9110, 5.6.7), by httpdate's calendar and format.
 use Rattle.std.specs.Prelude.{ℕ, zero, suc, ◌+◌, ◌-◌, ◌/◌, ◌%◌, nat_lt, if◌then◌else◌, List}
 use Rattle.httpdate.specs.declared.parts.Parts.{Parts}
 use Rattle.httpdate.specs.Calendar.{days_of_years, days_of_months, weekday}
 use Rattle.httpdate.specs.Text.{imf_fixdate}
 
--- the first number from n on, of `left` more at most, behind which f passes x
+-- the first number n, among `left` more at most, with x < f (n + 1)
 unfoldable pub place_from : ℕ → ℕ → (ℕ → ℕ) → ℕ → ℕ
 place_from zero n f x = n
 place_from (suc left) n f x = if nat_lt x (f (n + 1)) then n else place_from left (n + 1) f x
 
--- the year in which a day lies, up to 9999; days are counted from 1 January 1970, which is day 0
+-- the year of a day, up to 9999; days are counted from 1 January 1970, which is day 0
 unfoldable pub year_of : ℕ → ℕ
 year_of day = 1970 + place_from 8029 0 days_of_years day
 
--- how many days of its year lie before it
+-- the number of days of the year before this day
 unfoldable pub day_of_year : ℕ → ℕ
 day_of_year day = day - days_of_years (year_of day - 1970)
 
--- the month in which it lies
+-- the month of a day
 unfoldable pub month_of : ℕ → ℕ
 month_of day = 1 + place_from 11 0 (days_of_months (year_of day)) (day_of_year day)
 
--- which day of that month it is
+-- the day of the month
 unfoldable pub day_of_month : ℕ → ℕ
 day_of_month day = 1 + (day_of_year day - days_of_months (year_of day) (month_of day - 1))
 
--- the numbers that a second's date shows
+-- the parts of the date of a second
 unfoldable pub parts_of : ℕ → Parts
 parts_of seconds =
     let day = seconds / 86400 in
@@ -39,6 +39,6 @@ parts_of seconds =
       wday = weekday day;
     }
 
--- the text of a moment, which is seconds since 1970
+-- the text of a timestamp in seconds since 1970
 unfoldable pub time_text : ℕ → List ℕ
 time_text seconds = imf_fixdate (parts_of seconds)

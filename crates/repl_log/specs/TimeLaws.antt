@@ -1,4 +1,4 @@
--- The text of a moment is what httpdate writes of its date.
+-- The text of a timestamp is what httpdate writes for its date.
 use Rattle.std.proofs.Common.{◌≡◌, ℕ, zero, suc, ◌+◌, ◌-◌, ◌*◌, ◌/◌, ◌%◌, ◌<◌, ◌≤◌, true, false, nat_lt, cond, refl, sym, ap, ◌∙◌, arith}
 use Rattle.std.proofs.lemmas.Bool.{ltb-true, ltb-false}
 use Rattle.httpdate.specs.declared.parts.Parts.{Parts}
@@ -10,7 +10,7 @@ use Rattle.httpdate.specs.Text.{imf_fixdate}
 use Rattle.httpdate.proofs.CalendarLemmas.{days_from_civil_year, days_from_civil_month}
 use Rattle.repl_log.specs.Time.{place_from, year_of, day_of_year, month_of, day_of_month, parts_of, time_text}
 
--- ---- places in a rising row
+-- ---- positions in a rising sequence
 
 rises_by : (f : ℕ → ℕ) → ((n : ℕ) → f n ≤ f (suc n)) → (a k : ℕ) → f a ≤ f (k + a)
 rises_by f step a zero = let same : 0 + a ≡ a = omega arith in rw same (omega arith)
@@ -104,7 +104,7 @@ parts_of-secs p valid =
     let wday = ap weekday at.0 ∙ sym valid.2 in
     λ i. record { year = year i; mon = mon i; day = day i; hour = at.1 i; min = at.2 i; sec = at.3 i; wday = wday i }
 
--- the text of a date's second is the date's
+-- the text of a date's second is the date's text
 pub time_text-date : (d : HttpDate) → time_text (unix_secs d) ≡ date_text d
 unfolding time_text
 time_text-date d = ap imf_fixdate (parts_of-secs d.parts (d.civil, d.time, d.right_day))

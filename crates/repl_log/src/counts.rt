@@ -1,17 +1,17 @@
-//! What a session has counted.
+//! The counts of a session.
 
-/// How much a session has done, in numbers.
+/// What a session has done, in numbers.
 #[derive(Clone, Copy, Debug, PartialEq, Eq)]
 pub struct Counts {
-    /// How many leaves stood in the rows of the windows that are done.
+    /// The number of leaves in the rows of done windows.
     pub checked: u64,
-    /// How many of these the target missed.
+    /// The number of these leaves that the target lacked.
     pub found: u64,
-    /// How many documents were read.
+    /// The number of documents read.
     pub read: u64,
-    /// How many of these the target took.
+    /// The number of these documents that the target accepted.
     pub written: u64,
-    /// How many of these it refused.
+    /// The number of these documents that the target refused.
     pub failures: u64,
 }
 
@@ -19,7 +19,7 @@ impl Counts {
     ghost use Rattle.std.specs.Prelude.{◌≡◌};
     ghost use Rattle.repl_log.specs.Counts.{no_counts};
 
-    /// Those of a session that begins.
+    /// The counts of a new session: all zero.
     pub fn none() -> Counts
         ensures { result ≡ no_counts }
     {

@@ -1,4 +1,4 @@
-//! What the calls of this crate refuse.
+//! Errors of this crate.
 
 ghost use Rattle.std.specs.Prelude.{◌≡◌};
 ghost use Rattle.repl_log.specs.declared.fault.LogFault.TheVariants.{Memory};
@@ -6,19 +6,19 @@ ghost use Rattle.repl_log.specs.declared.fault.LogFault.TheVariants.{Memory};
 use std::alloc::{AllocError, AllocFailed};
 use thiserror::Error;
 
-/// Why a moment, an entry or a log is refused, or that memory ran out.
+/// Why a timestamp, an entry or a log was rejected, or that an allocation failed.
 #[derive(Clone, Copy, Debug, PartialEq, Eq, Error)]
 pub enum LogFault {
-    /// The moment lies after the year 9999.
+    /// The timestamp is after the year 9999.
     #[error("a moment after the year 9999")]
     BadMoment,
-    /// The log's entry of this session has a greater recorded sequence, which is `stored`.
+    /// The log's entry of this session has a greater recorded sequence, `stored`.
     #[error("older than the stored entry, which recorded {stored}")]
     Older { stored: u64 },
     /// A log without entries has no text.
     #[error("a log without entries")]
     EmptyLog,
-    /// An allocation was refused.
+    /// An allocation failed.
     #[error("out of memory")]
     Memory,
 }

@@ -6,14 +6,14 @@ use rev_tree::SessionId;
 use std::alloc::{AllocError, Global};
 use std::marker::Model;
 
-/// The sessions of one replication, newest first, each once.
+/// The sessions of one replication, newest first, without duplicates.
 ///
-/// They are kept the oldest first, under their ids: what a call does with one session doesn't look at the others.
+/// Stored oldest first, as a table by session id, so that a call about one session does not scan the others.
 pub struct Log {
     entries: IndexMap<SessionId, Entry>,
 }
 
-// By hand, so that it is proved once: docs/DECISIONS.md, "Letting values go".
+// Written by hand so that it is proved once: docs/DECISIONS.md, "Letting values go".
 impl Drop for Log {
     fn drop(self) {
         let Log { entries: _ } = self;
@@ -43,7 +43,7 @@ impl Log {
     ghost use Rattle.repl_log.specs.Entry.{value_of};
     ghost use Rattle.repl_log.specs.Log.{IsLog, holds, with_entry, put_answer, recorded_of, ChangesOnly};
 
-    /// A log of no sessions. It grows by `alloc`.
+    /// Creates an empty log.
     pub fn new(alloc: Global) -> Log
         ensures value { result ≡ [] }
         ensures log { IsLog result }
@@ -53,13 +53,17 @@ impl Log {
         }
     }
 
-    /// Puts an entry into the log: a new session comes first, and one that is there is replaced in its place.
+    /// Stores an entry: that of a new session becomes the first; an existing one is replaced in place.
     ///
-    /// `Older` exactly where the stored entry of the session has a greater recorded sequence; else `Memory` where the
-    /// session is new and no memory is left. A refusal changes nothing.
+    /// # Errors
+    ///
+    /// Checked in this order; an error changes nothing:
+    ///
+    /// - `Older`: the stored entry of the session has a greater recorded sequence.
+    /// - `Memory`: an allocation failed. Returned only for a new session.
     pub fn put(&mut self, entry: Entry) -> Result<(), LogFault>
         ensures answer { GivesUnlessMemory result (put_answer self.old (value_of entry)) }
-        // A session that is there takes no memory.
+        // Replacing the entry of an existing session does not allocate.
         ensures known { IsTrue (holds self.old entry.session) → result ≡ put_answer self.old (value_of entry) }
         ensures ok { OnOk result (self.new ≡ with_entry self.old (value_of entry)) }
         ensures changes { OnOk result (ChangesOnly self.old self.new (value_of entry)) }
@@ -82,28 +86,28 @@ impl Log {
         }
     }
 
-    /// Puts an entry into the log as `put` does, whatever the stored entry of its session has recorded.
+    /// Stores an entry as `put` does, even if the stored entry has a greater recorded sequence.
     ///
-    /// A refusal changes nothing.
+    /// An error changes nothing.
     pub fn set(&mut self, entry: Entry) -> Result<(), AllocError>
         ensures ok { OnOk result (self.new ≡ with_entry self.old (value_of entry)) }
         ensures err { OnErr result (self.new ≡ self.old) }
         ensures log { IsLog self.new }
     {
-        // No id comes twice: the reading tells the proof.
+        // Gives proofs the fact that no id occurs twice.
         let _len = self.entries.len();
         self.entries.insert(entry.session, entry)?;
         Ok(())
     }
 
-    /// Lets the room go that its entries don't take.
+    /// Releases unused capacity.
     pub(crate) fn shrink(&mut self)
         ensures { self.new ≡ self.old }
     {
         self.entries.shrink_to_fit();
     }
 
-    /// How many sessions it holds.
+    /// Returns the number of sessions.
     pub fn len(&self) -> usize
         ensures len { result ≡ length self.now }
         ensures log { IsLog self.now }
@@ -111,7 +115,7 @@ impl Log {
         self.entries.len()
     }
 
-    /// The entry at a place, where it has so many; the newest session's is at 0.
+    /// Returns the entry at an index, if there is one. The newest session has index 0.
     pub fn get(&self, place: usize) -> Option<Entry>
         ensures { option_map value_of result ≡ slice_get self.now place }
     {
@@ -123,17 +127,17 @@ impl Log {
         Some(*entry)
     }
 
-    /// The recorded sequence of a session, where the log holds it.
+    /// Returns the recorded sequence of a session, if the log has it.
     pub fn recorded_of(&self, session: SessionId) -> Option<u64>
         ensures { result ≡ recorded_of self.now session }
     {
-        // No id comes twice: the reading tells the proof.
+        // Gives proofs the fact that no id occurs twice.
         let _len = self.entries.len();
         let entry = self.entries.get(&session)?;
         Some(entry.recorded)
     }
 
-    /// A log of the same entries.
+    /// Copies the log.
     pub fn copy(&self, alloc: Global) -> Result<Log, AllocError>
         ensures copied { IfOk result (λ l. l ≡ self.now) }
         ensures log { IsLog self.now }

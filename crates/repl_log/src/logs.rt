@@ -1,4 +1,4 @@
-//! The logs of replications.
+//! The logs of all replications.
 ghost use Rattle.std.specs.Prelude.{◌≡◌, [], OnOk, OnErr, IfOk};
 ghost use Rattle.std.specs.Option.{option_copied};
 ghost use Rattle.std.specs.Map.{lookup};
@@ -11,12 +11,12 @@ use indexmap::IndexMap;
 use std::alloc::{AllocError, Global};
 use std::marker::Model;
 
-/// Logs, each under its replication, in the order in which the replications began.
+/// Logs by replication, in the order in which the replications began.
 pub struct Logs {
     logs: IndexMap<RepId, Log>,
 }
 
-// By hand, so that it is proved once: docs/DECISIONS.md, "Letting values go".
+// Written by hand so that it is proved once: docs/DECISIONS.md, "Letting values go".
 impl Drop for Logs {
     fn drop(self) {
         let Logs { logs: _ } = self;
@@ -39,7 +39,7 @@ impl Logs {
     ghost use Rattle.repl_log.specs.RepId.{same_rep};
     ghost use Rattle.repl_log.specs.Logs.{log_in, logs_with, put_answer_in};
 
-    /// No logs. They grow by `alloc`.
+    /// Creates an empty table.
     pub fn new(alloc: Global) -> Logs
         ensures { result ≡ [] }
     {
@@ -48,14 +48,14 @@ impl Logs {
         }
     }
 
-    /// The log of a replication, where there is one.
+    /// Returns the log of a replication, if there is one.
     pub fn get(&self, rep: &RepId) -> Option<&Log>
         ensures { option_copied result ≡ lookup (same_rep rep.now) self.now }
     {
         self.logs.get(rep)
     }
 
-    /// A copy of the log of a replication, an empty one where there is none.
+    /// Copies the log of a replication; an empty log if there is none.
     pub fn copy_of(&self, alloc: Global, rep: &RepId) -> Result<Log, AllocError>
         ensures log { IfOk result (λ l. l ≡ log_in self.now rep.now) }
     {
@@ -65,10 +65,14 @@ impl Logs {
         }
     }
 
-    /// Puts an entry into the log of a replication as `Log::put` does; where there is none, it begins with the entry.
+    /// Stores an entry in the log of a replication as `Log::put` does. If there is no such log, creates it.
     ///
-    /// `Older` exactly where the log's entry of the session has a greater recorded sequence; else `Memory`. A refusal
-    /// changes nothing.
+    /// # Errors
+    ///
+    /// Checked in this order; an error changes nothing:
+    ///
+    /// - `Older`: the log's entry of the session has a greater recorded sequence.
+    /// - `Memory`: an allocation failed.
     pub fn put(&mut self, rep: &RepId, entry: Entry) -> Result<(), LogFault>
         ensures answer { GivesUnlessMemory result (put_answer_in self.old rep.now (value_of entry)) }
         ensures ok { OnOk result (self.new ≡ logs_with self.old rep.now (value_of entry)) }
@@ -89,7 +93,7 @@ impl Logs {
         }
     }
 
-    /// The same logs, each at its place.
+    /// Copies the logs, in the same order.
     pub fn copy(&self, alloc: Global) -> Result<Logs, AllocError>
         ensures copied { IfOk result (λ l. l ≡ self.now) }
     {
@@ -105,7 +109,7 @@ impl Logs {
     }
 }
 
-/// Lets the room go that the first log doesn't take: most sources have one target.
+/// Releases the capacity that the first log does not use: most sources have one target.
 fn fit(logs: &mut IndexMap<RepId, Log>)
     ensures { logs.new.entries ≡ logs.old.entries }
 {
@@ -114,7 +118,7 @@ fn fit(logs: &mut IndexMap<RepId, Log>)
     }
 }
 
-/// A log with its replication.
+/// Copies a log with its replication.
 fn copied(alloc: Global, rep: &RepId, log: &Log) -> Result<(RepId, Log), AllocError>
     ensures copied { IfOk result (λ e. (e.0 ≡ rep.now) × (e.1 ≡ log.now)) }
 {

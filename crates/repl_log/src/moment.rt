@@ -1,13 +1,13 @@
-//! Moments.
+//! Timestamps.
 ghost use Rattle.std.specs.Prelude.{◌≡◌, ◌<◌, nat_lt, if◌then◌else◌, Ok, Err};
 
 use crate::fault::LogFault;
 use std::marker::Model;
 
-/// The first second that is no moment any more, with which the year 10000 begins.
+/// The first second that is not a valid timestamp: the beginning of the year 10000.
 const END: u64 = 253_402_300_800;
 
-/// A moment in whole seconds since 1 January 1970, up to the end of the year 9999 (docs/PROFILE.md, "Limits").
+/// A timestamp in seconds since 1 January 1970, up to the end of the year 9999 (docs/PROFILE.md, "Limits").
 #[derive(Clone, Copy, Debug, PartialEq, Eq, PartialOrd, Ord)]
 pub struct Moment {
     seconds: u64,
@@ -26,7 +26,7 @@ impl Model for Moment {
 }
 
 impl Moment {
-    /// The moment so many seconds after the beginning of 1970, up to 253,402,300,799; else `BadMoment`.
+    /// Creates a timestamp from seconds since 1970. Returns `BadMoment` if they exceed 253,402,300,799.
     pub fn new(seconds: u64) -> Result<Moment, LogFault>
         ensures { result ≡ (if nat_lt seconds 253_402_300_800 then Ok seconds else Err LogFault.BadMoment) }
     {
@@ -37,7 +37,7 @@ impl Moment {
         }
     }
 
-    /// The seconds since the beginning of 1970.
+    /// Returns the seconds since 1970.
     pub fn seconds(&self) -> u64
         ensures value { result ≡ self.now }
         ensures in_range { self.now < 253_402_300_800 }

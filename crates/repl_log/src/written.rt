@@ -1,4 +1,4 @@
-//! The text of a log: one JSON object in compact form, written behind what a buffer holds.
+//! Serializing a log as a compact JSON object.
 ghost use Rattle.std.specs.Prelude.{◌≡◌, ◌++◌, false, OnOk, IfOk, string_bytes, codes, decimal};
 ghost use Rattle.httpdate.specs.Date.{unix_secs, date_text};
 ghost use Rattle.httpdate.specs.declared.date.HttpDate.{HttpDate as Date};
@@ -20,12 +20,15 @@ use httpdate::HttpDate;
 use itoa::Buffer;
 use std::alloc::{AllocError, Global};
 
-/// The text of a log, which is one JSON object in compact form (docs/PROFILE.md, "Replication ids and logs").
+/// Serializes a log as a compact JSON object (docs/PROFILE.md, "Replication ids and logs").
 ///
-/// `EmptyLog` exactly where the log has no entries; else `Memory` where no memory is left.
+/// # Errors
+///
+/// - `EmptyLog`: the log has no entries.
+/// - `Memory`: an allocation failed.
 pub fn write_log(alloc: Global, id: &RepId, log: &Log) -> Result<Vec<u8>, LogFault>
     ensures answer { GivesUnlessMemory (bytes_of result) (log_text id.now log.now) }
-    // The texts of its times are httpdate's.
+    // Times are formatted as `httpdate` formats them.
     ensures times { (date : Date) → time_text (unix_secs date) ≡ date_text date }
 {
     let Some(newest) = log.get(0) else {
@@ -34,7 +37,7 @@ pub fn write_log(alloc: Global, id: &RepId, log: &Log) -> Result<Vec<u8>, LogFau
     Ok(whole_log(alloc, id, newest, log)?)
 }
 
-/// The text of a log whose newest entry is given.
+/// Serializes a log, given its newest entry.
 fn whole_log(alloc: Global, id: &RepId, newest: Entry, log: &Log) -> Result<Vec<u8>, AllocError>
     ensures { IfOk result (λ text. text.items ≡ compact_text (log_json id.now (value_of newest) log.now)) }
 {
@@ -52,7 +55,7 @@ fn whole_log(alloc: Global, id: &RepId, newest: Entry, log: &Log) -> Result<Vec<
     Ok(out)
 }
 
-/// What a log's text says it is: `_local/` and the text of the replication id.
+/// Returns the `_id` of a log: `_local/` and the replication id.
 fn log_name(alloc: Global, id: &RepId) -> Result<String, AllocError>
     ensures { IfOk result (λ name. string_bytes name ≡ codes "_local/" ++ rep_text id.now) }
 {
@@ -62,7 +65,7 @@ fn log_name(alloc: Global, id: &RepId) -> Result<String, AllocError>
     Ok(name)
 }
 
-/// The entries of a log, newest first, with commas between them.
+/// Appends the entries of a log, newest first, separated by commas.
 fn push_entries(alloc: Global, out: &mut Vec<u8>, log: &Log) -> Result<(), AllocError>
     ensures { OnOk result (out.new.items ≡ out.old.items ++ listed false log.now) }
 {
@@ -76,7 +79,7 @@ fn push_entries(alloc: Global, out: &mut Vec<u8>, log: &Log) -> Result<(), Alloc
     Ok(())
 }
 
-/// A comma, where something stands before.
+/// Appends a comma, if `later` is true.
 fn push_comma(out: &mut Vec<u8>, later: bool) -> Result<(), AllocError>
     ensures { OnOk result (out.new.items ≡ out.old.items ++ comma_if later) }
 {
@@ -86,7 +89,7 @@ fn push_comma(out: &mut Vec<u8>, later: bool) -> Result<(), AllocError>
     Ok(())
 }
 
-/// An entry of the history.
+/// Appends an entry of the history.
 fn push_entry(alloc: Global, out: &mut Vec<u8>, entry: Entry) -> Result<(), AllocError>
     ensures { OnOk result (out.new.items ≡ out.old.items ++ compact_text (entry_json (value_of entry))) }
 {
@@ -96,7 +99,7 @@ fn push_entry(alloc: Global, out: &mut Vec<u8>, entry: Entry) -> Result<(), Allo
     push_members(out, entry, session.as_str(), start.as_str(), end.as_str())
 }
 
-/// The members of an entry, of which the texts are given.
+/// Appends the members of an entry, given its strings.
 fn push_members(
     out: &mut Vec<u8>,
     entry: Entry,
@@ -122,7 +125,7 @@ fn push_members(
     Ok(())
 }
 
-/// A name with what stands around it, and a whole number.
+/// Appends a name with its punctuation, and an integer.
 fn push_whole(out: &mut Vec<u8>, name: &str, number: u64) -> Result<(), AllocError>
     ensures { OnOk result (out.new.items ≡ out.old.items ++ (name.now ++ decimal number)) }
 {
@@ -131,7 +134,7 @@ fn push_whole(out: &mut Vec<u8>, name: &str, number: u64) -> Result<(), AllocErr
     out.extend_from_slice(buffer.format(number).as_bytes())
 }
 
-/// A name with what stands around it, and a text in quotation marks.
+/// Appends a name with its punctuation, and a string in quotation marks.
 fn push_quoted(out: &mut Vec<u8>, name: &str, text: &str) -> Result<(), AllocError>
     ensures { OnOk result (out.new.items ≡ out.old.items ++ (name.now ++ quoted text.now)) }
 {
@@ -139,7 +142,7 @@ fn push_quoted(out: &mut Vec<u8>, name: &str, text: &str) -> Result<(), AllocErr
     push_text(out, text)
 }
 
-/// The IMF-fixdate text of a moment.
+/// Formats a timestamp as an IMF-fixdate.
 fn date(alloc: Global, moment: Moment) -> Result<String, AllocError>
     ensures { IfOk result (λ text. string_bytes text ≡ time_text moment) }
 {

@@ -1,4 +1,4 @@
--- Chains of hops by a hub.
+-- Chains of hops through a hub.
 use Rattle.proof_prelude.proofs.{◌≡◌, ℕ, zero, suc, ◌+◌, ◌<◌, ◌≤◌, List, [], ◌∷◌, ◌++◌, length, take, get_or, refl, sym, ap, ◌∙◌, subst, inl, inr, arith, cases_lt, append_assoc}
 use Rattle.std.proofs.Math.Seq.{take-suc}
 use Rattle.couch_base.specs.{Id}
@@ -20,7 +20,7 @@ then_on (h ∷ xs) ys l m n first second =
       | inr by ↦ inr (by.0, then_on xs ys h.to m n by.1 second)
     ]
 
--- ---- by a hub
+-- ---- through a hub
 
 gathered : (plans : List Plan) (k m : ℕ) → k ≤ m → m < k + length plans → Leads (gathers k plans) (m + 1) 0
 gathered [] k m low high = absurd (omega (arith, low, high))
@@ -40,7 +40,7 @@ spread (plan ∷ plans) k m low high =
           inr (refl, subst (λ x. Leads (spreads (k + 1) plans) (k + 1) (x + 1)) same (stays (spreads (k + 1) plans) (k + 1)))
     ]
 
--- each place leads to the hub, and the hub to each
+-- a chain leads from each place to the hub, and from the hub to each place
 to_hub : (plans : List Plan) (m : ℕ) → m < length plans + 1 → Leads (gathers 0 plans) m 0
 to_hub plans zero h = stays (gathers 0 plans) 0
 to_hub plans (suc m) h = (let one : m + 1 ≡ suc m = omega arith in subst (λ x. Leads (gathers 0 plans) x 0) one (gathered plans 0 m (omega arith) (omega (arith, h))))
@@ -53,7 +53,7 @@ hub_leads : (there back : List Plan) (count : ℕ) → count ≡ length there + 
 hub_leads there back count a b m n i j =
     then_on (gathers 0 there) (spreads 0 back) m 0 n (to_hub there m (omega (arith, a, i))) (from_hub back n (omega (arith, b, j)))
 
--- ---- choosing
+-- ---- selecting
 
 gathers_choose : (plans : List Plan) (k : ℕ) (id : Id) (more : List Hop) → AllPlansChoose plans id → AllChoose more id → AllChoose (gathers k plans ++ more) id
 gathers_choose [] k id more h rest = rest
@@ -69,7 +69,7 @@ hub_spread peers there back hops peers' is a b all net id first second none agre
     let s = all net id (subst (λ hs. AllChoose hs id) (sym is) (gathers_choose there 0 id (spreads 0 back) first (spreads_choose back 0 id second))) none agree whole in
     record { same = s.same (subst (λ hs. LeadsEverywhere hs (length peers)) (sym is) (hub_leads there back (length peers) a b)); agree = s.agree; whole = s.whole }
 
--- ---- one plan more
+-- ---- one more plan
 
 pub gathers_more : (plans : List Plan) (k : ℕ) (plan : Plan) → gathers k (plans ++ plan ∷ []) ≡ gathers k plans ++ record { from = k + length plans + 1; to = 0; plan = plan } ∷ []
 gathers_more [] k plan = (let e : k + 1 ≡ k + 0 + 1 = omega arith in ap (λ (n : ℕ). record { from = n; to = 0; plan = plan } ∷ []) e)

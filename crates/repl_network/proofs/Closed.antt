@@ -1,4 +1,4 @@
--- A net stays closed: what its sessions and logs speak of was replicated between two of its peers.
+-- A network stays closed: its sessions and logs are of replications between two of its peers.
 use Rattle.proof_prelude.proofs.{◌≡◌, ◌≢◌, ◌⊎◌, ℕ, zero, suc, Bool, List, [], ◌∷◌, ◌++◌, length, slice_get, Option, is_some, unwrap_or, Result, Ok, Err, refl, sym, ap, ◌∙◌, subst, inl, inr, false≢true}
 use Rattle.rev_core.specs.{RevId}
 use Rattle.doc_json.specs.Document.{Document}
@@ -14,9 +14,9 @@ use Rattle.repl_network.specs.Hopped.{Hopped}
 use Rattle.repl_network.proofs.Hops as hops
 use Rattle.repl_network.proofs.Writes as writes
 
--- ---- the sessions that a run leaves
+-- ---- the sessions after a run
 
--- something that is said of each by the database that it came from
+-- a property of each session that depends on its source's UUID
 module _ (U : ℕ → Type 0) where
   abbrev Of : SessionValue → Type 0
   Of s = U s.rep.source
@@ -31,7 +31,7 @@ module _ (U : ℕ → Type 0) where
       (each-kept Of of-stays refuses (of_run source.db plan.chosen plan.session) (λ _ _ _ _ k. k)) (after_begins source target plan) now left.1
       (call_keeps Of of-stays refuses target (Begin plan.session (beginning_between source target plan.chosen) plan.at) (λ _. own) h)
 
--- the logs that a run leaves
+-- the logs after a run
 put_logs : (U : ℕ → Type 0) (source target : PeerValue) (chosen : Choice) (source' : PeerValue) → IsPut source target chosen source' → U target.db.uuid → ((rep : RepId) (e : EntryValue) → Among e (log_in source.outgoing rep) → U rep.target)
     → (rep : RepId) (e : EntryValue) → Among e (log_in source'.outgoing rep) → U rep.target
 put_logs U source target chosen source' (inl same) own h = subst (λ (p : PeerValue). (rep : RepId) (e : EntryValue) → Among e (log_in p.outgoing rep) → U rep.target) (sym same) h
@@ -209,7 +209,7 @@ pub peers_more : {F : Type 0} (peers : List (F × PeerValue)) (x : F × PeerValu
 peers_more [] x = refl
 peers_more (y ∷ peers) x = ap (λ ps. y.1 ∷ ps) (peers_more peers x)
 
--- behind the others
+-- appended to the others
 pub added_net : {F : Type 0} (peers : List (F × PeerValue)) (filter : F) (x : F × PeerValue) (uuid : ℕ) → x ≡ (filter, new_peer uuid) → IsNet (peers_of peers) → (IsHeld (peers_of peers) uuid → ⊥) → IsNet (peers_of (peers ++ x ∷ []))
 added_net {F = F} peers filter x uuid is net fresh =
     let one : x.1 ≡ new_peer uuid = ap (λ (y : F × PeerValue). y.1) is in

@@ -1,4 +1,4 @@
--- The document that an edit puts is cut off nowhere but at what its peer has.
+-- The history of the document of an edit is complete, or ends at a revision that its peer has.
 use Rattle.proof_prelude.proofs.{◌≡◌, ◌⊎◌, ℕ, ◌^◌, Bool, true, false, cond, List, [], ◌∷◌, Option, Some, None, is_some, unwrap_or, Result, Ok, Err, refl, sym, ap, ◌∙◌, subst, inl, inr, nat_lt, is_ok, list_all, option_to_list, result_unwrap_or, get-empty, eq_by_cmp, false≢true, and_parts, or_cases, or_left, same_Some}
 use Rattle.std.specs.FinMap.{find}
 use Rattle.rev_core.specs.{RevId, rev_cmp, rev_tie_is, rev_tie_self, edges_of, is_among, ◌>>=◌, refused_if, named, next_generation, edit_sig, edit_rev}
@@ -9,7 +9,7 @@ use Rattle.couch_base.specs.declared.fault.BaseFault.TheVariants as faults
 use Rattle.repl_network.specs.{tree_alone, IsRooted}
 use Rattle.repl_network.proofs.Trees.{alone}
 
--- ---- what an edit makes
+-- ---- the revisions of an edit
 
 passed : {A E : Type 0} (b : Bool) (why : E) (x y : A) → (refused_if b why >>= λ _. Ok x) ≡ Ok y → x ≡ y
 passed true why x y e = absurd (false≢true (ap is_ok e))
@@ -29,7 +29,7 @@ numbered before deleted body rev h = go (edit_rev before deleted body) refl h
         let same : x ≡ rev = ap (λ y. result_unwrap_or y x) k in
         sym (ap (λ (y : RevId). y.generation) (made.1 ∙ same))
 
--- the revision that it stands on is there
+-- the parent of the edit exists
 stands : (o : Option TreeValue) (t : TreeValue) → ((u : TreeValue) → o ≡ Some u → u ≡ t) → (parent : Option RevId) (b : RevId) → parent_answer o parent ≡ Ok (Some b) → has t b ≡ true
 stands None t is None b h = absurd (false≢true (ap (λ r. is_some (result_unwrap_or r None)) h))
 stands None t is (Some parent) b h = absurd (false≢true (ap is_ok h))
@@ -93,7 +93,7 @@ edit_rooted db id parent deleted body e h = go (parent_answer (tree_in db.docs i
     go (Err why) on k = absurd (false≢true (ap is_ok k))
     go (Ok before) on k = made before on (edit_id before deleted body) refl k
 
--- what it makes
+-- the revision that the edit makes
 pub edit_makes : (db : DatabaseValue) (id : Id) (parent : Option RevId) (deleted : Bool) (body : List ℕ) (e : RevId × Option RevId) → edited db id parent deleted body ≡ Ok e → edit_rev e.1 deleted body ≡ Ok e.0
 edit_makes db id parent deleted body e h = go (parent_answer (tree_in db.docs id) parent) refl h
   where

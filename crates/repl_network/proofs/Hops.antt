@@ -1,4 +1,4 @@
--- What replications in a net leave: its peers stay tied, and documents spread along chains of them.
+-- The effect of replications in a network: its peers stay tied, and documents spread along chains.
 use Rattle.proof_prelude.proofs.{◌≡◌, ◌≢◌, ◌⊎◌, ℕ, ◌==◌, true, List, [], ◌∷◌, length, refl, sym, ◌∙◌, subst, inl, inr, cases_Bool, eqb-false, and_parts, slice_get_within, eqb-true}
 use Rattle.rev_core.specs.{RevId}
 use Rattle.rev_tree.specs.{TreeValue, has, is_leaf, IsGrownBy-same, all_known, same_by_leaves, same_leaves}
@@ -18,12 +18,12 @@ tree p id = tree_of p.db.docs id
 
 -- ---- one replication
 
--- what it leaves of any peer
+-- the effect on any peer
 pub record Changed (source : DatabaseValue) (p p' : PeerValue) : Type 0 where
   pub later : IsLaterPeer p p'
   pub grown : HasGrownBy p.db source p'.db
 
--- a place is the source's, or the target's, or neither
+-- a place is the source's, the target's, or neither
 abbrev pub Where : ℕ → ℕ → ℕ → Type 0
 Where from to n = (n ≡ from) ⊎ ((n ≡ to) ⊎ ((n ≢ from) × (n ≢ to)))
 
@@ -38,7 +38,7 @@ where_is from to n =
 both : (c : Choice) (x p y q : PeerValue) → x ≡ p → y ≡ q → IsTiedPair x y c → IsTiedPair p q c
 both c x p y q e f h = subst (λ z. IsTiedPair z q c) e (subst (λ z. IsTiedPair x z c) f h)
 
--- no copies are kept
+-- without backups
 with_none : (p q : PeerValue) (c : Choice) → IsTiedPair p q c → IsTiedWith [] p q c
 with_none p q c h = record { pair = h; copies = λ b m. absurd m }
 
@@ -60,7 +60,7 @@ module _ (peers : List PeerValue) (hop : Hop) (peers' : List PeerValue) (h : Hop
   same_changed : (p : PeerValue) → Changed h.source.db p p
   same_changed p = record { later = IsLaterPeer-same p; grown = λ id. IsGrownBy-same (tree p id) (tree h.source id) }
 
-  -- who is at a place then
+  -- the peer at a place afterwards
   pub source_is : (n : ℕ) (p : PeerValue) → IsAt peers' n p → n ≡ hop.from → h.source_then ≡ p
   source_is n p at e = one_peer peers' hop.from h.source_then p h.from_then (subst (λ k. IsAt peers' k p) e at)
 
@@ -70,7 +70,7 @@ module _ (peers : List PeerValue) (hop : Hop) (peers' : List PeerValue) (h : Hop
   pub other_is : (n : ℕ) (p : PeerValue) → IsAt peers' n p → (n ≢ hop.from) × (n ≢ hop.to) → IsAt peers n p
   other_is n p at o = sym (h.others n o.0 o.1) ∙ at
 
-  -- each peer was at its place
+  -- each peer was at its place before
   was_at : (n : ℕ) (p : PeerValue) → IsAt peers' n p → Where hop.from hop.to n → (q : PeerValue) × IsAt peers n q × Changed h.source.db q p
   was_at n p at (inl e) = (h.source, subst (λ k. IsAt peers k h.source) (sym e) h.from, subst (Changed h.source.db h.source) (source_is n p at e) source_changed)
   was_at n p at (inr (inl e)) = (h.target, subst (λ k. IsAt peers k h.target) (sym e) h.to, subst (Changed h.source.db h.target) (target_is n p at e) target_changed)
@@ -79,7 +79,7 @@ module _ (peers : List PeerValue) (hop : Hop) (peers' : List PeerValue) (h : Hop
   pub was : (n : ℕ) (p : PeerValue) → IsAt peers' n p → (q : PeerValue) × IsAt peers n q × Changed h.source.db q p
   was n p at = was_at n p at (where_is hop.from hop.to n)
 
-  -- and is there still
+  -- each peer is still at its place
   is_at : (n : ℕ) (p : PeerValue) → IsAt peers n p → Where hop.from hop.to n → (q : PeerValue) × IsAt peers' n q × Changed h.source.db p q
   is_at n p at (inl e) = (
     h.source_then,
@@ -138,7 +138,7 @@ module _ (peers : List PeerValue) (hop : Hop) (peers' : List PeerValue) (h : Hop
       tied = λ m n p q a b apart c. pair_then m n p q a b apart c (where_is hop.from hop.to m) (where_is hop.from hop.to n);
     }
 
-  -- ---- the law, and who has refused
+  -- ---- the invariant, and refusals
 
   law_at : ((n : ℕ) (p : PeerValue) → IsAt peers n p → LawfulDatabase p.db) → (n : ℕ) (p : PeerValue) → IsAt peers' n p → Where hop.from hop.to n → LawfulDatabase p.db
   law_at law n p at (inl e) = subst (λ (x : PeerValue). LawfulDatabase x.db) (source_is n p at e) (subst (λ (x : PeerValue). LawfulDatabase x.db) (sym h.carried.leaves.log) h.carried.source_law)
@@ -169,7 +169,7 @@ module _ (peers : List PeerValue) (hop : Hop) (peers' : List PeerValue) (h : Hop
         let x = was n p at in
         IsWhole-grown (tree x.0 id) (tree h.source id) (tree p id) (x.2.grown id) (whole n x.0 x.1) (whole hop.from h.source h.from)
 
-    -- all that the source has is brought
+    -- all revisions of the source are brought to the target
     pub hop_brings : (IsTiedPair h.source h.target hop.plan.chosen → CoversFeed h.source h.target_then hop.plan.chosen h.source.db.update_seq) → AreTied peers → is_chosen hop.plan.chosen id ≡ true → IsRefusedNowhere peers' id → (r : RevId) → has (tree h.source id) r ≡ true → has (tree h.target_then id) r ≡ true
     hop_brings covers net chosen none r there =
         let a = agree hop.from hop.to h.source h.target h.from h.to in
@@ -180,7 +180,7 @@ module _ (peers : List PeerValue) (hop : Hop) (peers' : List PeerValue) (h : Hop
         (λ leaf top. covered_stands h.target_then id (none hop.to h.target_then h.to_then) leaf (leaf_covered hop.plan.chosen h.source.db h.target_then h.carried.source_law covered id chosen leaf top))
         r there
 
--- ---- one behind the other
+-- ---- consecutive replications
 
 all_law : (hops : List Hop) (peers peers' : List PeerValue) → AllHopped peers hops peers' → AllLawful peers → AllLawful peers'
 all_law [] peers peers' all law = subst AllLawful (sym all) law
@@ -190,7 +190,7 @@ none_first : (id : Id) (hops : List Hop) (peers peers' : List PeerValue) → All
 none_first id [] peers peers' all none = subst (λ ps. IsRefusedNowhere ps id) all none
 none_first id (hop ∷ hops) peers peers' all none = none_before peers hop all.0 all.1.hopped id (none_first id hops all.0 peers' all.2 none)
 
--- each revision that is anywhere then was somewhere
+-- each revision that is anywhere afterwards was somewhere before
 came : (id : Id) (hops : List Hop) (peers peers' : List PeerValue) → AllHopped peers hops peers' → (n : ℕ) (q : PeerValue) → IsAt peers' n q → (r : RevId) → has (tree q id) r ≡ true → (m : ℕ) × (p : PeerValue) × IsAt peers m p × (has (tree p id) r ≡ true)
 came id [] peers peers' all n q at r there = (n, q, subst (λ ps. IsAt ps n q) all at, there)
 came id (hop ∷ hops) peers peers' all n q at r there =
@@ -198,7 +198,7 @@ came id (hop ∷ hops) peers peers' all n q at r there =
     let y = was peers hop all.0 all.1.hopped x.0 x.1 x.2 in
     elim ((y.2.grown id).revs r x.3) [ inl own ↦ (x.0, y.0, y.1, own) | inr brought ↦ (hop.from, all.1.hopped.source, all.1.hopped.from, brought) ]
 
--- each place was there
+-- each place existed before
 was_first : (hops : List Hop) (peers peers' : List PeerValue) → AllHopped peers hops peers' → (n : ℕ) (q : PeerValue) → IsAt peers' n q → (p : PeerValue) × IsAt peers n p
 was_first [] peers peers' all n q at = (q, subst (λ ps. IsAt ps n q) all at)
 was_first (hop ∷ hops) peers peers' all n q at =
@@ -211,7 +211,7 @@ all_agree id [] peers peers' all agree whole = (subst (λ ps. AllAgree ps id) (s
 all_agree id (hop ∷ hops) peers peers' all agree whole =
     all_agree id hops all.0 peers' all.2 (hop_agree peers hop all.0 all.1.hopped id agree whole) (hop_whole peers hop all.0 all.1.hopped id agree whole)
 
--- all that was at the beginning of a chain is at its end
+-- all revisions at the beginning of a chain are at its end
 along_chain : (id : Id) (hops : List Hop) (peers peers' : List PeerValue) → AllHopped peers hops peers' → AreTied peers → AllChoose hops id → IsRefusedNowhere peers' id → AllAgree peers id → AllWhole peers id
     → (m n : ℕ) (p q : PeerValue) → IsAt peers m p → IsAt peers' n q → Leads hops m n → (r : RevId) → has (tree p id) r ≡ true → has (tree q id) r ≡ true
 along_chain id [] peers peers' all net choose none agree whole m n p q a b leads r there =

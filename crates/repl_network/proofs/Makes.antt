@@ -1,4 +1,4 @@
--- What edits alone have made agrees, where no two of them have one MD5; and it stays made by them.
+-- Documents made only by edits agree, if no two different edits have the same MD5; and they stay made by the edits.
 use Rattle.proof_prelude.proofs.{◌≡◌, ℕ, Bool, true, false, List, [], ◌∷◌, ◌++◌, ◌⊎◌, length, Option, Some, None, is_some, Result, Ok, Err, refl, sym, ap, ◌∙◌, subst, inl, inr, bytes_eq, option_to_list, get, get-empty, eq_by_cmp, false≢true, cases_Bool, cond_both, same_Some, bytes_eq-Decides}
 use Rattle.rev_core.specs.{RevId, rev_cmp, rev_tie_is, edges_of, edit_rev}
 use Rattle.rev_tree.specs.{ContentValue, TreeValue, at_head, Agree, IsGrownBy}
@@ -37,7 +37,7 @@ made_agree peers among apart id made = (
           sym e.3 ∙ (ap (λ (z : EditValue). content_of z.deleted z.body) same ∙ f.3));
     }
 
--- ---- it stays made
+-- ---- they stay made by the edits
 
 module _ (among : EditValue → Bool) where
   grown : (s by s' : TreeValue) → IsGrownBy s by s' → IsMadeBy among s → IsMadeBy among by → IsMadeBy among s'
@@ -52,7 +52,7 @@ module _ (among : EditValue → Bool) where
       let x = was peers hop peers' h n p at in
       grown (tree_of x.0.db.docs id) (tree_of h.source.db.docs id) (tree_of p.db.docs id) (x.2.grown id) (made n x.0 x.1) (made hop.from h.source h.from)
 
-  -- the document of an edit, but for where it begins
+  -- the document of an edit, without its origin
   module _ (id : Id) (deleted : Bool) (body : List ℕ) (rev : RevId) where
     edge_of : (before : Option RevId) → edit_rev before deleted body ≡ Ok rev → among (record { before = before; deleted = deleted; body = body }) ≡ true → (c p : RevId) → get (tree_alone (edit_document id (rev, before) deleted body)).parents c ≡ Some p
         → (e : EditValue) × (among e ≡ true) × Makes e c × (e.before ≡ Some p)

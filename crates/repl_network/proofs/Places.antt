@@ -7,7 +7,7 @@ use Rattle.repl_network.specs.{Hop, IsAt, AreTied, peers_of, filters_of, NetFaul
 use Rattle.doc_json.specs.{Choice}
 use Rattle.repl_network.specs.Hopped.{Hopped}
 
--- ---- places in two lists that are joined
+-- ---- indices in two concatenated lists
 
 in_front : {X : Type 0} (xs ys : List X) (k : ℕ) → k < length xs → slice_get (xs ++ ys) k ≡ slice_get xs k
 in_front [] ys k h = absurd (omega (arith, h))
@@ -77,7 +77,7 @@ module _ {F : Type 0} (peers front back : List (F × PeerValue)) (k n : ℕ) (d 
   at : (xs : List (F × PeerValue)) (m : ℕ) (x : F × PeerValue) → slice_get xs m ≡ Some x → IsAt (peers_of xs) m x.1
   at xs m x h = slice_get-map (λ (p : F × PeerValue). p.1) xs m ∙ ap (option_map (λ (p : F × PeerValue). p.1)) h
 
-  -- they and the others, with their filters
+  -- the two peers and the others, with their filters
   pub low_there : slice_get peers k ≡ Some a
   low_there = ap (λ ps. slice_get ps k) is ∙ (in_front front back k inside ∙ slice_get-get_or front k d inside)
 
@@ -93,7 +93,7 @@ module _ {F : Type 0} (peers front back : List (F × PeerValue)) (k n : ℕ) (d 
   pub others_stay : (m : ℕ) → m ≢ k → m ≢ n → slice_get then m ≡ slice_get peers m
   others_stay m x y = both_set front back k a' b' m x (λ e. y (e ∙ len)) ∙ ap (λ ps. slice_get ps m) (sym is)
 
-  -- and without
+  -- the two peers and the others, without their filters
   pub low_was : IsAt (peers_of peers) k a.1
   low_was = at peers k a low_there
 
@@ -111,13 +111,13 @@ module _ {F : Type 0} (peers front back : List (F × PeerValue)) (k n : ℕ) (d 
       slice_get-map (λ (p : F × PeerValue). p.1) then m
       ∙ (ap (option_map (λ (p : F × PeerValue). p.1)) (others_stay m x y) ∙ sym (slice_get-map (λ (p : F × PeerValue). p.1) peers m))
 
--- ---- what a replication between them leaves
+-- ---- the effect of a replication between them
 
 ended_if : {A E : Type 0} (peers peers' : List PeerValue) (hop : Hop) (h : Hopped peers hop peers') (r : Result A E) → OnOk r (IsTiedPair h.source h.target hop.plan.chosen → CoversFeed h.source h.target_then hop.plan.chosen h.source.db.update_seq) → OnOk r (Ended peers hop peers')
 ended_if peers peers' hop h (Ok done) whole = record { hopped = h; whole = whole }
 ended_if peers peers' hop h (Err why) whole = tt
 
--- the source before the target
+-- the source is before the target
 module _ {F A E : Type 0} (peers front back : List (F × PeerValue)) (hop : Hop) (refuses : Document → Bool) (d e source' target' : F × PeerValue) (r : Result A E) (is : peers ≡ front ++ back) (len : length front ≡ hop.to) (low : hop.from < hop.to) (within : hop.to < length peers)
     (carried : Carried refuses (get_or front hop.from d).1 (get_or back 0 e).1 hop.plan source'.1 target'.1) where
   abbrev source : F × PeerValue
@@ -145,7 +145,7 @@ module _ {F A E : Type 0} (peers front back : List (F × PeerValue)) (hop : Hop)
   pub up_ended : OnOk r (IsTiedPair source.1 target.1 hop.plan.chosen → CoversFeed source.1 target'.1 hop.plan.chosen source.1.db.update_seq) → OnOk r (Ended (peers_of peers) hop (peers_of (slice_set front hop.from source' ++ slice_set back 0 target')))
   up_ended whole = ended_if (peers_of peers) (peers_of (slice_set front hop.from source' ++ slice_set back 0 target')) hop up r whole
 
--- it is a hop
+-- the replication is a hop
 pub up_hop : {F : Type 0} (may : F → Document → Bool) (peers front back : List (F × PeerValue)) (hop : Hop) (d e source' target' : F × PeerValue) (r : Result Report TargetFault) → peers ≡ front ++ back → length front ≡ hop.to → hop.from < hop.to → hop.to < length peers
     → source'.0 ≡ (get_or front hop.from d).0 → target'.0 ≡ (get_or back 0 e).0 → Replicates (may (get_or back 0 e).0) (get_or front hop.from d).1 (get_or back 0 e).1 hop.plan r source'.1 target'.1
     → IsHop may peers hop r (slice_set front hop.from source' ++ slice_set back 0 target')
@@ -163,7 +163,7 @@ up_hop {F = F} may peers front back hop d e source' target' r is len low within 
   replicates = replicates;
 }
 
--- and behind it
+-- the source is after the target
 module _ {F A E : Type 0} (peers front back : List (F × PeerValue)) (hop : Hop) (refuses : Document → Bool) (d e source' target' : F × PeerValue) (r : Result A E) (is : peers ≡ front ++ back) (len : length front ≡ hop.from) (low : hop.to < hop.from) (within : hop.from < length peers)
     (carried : Carried refuses (get_or back 0 e).1 (get_or front hop.to d).1 hop.plan source'.1 target'.1) where
   abbrev sender : F × PeerValue
@@ -208,7 +208,7 @@ down_hop {F = F} may peers front back hop d e source' target' r is len low withi
   replicates = replicates;
 }
 
--- ---- something that is said of each peer, from the first on
+-- ---- a property of each peer, from the first on
 
 module _ {F : Type 0} (P : PeerValue → Type 0) (peers : List (F × PeerValue)) (k : ℕ) where
   pub each_more : (x : F × PeerValue) → k < length peers → x ≡ get_or peers k x → P x.1 → ((n : ℕ) (p : PeerValue) → n < k → IsAt (peers_of peers) n p → P p) → (n : ℕ) (p : PeerValue) → n < k + 1 → IsAt (peers_of peers) n p → P p
@@ -241,18 +241,18 @@ drop_over [] (suc k) h = refl
 drop_over (x ∷ hops) zero h = absurd (omega (arith, h))
 drop_over (x ∷ hops) (suc k) h = drop_over hops k (omega (arith, h))
 
--- the next one
+-- the next hop
 pub hops_next : (old now next : List PeerValue) (hops : List Hop) (k : ℕ) (hop : Hop) → k < length hops → hop ≡ get_or hops k hop → Ended now hop next → ((end : List PeerValue) → AllHopped now (drop k hops) end → AllHopped old hops end)
     → (end : List PeerValue) → AllHopped next (drop (k + 1) hops) end → AllHopped old hops end
 hops_next old now next hops k hop within is ended before end rest =
     let one : k + 1 ≡ suc k = omega arith in
     before end (subst (λ hs. AllHopped now hs end) (sym (drop_next hops k hop within ∙ ap (λ h. h ∷ drop (suc k) hops) (sym is))) (next, ended, subst (λ m. AllHopped next (drop m hops) end) one rest))
 
--- all of them
+-- all hops
 pub hops_all : (old now : List PeerValue) (hops : List Hop) (k : ℕ) → length hops ≤ k → ((end : List PeerValue) → AllHopped now (drop k hops) end → AllHopped old hops end) → AllHopped old hops now
 hops_all old now hops k over before = before now (subst (λ hs. AllHopped now hs now) (sym (drop_over hops k over)) refl)
 
--- what all answer is what those from an index on answer
+-- the result of all hops is that of those from an index on
 abbrev pub IsOnTheWay : {F : Type 0} → (F → Document → Bool) → List (F × PeerValue) → ℕ → List (F × PeerValue) → List Hop → Type 0
 IsOnTheWay {F = F} refuses old k now hops =
     (result : Result (Unit {0}) NetFault) (end : List (F × PeerValue)) → TakesHops refuses k now (drop k hops) result end → TakesHops refuses 0 old hops result end
@@ -309,7 +309,7 @@ at_of {F = F} peers place p is =
 pub there_at : {F : Type 0} (peers : List (F × PeerValue)) (place : ℕ) (d : F × PeerValue) → place < length peers → IsAt (peers_of peers) place (get_or peers place d).1
 there_at peers place d within = at_of peers place (get_or peers place d) (slice_get-get_or peers place d within)
 
--- ---- all of a vector
+-- ---- all elements of a vector
 
 take_front : {X : Type 0} (xs ys : List X) → take (length xs) (xs ++ ys) ≡ xs
 take_front [] ys = refl

@@ -1,4 +1,4 @@
--- Trees that each grow by what one of them has, or by what is written.
+-- Trees that grow by data of one of them, or by a write.
 use Rattle.proof_prelude.proofs.{◌≡◌, ◌⊎◌, true, List, Option, Some, sym, ap, ◌∙◌, inl, inr, option_map_or, option_or, get, empty, get-empty, or_cases}
 use Rattle.std.specs.FinMap.{find}
 use Rattle.rev_core.specs.{RevId, rev_cmp, edges_of}
@@ -7,7 +7,7 @@ use Rattle.rev_tree.specs.{ContentValue, TreeValue, has, joined, merged, at_head
 one_told : {X : Type 0} (o : Option X) (x y : X) → o ≡ Some x → o ≡ Some y → x ≡ y
 one_told {X = X} o x y h k = ap (λ (v : Option X). option_map_or (λ w. w) v x) (sym h ∙ k)
 
--- two that agree, also with the one that they grow by, agree then
+-- two trees that agree, also with the tree they grow from, agree afterwards
 module _ (by s t s' t' : TreeValue) (first : IsGrownBy s by s') (second : IsGrownBy t by t') where
   pub Agree-both : Agree s t → Agree s by → Agree by t → Agree s' t'
   Agree-both both left right = record {
@@ -21,17 +21,17 @@ module _ (by s t s' t' : TreeValue) (first : IsGrownBy s by s') (second : IsGrow
     ];
   }
 
--- a whole one stays so
+-- a tree with complete history stays so
 pub IsWhole-grown : (s by s' : TreeValue) → IsGrownBy s by s' → IsWhole s → IsWhole by → IsWhole s'
 IsWhole-grown s by s' grown ours theirs r h none = elim (grown.roots r (h, none)) [ inl own ↦ ours r own.0 own.1 | inr brought ↦ theirs r brought.0 brought.1 ]
 
--- ---- a document that is written
+-- ---- a written document
 
--- a map that nothing was in before
+-- a map that was empty before
 pub alone : {X : Type 0} (es : List (RevId × X)) (q : RevId) → get (joined (empty {R = rev_cmp}) es) q ≡ find rev_cmp q es
 alone es q = get-joined empty es q ∙ ap (λ o. option_or o (find rev_cmp q es)) (get-empty rev_cmp q)
 
--- a tree grows by it as by a tree of its own
+-- a tree grows by a document as by a tree of its own
 module _ (t : TreeValue) (revs : List RevId) (b : ContentValue) (o other : Origin) where
   abbrev new : TreeValue
   new = merged no_revisions revs b other
@@ -56,7 +56,7 @@ module _ (t : TreeValue) (revs : List RevId) (b : ContentValue) (o other : Origi
         ]);
   }
 
-  -- it stays whole where the document's own beginning is a first revision, or is there
+  -- the history stays complete if the document's oldest revision has generation 1 or is in the tree
   pub IsWhole-written : IsWhole t → ((r : RevId) → IsRoot new r → (r.generation ≡ 1) ⊎ (has t r ≡ true)) → IsWhole (merged t revs b o)
   IsWhole-written whole rooted r h none =
       let before = both_none _ _ (sym (get-joined t.parents (edges_of revs) r) ∙ none) in

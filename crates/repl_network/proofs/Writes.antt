@@ -1,4 +1,5 @@
--- What a write at one peer of a net leaves: its peers stay tied, and trees that agree go on doing so where it fits.
+-- The effect of a write at one peer of a network: its peers stay tied, and trees that agree still agree if the write
+-- fits.
 use Rattle.proof_prelude.proofs.{◌≡◌, ◌≢◌, ◌⊎◌, ℕ, ◌==◌, Bool, true, false, cond, List, slice_get, Option, Some, unwrap_or, Result, Ok, Err, refl, sym, ap, ◌∙◌, subst, inl, inr, bytes_eq, cases_Bool, cond_both, eqb-false, bytes_eq-Decides, eqb-true}
 use Rattle.rev_core.specs.{RevId}
 use Rattle.rev_tree.specs.{TreeValue, has, merged, no_revisions, Agree, IsWhole, IsRoot, IsGrownBy, IsGrownBy-same, Origin}
@@ -17,9 +18,9 @@ use Rattle.repl_network.proofs.Trees.{Agree-both, IsGrownBy-written, IsWhole-wri
 pub one_peer : (peers : List PeerValue) (n : ℕ) (p q : PeerValue) → IsAt peers n p → IsAt peers n q → p ≡ q
 one_peer peers n p q h k = ap (λ (o : Option PeerValue). unwrap_or o p) (sym h ∙ k)
 
--- ---- one document more
+-- ---- one more document
 
--- what a put leaves of a document's tree
+-- the effect of a put on a document's tree
 abbrev WrittenTree : TreeValue → Document → TreeValue → Type 0
 WrittenTree t d t' = (t' ≡ t) ⊎ ((o : Origin) × (t' ≡ merged t d.ancestry (content_of d.deleted d.body) o))
 
@@ -30,7 +31,7 @@ put_tree db d o =
     (λ _. inr (o, ap (λ (x : Option TreeValue). unwrap_or x no_revisions) (tree_in-with_tree db d.id t d.id ∙ ap (λ b. cond b (Some t) (tree_in db.docs d.id)) ((bytes_eq-Decides d.id d.id).1 refl))))
     (λ _. inl refl)
 
--- and of another's
+-- another document's tree
 put_other : (db : DatabaseValue) (d : Document) (o : Origin) (id : Id) → bytes_eq d.id id ≡ false → tree_of (after_put db d o).docs id ≡ tree_of db.docs id
 put_other db d o id apart =
     let t = merged (tree_of db.docs d.id) d.ancestry (content_of d.deleted d.body) o in
@@ -65,7 +66,7 @@ module _ (peers peers' : List PeerValue) (same : (n : ℕ) → slice_get peers' 
   pub same_agree : (id : Id) → KeepsAgreement peers peers' id
   same_agree id agree whole = (λ m n p q a b. agree m n p q (before_at m p a) (before_at n q b), λ n p at. whole n p (before_at n p at))
 
--- ---- a write in a net
+-- ---- a write in a network
 
 module _ (peers : List PeerValue) (place : ℕ) (d : Document) (peers' : List PeerValue) (w : IsChangedAt place (λ p. after_load p d) peers peers') where
   abbrev pub after : PeerValue
@@ -86,7 +87,7 @@ module _ (peers : List PeerValue) (place : ℕ) (d : Document) (peers' : List Pe
   pub other_is : (n : ℕ) (p : PeerValue) → IsAt peers' n p → n ≢ place → IsAt peers n p
   other_is n p at o = sym (w.others n o) ∙ at
 
-  -- each peer was at its place
+  -- each peer was at its place before
   was_at : (n : ℕ) (p : PeerValue) → IsAt peers' n p → Where n → (q : PeerValue) × IsAt peers n q × IsLaterPeer q p
   was_at n p at (inl e) = (w.before, subst (λ k. IsAt peers k w.before) (sym e) w.at, subst (IsLaterPeer w.before) (after_is n p at e) later)
   was_at n p at (inr o) = (p, other_is n p at o, IsLaterPeer-same p)
@@ -123,7 +124,7 @@ module _ (peers : List PeerValue) (place : ℕ) (d : Document) (peers' : List Pe
   other_tree : (id : Id) → bytes_eq d.id id ≡ false → tree_of after.db.docs id ≡ tree_of w.before.db.docs id
   other_tree id apart = put_other w.before.db d (next_local w.before) id apart
 
-  -- what each has of the document that is written
+  -- the tree of the written document at each peer
   pub tree_at : (n : ℕ) (p : PeerValue) → IsAt peers' n p → Where n → (q : PeerValue) × IsAt peers n q × IsGrownBy (tree_of q.db.docs d.id) (tree_alone d) (tree_of p.db.docs d.id)
   tree_at n p at (inl e) = (
     w.before,
@@ -147,7 +148,7 @@ module _ (peers : List PeerValue) (place : ℕ) (d : Document) (peers' : List Pe
       Agree-both (tree_alone d) (tree_of x.0.db.docs d.id) (tree_of y.0.db.docs d.id) (tree_of p.db.docs d.id) (tree_of q.db.docs d.id) x.2 y.2
       (agree m n x.0 y.0 x.1 y.1) (fits m x.0 x.1) (turned (tree_of y.0.db.docs d.id) (tree_alone d) (fits n y.0 y.1))
 
-  -- and of another
+  -- the tree of another document
   pub same_at : (id : Id) → bytes_eq d.id id ≡ false → (n : ℕ) (p : PeerValue) → IsAt peers' n p → Where n → (q : PeerValue) × IsAt peers n q × (tree_of p.db.docs id ≡ tree_of q.db.docs id)
   same_at id apart n p at (inl e) = (
     w.before,
@@ -176,7 +177,7 @@ module _ (peers : List PeerValue) (place : ℕ) (d : Document) (peers' : List Pe
 
 -- ---- an edit
 
--- it is the put of its document
+-- the edit is the put of its document
 module _ (peers : List PeerValue) (place : ℕ) (id : Id) (parent : Option RevId) (deleted : Bool) (body : List ℕ) (peers' : List PeerValue) (w : IsChangedAt place (λ p. after_edit p id parent deleted body) peers peers') where
   pub put_of : (e : RevId × Option RevId) → edited w.before.db id parent deleted body ≡ Ok e → IsChangedAt place (λ p. after_load p (edit_document id e deleted body)) peers peers'
   put_of e is = record {
@@ -186,7 +187,7 @@ module _ (peers : List PeerValue) (place : ℕ) (id : Id) (parent : Option RevId
     others = w.others;
   }
 
-  -- or nothing
+  -- the edit changes nothing
   pub none_of : (why : BaseFault) → edited w.before.db id parent deleted body ≡ Err why → (n : ℕ) → slice_get peers' n ≡ slice_get peers n
   none_of why is n =
       elim (cases_Bool (n == place)) [

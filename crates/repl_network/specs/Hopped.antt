@@ -1,4 +1,4 @@
--- What a replication leaves of two peers of a net, and of the net.
+-- The effect of a replication on two peers of a network, and on the network.
 use Rattle.std.specs.Prelude.{◌≡◌, ◌≢◌, ℕ, Bool, List, [], ◌∷◌, slice_get}
 use Rattle.doc_json.specs.Document.{Document}
 use Rattle.couch_base.specs.Database.{LawfulDatabase}
@@ -11,7 +11,7 @@ use Rattle.repl_target.specs.replication.Leaves.{Leaves}
 use Rattle.repl_network.specs.declared.hop.Hop.{Hop}
 use Rattle.repl_network.specs.Nets.{IsAt}
 
--- the two, whatever it answers, by one thread or by many
+-- the effect on the two peers, whatever the result, on one thread or several
 pub record Carried (refuses : Document → Bool) (source target : PeerValue) (plan : Plan) (source' target' : PeerValue) : Type 0
   where
     pub source_law : LawfulDatabase source.db
@@ -19,7 +19,7 @@ pub record Carried (refuses : Document → Bool) (source target : PeerValue) (pl
     pub target_law : LawfulDatabase target'.db
     pub leaves : Leaves refuses source target plan source' target'
 
--- the net: whoever isn't one of the two is as before
+-- the effect on the network: all other peers are unchanged
 pub record Hopped (peers : List PeerValue) (hop : Hop) (peers' : List PeerValue) : Type 0 where
   pub refuses : Document → Bool
   pub source : PeerValue
@@ -34,22 +34,22 @@ pub record Hopped (peers : List PeerValue) (hop : Hop) (peers' : List PeerValue)
   pub others : (n : ℕ) → n ≢ hop.from → n ≢ hop.to → slice_get peers' n ≡ slice_get peers n
   pub carried : Carried refuses source target hop.plan source_then target_then
 
--- where it was Ok, the source's whole chosen feed is covered then
+-- if it succeeded, the source's complete selected feed is covered
 pub record Ended (peers : List PeerValue) (hop : Hop) (peers' : List PeerValue) : Type 0 where
   pub hopped : Hopped peers hop peers'
   pub whole : IsTiedPair hopped.source hopped.target hop.plan.chosen
       → CoversFeed hopped.source hopped.target_then hop.plan.chosen hopped.source.db.update_seq
 
--- some that were Ok, one behind the other
+-- consecutive successful replications
 abbrev pub AllHopped : List PeerValue → List Hop → List PeerValue → Type 0
 AllHopped peers [] peers' = peers' ≡ peers
 AllHopped peers (hop ∷ hops) peers' = (mid : List PeerValue) × Ended peers hop mid × AllHopped mid hops peers'
 
--- each database keeps its law
+-- each database satisfies its invariant
 abbrev pub AllLawful : List PeerValue → Type 0
 AllLawful peers = (n : ℕ) (p : PeerValue) → IsAt peers n p → LawfulDatabase p.db
 
--- one peer has changed, and nobody else
+-- one peer has changed, and no other
 pub record IsChangedAt (place : ℕ) (change : PeerValue → PeerValue) (peers peers' : List PeerValue) : Type 0 where
   pub before : PeerValue
   pub at : IsAt peers place before

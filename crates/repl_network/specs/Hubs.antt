@@ -1,4 +1,4 @@
--- Replications by a hub, which is the first peer of a net.
+-- Replication through a hub, which is the first peer of a network.
 use Rattle.std.specs.Prelude.{◌≡◌, ℕ, ◌+◌, true, List, [], ◌∷◌}
 use Rattle.doc_json.specs.Chosen.{is_chosen}
 use Rattle.couch_base.specs.Database.{Id}
@@ -7,12 +7,12 @@ use Rattle.repl_target.specs.declared.replication.Plan.{Plan}
 use Rattle.repl_network.specs.declared.hop.Hop.{Hop}
 use Rattle.repl_network.specs.Nets.{AllAgree, AllWhole, IsRefusedNowhere, IsSameEverywhere}
 
--- from each place behind one into the hub
+-- the hops from each place after the first into the hub
 abbrev pub gathers : ℕ → List Plan → List Hop
 gathers n [] = []
 gathers n (plan ∷ plans) = record { from = n + 1; to = 0; plan = plan } ∷ gathers (n + 1) plans
 
--- and from the hub into each
+-- the hops from the hub into each other place
 abbrev pub spreads : ℕ → List Plan → List Hop
 spreads n [] = []
 spreads n (plan ∷ plans) = record { from = 0; to = n + 1; plan = plan } ∷ spreads (n + 1) plans
@@ -21,7 +21,7 @@ abbrev pub AllPlansChoose : List Plan → Id → Type 0
 AllPlansChoose [] id = Unit {0}
 AllPlansChoose (plan ∷ plans) id = (is_chosen plan.chosen id ≡ true) × AllPlansChoose plans id
 
--- a document in all peers after that
+-- a document in all peers afterwards
 pub record Shared (peers' : List PeerValue) (id : Id) : Type 0 where
   pub same : IsSameEverywhere peers' id
   pub agree : AllAgree peers' id

@@ -1,4 +1,4 @@
--- Documents that edits alone have made: docs/PROFILE.md, "Nets" and "Ids of local edits".
+-- Documents that were made only by edits: docs/PROFILE.md, "Nets" and "Ids of local edits".
 use Rattle.std.specs.Prelude.{◌≡◌, ℕ, Bool, true, List, Option, Some, Ok}
 use Rattle.std.specs.FinMap.{get}
 use Rattle.rev_core.specs.Rev.{RevId}
@@ -12,17 +12,17 @@ use Rattle.couch_base.specs.Edit.{edited}
 use Rattle.repl_peer.specs.peer.Peer.{PeerValue}
 use Rattle.repl_network.specs.Nets.{IsAt, AllAgree, AllWhole}
 
--- an edit: the revision that it stands on, whether it deletes, and its body
+-- an edit: its parent, whether it deletes, and its body
 pub record EditValue : Type 0 where
   pub before : Option RevId
   pub deleted : Bool
   pub body : List ℕ
 
--- it makes this revision
+-- the edit makes this revision
 abbrev pub Makes : EditValue → RevId → Type 0
 Makes e r = edit_rev e.before e.deleted e.body ≡ Ok r
 
--- each parent and each content in a tree was given by one of some edits, and no history is cut off
+-- each parent and each content in a tree was given by one of the edits, and histories are complete
 pub record IsMadeBy (among : EditValue → Bool) (t : TreeValue) : Type 0 where
   pub parents : (c p : RevId) → get t.parents c ≡ Some p
       → (e : EditValue) × (among e ≡ true) × Makes e c × (e.before ≡ Some p)
@@ -33,24 +33,24 @@ pub record IsMadeBy (among : EditValue → Bool) (t : TreeValue) : Type 0 where
 abbrev pub AllMadeBy : (EditValue → Bool) → List PeerValue → Id → Type 0
 AllMadeBy among peers id = (n : ℕ) (p : PeerValue) → IsAt peers n p → IsMadeBy among (tree_of p.db.docs id)
 
--- no two different ones of them have one MD5
+-- no two different edits have the same MD5
 abbrev pub HaveNoCollision : (EditValue → Bool) → Type 0
 HaveNoCollision among =
     (e f : EditValue) → among e ≡ true → among f ≡ true
     → edit_sig e.before e.deleted e.body ≡ edit_sig f.before f.deleted f.body → e ≡ f
 
--- an edit at a place, where it isn't refused, is one of them
+-- an edit at a place is one of the edits, if it does not fail
 abbrev pub IsOneOf : (EditValue → Bool) → List PeerValue → ℕ → Id → Option RevId → Bool → List ℕ → Type 0
 IsOneOf among peers place id parent deleted body =
     (p : PeerValue) → IsAt peers place p → (e : RevId × Option RevId) → edited p.db id parent deleted body ≡ Ok e
     → among (record { before = e.1; deleted = deleted; body = body }) ≡ true
 
--- so what edits without a collision have made agrees everywhere, and is whole
+-- documents made by edits without a collision agree everywhere and have complete histories
 abbrev pub MadeAgree : List PeerValue → Type 0
 MadeAgree peers =
     (among : EditValue → Bool) → HaveNoCollision among → (id : Id) → AllMadeBy among peers id
     → AllAgree peers id × AllWhole peers id
 
--- and stays made so
+-- documents made by the edits stay so
 abbrev pub StaysMade : List PeerValue → List PeerValue → Type 0
 StaysMade peers peers' = (among : EditValue → Bool) (id : Id) → AllMadeBy among peers id → AllMadeBy among peers' id

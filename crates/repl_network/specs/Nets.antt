@@ -1,5 +1,5 @@
--- Nets: any number of peers, each at its place, and replications between any two of them, in any order: docs/PROFILE.md,
--- "Nets"; CouchDB, "Replication and conflict model".
+-- Networks: any number of peers, each at its place, and replications between any two of them, in any order:
+-- docs/PROFILE.md, "Nets"; CouchDB, "Replication and conflict model".
 use Rattle.std.specs.Prelude.{◌≡◌, ◌≢◌, ◌⊎◌, ℕ, ◌<◌, Bool, true, List, [], ◌∷◌, map, length, Option, Some, Ok, slice_get}
 use Rattle.rev_core.specs.Rev.{RevId}
 use Rattle.rev_tree.specs.Tree.{TreeValue, has, merged, no_revisions}
@@ -20,11 +20,11 @@ use Rattle.repl_target.specs.replication.Replication.{SameDocument}
 use Rattle.repl_target.specs.replication.Sync.{HasRefusedNone}
 use Rattle.repl_network.specs.declared.hop.Hop.{Hop}
 
--- peers, without the filters that they were made with
+-- the peers without their filters
 abbrev pub peers_of : {F : Type 0} → List (F × PeerValue) → List PeerValue
 peers_of peers = map (λ p. p.1) peers
 
--- and those
+-- the filters
 abbrev pub filters_of : {F : Type 0} → List (F × PeerValue) → List F
 filters_of peers = map (λ p. p.0) peers
 
@@ -32,7 +32,7 @@ filters_of peers = map (λ p. p.0) peers
 abbrev pub IsAt : List PeerValue → ℕ → PeerValue → Type 0
 IsAt peers n p = slice_get peers n ≡ Some p
 
--- no two places have one UUID, and every two peers are tied each way, whichever documents are chosen
+-- no two places have the same UUID, and every two peers are tied in both directions, for every selection
 pub record AreTied (peers : List PeerValue) : Type 0 where
   pub apart : (m n : ℕ) (p q : PeerValue) → IsAt peers m p → IsAt peers n q → p.db.uuid ≡ q.db.uuid → m ≡ n
   pub tied : (m n : ℕ) (p q : PeerValue) → IsAt peers m p → IsAt peers n q → m ≢ n → (c : Choice) → IsTiedPair p q c
@@ -41,64 +41,65 @@ pub record AreTied (peers : List PeerValue) : Type 0 where
 abbrev pub IsHeldAt : List PeerValue → ℕ → ℕ → Type 0
 IsHeldAt peers uuid n = (p : PeerValue) × IsAt peers n p × (p.db.uuid ≡ uuid)
 
--- one of them has it
+-- one of the peers has this UUID
 abbrev pub IsHeld : List PeerValue → ℕ → Type 0
 IsHeld peers uuid = (n : ℕ) × (p : PeerValue) × IsAt peers n p × (p.db.uuid ≡ uuid)
 
--- whatever their sessions and logs speak of was replicated between two of them
+-- all sessions and logs are of replications between two of the peers
 pub record AreClosed (peers : List PeerValue) : Type 0 where
   pub sessions : (n : ℕ) (p : PeerValue) → IsAt peers n p → (s : SessionValue) → Among s p.sessions
       → IsHeld peers s.rep.source
   pub logs : (n : ℕ) (p : PeerValue) → IsAt peers n p → (rep : RepId) (e : EntryValue) → Among e (log_in p.outgoing rep)
       → IsHeld peers rep.target
 
--- what holds of every net
+-- the invariant of a network
 pub record IsNet (peers : List PeerValue) : Type 0 where
   pub tied : AreTied peers
   pub closed : AreClosed peers
 
 -- ---- a document in all of them
 
--- no two trees give a revision two parents, or two contents
+-- no two trees give a revision two parents or two contents
 abbrev pub AllAgree : List PeerValue → Id → Type 0
 AllAgree peers id =
     (m n : ℕ) (p q : PeerValue) → IsAt peers m p → IsAt peers n q → Agree (tree_of p.db.docs id) (tree_of q.db.docs id)
 
--- no history is cut off anywhere
+-- histories are complete everywhere
 abbrev pub AllWhole : List PeerValue → Id → Type 0
 AllWhole peers id = (n : ℕ) (p : PeerValue) → IsAt peers n p → IsWhole (tree_of p.db.docs id)
 
--- nobody has refused it
+-- no peer has refused the document
 abbrev pub IsRefusedNowhere : List PeerValue → Id → Type 0
 IsRefusedNowhere peers id = (n : ℕ) (p : PeerValue) → IsAt peers n p → HasRefusedNone p id
 
--- it is the same everywhere
+-- the document is the same everywhere
 abbrev pub IsSameEverywhere : List PeerValue → Id → Type 0
 IsSameEverywhere peers id =
     (m n : ℕ) (p q : PeerValue) → IsAt peers m p → IsAt peers n q → SameDocument p.db q.db id
 
 -- ---- replications
 
--- each of them chooses the document
+-- each plan selects the document
 abbrev pub AllChoose : List Hop → Id → Type 0
 AllChoose [] id = Unit {0}
 AllChoose (h ∷ hops) id = (is_chosen h.plan.chosen id ≡ true) × AllChoose hops id
 
--- a chain of replications leads from a place to another: some of them in their order, each from where the one before came
+-- a chain of replications leads from one place to another: some of them in order, each from where the previous one
+-- ended
 abbrev pub Leads : List Hop → ℕ → ℕ → Type 0
 Leads [] from to = from ≡ to
 Leads (h ∷ hops) from to = Leads hops from to ⊎ (from ≡ h.from) × Leads hops h.to to
 
--- and from every place to every other
+-- a chain leads from every place to every other
 abbrev pub LeadsEverywhere : List Hop → ℕ → Type 0
 LeadsEverywhere hops count = (m n : ℕ) → m < count → n < count → Leads hops m n
 
--- ---- what it says
+-- ---- guarantees
 
--- what replications one behind the other leave of a document in tied peers, where each of them chose it and nobody has
--- refused it, and where the trees before agreed and none was cut off. Where a chain led from a place to another, all that
--- was at the first is at the second; where one led from every place to every other, the document is the same everywhere;
--- nothing is anywhere that wasn't somewhere; and the trees agree then, and none is cut off
+-- the effect of consecutive replications on a document that each plan selects and no peer has refused, if the peers are
+-- tied and its trees agreed and had complete histories: if a chain leads from one place to another, all revisions of
+-- the first were brought to the second; if chains lead everywhere, the document is the same everywhere; each revision
+-- was somewhere before; and the trees agree again and have complete histories
 pub record Spreads (peers : List PeerValue) (hops : List Hop) (peers' : List PeerValue) (id : Id) : Type 0 where
   pub along : (m n : ℕ) (p q : PeerValue) → IsAt peers m p → IsAt peers' n q → Leads hops m n
       → (r : RevId) → has (tree_of p.db.docs id) r ≡ true → has (tree_of q.db.docs id) r ≡ true
@@ -119,11 +120,11 @@ Spread peers hops peers' =
 abbrev pub tree_alone : Document → TreeValue
 tree_alone d = merged no_revisions d.ancestry (content_of d.deleted d.body) (Local 0)
 
--- it gives no revision another parent than a peer does, or another content
+-- the document gives no revision another parent or content than a peer has
 abbrev pub FitsIn : List PeerValue → Document → Type 0
 FitsIn peers d = (n : ℕ) (p : PeerValue) → IsAt peers n p → Agree (tree_of p.db.docs d.id) (tree_alone d)
 
--- it is cut off nowhere but at what the peer has
+-- the document's history is complete, or ends at a revision that the peer has
 abbrev pub IsRooted : DatabaseValue → Document → Type 0
 IsRooted db d =
     (r : RevId) → IsRoot (tree_alone d) r → (r.generation ≡ 1) ⊎ (has (tree_of db.docs d.id) r ≡ true)
@@ -131,13 +132,13 @@ IsRooted db d =
 abbrev pub IsRootedAt : List PeerValue → ℕ → Document → Type 0
 IsRootedAt peers place d = (p : PeerValue) → IsAt peers place p → IsRooted p.db d
 
--- the document that an edit at a place puts gives no revision another parent, or another content: so it is where no two
--- different edits have one MD5
+-- the document of an edit gives no revision another parent or content; this holds if no two different edits have the
+-- same MD5
 abbrev pub EditFits : List PeerValue → ℕ → Id → Option RevId → Bool → List ℕ → Type 0
 EditFits peers place id parent deleted body =
     (p : PeerValue) → IsAt peers place p → (e : RevId × Option RevId) → edited p.db id parent deleted body ≡ Ok e
     → FitsIn peers (edit_document id e deleted body)
 
--- where the trees of a document agreed, and none was cut off, they do so still
+-- if the trees of a document agreed and had complete histories, they still do
 abbrev pub KeepsAgreement : List PeerValue → List PeerValue → Id → Type 0
 KeepsAgreement peers peers' id = AllAgree peers id → AllWhole peers id → AllAgree peers' id × AllWhole peers' id

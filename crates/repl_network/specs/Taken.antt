@@ -1,4 +1,4 @@
--- What calls on a net answer, and what they leave: docs/PROFILE.md, "Nets".
+-- The results and effects of calls on a network: docs/PROFILE.md, "Nets".
 use Rattle.std.specs.Prelude.{◌≡◌, ◌≢◌, ◌⊎◌, ℕ, ◌+◌, ◌<◌, ◌≤◌, Bool, List, [], ◌∷◌, ◌++◌, length, Some, Result, Ok, Err, MatchResult, slice_get}
 use Rattle.doc_json.specs.Document.{Document}
 use Rattle.doc_json.specs.Chosen.{Choice}
@@ -19,8 +19,7 @@ use Rattle.repl_network.specs.Hubs.{gathers, spreads}
 
 -- ---- replications
 
--- a hop between two places that are there: a replication by its plan, by one thread; whoever isn't one of the two is as
--- before
+-- a hop between two existing places: a replication with its plan, on one thread; all other peers are unchanged
 pub record IsHop {F : Type 0} (refuses : F → Document → Bool) (peers : List (F × PeerValue)) (hop : Hop)
     (result : Result Report TargetFault) (peers' : List (F × PeerValue)) : Type 0 where
   pub source : F × PeerValue
@@ -35,8 +34,7 @@ pub record IsHop {F : Type 0} (refuses : F → Document → Bool) (peers : List 
   pub others : (n : ℕ) → n ≢ hop.from → n ≢ hop.to → slice_get peers' n ≡ slice_get peers n
   pub replicates : Replicates (refuses target.0) source.1 target.1 hop.plan result source_then target_then
 
--- what taking the hop at an index answers: first whether the two places are there and are two; then as the replication
--- does
+-- the result of the hop at an index: first checks that the two places exist and differ; then that of the replication
 pub data TakesHop {F : Type 0} (refuses : F → Document → Bool) (at : ℕ) (peers : List (F × PeerValue)) (hop : Hop)
     : Result Report NetFault → List (F × PeerValue) → Type 0 where
   no_source : length peers ≤ hop.from → TakesHop refuses at peers hop (Err (faults.NoPeer hop.from)) peers
@@ -49,7 +47,7 @@ pub data TakesHop {F : Type 0} (refuses : F → Document → Bool) (at : ℕ) (p
   taken : {report : Report} {peers' : List (F × PeerValue)} → IsHop refuses peers hop (Ok report) peers'
       → TakesHop refuses at peers hop (Ok report) peers'
 
--- hops from an index on, one behind the other, until one is refused
+-- hops from an index on, in order, until one fails
 abbrev pub TakesHops : {F : Type 0} → (F → Document → Bool) → ℕ → List (F × PeerValue) → List Hop
     → Result (Unit {0}) NetFault → List (F × PeerValue) → Type 0
 TakesHops refuses at peers [] result peers' = (result ≡ Ok tt) × (peers' ≡ peers)
@@ -58,11 +56,11 @@ TakesHops {F = F} refuses at peers (hop ∷ hops) result peers' =
     × TakesHops refuses (at + 1) mid hops result peers')
     ⊎ ((why : NetFault) × TakesHop refuses at peers hop (Err why) peers' × (result ≡ Err why))
 
--- by a hub there is one plan each way for each peer behind it
+-- there is exactly one plan in each direction for each peer other than the hub
 abbrev pub ArePlanned : ℕ → List Plan → List Plan → Type 0
 ArePlanned count there back = (count ≡ length there + 1) × (count ≡ length back + 1)
 
--- else nothing is done; nor is it where memory is wanting for the hops
+-- otherwise nothing is done; nor if the allocation for the hops fails
 abbrev pub TakesHub : {F : Type 0} → (F → Document → Bool) → List (F × PeerValue) → List Plan → List Plan
     → Result (Unit {0}) NetFault → List (F × PeerValue) → Type 0
 TakesHub refuses peers there back result peers' =
@@ -72,12 +70,12 @@ TakesHub refuses peers there back result peers' =
 
 -- ---- writes
 
--- the refusal of a peer's own call, as a net tells it
+-- the error of a peer's call, as an error of the network
 abbrev pub told : {T : Type 0} → Result T BaseFault → Result T NetFault
 told (Ok done) = Ok done
 told (Err why) = Err (faults.Write why)
 
--- a call at a place: nobody is there, or it is answered what the peer's own call gives
+-- the result of a call at a place: that of the peer's call, or `NoPeer`
 abbrev pub AnswersAt : {T : Type 0} → List PeerValue → ℕ → (PeerValue → Result T BaseFault → Type 0) → Result T NetFault
     → Type 0
 AnswersAt {T = T} peers place gives result =
@@ -86,13 +84,13 @@ AnswersAt {T = T} peers place gives result =
 
 -- ---- peers
 
--- why a peer isn't added: one has its UUID, or memory is wanting
+-- why a peer is not added: another peer has its UUID, or an allocation fails
 abbrev pub IsNotAdded : List PeerValue → ℕ → NetFault → Type 0
 IsNotAdded peers uuid why =
     ((place : ℕ) × IsHeldAt peers uuid place × (why ≡ faults.SameUuid place))
     ⊎ (¬ IsHeld peers uuid) × (why ≡ faults.Memory)
 
--- an audit between two places: first whether they are there; then as an audit of the two peers does
+-- the result of an audit between two places: first checks that they exist; then that of the audit
 abbrev pub Audits : List PeerValue → ℕ → ℕ → Choice → Result Audit NetFault → Type 0
 Audits peers source target chosen result =
     (length peers ≤ source) × (result ≡ Err (faults.NoPeer source))

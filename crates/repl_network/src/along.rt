@@ -1,4 +1,4 @@
-//! Replications in a net.
+//! Replications in a network.
 ghost use Rattle.std.specs.Prelude.{◌≡◌, Bool, ◌≢◌, ◌<◌, ◌≤◌, length, OnOk, OnErr, slice_get};
 ghost use Rattle.repl_network.specs.Nets.{peers_of, filters_of, AreTied, IsNet, Spread, FitsIn, IsRootedAt, EditFits, KeepsAgreement};
 ghost use Rattle.repl_network.specs.Made.{EditValue, IsOneOf, AllMadeBy, StaysMade};
@@ -20,13 +20,13 @@ use repl_target::{Peer, Plan, Report, TargetFault, WriteFilter, replicate_alone}
 use rev_core::Rev;
 use std::alloc::Global;
 
-/// Replicates along hops between the peers of a net, one behind the other, until one is refused. Each is
-/// `replicate_alone` by its plan, whose session is of its own target.
+/// Replicates along hops between the peers of a network, in order, until one fails. Each hop is a `replicate_alone`
+/// with its plan.
 ///
-/// Peers of which every two are tied each way (docs/PROFILE.md, "Nets") stay so, whatever the answer. At `Ok`, of a
-/// document that each plan chooses and that nobody has refused, and whose trees agreed and were whole: where a chain of
-/// the hops leads from every place to every other, it is the same everywhere, and so has the same winner; and the
-/// premises hold again.
+/// If every two peers are consistent (docs/PROFILE.md, "Nets"), they stay so, whatever the result. Suppose that the
+/// call succeeds, that each plan selects a document, that no peer has refused it, and that its trees agreed and had
+/// complete histories. If a chain of hops leads from every place to every other, the document is then the same
+/// everywhere, and so has the same winner. Its trees agree again and have complete histories.
 pub fn replicate_along<F: WriteFilter>(
     alloc: Global,
     peers: &mut [Peer<F>],
@@ -49,11 +49,11 @@ pub fn replicate_along<F: WriteFilter>(
     Ok(())
 }
 
-/// Puts a document of the user's own at one peer of a net: `Peer::load`.
+/// Stores a user's document at one peer of a network: `Peer::load`.
 ///
-/// Tied peers stay tied, whatever the answer. Where the document gives no revision another parent or another content
-/// than a peer does, and is cut off nowhere but at what its peer has, trees that agreed and were whole do and are so
-/// still.
+/// Consistent peers stay consistent, whatever the result. If the trees of the document agreed and had complete
+/// histories, they still do, provided that the new document gives no revision another parent or content than a peer
+/// has, and that its history is complete or ends at a revision that its peer has.
 pub fn load_at<F: WriteFilter>(
     peers: &mut [Peer<F>],
     place: usize,
@@ -77,10 +77,11 @@ pub fn load_at<F: WriteFilter>(
     }
 }
 
-/// Edits a document at one peer of a net: `Peer::edit`.
+/// Edits a document at one peer of a network: `Peer::edit`.
 ///
-/// Tied peers stay tied, whatever the answer. Where no peer has the new revision with another parent or another content,
-/// which is so unless two edits have one MD5, trees that agreed and were whole do and are so still.
+/// Consistent peers stay consistent, whatever the result. If the trees of the document agreed and had complete
+/// histories, they still do, provided that no peer has the new revision with another parent or content; this holds
+/// unless two different edits have the same MD5.
 pub fn edit_at<F: WriteFilter>(
     peers: &mut [Peer<F>],
     place: usize,
@@ -111,7 +112,7 @@ pub fn edit_at<F: WriteFilter>(
     }
 }
 
-/// What holds of the database of each peer, for the proofs that stand on it.
+/// Gives proofs the invariant of each peer's database.
 fn hold_laws<F: WriteFilter>(peers: &[Peer<F>])
     ensures { AllLawful (peers_of peers.now) }
 {
@@ -149,7 +150,7 @@ fn take_hop<F: WriteFilter>(
     }
 }
 
-/// Replicates between two places that are there.
+/// Replicates between two existing places.
 fn carry<F: WriteFilter>(
     alloc: Global,
     peers: &mut [Peer<F>],

@@ -1,4 +1,4 @@
-//! What a net refuses.
+//! Errors of this crate.
 ghost use Rattle.std.specs.Prelude.{◌≡◌};
 ghost use Rattle.repl_network.specs.declared.fault.NetFault.TheVariants as faults;
 
@@ -7,25 +7,25 @@ use repl_target::TargetFault;
 use std::alloc::AllocError;
 use thiserror::Error;
 
-/// Why a call on a net stopped.
+/// Why a call on a network failed.
 #[derive(Debug, Drop, Error)]
 pub enum NetFault {
-    /// No peer is at this place.
+    /// There is no peer at this place.
     #[error("no peer is at place {0}")]
     NoPeer(usize),
-    /// The peer at this place has the UUID.
+    /// The peer at this place already has the UUID.
     #[error("the peer at place {0} has this UUID")]
     SameUuid(usize),
-    /// This hop was refused; those before it were Ok.
+    /// The hop at this index failed; the hops before it succeeded.
     #[error("hop {0}: {1}")]
     Hop(usize, TargetFault),
-    /// There isn't one plan each way for each peer behind the hub.
+    /// There is not exactly one plan in each direction for each peer other than the hub.
     #[error("one plan each way is wanted for each peer behind the hub")]
     Plans,
-    /// Memory ran out, and nothing was added or replicated.
+    /// An allocation failed, and nothing was added or replicated.
     #[error("out of memory")]
     Memory,
-    /// This write was refused.
+    /// The write at the peer failed.
     #[error("{0}")]
     Write(BaseFault),
 }

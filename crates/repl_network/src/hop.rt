@@ -1,4 +1,4 @@
-//! Replications between the peers of a net.
+//! Replications between the peers of a network.
 
 use repl_target::Plan;
 
@@ -9,6 +9,6 @@ pub struct Hop {
     pub from: usize,
     /// The place of the target.
     pub to: usize,
-    /// What is replicated, and how.
+    /// The parameters of the replication.
     pub plan: Plan,
 }

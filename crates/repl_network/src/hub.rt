@@ -1,4 +1,4 @@
-//! Replications by a hub: every peer into the first one, and that one into every other.
+//! Replication through a hub: every peer into the first one, then the first one into every other.
 ghost use Rattle.std.specs.Prelude.{◌≡◌, ◌+◌, ◌++◌, length, IfOk, OnOk};
 ghost use Rattle.repl_network.specs.Nets.{peers_of, filters_of, AreTied, IsNet};
 ghost use Rattle.repl_network.specs.Made.{StaysMade};
@@ -11,13 +11,17 @@ use crate::hop::Hop;
 use repl_target::{Peer, Plan, WriteFilter};
 use std::alloc::{AllocError, Global};
 
-/// Replicates every peer of a net into the first one, its hub, and then the hub into every other, by one thread: two
-/// replications a peer. The plans are those of the peers behind the hub, in their order.
+/// Replicates every peer of a network into the first one, its hub, and then the hub into every other peer, on one
+/// thread: two replications per peer. The plans are those of the other peers, in order.
 ///
-/// `Plans` where there isn't one each way for each of them; else what `replicate_along` refuses.
+/// Consistent peers stay consistent, whatever the result. If the call succeeds, each document that all plans select and
+/// no peer has refused, and whose trees agreed and had complete histories, is the same everywhere; its trees agree
+/// again and have complete histories.
 ///
-/// Tied peers stay tied, whatever the answer. At `Ok`, of a document that each plan chooses and that nobody has refused,
-/// and whose trees agreed and were whole: it is the same everywhere, and the premises hold again.
+/// # Errors
+///
+/// - `Plans`: there is not exactly one plan in each direction for each peer other than the hub.
+/// - The errors of `replicate_along`.
 pub fn sync_by_hub<F: WriteFilter>(
     alloc: Global,
     peers: &mut [Peer<F>],
@@ -39,7 +43,7 @@ pub fn sync_by_hub<F: WriteFilter>(
     replicate_along(alloc, peers, &hops)
 }
 
-/// The hops of plans by a hub.
+/// Creates the hops for the plans.
 fn hub_hops(alloc: Global, there: &[Plan], back: &[Plan]) -> Result<Vec<Hop>, AllocError>
     ensures { IfOk result (λ hops. hops.items ≡ gathers 0 there.now ++ spreads 0 back.now) }
 {

@@ -1,4 +1,4 @@
-//! Nets.
+//! Networks.
 ghost use Rattle.std.specs.Prelude.{◌≡◌, [], ◌∷◌, ◌++◌, IfNone, IfSome, OnOk, OnErr};
 ghost use Rattle.repl_network.specs.Nets.{peers_of, filters_of, IsHeldAt, IsHeld};
 
@@ -13,10 +13,10 @@ use rev_core::Rev;
 use std::alloc::{AllocError, Global};
 use std::marker::Model;
 
-/// Peers that were new when they came, each at its place, and what they wrote and replicated between them since.
+/// Peers that were added empty, each at its place, with what they have written and replicated to each other.
 ///
-/// Every two of them are tied each way (docs/PROFILE.md, "Nets"): so no call here has that as a premise, and no audit
-/// between two of them finds a hole.
+/// Every two of them are consistent in both directions (docs/PROFILE.md, "Nets"). Calls here therefore need no such
+/// premise, and an audit between two of them is always clean.
 #[derive(Drop)]
 pub struct Net<F: WriteFilter> {
     peers: Vec<Peer<F>>,
@@ -53,7 +53,7 @@ impl<F: WriteFilter> Net<F> {
     ghost use Rattle.couch_base.specs.Put.{PutGives, put_answer};
     ghost use Rattle.couch_base.specs.Edit.{EditGives, edit_answer};
 
-    /// A net of nobody.
+    /// Creates an empty network.
     pub fn new(alloc: Global) -> Net<F>
         ensures { result ≡ [] }
     {
@@ -62,9 +62,14 @@ impl<F: WriteFilter> Net<F> {
         }
     }
 
-    /// Puts a new peer behind the others, with a database of no documents, and answers its place.
+    /// Adds a new peer without documents, and returns its place.
     ///
-    /// `SameUuid` where one of them has this UUID, at this place; else `Memory`. A refusal changes nothing.
+    /// # Errors
+    ///
+    /// An error changes nothing:
+    ///
+    /// - `SameUuid`: the peer at this place has this UUID.
+    /// - `Memory`: an allocation failed.
     pub fn add(&mut self, alloc: Global, uuid: u128, filter: F) -> Result<usize, NetFault>
     where
         F: Drop,
@@ -82,15 +87,15 @@ impl<F: WriteFilter> Net<F> {
         Ok(place)
     }
 
-    /// The peer at a place.
+    /// Returns the peer at a place.
     pub fn peer(&self, place: usize) -> Option<&Peer<F>>
         ensures { option_copied result ≡ slice_get self.now place }
     {
         self.peers.get(place)
     }
 
-    /// What holds of each net, for the proofs that stand on it; and where edits alone have made a document, no two of
-    /// them with one MD5, its trees agree pairwise and are whole.
+    /// Does nothing; gives proofs the invariant of the network. Also states that the trees of a document that was made
+    /// only by edits, no two different ones with the same MD5, agree and have complete histories.
     pub fn law(&self)
         ensures net { IsNet (peers_of self.now) }
         ensures agree { MadeAgree (peers_of self.now) }
@@ -98,7 +103,7 @@ impl<F: WriteFilter> Net<F> {
         let _ = &self.peers;
     }
 
-    /// Puts a document of the user's own at one peer: `load_at`.
+    /// Stores a user's document at one peer: `load_at`.
     pub fn load(&mut self, place: usize, doc: &Doc) -> Result<Put, NetFault>
         ensures answer { AnswersAt (peers_of self.old) place (λ p r. PutGives r (put_answer p.db doc.now)) result }
         ensures filters { filters_of self.new ≡ filters_of self.old }
@@ -143,7 +148,7 @@ impl<F: WriteFilter> Net<F> {
         replicate_along(alloc, &mut self.peers, hops)
     }
 
-    /// Replicates every peer into the first one, and that into every other: `sync_by_hub`.
+    /// Replicates every peer into the first one, and the first one into every other: `sync_by_hub`.
     pub fn sync_by_hub(
         &mut self,
         alloc: Global,
@@ -158,7 +163,7 @@ impl<F: WriteFilter> Net<F> {
         sync_by_hub(alloc, &mut self.peers, there, back)
     }
 
-    /// Audits the replication between two peers. It never finds a hole.
+    /// Audits the replication between two peers. The result for two different places is always `Clean`.
     pub fn audit(
         &self,
         alloc: Global,
@@ -180,7 +185,7 @@ impl<F: WriteFilter> Net<F> {
     }
 }
 
-/// The place of the peer of a UUID, if there is one.
+/// Returns the place of the peer with a UUID, if there is one.
 fn place_of<F: WriteFilter>(peers: &[Peer<F>], uuid: u128) -> Option<usize>
     ensures there { IfSome result (λ place. IsHeldAt (peers_of peers.now) uuid place) }
     ensures none { IfNone result (IsHeld (peers_of peers.now) uuid → ⊥) }
@@ -193,7 +198,7 @@ fn place_of<F: WriteFilter>(peers: &[Peer<F>], uuid: u128) -> Option<usize>
     None
 }
 
-/// Puts a peer behind the others.
+/// Appends a peer.
 fn put_peer<F: WriteFilter + Drop>(
     peers: &mut Vec<Peer<F>>,
     peer: Peer<F>,

@@ -1,4 +1,4 @@
--- The lemmas, by rooms as the code has them.
+-- Lemmas, in the folders of the code.
 pub mod Members
 pub mod peer
 pub mod session

@@ -1,4 +1,4 @@
--- Peers, their law and what is written into them.
+-- Peers, their invariant, and local writes.
 pub mod Peer
 pub mod Covered
 pub mod Writing

@@ -1,4 +1,4 @@
-//! What the calls of this crate answer and refuse.
+//! The results and errors of this crate.
 ghost use Rattle.std.specs.Prelude.{◌≡◌};
 ghost use Rattle.repl_peer.specs.logs.Logs.{refused_by_log};
 ghost use Rattle.repl_peer.specs.session.Sessions.{refused_by_front};
@@ -20,38 +20,38 @@ use thiserror::Error;
 pub enum Reason {
     /// The write filter refuses it.
     Filtered,
-    /// Its ancestry gives a child another parent than the tree knows: the first such child, newest first.
+    /// Its ancestry gives a child another parent than the tree; this is the first such child, newest first.
     Contradicting { child: Rev, known: Rev, given: Rev },
 }
 
-/// Why a parcel was settled only in part.
+/// Why only a part of a parcel was settled.
 #[derive(Clone, Copy, Debug, PartialEq, Eq)]
 pub enum Cause {
-    /// An allocation was refused.
+    /// An allocation failed.
     Memory,
-    /// A document that changes the database found no sequence.
+    /// A document would change the database, and no sequence was left.
     SeqFull,
 }
 
-/// How many documents of a parcel were written, and how many were refused.
+/// The numbers of documents of a parcel that were written and refused.
 #[derive(Clone, Copy, Debug, PartialEq, Eq)]
 pub struct Settled {
-    /// How many were put, also those that were there already.
+    /// The number of documents stored, including those that already existed.
     pub written: u64,
-    /// How many went into the ledger.
+    /// The number of documents added to the ledger.
     pub failures: u64,
 }
 
-/// Why a call on a peer's sessions is refused, or that memory ran out.
+/// Why a call on a peer's sessions failed.
 #[derive(Debug, Drop, Error)]
 pub enum TargetFault {
-    /// The peer holds a session of this id.
+    /// The peer already has a session with this id.
     #[error("the session is there already")]
     SessionExists,
-    /// The base is no earlier session of the same replication.
+    /// The base is not an earlier session of the same replication.
     #[error("no such base session")]
     NoSuchBase,
-    /// The start is above what the base has recorded; 0, where there is no base.
+    /// The start exceeds the recorded sequence of the base, or 0 if there is no base.
     #[error("the start is above {recorded}, which its base has recorded")]
     StartAboveBase {
         recorded: u64,
@@ -59,15 +59,15 @@ pub enum TargetFault {
     /// The goal is below the start.
     #[error("the goal is below the start")]
     GoalBelowStart,
-    /// The peer holds no session of this id.
+    /// The peer has no session with this id.
     #[error("no such session")]
     NoSuchSession,
-    /// The window or the entry is of another life of the source than the session, or the database, which has `now`.
+    /// The window or entry is from another life of the source than the session or database, whose life is `now`.
     #[error("of another life than {now}")]
     OtherLife {
         now: u64,
     },
-    /// The window doesn't begin where the stored windows end, which is `expected`.
+    /// The window does not begin where the stored windows end, which is `expected`.
     #[error("a window that begins at {expected} is due")]
     Gap {
         expected: u64,
@@ -75,70 +75,70 @@ pub enum TargetFault {
     /// The window ends above the session's goal.
     #[error("the window ends above the goal")]
     PastGoal,
-    /// The session stores no such window, or a document has no row in it.
+    /// The session has no such window, or a document of the parcel has no row in it.
     #[error("the parcel is of no window of the session")]
     ForeignParcel,
-    /// The parcel's window is done already.
+    /// The parcel's window is already done.
     #[error("the window is done already")]
     AlreadyDone,
-    /// A count of the session would pass 9,007,199,254,740,991.
+    /// A count of the session would exceed 9,007,199,254,740,991.
     #[error("a count of the session is full")]
     CountFull,
-    /// Only the first `settled` documents are settled; `rest` are the others. The window isn't done.
+    /// Only the first `settled` documents are settled; `rest` are the others. The window is not done.
     #[error("stopped after {settled} documents")]
     Stopped {
         settled: u64,
         rest: Vec<Doc>,
         cause: Cause,
     },
-    /// All documents are settled, and this leaf of the window's rows, the first such one, isn't covered. The window
-    /// isn't done.
+    /// All documents are settled, but this leaf of the window's rows, the first such one, is not covered. The window is
+    /// not done.
     #[error("a leaf of the window is not covered")]
     Uncovered {
         seq: u64,
         id: DocId,
         rev: Rev,
     },
-    /// The session has not reached its goal: all is done up to `low_water`.
+    /// The session has not reached its goal; everything is done up to `low_water`.
     #[error("done only up to {low_water}")]
     Unfinished {
         low_water: u64,
     },
-    /// The log's entry of this session has a greater recorded sequence, which is `stored`.
+    /// The log's entry of this session has a greater recorded sequence, `stored`.
     #[error("older than the stored entry, which recorded {stored}")]
     Older {
         stored: u64,
     },
-    /// Something was replicated into the peer.
+    /// The peer has an incoming session.
     #[error("the peer is a target")]
     IsTarget,
-    /// The copy is of a database with another UUID.
+    /// The backup is of a database with another UUID.
     #[error("the copy is of another database")]
     ForeignBackup,
-    /// No life is left: the next would be above 9,007,199,254,740,991.
+    /// No life is left: the next one would exceed 9,007,199,254,740,991.
     #[error("no life is left")]
     LifeFull,
-    /// A plan's windows have no rows, or more than 10,000.
+    /// The window size of a plan is 0 or exceeds 10,000.
     #[error("a window has 1 to 10000 rows")]
     BadBatch,
-    /// The source and the target have one UUID.
+    /// The source and the target have the same UUID.
     #[error("a database is not replicated into itself")]
     SamePeer,
-    /// An allocation was refused.
+    /// An allocation failed.
     #[error("out of memory")]
     Memory,
 }
 
-/// What a session did: the entry of a log, without its moments.
+/// The result of a session: its log entry without timestamps.
 #[derive(Clone, Copy, Debug, PartialEq, Eq)]
 pub struct Report {
     /// The session.
     pub session: SessionId,
-    /// The source's sequence from which it read.
+    /// The source's sequence above which it read.
     pub start: u64,
-    /// The source's sequence up to which all is done.
+    /// The source's sequence up to which everything is done.
     pub recorded: u64,
-    /// What it counted.
+    /// What the session counted.
     pub counts: Counts,
 }
 
@@ -150,7 +150,7 @@ impl From<AllocError> for Cause {
     }
 }
 
-/// What a put refuses, and is no reason to refuse the document.
+/// Converts the error of a put that is not a reason to refuse the document.
 impl From<BaseFault> for Cause {
     ghost from_gives = { λ fault cause. cause ≡ cause_by_database fault };
 
@@ -162,7 +162,7 @@ impl From<BaseFault> for Cause {
     }
 }
 
-/// What the front of a session refuses where it marks a window that is checked.
+/// Converts the error of marking a window that has been checked.
 impl From<FrontFault> for Cause {
     ghost from_gives = { λ fault cause. cause ≡ cause_by_front fault };
 
@@ -190,7 +190,7 @@ impl<T: Drop> From<AllocFailed<T>> for TargetFault {
     }
 }
 
-/// What a log refuses, as the peer refuses it.
+/// Converts the error of a log.
 impl From<LogFault> for TargetFault {
     ghost from_gives = { λ refused fault. fault ≡ refused_by_log refused };
 
@@ -198,13 +198,13 @@ impl From<LogFault> for TargetFault {
         match refused {
             LogFault::Older { stored } => TargetFault::Older { stored },
             LogFault::Memory => TargetFault::Memory,
-            // Where an entry is put, a log refuses neither.
+            // Storing an entry returns neither of these.
             LogFault::BadMoment | LogFault::EmptyLog => TargetFault::Older { stored: 0 },
         }
     }
 }
 
-/// What a front refuses, as the session refuses it.
+/// Converts the error of a session's front.
 impl From<FrontFault> for TargetFault {
     ghost from_gives = { λ refused fault. fault ≡ refused_by_front refused };
 

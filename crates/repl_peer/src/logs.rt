@@ -1,4 +1,4 @@
-//! The logs of a peer: those of the sessions that were replicated into it, and those of the replications from it.
+//! The logs of a peer: those of its incoming sessions, and the stored ones of its outgoing sessions.
 ghost use Rattle.std.specs.Prelude.{◌≡◌, OnOk, OnErr, IfOk};
 ghost use Rattle.std.specs.Option.{option_copied};
 ghost use Rattle.repl_log.specs.Entry.{value_of};
@@ -14,8 +14,8 @@ use repl_log::{Entry, Log, RepId};
 use rev_tree::SessionId;
 use std::alloc::{AllocError, Global};
 
-/// The id of the replication from one peer into another: their databases' UUIDs, and the choice, which is shared. Both
-/// peers are lawful.
+/// Returns the id of the replication from one peer into another: the UUIDs of their databases, and the selection, which
+/// is shared. Also gives proofs that both peers are lawful.
 pub fn rep_between<F: WriteFilter, G: WriteFilter>(
     source: &Peer<F>,
     target: &Peer<G>,
@@ -28,11 +28,11 @@ pub fn rep_between<F: WriteFilter, G: WriteFilter>(
     RepId::new(source.db().uuid(), target.db().uuid(), chosen)
 }
 
-/// The common checkpoint of a replication: the newest session of the target's log that the source's log also holds, with
-/// the lesser of its two recorded sequences (docs/PROFILE.md, "Common checkpoint"). None where the logs share no session.
+/// Returns the common checkpoint of a replication: the newest session of the target's log that is also in the source's
+/// log, with the lesser of its two recorded sequences (docs/PROFILE.md, "Common checkpoint"). Returns `None` if the
+/// logs share no session.
 ///
-/// It looks at the target's sessions of this replication, the newest first, and at none behind the one that it finds. It
-/// takes no memory.
+/// Scans the target's sessions of this replication, newest first, up to the one it finds. Does not allocate.
 pub fn checkpoint<F: WriteFilter, G: WriteFilter>(
     source: &Peer<F>,
     target: &Peer<G>,
@@ -49,24 +49,29 @@ pub fn checkpoint<F: WriteFilter, G: WriteFilter>(
 impl<F: WriteFilter> Peer<F> {
     ghost use Rattle.repl_peer.specs.logs.Logs.{target_log, source_log, put_entry_answer, after_put_entry};
 
-    /// The log of a replication into this peer: what its sessions say, newest first.
+    /// Returns the log of a replication into this peer: the entries of its sessions, newest first.
     pub fn target_log(&self, alloc: Global, rep: &RepId) -> Result<Log, AllocError>
         ensures log { IfOk result (λ l. l ≡ target_log self.now.1 rep.now) }
     {
         self.sessions.log(alloc, rep)
     }
 
-    /// The log of a replication from this peer, an empty one where there is none.
+    /// Returns the log of a replication from this peer; an empty log if there is none.
     pub fn source_log(&self, alloc: Global, rep: &RepId) -> Result<Log, AllocError>
         ensures log { IfOk result (λ l. l ≡ source_log self.now.1 rep.now) }
     {
         self.outgoing.copy_of(alloc, rep)
     }
 
-    /// Puts an entry into the log of a replication from this peer, which begins with it where there is none.
+    /// Stores an entry in the log of a replication from this peer. If there is no such log, creates it.
     ///
-    /// `OtherLife` exactly where the entry is of another life than the database; else `Older` exactly where the log's
-    /// entry of the session has a greater recorded sequence; else `Memory`. A refusal changes nothing.
+    /// # Errors
+    ///
+    /// Checked in this order; an error changes nothing:
+    ///
+    /// - `OtherLife`: the entry is from another life than the database.
+    /// - `Older`: the log's entry of the session has a greater recorded sequence.
+    /// - `Memory`: an allocation failed.
     pub fn put_entry(&mut self, rep: &RepId, entry: Entry) -> Result<(), TargetFault>
         ensures answer { GivesUnlessMemory result (put_entry_answer self.old.1 rep.now (value_of entry)) }
         ensures filter { self.new.0 ≡ self.old.0 }

@@ -31,10 +31,10 @@ use rev_tree::SessionId;
 use std::alloc::{AllocError, Global};
 use std::marker::Model;
 
-/// What stands behind a target's lock: a database, its local writes, the sessions that were replicated into it, and the
-/// logs of those that were replicated from it.
+/// One side of a replication: a database, its local writes, its incoming sessions, and the logs of its outgoing
+/// sessions.
 ///
-/// Its law (docs/PROFILE.md, "The peer's law") holds after every call, whatever the calls and their order.
+/// Its invariant (docs/PROFILE.md, "The peer's law") holds after every call, in any order of calls.
 pub struct Peer<F: WriteFilter> {
     filter: F,
     pub(crate) db: Database,
@@ -43,7 +43,7 @@ pub struct Peer<F: WriteFilter> {
     pub(crate) outgoing: Logs,
 }
 
-// By hand, so that it is proved once: docs/DECISIONS.md, "Letting values go".
+// Written by hand so that it is proved once: docs/DECISIONS.md, "Letting values go".
 impl<F: WriteFilter + Drop> Drop for Peer<F> {
     fn drop(self) {
         let Peer {
@@ -102,9 +102,8 @@ impl<F: WriteFilter> Peer<F> {
     ghost use Rattle.repl_peer.specs.peer.Law.{Lawful};
     ghost use Rattle.repl_peer.specs.peer.Trusted.{IsTrusted};
 
-    /// A peer with a database of no documents. It grows by `alloc`.
-    ///
-    /// `uuid` is the number of the database's UUID, and `filter` refuses what replications may not write.
+    /// Creates a peer without documents. `uuid` is the database's UUID as a number; `filter` refuses replicated
+    /// documents.
     pub fn new(alloc: Global, uuid: u128, filter: F) -> Peer<F>
         ensures value { result ≡ (filter, new_peer uuid) }
         ensures law { Lawful (F.refuses result.0) result.1 }
@@ -112,7 +111,7 @@ impl<F: WriteFilter> Peer<F> {
         Peer::without_sessions(alloc, Database::new(alloc, uuid), filter)
     }
 
-    /// A peer with a database, which has no documents.
+    /// Creates a peer with an empty database.
     fn without_sessions(alloc: Global, db: Database, filter: F) -> Peer<F>
         requires { db ≡ no_documents_at db.uuid db.update_seq }
         ensures value { result ≡ (filter, new_peer_at db.uuid db.update_seq) }
@@ -127,12 +126,11 @@ impl<F: WriteFilter> Peer<F> {
         }
     }
 
-    /// The database.
+    /// Returns the database.
     ///
-    /// The peer is lawful, and honest: of each session, all rows of its windows at or under its recorded sequence are
-    /// covered. So it may be trusted: each leaf of these rows stands in its document's tree or was rightly refused,
-    /// each revision comes from a local write or a stored row, and documents read are documents written and those
-    /// refused.
+    /// The clauses state what every peer guarantees: the leaves of all window rows at or below a session's recorded
+    /// sequence are covered (in the tree, or rightly refused); each revision comes from a local write or a window row;
+    /// and the documents read are those written plus those refused.
     pub fn db(&self) -> &Database
         ensures value { result.now ≡ self.now.1.db }
         ensures law { Lawful (F.refuses self.now.0) self.now.1 }
@@ -142,7 +140,7 @@ impl<F: WriteFilter> Peer<F> {
         &self.db
     }
 
-    /// What holds of each peer and of its database, for the proofs that stand on it.
+    /// Does nothing; gives proofs the invariants of the peer and of its database.
     pub fn law(&self)
         ensures peer { Lawful (F.refuses self.now.0) self.now.1 }
         ensures database { LawfulDatabase self.now.1.db }
@@ -150,7 +148,7 @@ impl<F: WriteFilter> Peer<F> {
         self.db.law();
     }
 
-    /// The write filter.
+    /// Returns the write filter.
     pub fn filter(&self) -> &F
         ensures { result.now ≡ self.now.0 }
     {
@@ -159,11 +157,9 @@ impl<F: WriteFilter> Peer<F> {
 
     // ---- local writes
 
-    /// Puts a document of the user's own with its ancestry as they are given. Where that changes the database, it is
-    /// the next local write.
+    /// Stores a user's document with its ancestry as given. If the database changes, this is the next local write.
     ///
-    /// The refusals are those of `Database::put`, and `Memory` stands only where that may answer it. A refusal changes
-    /// nothing.
+    /// Errors are those of `Database::put`; `Memory` only if that call may return it. An error changes nothing.
     pub fn load(&mut self, doc: &Doc) -> Result<Put, BaseFault>
         ensures answer { PutGives result (put_answer self.old.1.db doc.now) }
         ensures filter { self.new.0 ≡ self.old.0 }
@@ -174,10 +170,9 @@ impl<F: WriteFilter> Peer<F> {
         local::load(&mut self.db, &mut self.locals, doc)
     }
 
-    /// Edits a document, as the next local write, and answers the new revision's id.
+    /// Edits a document, as the next local write, and returns the new revision.
     ///
-    /// The refusals are those of `Database::edit`, and `Memory` stands only where that may answer it. A refusal changes
-    /// nothing.
+    /// Errors are those of `Database::edit`; `Memory` only if that call may return it. An error changes nothing.
     pub fn edit(&mut self, id: &DocId, parent: Option<Rev>, deleted: bool, body: &Body) -> Revised
         ensures answer { EditGives result (edit_answer self.old.1.db id.now parent deleted body.now) }
         ensures filter { self.new.0 ≡ self.old.0 }
@@ -188,9 +183,9 @@ impl<F: WriteFilter> Peer<F> {
         local::edit(&mut self.db, &mut self.locals, id, parent, deleted, body)
     }
 
-    // ---- the database's messages
+    // ---- calls of the database
 
-    /// The page of the database's changes feed above `since`, towards `goal`: `Database::page`.
+    /// Returns a page of the changes feed: `Database::page`.
     pub fn page(
         &self,
         alloc: Global,
@@ -205,7 +200,7 @@ impl<F: WriteFilter> Peer<F> {
         self.db.page(alloc, since, goal, limit, chosen)
     }
 
-    /// The same page, where it is known that there is one: `Database::page_due`.
+    /// Returns a page of the changes feed, for arguments for which there is one: `Database::page_due`.
     pub fn page_due(
         &self,
         alloc: Global,
@@ -222,42 +217,44 @@ impl<F: WriteFilter> Peer<F> {
         self.db.page_due(alloc, since, goal, limit, chosen)
     }
 
-    /// What the database misses of another one's window: `Database::revs_diff`.
+    /// Returns the leaves of another database's window that are missing here: `Database::revs_diff`.
     pub fn revs_diff(&self, alloc: Global, window: &Window) -> Result<Asked, AllocError>
         ensures asked { IfOk result (λ a. a ≡ revs_diff self.now.1.db window.now) }
     {
         self.db.revs_diff(alloc, window)
     }
 
-    /// What the database has of the asked revisions: `Database::open_revs`.
+    /// Returns the documents for a request: `Database::open_revs`.
     pub fn open_revs(&self, alloc: Global, asked: &Asked) -> Result<Parcel, AllocError>
         ensures parcel { IfOk result (λ p. p ≡ open_revs self.now.1.db asked.now) }
     {
         self.db.open_revs(alloc, asked)
     }
 
-    /// The same as `open_revs`, for an asked list that goes into the parcel.
+    /// As `open_revs`, but moves the request into the parcel.
     pub fn open_asked(&self, alloc: Global, asked: Asked) -> Result<Parcel, AllocError>
         ensures parcel { IfOk result (λ p. p ≡ open_revs self.now.1.db asked) }
     {
         self.db.open_asked(alloc, asked)
     }
 
-    /// How many documents `open_revs` has for what is asked.
+    /// Returns the number of documents that `open_revs` would return.
     pub fn count_asked(&self, alloc: Global, asked: &Asked) -> Result<u128, AllocError>
         ensures count { IfOk result (λ n. n ≡ length (open_revs self.now.1.db asked.now).docs) }
     {
         self.db.count_asked(alloc, asked)
     }
 
-    /// Whether a revision is in its document's tree, or in the ancestry of a document that a session refused.
+    /// Whether a revision is covered: it is in its document's tree, or in the ancestry of a document that a session
+    /// refused.
     pub fn covered(&self, id: &DocId, rev: Rev) -> bool
         ensures { result ≡ covers self.now.1 id.now rev }
     {
         has_in(self.db.tree(id), rev) || self.sessions.has_refused(id, rev)
     }
 
-    /// The first leaf of a document of a feed that isn't covered, where its documents are looked at one behind the other.
+    /// Returns the first leaf of a changed document that is not covered. `near` makes lookups faster if documents come
+    /// in order.
     pub fn uncovered_in(
         &self,
         alloc: Global,
@@ -279,11 +276,17 @@ impl<F: WriteFilter> Peer<F> {
 
     // ---- sessions
 
-    /// Begins a session, which is the newest.
+    /// Begins a session, which becomes the newest.
     ///
-    /// `SessionExists` where the peer holds the id; else `NoSuchBase` where the base is no session of the same
-    /// replication; else `StartAboveBase` where the start is above what it has recorded, or above 0 where there is no
-    /// base; else `GoalBelowStart`; else `Memory`. A refusal changes nothing.
+    /// # Errors
+    ///
+    /// Checked in this order; an error changes nothing:
+    ///
+    /// - `SessionExists`: the peer already has a session with this id.
+    /// - `NoSuchBase`: the base is not a session of the same replication.
+    /// - `StartAboveBase`: the start exceeds the base's recorded sequence, or 0 if there is no base.
+    /// - `GoalBelowStart`: the goal is below the start.
+    /// - `Memory`: an allocation failed.
     pub fn begin(
         &mut self,
         id: SessionId,
@@ -299,11 +302,17 @@ impl<F: WriteFilter> Peer<F> {
         self.sessions.begin(id, beginning, at)
     }
 
-    /// Stores the next window of a session.
+    /// Adds the next window to a session.
     ///
-    /// `NoSuchSession` where the peer doesn't hold it; else `OtherLife` where the window is of another life than the
-    /// session; else `Gap` where the window doesn't begin where the stored ones end; else `PastGoal` where it ends above
-    /// the goal; else `Memory`. A refusal changes nothing.
+    /// # Errors
+    ///
+    /// Checked in this order; an error changes nothing:
+    ///
+    /// - `NoSuchSession`: the peer has no session with this id.
+    /// - `OtherLife`: the window is from another life than the session.
+    /// - `Gap`: the window does not begin where the stored ones end.
+    /// - `PastGoal`: the window ends above the goal.
+    /// - `Memory`: an allocation failed.
     pub fn append(&mut self, id: SessionId, window: Window) -> Result<(), TargetFault>
         ensures answer { GivesUnlessMemory result (append_answer self.old.1 id window) }
         ensures filter { self.new.0 ≡ self.old.0 }
@@ -314,7 +323,7 @@ impl<F: WriteFilter> Peer<F> {
         self.append_prepared(id, ReadyWindow::new(window))
     }
 
-    /// As `append`, of a window that was made ready: once it is done, what is kept of it isn't made then.
+    /// As `append`, for a prepared window, which may already have the shorter form that is kept when it is done.
     pub fn append_prepared(&mut self, id: SessionId, ready: ReadyWindow) -> Result<(), TargetFault>
         ensures answer { GivesUnlessMemory result (append_answer self.old.1 id ready) }
         ensures filter { self.new.0 ≡ self.old.0 }
@@ -322,23 +331,27 @@ impl<F: WriteFilter> Peer<F> {
         ensures err { OnErr result (self.new.1 ≡ self.old.1) }
         ensures law { Lawful (F.refuses self.new.0) self.new.1 }
     {
-        // Readings of the window tell the proof that it is one.
+        // Gives proofs the fact that the window satisfies its invariant.
         let _hi = ready.window().hi();
         self.sessions.append(id, ready)
     }
 
-    /// Settles a parcel that a session fetched: its documents in order, then the mark of its window.
+    /// Settles a parcel of a session: applies its documents in order, then marks its window as done.
     ///
-    /// `NoSuchSession` where the peer doesn't hold the session; else `ForeignParcel` where it stores no window of the
-    /// parcel's bounds, or a document has no row in that; else `AlreadyDone` where the window is done; else `CountFull`
-    /// where a count of the session would pass 9,007,199,254,740,991. These change nothing.
+    /// Each document is stored, and counts as written even if it already existed; or it is refused by the filter or as
+    /// a contradiction, and goes into the session's ledger. Returns the numbers of both.
     ///
-    /// Else each document in order is refused by the filter or as a contradiction, and goes into the session's ledger,
-    /// or is put, and counts as written also where it was there already. `Stopped` where a document that is put finds
-    /// no sequence, or, where the next one does or none is left, memory is refused: the first `settled` documents are
-    /// settled then, and `rest` are the others.
-    /// Else `Uncovered` where a leaf of the window's rows isn't covered: the first such one; all documents are settled
-    /// then. Else the window is done, and the answer is how many of the documents were written, and how many refused.
+    /// # Errors
+    ///
+    /// Checked in this order; the first four change nothing:
+    ///
+    /// - `NoSuchSession`: the peer has no session with this id.
+    /// - `ForeignParcel`: the session has no window with the parcel's bounds, or a document has no row in it.
+    /// - `AlreadyDone`: the window is already done.
+    /// - `CountFull`: a count of the session would exceed 9,007,199,254,740,991.
+    /// - `Stopped`: a document could not get a sequence, or an allocation failed. The first `settled` documents are
+    ///   settled, and `rest` are the others.
+    /// - `Uncovered`: a leaf of the window's rows, the first such one, is not covered. All documents are settled.
     pub fn settle(&mut self, id: SessionId, parcel: Parcel) -> Result<Settled, TargetFault>
         ensures settles { SettleGives (F.refuses self.old.0) self.old.1 id parcel result self.new.1 }
         ensures filter { self.new.0 ≡ self.old.0 }
@@ -349,8 +362,8 @@ impl<F: WriteFilter> Peer<F> {
         self.settle_into(id, PreparedParcel::new(alloc, parcel), &mut spent)
     }
 
-    /// `settle`, which lets nothing go that it has used up of the parcel, where all its documents are settled: it hands
-    /// that over, and who holds the peer behind a lock lets it go without the lock.
+    /// As `settle`, but moves the remains of the parcel into `spent` if all documents are settled. A caller that holds
+    /// the peer's lock can drop them after it releases the lock.
     pub fn settle_into(
         &mut self,
         id: SessionId,
@@ -365,9 +378,9 @@ impl<F: WriteFilter> Peer<F> {
             .settle_session(&self.filter, &mut self.db, id, parcel, spent)
     }
 
-    /// Records what a session has done without a gap, and answers it: the source's sequence up to which all is done.
+    /// Records the low water of a session, and returns it: the source's sequence up to which everything is done.
     ///
-    /// `NoSuchSession` where the peer doesn't hold it. It takes no memory.
+    /// Returns `NoSuchSession` if the peer has no session with this id. Does not allocate.
     pub fn record(&mut self, id: SessionId, at: Moment) -> Result<u64, TargetFault>
         ensures answer { result ≡ record_answer self.old.1 id }
         ensures filter { self.new.0 ≡ self.old.0 }
@@ -377,10 +390,16 @@ impl<F: WriteFilter> Peer<F> {
         self.sessions.record(id, at)
     }
 
-    /// Records and reports a session that has done all up to its goal.
+    /// Records and reports a session that is done up to its goal.
     ///
-    /// `NoSuchSession` where the peer doesn't hold it; else `Unfinished` where all is done only up to a sequence below
-    /// the goal, which changes nothing. It takes no memory.
+    /// # Errors
+    ///
+    /// Checked in this order; an error changes nothing:
+    ///
+    /// - `NoSuchSession`: the peer has no session with this id.
+    /// - `Unfinished`: the session is done only up to a sequence below its goal.
+    ///
+    /// Does not allocate.
     pub fn conclude(&mut self, id: SessionId, at: Moment) -> Result<Report, TargetFault>
         ensures answer { result ≡ conclude_answer self.old.1 id }
         ensures filter { self.new.0 ≡ self.old.0 }
@@ -390,9 +409,9 @@ impl<F: WriteFilter> Peer<F> {
         self.sessions.conclude(id, at)
     }
 
-    /// What a log says of a session.
+    /// Returns the log entry of a session.
     ///
-    /// `NoSuchSession` where the peer doesn't hold it. It takes no memory.
+    /// Returns `NoSuchSession` if the peer has no session with this id. Does not allocate.
     pub fn entry(&self, id: SessionId) -> Result<Entry, TargetFault>
         ensures { entry_value result ≡ session_answer self.now.1 id (λ s. Ok (entry_of s)) }
     {
@@ -407,10 +426,8 @@ impl<F: WriteFilter + Drop> Peer<F> {
     ghost use Rattle.repl_peer.specs.peer.Peer.{new_at_answer};
     ghost use Rattle.repl_peer.specs.peer.Law.{Lawful};
 
-    /// A peer with a database of no documents whose update sequence is `seq`, so that its first change takes the next
-    /// one.
-    ///
-    /// `SeqTooLarge` where `seq` is above 9,007,199,254,740,991. It takes no memory.
+    /// Creates a peer without documents whose update sequence is `seq`. Returns `SeqTooLarge` if `seq` exceeds
+    /// 9,007,199,254,740,991. Does not allocate.
     pub fn new_at(alloc: Global, uuid: u128, filter: F, seq: u64) -> Result<Peer<F>, BaseFault>
         ensures answer { result ≡ new_at_answer filter uuid seq }
         ensures law { IfOk result (λ p. Lawful (F.refuses p.0) p.1) }

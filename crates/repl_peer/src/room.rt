@@ -1,10 +1,10 @@
-//! Room in lists that mostly have one item.
+//! Capacity for lists that usually have one item.
 ghost use Rattle.std.specs.Prelude.{◌≡◌, ◌<◌, OnOk};
 ghost use Rattle.std.specs.Vec.{vec_len, vec_capacity};
 
 use std::alloc::AllocError;
 
-/// Makes room for one more item: in an empty list for that one alone, else as lists grow. A refusal changes nothing.
+/// Reserves space for one more item: exactly one in an empty list, else as vectors grow. An error changes nothing.
 pub(crate) fn room_for_one<T>(list: &mut Vec<T>) -> Result<(), AllocError>
     ensures items { list.new.items ≡ list.old.items }
     ensures room { OnOk result (vec_len list.new < vec_capacity list.new) }

@@ -1,4 +1,4 @@
-//! Incoming sessions, as they are kept.
+//! The stored form of incoming sessions.
 
 ghost use Rattle.std.specs.Prelude.{◌≡◌, ◌==◌, OnOk, OnErr, if◌then◌else◌};
 ghost use Rattle.range_front.specs.Front.{low_water};
@@ -35,7 +35,7 @@ use std::marker::Model;
 
 /// An incoming session.
 ///
-/// What arrived stands in lists one behind the other: those that were entered at once are kept as they came.
+/// Arrivals are stored in several lists, in order: a list of prepared arrivals is kept as it is.
 #[derive(Drop)]
 pub(crate) struct Session {
     pub(crate) id: SessionId,
@@ -67,7 +67,7 @@ impl Model for Session {
 }
 
 impl Session {
-    /// A session as it begins. It grows by `alloc`.
+    /// Creates a session.
     pub(crate) fn new(alloc: Global, id: SessionId, beginning: Beginning, at: Moment) -> Session
         ensures { result ≡ new_session id beginning at }
     {
@@ -87,10 +87,16 @@ impl Session {
         }
     }
 
-    /// Stores the next window of the feed.
+    /// Adds the next window of the feed.
     ///
-    /// `OtherLife` where it is of another life than the session; else `Gap` where it doesn't begin where the stored ones
-    /// end; else `PastGoal` where it ends above the goal; else `Memory`. A refusal changes nothing.
+    /// # Errors
+    ///
+    /// Checked in this order; an error changes nothing:
+    ///
+    /// - `OtherLife`: the window is from another life than the session.
+    /// - `Gap`: the window does not begin where the stored ones end.
+    /// - `PastGoal`: the window ends above the goal.
+    /// - `Memory`: an allocation failed.
     pub(crate) fn append(&mut self, ready: ReadyWindow) -> Result<(), TargetFault>
         ensures answer { GivesUnlessMemory result (append_in ready self.old) }
         ensures ok { OnOk result (self.new ≡ with_window ready self.old (append_in ready self.old)) }
@@ -116,7 +122,7 @@ impl Session {
         Ok(())
     }
 
-    /// Records what is done without a gap, and answers it.
+    /// Records the low water, and returns it.
     pub(crate) fn record(&mut self, at: Moment) -> u64
         ensures mark { result ≡ low_water self.old.front }
         ensures session { self.new ≡ recorded_at at self.old }
@@ -127,7 +133,7 @@ impl Session {
         mark
     }
 
-    /// Records and reports where all is done up to the goal, else `Unfinished`, which changes nothing.
+    /// Records and reports if everything is done up to the goal; otherwise returns `Unfinished` and changes nothing.
     pub(crate) fn conclude(&mut self, at: Moment) -> Result<Report, TargetFault>
         ensures answer { result ≡ conclude_in self.old }
         ensures session { self.new
@@ -141,7 +147,7 @@ impl Session {
         Ok(self.report())
     }
 
-    /// What the session did.
+    /// Returns the report of the session.
     fn report(&self) -> Report
         ensures { result ≡ report_of self.now }
     {
@@ -153,7 +159,7 @@ impl Session {
         }
     }
 
-    /// What a log says of the session.
+    /// Returns the log entry of the session.
     pub(crate) fn entry(&self) -> Entry
         ensures { value_of result ≡ entry_of self.now }
     {

@@ -21,7 +21,7 @@ module _ {F : Type 0} (refuses : F → Document → Bool) (db : DatabaseValue) (
   pub grown_then : (p q r : F × PeerValue) → GrownPeer refuses db chosen run p q → GrownPeer refuses db chosen run q r → GrownPeer refuses db chosen run p r
   grown_then p q r a b = (b.0 ∙ a.0, grown-later (refuses p.0) db chosen run p.1 q.1 r.1 a.1 (subst (λ f. IsGrown (refuses f) db chosen run q.1 r.1) a.0 b.1))
 
--- what a run that concluded says
+-- the guarantees of a concluded run
 pub ends_well : (refuses : Document → Bool) (source target : PeerValue) (plan : Plan) (p now : PeerValue) (report : Report) (n : ℕ) → LawfulDatabase source.db → LawfulSessions refuses (after_begins source target plan) → begins_answer source target plan ≡ Ok tt
     → IsGrown refuses source.db plan.chosen plan.session (after_begins source target plan) p → read_in p.sessions plan.session ≡ n → conclude_answer p plan.session ≡ Ok report → now ≡ after_conclude p plan.session plan.at → EndsWell source target now plan n report
 ends_well refuses source target plan p now report n law l ok grown reads answer after =
@@ -33,7 +33,7 @@ ends_well refuses source target plan p now report n law l ok grown reads answer 
 
 -- ---- any run
 
--- the run's session stays held
+-- the target keeps the run's session
 pub held_grown : {F : Type 0} (refuses : F → Document → Bool) (db : DatabaseValue) (chosen : Choice) (given now : F × PeerValue) (id : SessionId) → LawfulDatabase db → LawfulSessions (refuses given.0) given.1 → GrownPeer refuses db chosen id given now
     → (s : SessionValue) × (session_in given.1.sessions id ≡ Some s) → (t : SessionValue) × (session_in now.1.sessions id ≡ Some t)
 held_grown refuses db chosen given now id law l h held =
@@ -42,7 +42,7 @@ held_grown refuses db chosen given now id law l h held =
     let k = calls.1.sessions held.0 found.0 in
     (k.0, ap (λ n. find (λ (x : SessionValue). x.id.0 == n) now.1.sessions) (sym found.1) ∙ found-is now.1.sessions held.0.id k.0 calls.0.distinct k.1 k.2.id)
 
--- a session that began is held
+-- the target has a session that has begun
 pub begun_held : (source target : PeerValue) (plan : Plan) (begun : PeerValue) → begins_answer source target plan ≡ Ok tt → begun ≡ after_begins source target plan → (s : SessionValue) × (session_in begun.sessions plan.session ≡ Some s)
 begun_held source target plan begun ok is =
     let new = new_session plan.session (beginning_between source target plan.chosen) plan.at in (

@@ -1,4 +1,4 @@
--- What an unfinished run tells is the low water of its session, which is recorded.
+-- An unfinished run returns the low water of its session, which is recorded.
 use Rattle.proof_prelude.proofs.{◌≡◌, ℕ, ◌==◌, Bool, cond, Option, Some, None, Result, Ok, Err, is_ok, IfSome, refl, sym, ap, ◌∙◌, subst, cond_both, cond-false, false≢true}
 use Rattle.rev_tree.specs.{SessionId}
 use Rattle.range_front.specs.{low_water}
@@ -11,18 +11,18 @@ use Rattle.pool_workers.specs.{IsHaltOn, Place, PoolFault}
 use Rattle.repl_pool.specs.{unfinished_at, IsRecorded, stopped, fewer, refused, TellsLowWater}
 use Rattle.pool_workers.specs.declared.fault.PoolFault.TheVariants as faults
 
--- a worker's halt tells no low water
+-- a worker's halt returns no low water
 halt_tells : (B : Type 0) (P : Place → Type 0) (p : PeerValue) (id : SessionId) (fault : PoolFault) → IsHaltOn B P fault → TellsLowWater p id fault
 halt_tells B P p id (faults.Refused (refusals.Unfinished n)) h = absurd h
 halt_tells B P p id fault h = tt
 
--- the session as it is recorded
+-- the session after recording
 recorded_in : (p : PeerValue) (id : SessionId) (at : ℕ) (s : SessionValue) (now : PeerValue) → session_in p.sessions id ≡ Some s → now ≡ after_record p id at → session_in now.sessions id ≡ Some (recorded_at at s)
 recorded_in p id at s now e after =
     let is : now ≡ record p { sessions = with_session p.sessions (recorded_at at s) } = after ∙ ap (on_found p (recorded_at at)) e in
     ap (λ (q : PeerValue). session_in q.sessions id) is ∙ swap_some id s (recorded_at at s) p.sessions (session_found p.sessions id s e).1 e
 
--- a session that is recorded
+-- a recorded session
 record_tells : (p : PeerValue) (id : SessionId) (at : ℕ) (now : PeerValue) → now ≡ after_record p id at → TellsLowWater now id (unfinished_at (record_answer p id))
 record_tells p id at now after = go (session_in p.sessions id) refl
   where
@@ -30,7 +30,7 @@ record_tells p id at now after = go (session_in p.sessions id) refl
     go None e = tt
     go (Some s) e = (recorded_at at s, recorded_in p id at s now e after, refl, refl)
 
--- a session that can't be concluded
+-- a session that cannot be concluded
 close_tells : (p : PeerValue) (plan : Plan) (now : PeerValue) (why : TargetFault) → conclude_answer p plan.session ≡ Err why → now ≡ closed p plan → TellsLowWater now plan.session (faults.Refused why)
 close_tells p plan now why answer after = go (session_in p.sessions plan.session) refl answer
   where
@@ -56,7 +56,7 @@ close_tells p plan now why answer after = go (session_in p.sessions plan.session
         subst (λ w. TellsLowWater now id (faults.Refused w)) (why_is (refusals.Unfinished (low_water s.front)) why k) (recorded_at plan.at s, recorded_in (after_conclude p id plan.at) id plan.at s now held is, refl, refl))
         h
 
--- where the session is recorded, not concluded
+-- a session that is recorded but not concluded
 pub recorded_tells : (B : Type 0) (P : Place → Type 0) (plan : Plan) (fault : Option PoolFault) (complete : Bool) (before after : PeerValue) (why : PoolFault) → IfSome fault (IsHaltOn B P) → IsRecorded plan fault complete before after why → TellsLowWater after plan.session why
 recorded_tells B P plan fault complete before after why late (stopped e same) = halt_tells B P after plan.session why (subst (λ (x : Option PoolFault). IfSome x (IsHaltOn B P)) e late)
 recorded_tells B P plan fault complete before after why late (fewer none less same) = record_tells before plan.session plan.at after same

@@ -1,4 +1,4 @@
--- What a run says, from what came out of the lock.
+-- The guarantees of a run, from what the lock released.
 use Rattle.proof_prelude.proofs.{◌≡◌, ◌⊎◌, ℕ, ◌<◌, ◌≤◌, ◌==◌, Bool, true, false, cond, nat_lt, List, [], Option, Some, None, Result, Ok, Err, is_ok, IfOk, IfErr, IfSome, sum, refl, sym, ap, ◌∙◌, subst, inl, inr, arith, cond_both, false≢true, nat_tests, same_Some}
 use Rattle.rev_tree.specs.{SessionId}
 use Rattle.doc_json.specs.Document.{Document}
@@ -17,10 +17,10 @@ use Rattle.repl_pool.proofs.RunPages.{is_paged, closes_pages}
 use Rattle.repl_pool.proofs.Ending.{ends_well}
 use Rattle.repl_pool.proofs.LowWater.{recorded_tells}
 
--- ---- what was given
+-- ---- the given peer
 
 module _ {F : Type 0} (refuses : F → Document → Bool) (source : DatabaseValue) (plan : Plan) where
-  -- where it is known which was given
+  -- it is known which peer was given
   abbrev pub IsKnown : F × PeerValue → SessionId → ℕ → Option ℕ → F × PeerValue → Type 0
   IsKnown given run total more now =
       GrownPeer refuses source plan.chosen run given now × (read_in now.1.sessions run ≡ total) × KeepsPages source plan run more now.1.sessions
@@ -35,9 +35,9 @@ module _ {F : Type 0} (refuses : F → Document → Bool) (db source : DatabaseV
       from_given refuses db choice given run session total more t
       (subst (λ c. TargetKeeps refuses db c (Some (given, run)) session total more t) planning (subst (λ s. TargetKeeps refuses s plan (Some (given, run)) session total more t) origin (subst (λ x. TargetKeeps refuses source plan x session total more t) is h)))
 
--- ---- how a run ends
+-- ---- the end of a run
 
--- a fault that a halt is told as is none of an early refusal
+-- the error for a halt is not an early error
 halt_late : (B : Type 0) (P : Place → Type 0) (fault : PoolFault) → IsHaltOn B P fault → IsLateOn B P fault
 halt_late B P (faults.Refused why) h = tt
 halt_late B P fault h = h
@@ -46,13 +46,13 @@ unfinished_late : (B : Type 0) (P : Place → Type 0) (r : Result ℕ TargetFaul
 unfinished_late B P (Ok n) = tt
 unfinished_late B P (Err why) = tt
 
--- where the session is recorded, a halt is told where the gate allows it
+-- if the session is recorded, a reported halt is allowed by the gate
 recorded_late : (B : Type 0) (P : Place → Type 0) (plan : Plan) (fault : Option PoolFault) (complete : Bool) (before after : PeerValue) (why : PoolFault) → IfSome fault (IsHaltOn B P) → IsRecorded plan fault complete before after why → IsLateOn B P why
 recorded_late B P plan fault complete before after why late (stopped e same) = halt_late B P why (subst (λ (x : Option PoolFault). IfSome x (IsHaltOn B P)) e late)
 recorded_late B P plan fault complete before after why late (fewer none less same) = unfinished_late B P (record_answer before plan.session)
 recorded_late B P plan fault complete before after why late (refused none whole answer same) = tt
 
--- what stands of a report, and of a want of memory, stands of the outcome
+-- a property of the report and of `Memory` holds for the outcome
 told_of : (X : Result Report PoolFault → Type 0) (report : Report) (outcome : Result Report PoolFault) → UnlessMemory (Ok report) outcome → X (Ok report) → X (Err faults.Memory) → X outcome
 told_of X report outcome told ok memory = elim told [
   | inl is ↦ subst X (sym is) ok
@@ -60,7 +60,7 @@ told_of X report outcome told ok memory = elim told [
 ]
 
 module _ {F : Type 0} (refuses : F → Document → Bool) (may_fill : Type 0) (may_stop : Place → Type 0) (source : PeerValue) (begun : F × PeerValue) (plan : Plan) (counts : List ℕ) (source' now : PeerValue) where
-  -- the entry is put, and a halt is told where the gate allows it
+  -- the entry is stored, and a reported halt is allowed by the gate
   pub run_late : (outcome : Result Report PoolFault) → EndsRun refuses may_fill may_stop plan source begun counts source' now outcome → IfErr outcome (IsLateOn may_fill may_stop) × PutsEntry source now source' plan outcome
   run_late outcome e = go outcome e.ends
     where
@@ -68,7 +68,7 @@ module _ {F : Type 0} (refuses : F → Document → Bool) (may_fill : Type 0) (m
       go o (concluded c told put) = (told_of (λ r. IfErr r (IsLateOn may_fill may_stop)) _ o told tt tt, put)
       go o (recorded r put) = (recorded_late may_fill may_stop plan e.fault e.complete e.before now _ e.late r, put)
 
-  -- an unfinished run tells what is recorded
+  -- an unfinished run returns what is recorded
   pub run_tells : (outcome : Result Report PoolFault) → EndsRun refuses may_fill may_stop plan source begun counts source' now outcome → IfErr outcome (TellsLowWater now plan.session)
   run_tells outcome e = go outcome e.ends
     where
@@ -76,8 +76,7 @@ module _ {F : Type 0} (refuses : F → Document → Bool) (may_fill : Type 0) (m
       go o (concluded c told put) = told_of (λ r. IfErr r (TellsLowWater now plan.session)) _ o told tt tt
       go o (recorded r put) = recorded_tells may_fill may_stop plan e.fault e.complete e.before now _ e.late r
 
-  -- where it is Ok, the session concluded: so all of the chosen feed above its start is covered, though nobody looks at it
-  -- once more
+  -- on Ok, the session is concluded, so the selected feed above its start is covered, although it is not scanned again
   pub run_well : (target : PeerValue) → LawfulDatabase source.db → LawfulSessions (refuses begun.0) begun.1 → begins_answer source target plan ≡ Ok tt → begun.1 ≡ after_begins source target plan → (outcome : Result Report PoolFault)
       → EndsRun refuses may_fill may_stop plan source begun counts source' now outcome → IfOk outcome (EndsWell source target now plan (sum counts))
   run_well target law l ok is outcome e = go outcome e.ends
@@ -96,28 +95,28 @@ ok_of : {A E : Type 0} (r : Result A E) (X : Type 0) → X → IfOk r (λ _. X)
 ok_of (Ok a) X x = x
 ok_of (Err e) X x = tt
 
--- where it is Ok, nothing was stopped and all was got
+-- on Ok, nothing was stopped and everything was received
 pub ends_free : (plan : Plan) (fault : Option PoolFault) (complete : Bool) (source before source' after : PeerValue) (outcome : Result Report PoolFault) (X : Type 0)
     → ClosesRun plan fault complete source before source' after outcome → (fault ≡ None → complete ≡ true → X) → IfOk outcome (λ _. X)
 ends_free plan fault complete source before source' after outcome X (concluded c told put) f = ok_of outcome X (f c.free c.whole)
 ends_free plan fault complete source before source' after outcome X (recorded r put) f = tt
 
--- and what was shown is what the report tells
+-- what was shown is what the report says
 pub shown_well : (board : Option Board) (given now : List BoardSeat) (source target target' : PeerValue) (plan : Plan) (n : ℕ) (outcome : Result Report PoolFault)
     → IfOk outcome (λ _. HaveShown board n None given now) → IfOk outcome (EndsWell source target target' plan n) → IfOk outcome (λ report. HaveShown board report.counts.read None given now)
 shown_well board given now source target target' plan n (Ok report) h w = subst (λ m. HaveShown board m None given now) w.sum h
 shown_well board given now source target target' plan n (Err why) h w = tt
 
--- all of the source's chosen feed is covered, where the two were tied
+-- the source's complete selected feed is covered, if the two were tied
 whole_of : (refuses : Document → Bool) (source target target' : PeerValue) (plan : Plan) (n : ℕ) → LawfulDatabase source.db → LawfulSessions refuses target → LawfulSessions refuses target' → begins_answer source target plan ≡ Ok tt
     → IsGrown refuses source.db plan.chosen plan.session (after_begins source target plan) target' → (outcome : Result Report PoolFault) → IfOk outcome (EndsWell source target target' plan n)
     → IfOk outcome (λ _. IsTiedPair source target plan.chosen → CoversFeed source target' plan.chosen source.db.update_seq)
 whole_of refuses source target target' plan n law l l' ok grown (Ok report) w = λ tied. reported_whole refuses source target plan target' report law l l' ok grown tied w.reported
 whole_of refuses source target target' plan n law l l' ok grown (Err why) w = tt
 
--- ---- what it says
+-- ---- the guarantees
 
--- no worker was started, for want of memory
+-- no worker was started, because an allocation failed
 pub no_workers : {F : Type 0} (refuses : F → Document → Bool) (may_fill : Type 0) (may_stop : Place → Type 0) (plan : Plan) (source : PeerValue) (given : F × PeerValue) (counts : List ℕ) (source' after : PeerValue) (outcome : Result Report PoolFault) (fault : PoolFault) → fault ≡ faults.Memory
     → HasNoWindows plan.session given.1.sessions → ClosesRun plan (Some fault) false source given.1 source' after outcome → EndsRun refuses may_fill may_stop plan source given counts source' after outcome
 no_workers refuses may_fill may_stop plan source given counts source' after outcome fault is fresh e = record {
@@ -132,7 +131,7 @@ no_workers refuses may_fill may_stop plan source given counts source' after outc
   ends = e;
 }
 
--- nor was one needed, since there was nothing to read
+-- no worker was needed, because there was nothing to read
 pub nothing_read : {F : Type 0} (refuses : F → Document → Bool) (may_fill : Type 0) (may_stop : Place → Type 0) (plan : Plan) (source : PeerValue) (given : F × PeerValue) (counts : List ℕ) (source' after : PeerValue) (outcome : Result Report PoolFault)
     → read_in given.1.sessions plan.session ≡ 0 → counts ≡ [] → HasNoWindows plan.session given.1.sessions → ClosesRun plan None true source given.1 source' after outcome → EndsRun refuses may_fill may_stop plan source given counts source' after outcome
 nothing_read refuses may_fill may_stop plan source given counts source' after outcome none empty fresh e = record {
@@ -148,7 +147,7 @@ nothing_read refuses may_fill may_stop plan source given counts source' after ou
 }
 
 module _ {F : Type 0} (refuses : F → Document → Bool) (may_fill : Type 0) (may_stop : Place → Type 0) (plan : Plan) (source target : F × PeerValue) where
-  -- refused early
+  -- an early error
   pub runs_early : (fetched : List ℕ) (why : PoolFault) → LawfulSessions (refuses target.0) target.1 → early_answer source.1 target.1 plan ≡ Err why → fetched ≡ [] → RunsOn refuses may_fill may_stop plan source target source target fetched (Err why)
   runs_early fetched why lawful early none = record {
     early = subst (λ r. EarlyOrLate may_fill may_stop r source target source target fetched (Err why)) (sym early) (refl, refl, refl, none);
@@ -164,7 +163,7 @@ module _ {F : Type 0} (refuses : F → Document → Bool) (may_fill : Type 0) (m
     whole = tt;
   }
 
-  -- the session isn't begun
+  -- the session has not begun
   pub runs_refused : (fetched : List ℕ) (why : TargetFault) (target' : F × PeerValue) → LawfulSessions (refuses target.0) target.1 → early_answer source.1 target.1 plan ≡ Ok tt → (why ≡ refusals.Memory) ⊎ (begins_answer source.1 target.1 plan ≡ Err why) → target'.0 ≡ target.0 → target'.1 ≡ target.1
       → RunsOn refuses may_fill may_stop plan source target source target' fetched (Err (faults.Refused why))
   runs_refused fetched why target' lawful early due filter peer =
@@ -227,7 +226,7 @@ module _ {F : Type 0} (refuses : F → Document → Bool) (may_fill : Type 0) (m
         whole = whole_of (refuses target.0) source.1 target.1 target'.1 plan (sum counts) law lawful l' ok since outcome well;
       }
 
--- ---- a plan that isn't refused early
+-- ---- a plan without an early error
 
 pub record Passes (plan : Plan) : Type 0 where
   pub some : 0 < plan.workers

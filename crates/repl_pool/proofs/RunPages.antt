@@ -1,4 +1,4 @@
--- What a run has read is pages of the source, and closing it stores no window.
+-- A run has read pages of the source, and closing it stores no window.
 use Rattle.proof_prelude.proofs.{◌≡◌, ℕ, Bool, true, false, List, [], ◌∷◌, map, length, Option, Some, None, Result, Ok, refl, sym, ap, ◌∙◌, subst, inl, inr, arith, false≢true, both_ways, eq-eqb}
 use Rattle.rev_tree.specs.{SessionId}
 use Rattle.doc_json.specs.Document.{Document}
@@ -16,7 +16,7 @@ allowed_of None n more h = tt
 allowed_of (Some stop_after) n None h = absurd h
 allowed_of (Some stop_after) n (Some m) h = omega (arith, h)
 
--- ---- what a run has read
+-- ---- the windows of a run
 
 tails : {X : Type 0} (x y : X) (xs ys : List X) → ◌≡◌ {A = List X} (x ∷ xs) (y ∷ ys) → (x ≡ y) × (xs ≡ ys)
 tails x y xs ys e = (cc, cc)
@@ -52,7 +52,7 @@ is_paged refuses source target plan now more law l ok grown l' keeps =
       allowed = allowed_of plan.stop_after (length t.session.windows) more k.1;
     }
 
--- a session that began has no windows
+-- a session that has begun has no windows
 pub begun_fresh : (source target : PeerValue) (plan : Plan) (begun : PeerValue) → begins_answer source target plan ≡ Ok tt → begun ≡ after_begins source target plan → HasNoWindows plan.session begun.sessions
 begun_fresh source target plan begun ok is s m own =
     let new = new_session plan.session (beginning_between source target plan.chosen) plan.at in

@@ -1,4 +1,4 @@
--- What a run leaves, for two runs, one each way.
+-- The effect of two runs, one in each direction.
 use Rattle.proof_prelude.proofs.{ℕ, Bool, List, Result, ap, inl, inr}
 use Rattle.doc_json.specs.Document.{Document}
 use Rattle.repl_peer.specs.{PeerValue, Report}

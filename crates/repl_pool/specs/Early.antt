@@ -1,4 +1,4 @@
--- What a run of the pool is refused for before anything else: docs/PROFILE.md, "The pool".
+-- The first checks of a run of the pool: docs/PROFILE.md, "The pool".
 use Rattle.std.specs.Prelude.{◌==◌, nat_lt, if◌then◌else◌, Result, Ok, Err}
 use Rattle.repl_peer.specs.peer.Peer.{PeerValue}
 use Rattle.repl_target.specs.replication.Replication.{is_batch}
@@ -6,7 +6,7 @@ use Rattle.repl_target.specs.declared.replication.Plan.{Plan}
 use Rattle.pool_workers.specs.declared.fault.PoolFault.{PoolFault}
 use Rattle.pool_workers.specs.declared.fault.PoolFault.TheVariants as faults
 
--- in this order
+-- the result of the checks, in this order
 abbrev pub early_answer : PeerValue → PeerValue → Plan → Result (Unit {0}) PoolFault
 early_answer source target plan =
     if plan.workers == 0 then Err faults.NoWorkers

@@ -1,4 +1,4 @@
--- The windows that a run has read: docs/PROFILE.md, "Goal and windows" and "The pool".
+-- The windows of a run: docs/PROFILE.md, "Goal and windows" and "The pool".
 use Rattle.std.specs.Prelude.{◌≡◌, ℕ, ◌<◌, ◌≤◌, List, [], ◌∷◌, length, Option, Some, None}
 use Rattle.couch_base.specs.Database.{DatabaseValue}
 use Rattle.couch_base.specs.Feed.{WindowValue}
@@ -6,20 +6,19 @@ use Rattle.repl_peer.specs.peer.Peer.{PeerValue, SessionValue, session_in}
 use Rattle.repl_target.specs.declared.replication.Plan.{Plan}
 use Rattle.repl_target.specs.replication.Replication.{start_between, next_window}
 
--- from a sequence on, each window is the next one of the source's feed, by the plan, and begins where the one before it
--- ends
+-- each window is the next one of the source's feed for the plan, from a sequence on
 abbrev pub ArePages : DatabaseValue → Plan → ℕ → List WindowValue → Type 0
 ArePages source plan since [] = Unit {0}
 ArePages source plan since (w ∷ windows) =
     (since < source.update_seq) × (w ≡ next_window source plan since) × ArePages source plan w.hi windows
 
--- n windows are no more than a plan allows
+-- the plan allows n windows
 abbrev pub AreAllowed : Option ℕ → ℕ → Type 0
 AreAllowed None n = Unit {0}
 AreAllowed (Some stop_after) n = n ≤ stop_after
 
--- what a run has read: the windows of its session are pages of the source's chosen feed, of as many rows as the plan
--- says, one behind the other from the common checkpoint on, and no more than it allows
+-- the windows of the run's session are consecutive pages of the source's selected feed, of the plan's size, from the
+-- common checkpoint on, and no more than the plan allows
 pub record IsPaged (source target target' : PeerValue) (plan : Plan) : Type 0 where
   pub session : SessionValue
   pub held : session_in target'.sessions plan.session ≡ Some session

@@ -1,4 +1,4 @@
--- Replication both ways by the pool: docs/PROFILE.md, "Both ways"; PouchDB, `sync`.
+-- Replication in both directions by the pool: docs/PROFILE.md, "Both ways"; PouchDB, `sync`.
 use Rattle.std.specs.Prelude.{ℕ, Bool, List, Result, Ok, Err}
 use Rattle.doc_json.specs.Document.{Document}
 use Rattle.repl_peer.specs.peer.Peer.{PeerValue}
@@ -11,8 +11,8 @@ use Rattle.pool_workers.specs.declared.fault.PoolFault.{PoolFault}
 use Rattle.repl_pool.specs.declared.both_ways.SyncFault.{SyncFault}
 use Rattle.repl_pool.specs.declared.both_ways.SyncFault.TheVariants as faults
 
--- What running a into b and then b into a gives back, and how that ended: one run each way, the second where the first
--- was refused nothing.
+-- the result of running a into b and then b into a, and how it ended; the second run happens only if the first
+-- succeeded
 pub data SyncRuns {F : Type 0} (refuses : F → Document → Bool) (may_stop : Place → Type 0) (there back : Plan)
     (a b : F × PeerValue) : F × PeerValue → F × PeerValue → Result Synced SyncFault → Type 0 where
   refused_there : {why : PoolFault} {a' b' : F × PeerValue} {fetched : List ℕ}

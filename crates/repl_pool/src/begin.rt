@@ -1,4 +1,4 @@
-//! What a run is refused for before anything else.
+//! The first checks of a run.
 ghost use Rattle.std.specs.Prelude.{◌≡◌};
 ghost use Rattle.repl_pool.specs.Early.{early_answer};
 
@@ -6,8 +6,16 @@ use pool_workers::PoolFault;
 use progress_board::MOST_WORKERS;
 use repl_target::{Peer, Plan, TargetFault, WriteFilter, check_plan};
 
-/// Whether a run can be begun: `NoWorkers`, else `TooManyWorkers` above 64, else `BadBatch` where the batch isn't 1 to
-/// 10,000, else `SamePeer` where the two databases have one UUID.
+/// Checks whether a run can begin.
+///
+/// # Errors
+///
+/// Checked in this order:
+///
+/// - `NoWorkers`: the plan has no workers.
+/// - `TooManyWorkers`: the plan has more than 64 workers.
+/// - `BadBatch`: the batch is not 1 to 10,000.
+/// - `SamePeer`: the two databases have the same UUID.
 pub fn check_run<F: WriteFilter>(
     source: &Peer<F>,
     target: &Peer<F>,

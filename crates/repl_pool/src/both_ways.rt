@@ -1,4 +1,4 @@
-//! Replication both ways by the pool.
+//! Replication in both directions by the pool.
 ghost use Rattle.std.specs.Prelude.{List, OnOk};
 ghost use Rattle.doc_json.specs.Chosen.{Choice};
 ghost use Rattle.repl_peer.specs.peer.Backups.{BackupValue};
@@ -14,37 +14,37 @@ use std::sync::Wait;
 use std::thread::Threads;
 use thiserror::Error;
 
-/// Which of two runs didn't end well, and why.
+/// Which of the two runs failed, and why.
 #[derive(Debug, Drop, Error)]
 pub enum SyncFault {
-    /// The one from the first peer into the second; the other wasn't begun.
+    /// The run from the first peer into the second failed; the other was not begun.
     #[error("there: {0}")]
     There(PoolFault),
-    /// The one from the second peer into the first; the other was Ok.
+    /// The run from the second peer into the first failed; the other one succeeded.
     #[error("back: {0}")]
     Back(PoolFault),
 }
 
-/// What replicating both ways gives back: both peers, and how it ended.
+/// The result of replicating in both directions: both peers, and how it ended.
 #[derive(Drop)]
 pub struct SyncRan<F: WriteFilter> {
     /// The first peer.
     pub a: Peer<F>,
     /// The second peer.
     pub b: Peer<F>,
-    /// The reports of both ways, or why there are none.
+    /// The reports of both directions, or the error.
     pub outcome: Result<Synced, SyncFault>,
 }
 
-/// Replicates both ways by a pool of threads: first `a` into `b`, then, where that ended well, `b` into `a`. Each way is
-/// `run` by the plan of its own, whose session is of its own target; the gate is that of both.
+/// Replicates in both directions with a pool of threads: first `a` into `b`, then, if that succeeded, `b` into `a`.
+/// Each direction is a `run` with its own plan; both use the same gate.
 ///
-/// What stands at `Ok` is what stands there after `sync_alone`: where each of the two is tied to the other
-/// (docs/PROFILE.md, "Tied peers"), each side knows every leaf that the other has of a document which both plans choose
-/// and neither has refused; where the trees agreed before and no history was cut off, both sides hold the same.
-/// Tied peers stay tied each way, whatever the answer, and each of the two stays tied to every third one.
+/// The guarantees on success are those of `sync_alone`: for consistent peers (docs/PROFILE.md, "Tied peers"), each side
+/// has every leaf of the other, for each document that both plans select and neither side has refused; if the trees
+/// agreed before and had complete histories, both sides have the same document. Consistent peers stay consistent in
+/// both directions, whatever the result, and each of the two stays consistent with every third peer.
 ///
-/// It waits. That it ends is not proved.
+/// Blocks until the runs end. That they end is not proved.
 pub fn sync<F: WriteFilter + Send + Sync, G: Gate + Sync, R: Threads + Wait + Sync>(
     rt: &R,
     alloc: Global,

@@ -26,22 +26,23 @@ use std::sync::ledger::{Blank, Ledger};
 use std::sync::{Mutex, Wait};
 use std::thread::Threads;
 
-/// What a run gives back: both peers, how many documents each fetcher fetched, the writers' seats, and how it ended.
+/// The result of a run: both peers, the number of documents that each fetcher fetched, the writers' seats, and how it
+/// ended.
 #[derive(Drop)]
 pub struct Ran<F: WriteFilter> {
-    /// The source: the given one but for its log.
+    /// The source; only its log may have changed.
     pub source: Peer<F>,
     /// The target.
     pub target: Peer<F>,
-    /// How many documents each fetcher fetched; empty where none was started.
+    /// The number of documents that each fetcher fetched; empty if none was started.
     pub fetched: Vec<u64>,
-    /// The seats that the writers were given at a board, in the order in which they were given; empty after `run`.
+    /// The seats that the writers were given, in the given order; empty after `run`.
     pub seats: Vec<BoardSeat>,
-    /// The report of the plan's session, or why there is none.
+    /// The report of the plan's session, or the error.
     pub outcome: Result<Report, PoolFault>,
 }
 
-/// A board that a run shows its progress on, and the seats of its workers: one for each of the plan's.
+/// A board on which a run shows its progress, and the seats of its workers: one for each worker of the plan.
 #[derive(Drop)]
 pub struct Progress<'a> {
     /// The board.
@@ -50,7 +51,7 @@ pub struct Progress<'a> {
     pub seats: Vec<BoardSeat>,
 }
 
-/// A run whose session has begun at the target: both peers, where it starts, and how many workers a crew has.
+/// A run whose session has begun at the target: both peers, its start, and the number of workers in each group.
 #[derive(Drop)]
 struct Begun<F: WriteFilter> {
     source: Peer<F>,
@@ -59,7 +60,7 @@ struct Begun<F: WriteFilter> {
     crew: u64,
 }
 
-/// How many workers a crew has: as many as the plan has, and no more than there may be windows; one where there is
+/// Returns the number of workers in each group: that of the plan, but not more than there may be windows; 1 if there is
 /// nothing to read.
 fn crew_of(plan: &Plan, start: u64, goal: u64) -> u64
     requires workers { 0 < plan.now.workers }
@@ -77,15 +78,14 @@ fn crew_of(plan: &Plan, start: u64, goal: u64) -> u64
     }
 }
 
-/// The board that the writers show what they do on, where there is one, and their seats.
+/// The board on which the writers show their progress, if there is one, and their seats.
 #[derive(Drop)]
 struct Shows<'a> {
     board: Option<&'a Board>,
     seats: Vec<BoardSeat>,
 }
 
-/// The end of a run whose workers weren't started: memory ran out, or where no fault is given, there was nothing to
-/// read.
+/// Ends a run whose workers were not started: an allocation failed, or, without a fault, there was nothing to read.
 fn without_workers<F: WriteFilter>(
     alloc: Global,
     begun: Begun<F>,
@@ -120,7 +120,7 @@ fn without_workers<F: WriteFilter>(
     end(source, summed, plan)
 }
 
-/// Runs the pool over a target whose session has begun at a start.
+/// Runs the pool on a target whose session has begun.
 fn run_begun<
     F: WriteFilter + Send + Sync,
     S: SourceBrand + Send + Sync,
@@ -218,7 +218,7 @@ fn run_begun<
     end(source, summed, plan)
 }
 
-/// A run with a board, where the writers show what they do, or without one: `run_on`, `run`.
+/// Performs a run with a board (`run_on`) or without one (`run`).
 fn run_with<F: WriteFilter + Send + Sync, G: Gate + Sync, R: Threads + Wait + Sync>(
     rt: &R,
     alloc: Global,
@@ -270,35 +270,42 @@ fn run_with<F: WriteFilter + Send + Sync, G: Gate + Sync, R: Threads + Wait + Sy
     }
 }
 
-/// Replicates the source's documents into the target by a pool of threads: the caller's thread begins the session from
-/// the common checkpoint of the two logs, reads the source's feed in windows, stores each at the target and sends it to
-/// `plan.workers` fetchers, or fewer where fewer windows may come; these ask the target, count at the source, and send
-/// parcels to as many writers, which read, settle and record. The target stands behind a lock, the source is shared. The
-/// gate is asked at each place, with no lock held. Where it says that it holds nobody, a fetcher and a writer share one
-/// thread, in turn.
+/// Replicates the source's documents into the target with a pool of threads. The caller's thread begins the session at
+/// the common checkpoint of the two logs, reads the source's feed in windows, stores each at the target, and sends it
+/// to `plan.workers` fetchers, or fewer if there may be fewer windows. Fetchers ask the target, count at the source,
+/// and send parcels to as many writers, which read, settle and record. The target is behind a lock; the source is
+/// shared. The gate is asked at each place, without a lock. If it says that it never blocks, a fetcher and a writer
+/// share one thread, in turn.
 ///
-/// `NoWorkers`, else `TooManyWorkers` above 64, else `BadBatch` where the batch isn't 1 to 10,000, else `SamePeer`
-/// where the two databases have one UUID: then both peers are as given. Else `Refused` of what a step refuses; `Halted`
-/// of a place where the gate answered `Stop`; `CountFull` where a fetcher's count of documents would pass
-/// 9,007,199,254,740,991; `Memory`, also where a thread can't be made. Where several workers were stopped or refused,
-/// one of them is told. Where none was, and all windows that the plan allows are settled, but they end below the goal,
-/// it is `Refused` of `Unfinished`.
+/// After all workers have ended, the caller's thread concludes the session, or records it if it cannot be concluded,
+/// and stores its entry in the source's log, unless that has a newer one. It does not scan the feed again: each leaf
+/// was checked when its window was marked as done, and it is proved that none above the start is uncovered if the
+/// session is concluded. `Hole`, the error for such a leaf, is therefore never returned.
 ///
-/// Once all workers have ended, the caller's thread concludes the session, or where that isn't due or is refused
-/// records it, and puts its entry into the source's log; an older one is passed over. It doesn't walk over the feed
-/// once more: each leaf was looked at when its window was marked as done, and that none above the start is uncovered
-/// where the session is concluded is proved. So `Hole`, the name of such a leaf, never comes.
+/// If it succeeds, each leaf of the source's selected feed above the start is covered at the target; the report is that
+/// of the session, which began at the common checkpoint and is recorded at the source's update sequence; and the
+/// numbers that the fetchers fetched add up to the documents read. If the target was also empty and nothing was
+/// refused, each selected document has the same revisions, parents and contents of leaves as at the source. If the
+/// peers were consistent (docs/PROFILE.md, "Tied peers"), each leaf of the source's complete selected feed is covered,
+/// including those below the start.
 ///
-/// At `Ok` each leaf of the source's feed above the start is covered at the target, the report is that of the session,
-/// which began at the common checkpoint and is recorded at the source's update sequence, and what the fetchers fetched
-/// adds up to the documents read; where the target was empty and nothing failed, each chosen document has the revisions,
-/// the parents and the contents of leaves that it has at the source; where the pair was tied, each leaf of the source's
-/// whole chosen feed is covered then, those at or under the start too. Whatever the answer, the source is the given one
-/// but for its log, and the target is the given one, or after the session has begun there and calls of the session whose
-/// messages are what the source answers: it keeps all that it held, a tied pair stays tied, every third peer stays tied
-/// to each of the two, and an audit of a pair that was tied is clean.
+/// Whatever the result, only the source's log changes, and the target is the given one, or the given one after the
+/// session has begun and calls of this session with messages of the source. The target keeps everything it had,
+/// consistent peers stay consistent, and so does every third peer with each of the two. An audit of consistent peers is
+/// then clean.
 ///
-/// It waits. That it ends is not proved.
+/// Blocks until the run ends. That it ends is not proved.
+///
+/// # Errors
+///
+/// - `NoWorkers`, `TooManyWorkers`, `BadBatch`, `SamePeer`: as `check_run`, in this order. Both peers are unchanged.
+/// - `Refused`: a step failed. If no worker failed or stopped, and all windows that the plan allows are settled but end
+///   below the goal, it is `Refused` of `Unfinished`.
+/// - `Halted`: the gate returned `Stop` at this place.
+/// - `CountFull`: a fetcher's count of documents would exceed 9,007,199,254,740,991.
+/// - `Memory`: an allocation failed, or a thread cannot be created.
+///
+/// If several workers failed or stopped, one of their errors is returned.
 pub fn run<F: WriteFilter + Send + Sync, G: Gate + Sync, R: Threads + Wait + Sync>(
     rt: &R,
     alloc: Global,
@@ -318,17 +325,17 @@ pub fn run<F: WriteFilter + Send + Sync, G: Gate + Sync, R: Threads + Wait + Syn
     run_with(rt, alloc, source, target, plan, gate, unseen)
 }
 
-/// `run`, of whose progress others may read on a board meanwhile: `Board::read`. Each writer has a seat of a worker of
-/// the board. Before it settles a parcel it adds the documents of that to its count of those read; after that, and
-/// before the gate is asked at `Settled`, it adds to its count of those settled the ones that this settling has
-/// counted. No lock is taken for the board.
+/// As `run`, with a board on which others may read the progress meanwhile (`Board::read`). Each writer has the seat of
+/// a worker of the board. Before it settles a parcel, it adds the parcel's documents to its read counter. After
+/// settling, and before the gate is asked at `Settled`, it adds those that were settled to its settled counter. No lock
+/// is taken for the board.
 ///
-/// The seats are so many as the plan has workers, and of workers of the board. They come back in their order, whatever
-/// the outcome, and no count has fallen. At `Ok` both counts, added up over the seats, have risen by the documents read
-/// that the report tells.
+/// There must be one seat for each worker of the plan. The seats are returned in order, whatever the outcome, and no
+/// count has fallen. If the run succeeds, both counts, added up over the seats, have risen by the documents read in the
+/// report.
 ///
-/// Besides what `run` answers it answers `BoardFull` where a writer's count of documents read would pass
-/// 9,007,199,254,740,991; that parcel isn't settled.
+/// In addition to the errors of `run`, returns `BoardFull` if a writer's read counter would exceed
+/// 9,007,199,254,740,991; that parcel is not settled.
 pub fn run_on<F: WriteFilter + Send + Sync, G: Gate + Sync, R: Threads + Wait + Sync>(
     rt: &R,
     alloc: Global,

@@ -1,4 +1,4 @@
-//! A board for a run and for those who watch it.
+//! Creating a board for a run and for its viewers.
 ghost use Rattle.std.specs.Prelude.{◌≡◌, true, IfOk, IfErr, vec_len};
 ghost use Rattle.std.specs.List.{All};
 ghost use Rattle.progress_board.specs.Seats.{CameWith, are_seats, new_fault};
@@ -7,21 +7,23 @@ ghost use Rattle.pool_workers.specs.Boards.{HasNothing, WorksAt};
 use progress_board::{Board, BoardFault, BoardSeat};
 use std::alloc::Global;
 
-/// A board on which nothing is read yet, the seats of its workers, which `run_on` takes, and those of its viewers, each
-/// of whom may `read` beside the run.
+/// A new board, the seats of its workers, for `run_on`, and those of its viewers, who may call `read` during the run.
 #[derive(Drop)]
 pub struct Seats {
     /// The board.
     pub board: Board,
-    /// The seats of its workers, in the order of their numbers.
+    /// The seats of its workers, by number.
     pub workers: Vec<BoardSeat>,
     /// The seats of its viewers.
     pub viewers: Vec<BoardSeat>,
 }
 
-/// A board for so many workers and viewers, with the seats of the ones and the others apart.
+/// Creates a board with separate lists of the workers' and the viewers' seats.
 ///
-/// `BadSeats` where the workers or the viewers are not 1 to 64, else `Memory`.
+/// # Errors
+///
+/// - `BadSeats`: the number of workers or of viewers is not 1 to 64.
+/// - `Memory`: an allocation failed.
 pub fn board_with_seats(alloc: Global, workers: usize, viewers: usize) -> Result<Seats, BoardFault>
     ensures ok { IfOk result (λ s. (are_seats workers viewers ≡ true) × (s.board.workers ≡ workers)
         × (vec_len s.workers ≡ workers) × All (WorksAt s.board) s.workers.items × All HasNothing s.workers.items

@@ -1,3 +1,3 @@
--- The lemmas, by rooms as the definitions have them.
+-- Lemmas, in the folders of the definitions.
 pub mod ties
 pub mod replication

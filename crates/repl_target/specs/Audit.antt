@@ -13,16 +13,16 @@ use Rattle.repl_peer.specs.logs.Checkpoint.{rep_between, checkpoint_between}
 use Rattle.repl_target.specs.declared.auditing.found.Audit.{Audit}
 use Rattle.repl_target.specs.declared.auditing.found.Audit.TheVariants.{Clean, Hole}
 
--- the first leaf of the source's chosen feed at or under a sequence that isn't covered at the target
+-- the first leaf of the source's selected feed at or below sequence n that is not covered at the target
 abbrev pub hole_under : PeerValue → PeerValue → Choice → ℕ → Option Leaf
 hole_under source target chosen n = first_uncovered target (chosen_feed chosen source.db 0 n)
 
--- nothing is asked where the two logs share no session
+-- the first uncovered leaf at or below a checkpoint; none if the logs share no session
 abbrev pub hole_at : PeerValue → PeerValue → Choice → Option (SessionId × ℕ) → Option Leaf
 hole_at source target chosen None = None
 hole_at source target chosen (Some checkpoint) = hole_under source target chosen checkpoint.1
 
--- the first such leaf at or under the common checkpoint
+-- the first uncovered leaf at or below the common checkpoint
 abbrev pub hole_between : PeerValue → PeerValue → RepId → Option Leaf
 hole_between source target rep = hole_at source target rep.chosen (checkpoint_between source target rep)
 
@@ -34,15 +34,15 @@ abbrev pub hole_of : Audit → Option Leaf
 hole_of Clean = None
 hole_of (Hole seq id rev) = Some (record { seq = seq; id = id; rev = rev })
 
--- ---- what it says
+-- ---- meaning
 
--- each leaf of a database's chosen feed at or under a sequence is covered at a target
+-- each leaf of a database's selected feed at or below n is covered at the target
 abbrev pub CoversFeedOf : Choice → DatabaseValue → PeerValue → ℕ → Type 0
 CoversFeedOf chosen db target n =
     (row : RowValue) → Among row (chosen_feed chosen db 0 n) → (leaf : RevId) → Among leaf row.leaves
     → covers target row.id leaf ≡ true
 
--- and of the source's
+-- each leaf of the source's selected feed at or below n is covered at the target
 abbrev pub CoversFeed : PeerValue → PeerValue → Choice → ℕ → Type 0
 CoversFeed source target chosen n = CoversFeedOf chosen source.db target n
 

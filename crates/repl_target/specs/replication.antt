@@ -1,4 +1,4 @@
--- Replications, one way and both ways.
+-- Replication, in one direction and in both.
 pub mod Replication
 pub mod Calls
 pub mod Leaves

@@ -1,2 +1,2 @@
--- What it means that windows, messages and peers are tied.
+-- Definition of tied windows, messages and peers.
 pub mod Ties

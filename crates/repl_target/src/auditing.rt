@@ -1,4 +1,4 @@
-//! The audit of a replication.
+//! Auditing a replication.
 ghost use Rattle.std.specs.Prelude.{◌≡◌, ◌∷◌, [], IfOk};
 ghost use Rattle.repl_peer.specs.peer.Covered.{first_uncovered};
 ghost use Rattle.std.specs.Option.{option_copied};
@@ -14,11 +14,11 @@ use doc_json::{Chosen, is_chosen};
 use repl_peer::{Peer, WriteFilter, checkpoint, rep_between};
 use std::alloc::{AllocError, Global};
 
-/// Whether the target covers all that the two logs of the replication of the chosen documents say is done: each leaf of
-/// the source's chosen feed at or under the common checkpoint.
+/// Checks whether the target covers everything that the common checkpoint of the selected documents claims: each leaf
+/// of the source's selected feed at or below it.
 ///
-/// Where the windows that the target stores of this replication are tied to the source's database, it is `Clean`. It
-/// reads the source's feed where it stands.
+/// The result is `Clean` if the two peers are consistent (docs/PROFILE.md, "Tied peers"). Reads the source's feed in
+/// place.
 pub fn audit<F: WriteFilter, G: WriteFilter>(
     alloc: Global,
     source: &Peer<F>,
@@ -39,9 +39,9 @@ pub fn audit<F: WriteFilter, G: WriteFilter>(
     }
 }
 
-/// Whether the target covers each leaf of the source's chosen feed above a sequence, else the first that it doesn't.
+/// Returns the first leaf of the source's selected feed above a sequence that the target does not cover, or `Clean`.
 ///
-/// It reads the feed where it stands.
+/// Reads the feed in place.
 pub fn hole_above<F: WriteFilter, G: WriteFilter>(
     alloc: Global,
     source: &Peer<F>,
@@ -63,10 +63,10 @@ pub fn hole_above<F: WriteFilter, G: WriteFilter>(
     )
 }
 
-/// Whether the target covers each leaf of the source's chosen feed above a sequence, and at or under another, else the
-/// first that it doesn't.
+/// Returns the first leaf of the source's selected feed above one sequence and at or below another that the target does
+/// not cover, or `Clean`.
 ///
-/// It reads the feed where it stands.
+/// Reads the feed in place.
 pub fn hole_within<F: WriteFilter, G: WriteFilter>(
     alloc: Global,
     source: &Peer<F>,
@@ -89,7 +89,8 @@ pub fn hole_within<F: WriteFilter, G: WriteFilter>(
     Ok(Audit::Clean)
 }
 
-/// Whether the target covers each leaf of a document of a feed, if it is chosen, else the first that it doesn't.
+/// Returns the first leaf of a changed document that the target does not cover, or `Clean` if there is none or the
+/// document is not selected.
 fn hole_in<G: WriteFilter>(
     alloc: Global,
     target: &Peer<G>,

@@ -1,7 +1,7 @@
-//! Replications of one peer into another by one thread, and their audit.
+//! Replication of one peer into another by one thread, and audits.
 //!
-//! The rules stand in docs/PROFILE.md: "Goal and windows", "Common checkpoint" and "Audit". The peers and what is said
-//! of them are those of `repl_peer`, and stand here under the same names.
+//! The rules are in docs/PROFILE.md: "Goal and windows", "Common checkpoint" and "Audit". Everything public in
+//! `repl_peer` is re-exported here.
 #![tactic(auto)]
 
 mod auditing;

@@ -23,28 +23,28 @@ use repl_peer::{
 use rev_tree::SessionId;
 use std::alloc::{AllocError, Global};
 
-/// The most rows that a window of a replication may have.
+/// The maximum number of rows of a window.
 pub const MOST_ROWS: u64 = 10_000;
 
-/// What a replication is asked to do.
+/// The parameters of a replication.
 #[derive(Debug, Drop)]
 pub struct Plan {
-    /// The new session's id.
+    /// The id of the new session.
     pub session: SessionId,
-    /// How many workers fetch, and how many write; one thread doesn't look at it.
+    /// The number of fetchers, and of writers; ignored by `replicate_alone`.
     pub workers: u64,
-    /// How many rows a window has at most: 1 to 10,000.
+    /// The maximum number of rows of a window: 1 to 10,000.
     pub batch: u64,
-    /// After how many windows the replication stops, also below its goal.
+    /// The number of windows after which the replication stops, even below its goal.
     pub stop_after: Option<u64>,
-    /// When it takes place.
+    /// The timestamp to record.
     pub at: Moment,
-    /// Which documents are replicated; all, where none are chosen.
+    /// The selected documents; `None` selects all.
     pub chosen: Option<Chosen>,
 }
 
 impl Plan {
-    /// The same plan, which shares the choice.
+    /// Copies the plan; the copy shares the selection.
     pub fn copy(&self) -> Result<Plan, AllocError>
         ensures copied { IfOk result (λ plan. plan ≡ self.now) }
     {
@@ -63,23 +63,29 @@ impl Plan {
     }
 }
 
-/// Replicates the source's documents into the target, by one thread: from the common checkpoint of the two logs up to
-/// the source's update sequence, in windows, each settled before the next is read. Then the session is recorded, first
-/// at the target, then in the source's log.
+/// Replicates the source's documents into the target, on one thread. Starts at the common checkpoint of the two logs,
+/// and ends at the source's update sequence. Each window is settled before the next one is read. Then the session is
+/// recorded, first at the target, then in the source's log.
 ///
-/// `BadBatch` where the batch isn't 1 to 10,000; else `SamePeer` where the two databases have one UUID; else what a
-/// step refuses: after it the steps before it stand, with what that refusal leaves. `Unfinished` where as many windows
-/// as the plan allows are read, and they end below the goal: then both sides are recorded. An entry that is older than
-/// the one in the source's log is passed over.
+/// If it succeeds, each leaf of the source's selected feed above the start is covered at the target, and the report is
+/// the session's. If the target was also empty and nothing was refused, each selected document has the same revisions,
+/// parents and contents of leaves as at the source. The source's database never changes.
 ///
-/// At `Ok` each leaf of the source's chosen feed above the start is covered at the target, and the report is the
-/// session's. Where the target was empty and nothing failed, each chosen document has the revisions, the parents and
-/// the contents of leaves that it has at the source. The source's database is unchanged, whatever the answer.
+/// Consistent peers (docs/PROFILE.md, "Tied peers") stay consistent, for every selection and whatever the result; an
+/// audit is then clean. If the call also succeeds, each leaf of the source's complete selected feed is covered,
+/// including those below the start. Every third peer stays consistent with each of the two, as a source and as a
+/// target.
 ///
-/// Where the windows that the target stores of this replication are tied to the source's database (docs/PROFILE.md,
-/// "Tied peers"), they are so afterwards, whatever the answer, and so are those of the replications of other choices
-/// between the two, and an audit is clean; at `Ok` each leaf of the source's whole chosen feed is covered then, those at
-/// or under the start too. Every third peer stays tied to each of the two, as a source and as a target.
+/// # Errors
+///
+/// Checked in this order:
+///
+/// - `BadBatch`: the batch is not 1 to 10,000.
+/// - `SamePeer`: the two databases have the same UUID.
+/// - The error of a step. The steps before it keep their effect, and so does the failed step.
+/// - `Unfinished`: `stop_after` windows were read, and they end below the goal. Both sides are recorded.
+///
+/// An entry that is older than the one in the source's log is skipped without an error.
 pub fn replicate_alone<F: WriteFilter, G: WriteFilter>(
     alloc: Global,
     source: &mut Peer<F>,
@@ -114,7 +120,7 @@ pub fn replicate_alone<F: WriteFilter, G: WriteFilter>(
     answer
 }
 
-/// The steps of a replication by one thread: `replicate_alone`.
+/// Performs the steps of `replicate_alone`.
 fn carry_all<F: WriteFilter, G: WriteFilter>(
     alloc: Global,
     source: &mut Peer<F>,
@@ -139,7 +145,7 @@ fn carry_all<F: WriteFilter, G: WriteFilter>(
     close(source, target, plan)
 }
 
-/// Whether a plan can be begun between two peers: `check_plan` of their databases.
+/// Checks whether a plan is valid for two peers: `check_plan` for their databases.
 pub fn check_peers<F: WriteFilter, G: WriteFilter>(
     source: &Peer<F>,
     target: &Peer<G>,
@@ -150,8 +156,14 @@ pub fn check_peers<F: WriteFilter, G: WriteFilter>(
     check_plan(source.db().uuid(), target.db().uuid(), plan)
 }
 
-/// Whether a plan can be begun between the databases of two UUIDs: `BadBatch` where the batch isn't 1 to 10,000; else
-/// `SamePeer` where the UUIDs are one.
+/// Checks whether a plan is valid for databases with these UUIDs.
+///
+/// # Errors
+///
+/// Checked in this order:
+///
+/// - `BadBatch`: the batch is not 1 to 10,000.
+/// - `SamePeer`: the UUIDs are equal.
 pub fn check_plan(source: u128, target: u128, plan: &Plan) -> Result<(), TargetFault>
     ensures { result ≡ plan_answer source target plan.now }
 {
@@ -164,10 +176,10 @@ pub fn check_plan(source: u128, target: u128, plan: &Plan) -> Result<(), TargetF
     Ok(())
 }
 
-/// Begins the session of a plan where the two logs agree, and answers its start: at their common checkpoint, based on
-/// that session, or at 0 without one. Its goal is the source's update sequence.
+/// Begins the session of a plan, and returns its start. The session starts at the common checkpoint of the two logs,
+/// with that session as its base; or at 0, if there is none. Its goal is the source's update sequence.
 ///
-/// `Memory`, else what `Peer::begin` refuses. A refusal changes nothing.
+/// Returns `Memory`, or an error of `Peer::begin`. An error changes nothing.
 pub fn begin_plan<F: WriteFilter, G: WriteFilter>(
     source: &Peer<F>,
     target: &mut Peer<G>,
@@ -202,7 +214,7 @@ pub fn begin_plan<F: WriteFilter, G: WriteFilter>(
     Ok(start)
 }
 
-/// Reads windows from a start, each settled before the next, until none is due.
+/// Reads windows from a start until no other is due; settles each before it reads the next.
 fn read_windows<F: WriteFilter, G: WriteFilter>(
     alloc: Global,
     source: &Peer<F>,
@@ -231,7 +243,7 @@ fn read_windows<F: WriteFilter, G: WriteFilter>(
     Ok(())
 }
 
-/// Whether a plan lets another window be read after some: all, or as many as `stop_after` says.
+/// Whether a plan allows another window after this number of windows.
 pub fn has_left(stop_after: Option<u64>, windows: u64) -> bool
     ensures { result ≡ has_left stop_after windows }
 {
@@ -241,7 +253,7 @@ pub fn has_left(stop_after: Option<u64>, windows: u64) -> bool
     }
 }
 
-/// Reads the window above a sequence, stores it, and settles what the target misses of it. The answer is where it ends.
+/// Reads the window above a sequence, stores it, and settles what the target lacks. Returns the end of the window.
 fn carry_window<F: WriteFilter, G: WriteFilter>(
     alloc: Global,
     source: &Peer<F>,
@@ -272,7 +284,7 @@ fn carry_window<F: WriteFilter, G: WriteFilter>(
     Ok(hi)
 }
 
-/// Records the session at the target, then in the source's log. The answer is that of concluding the session.
+/// Records the session at the target, then in the source's log. Returns the result of concluding the session.
 fn close<F: WriteFilter, G: WriteFilter>(
     source: &mut Peer<F>,
     target: &mut Peer<G>,
@@ -290,7 +302,7 @@ fn close<F: WriteFilter, G: WriteFilter>(
     concluded
 }
 
-/// Concludes the session of a plan, or records it where it can't be concluded.
+/// Concludes the session of a plan, or records it if it cannot be concluded.
 fn record_at_target<G: WriteFilter>(
     target: &mut Peer<G>,
     plan: &Plan,
@@ -309,9 +321,10 @@ fn record_at_target<G: WriteFilter>(
     }
 }
 
-/// Puts the entry of a plan's session, which the target holds, into the source's log; an older one is passed over.
+/// Stores the entry of a plan's session, which the target has, in the source's log. Skips an entry that is older than
+/// the stored one.
 ///
-/// A refusal changes nothing.
+/// An error changes nothing.
 pub fn record_at_source<F: WriteFilter, G: WriteFilter>(
     source: &mut Peer<F>,
     target: &Peer<G>,

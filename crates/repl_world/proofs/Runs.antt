@@ -1,4 +1,4 @@
--- Runs of steps, and what a tied world may be trusted for.
+-- Runs of steps, and the guarantees of a tied world.
 use Rattle.proof_prelude.proofs.{◌≡◌, ℕ, suc, ◌+◌, ◌<◌, ◌≤◌, ◌==◌, List, [], ◌∷◌, ◌++◌, Bool, Option, Some, None, Result, Ok, Err, OnOk, OnErr, IfSome, take, get_or, length, slice_get, take_all, refl, sym, ap, ◌∙◌, subst, inl, inr, arith, cond-true, slice_get-get_or, same_Some, eq-eqb}
 use Rattle.std.proofs.Math.Seq.{take-suc}
 use Rattle.rev_tree.specs.{SessionId}
@@ -20,7 +20,7 @@ use Rattle.repl_world.proofs.Steps.{happens_tied, cut_tied}
 pub new_refused : {F : Type 0} (source target : F × PeerValue) (chosen : Choice) → source.1.db.uuid ≡ target.1.db.uuid → Err SamePeer ≡ new_answer source target chosen
 new_refused source target chosen same = sym (cond-true (source.1.db.uuid == target.1.db.uuid) (Err SamePeer) (Ok ((source.0, target.0), new_world source.1 target.1 chosen)) (eq-eqb _ _ same))
 
--- where the target holds no session of the replication, and the source no entry, there is nothing that isn't tied
+-- if the target has no session of the replication, and the source no entry, everything is tied
 pub new_tied : (source target : PeerValue) (chosen : Choice) (bag : BagValue) (backups : List BackupValue) → bag ≡ empty_bag → backups ≡ [] → HoldNone source target chosen → Tied (record { source = source; target = target; chosen = chosen; bag = bag; backups = backups })
 new_tied source target chosen bag backups is empty none =
     subst (λ (b : BagValue). Tied (record { source = source; target = target; chosen = chosen; bag = b; backups = backups })) (sym is)
@@ -39,14 +39,14 @@ new_tied source target chosen bag backups is empty none =
       entries = λ e m. absurd m;
     }))
 
--- ---- steps that were taken
+-- ---- the steps taken so far
 
--- one step more
+-- one more step
 pub run_more : (refuses : Document → Bool) (w : WorldValue) (xs : List Step) (x : Step) → run refuses w (xs ++ x ∷ []) ≡ happens refuses (run refuses w xs) x
 run_more refuses w [] x = refl
 run_more refuses w (y ∷ xs) x = run_more refuses (happens refuses w y) xs x
 
--- the step at a place is the one behind those before it
+-- the step at an index is the one after the previous ones
 pub run_next : (refuses : Document → Bool) (w v now : WorldValue) (steps : List Step) (k : ℕ) (step : Step) → k < length steps → step ≡ get_or steps k step → v ≡ run refuses w (take k steps) → now ≡ happens refuses v step → now ≡ run refuses w (take (k + 1) steps)
 run_next refuses w v now steps k step within at before is =
     is
@@ -57,18 +57,18 @@ run_next refuses w v now steps k step within at before is =
     next : (steps : List Step) (k : ℕ) (d : Step) → k < length steps → take (k + 1) steps ≡ take k steps ++ get_or steps k d ∷ []
     next steps k d h = let e : k + 1 ≡ suc k = omega arith in ap (λ n. take n steps) e ∙ take-suc steps k d h
 
--- all of them
+-- all steps
 pub run_all : (refuses : Document → Bool) (w v : WorldValue) (steps : List Step) (k : ℕ) → length steps ≤ k → v ≡ run refuses w (take k steps) → v ≡ run refuses w steps
 run_all refuses w v steps k over is = is ∙ ap (run refuses w) (take_all k steps over)
 
--- where a step finds no memory
+-- a step runs out of memory
 pub stopped_at_step : {A E : Type 0} (refuses : Document → Bool) (w v now : WorldValue) (steps : List Step) (k : ℕ) (step : Step) (result : Result A E) → k < length steps → step ≡ get_or steps k step → v ≡ run refuses w (take k steps) → CutShort refuses v step now
     → OnErr result (StoppedIn refuses w steps now)
 stopped_at_step refuses w v now steps k step (Ok done) within at before is = tt
 stopped_at_step refuses w v now steps k step (Err fault) within at before is =
     (k, step, slice_get-get_or steps k step within ∙ ap Some (sym at), subst (λ x. CutShort refuses x step now) before is)
 
--- whatever a step answers, the world stays tied
+-- the world stays tied after a step, whatever its result
 pub taken_tied : {A E : Type 0} (refuses : Document → Bool) (w : WorldValue) (step : Step) (result : Result A E) (now : WorldValue) → IsWorld refuses w
     → OnOk result (now ≡ happens refuses w step) → OnErr result (CutShort refuses w step now) → Tied w → Tied now
 taken_tied refuses w step (Ok done) now l ok err h = subst Tied (sym ok) (happens_tied refuses w step l h)
@@ -101,7 +101,7 @@ module _ (refuses : Document → Bool) (w : WorldValue) (session : SessionId) (p
 
 -- ---- storing
 
--- what is stored is what stood at that place, also where that is refused
+-- the stored window is the one at that index, even if storing fails
 module _ (refuses : Document → Bool) (w : WorldValue) (session : SessionId) (place : ℕ) (x : WindowValue) (there : slice_get w.bag.windows place ≡ Some x) (window : WindowValue) (same : window ≡ x) (law : LawfulSessions refuses w.target) (result : Result (Unit {0}) TargetFault) (q : PeerValue)
     (answer : GivesUnlessMemory result (append_answer w.target session window)) (ok : OnOk result (q ≡ after_append w.target session window)) (err : OnErr result (q ≡ w.target)) where
   Stores : PeerValue → Type 0
@@ -125,7 +125,7 @@ module _ (refuses : Document → Bool) (w : WorldValue) (session : SessionId) (p
   appended_err (Ok done) h = tt
   appended_err (Err e) h = ap (λ t. record w { target = t }) (subst (λ a. OnErr a (q ≡ w.target)) h err)
 
--- ---- what a tied world may be trusted for
+-- ---- the guarantees of a tied world
 
 pub trustworthy : (refuses : Document → Bool) (w : WorldValue) → IsWorld refuses w → Tied w → IsTrustworthy refuses w
 trustworthy refuses w l h =

@@ -19,7 +19,7 @@ use Rattle.repl_world.specs.declared.step.Step.TheVariants.{EditSource, EditTarg
 
 -- ---- a step at one peer
 
--- at the target, after which nothing that was there is gone, and the sessions that it holds are still tied
+-- a step at the target that loses nothing and keeps its sessions tied
 target_step : (w : WorldValue) (q : PeerValue) → Tied w → IsLaterPeer w.target q → IsTiedPair w.source q w.chosen → Tied (record w { target = q })
 target_step w q h later pair =
     let same : rep_of w ≡ rep_between w.source q w.chosen = λ i. record { source = w.source.db.uuid; target = sym later.db.uuid i; chosen = w.chosen } in
@@ -38,7 +38,7 @@ target_step w q h later pair =
       entries = λ e m. sent-later w.target q e later (h.entries e m);
     }
 
--- at the source, after which nothing that was there is gone; the two peers and the copies are still tied
+-- a step at the source that loses nothing and keeps the two peers and the backups tied
 source_step : (w : WorldValue) (p : PeerValue) → Tied w → IsLater w.source.db p.db → IsTiedPair p w.target w.chosen → Tied (record w { source = p })
 source_step w p h later pair =
     let same : rep_of w ≡ rep_between p w.target w.chosen = λ i. record { source = sym later.uuid i; target = w.target.db.uuid; chosen = w.chosen } in
@@ -55,25 +55,25 @@ source_step w p h later pair =
       entries = h.entries;
     }
 
--- and its logs stay
+-- a step at the source that keeps its logs
 write_step : (w : WorldValue) (p : PeerValue) → Tied w → IsLater w.source.db p.db → p.outgoing ≡ w.source.outgoing → Tied (record w { source = p })
 write_step w p h later logs = source_step w p h later (tied_source w.source p w.target w.chosen later logs h.peers.pair)
 
 edit_outgoing : (p : PeerValue) (id : Id) (parent : Option RevId) (deleted : Bool) (body : List ℕ) → (after_edit p id parent deleted body).outgoing ≡ p.outgoing
 edit_outgoing p = edit_by_load (λ q. q.outgoing ≡ p.outgoing) p (λ _. refl) refl
 
--- what is asked of the sessions of the replication
+-- the condition on the sessions of the replication
 abbrev TiedSessions : WorldValue → SessionValue → Type 0
 TiedSessions w = TiedAt w.source.db w.target (rep_of w)
 
--- what a call brings to them
+-- the sessions that a call brings satisfy the condition
 abbrev BringsTied : WorldValue → Call → Type 0
 BringsTied w c = Brings (TiedSessions w) (tied-stays w.source.db w.target (rep_of w)) w.target c
 
 call_step : (refuses : Document → Bool) (w : WorldValue) (c : Call) → BringsTied w c → IsLaterPeer w.target (after_call refuses w.target c) → Tied w → Tied (record w { target = after_call refuses w.target c })
 call_step refuses w c brings later h = target_step w (after_call refuses w.target c) h later (tied_call refuses w.source w.target w.chosen c brings later h.peers.pair)
 
--- ---- a message more
+-- ---- one more message
 
 window_step : (w : WorldValue) (x : WindowValue) → Tied w → x.life ≡ w.source.db.life → IsTiedWindow w.source.db w.chosen x → Tied (record w { bag = with_window w.bag x })
 window_step w x h life tied =
@@ -128,7 +128,7 @@ fetch_step w place (Some a) is h =
       entries = h.entries;
     }
 
--- an entry that a session of the target said just now
+-- an entry that a session of the target has just returned
 told_step : (w : WorldValue) (r : Result EntryValue TargetFault) → ((e : EntryValue) → r ≡ Ok e → IsSentEntry w.target e) → Tied w → Tied (record w { bag = told w.bag r })
 told_step w (Err fault) sent h = h
 told_step w (Ok e) sent h =
@@ -177,7 +177,7 @@ crash_step w h =
       entries = λ e m. absurd m;
     }
 
--- ---- copies of the source
+-- ---- backups of the source
 
 backup_step : (w : WorldValue) (r : Result BackupValue TargetFault) → backup_answer w.source ≡ r → Tied w → Tied (backs_up w r)
 backup_step w (Err fault) is h = h
@@ -201,7 +201,7 @@ backup_step w (Ok b) is h =
       entries = h.entries;
     }
 
--- where a copy is put back
+-- a backup is restored
 restores_in : (p : PeerValue) (b : BackupValue) (done : Unit {0}) → restore_answer p b ≡ Ok done → b.db.uuid ≡ p.db.uuid
 restores_in p b done is =
     cond_both (is_target p.sessions) (Err faults.IsTarget) (cond (b.db.uuid == p.db.uuid) (cond (nat_lt (greater_life p b) most) (Ok tt) (Err faults.LifeFull)) (Err faults.ForeignBackup)) (λ (x : Result (Unit {0}) TargetFault). x ≡ Ok done → b.db.uuid ≡ p.db.uuid)
@@ -209,7 +209,7 @@ restores_in p b done is =
     (λ _ k. cond_both (b.db.uuid == p.db.uuid) (cond (nat_lt (greater_life p b) most) (Ok tt) (Err faults.LifeFull)) (Err faults.ForeignBackup) (λ (x : Result (Unit {0}) TargetFault). x ≡ Ok done → b.db.uuid ≡ p.db.uuid) (λ e _. eqb-true _ _ e) (λ _ j. cc) k)
     is
 
--- nothing of the world is of the new life, which is above all others; and the log is the copy's
+-- nothing of the world is from the new life, which is above all others; and the log is the backup's
 restore_step : (w : WorldValue) (place : ℕ) (o : Option BackupValue) → slice_get w.backups place ≡ o → Tied w → Tied (restores w o)
 restore_step w place None is h = h
 restore_step w place (Some b) is h = go (restore_answer w.source b) refl
@@ -254,7 +254,7 @@ restore_step w place (Some b) is h = go (restore_answer w.source b) refl
 
 -- ---- messages of the bag
 
--- where asking for a page succeeds, its range is one
+-- if reading a page succeeds, its range is valid
 paged_in : (since goal seq : ℕ) (a b c : Bool) (e f g : BaseFault) (x y : WindowValue) → nat_le goal since ≡ b → nat_lt seq goal ≡ c → cond a (Err e) (cond b (Err f) (cond c (Err g) (Ok y))) ≡ Ok x → (since < goal) × (goal ≤ seq) × (x ≡ y)
 paged_in since goal seq true b c e f g x y u v is = cc
 paged_in since goal seq false true c e f g x y u v is = cc
@@ -329,7 +329,7 @@ happens_tied refuses w Backup l h = backup_step w (backup_answer w.source) refl 
 happens_tied refuses w (Restore backup) l h = restore_step w backup (slice_get w.backups backup) refl h
 happens_tied refuses w Crash l h = crash_step w h
 
--- and one that found no memory
+-- a step that ran out of memory
 pub cut_tied : (refuses : Document → Bool) (w : WorldValue) (step : Step) (now : WorldValue) → IsWorld refuses w → CutShort refuses w step now → Tied w → Tied now
 cut_tied refuses w (Settle session parcel) now l is h =
     elim is [

@@ -20,7 +20,7 @@ use Rattle.repl_peer.specs.declared.fault.TargetFault.{TargetFault}
 use Rattle.repl_world.specs.Bags.{IsBag}
 use Rattle.repl_world.specs.Worlds.{WorldValue, rep_of}
 
--- what the parts of a world keep by their types
+-- the invariants of the parts of a world, by their types
 pub record IsWorld (refuses : Document → Bool) (w : WorldValue) : Type 0 where
   pub source : LawfulDatabase w.source.db
   pub target : Lawful refuses w.target
@@ -28,7 +28,7 @@ pub record IsWorld (refuses : Document → Bool) (w : WorldValue) : Type 0 where
 
 -- ---- tied worlds
 
--- an asked list, or a parcel, agrees with its own window, which stands at that place, where that is of the source's life
+-- a request, or a parcel, agrees with its own window, which has that index, if the window is from the source's life
 pub record OwnAsked (w : WorldValue) (place : ℕ) (a : AskedValue) : Type 0 where
   pub window : WindowValue
   pub own : slice_get w.bag.windows place ≡ Some window
@@ -40,30 +40,30 @@ pub record OwnParcel (w : WorldValue) (place : ℕ) (p : ParcelValue) : Type 0 w
   pub tied : window.life ≡ w.source.db.life → IsTiedParcel w.target.db window p
 
 pub record Tied (w : WorldValue) : Type 0 where
-  -- the two peers, with each copy of the source
+  -- the two peers are tied, with each backup of the source
   pub peers : IsTiedWith w.backups w.source w.target w.chosen
-  -- no window or log of the bag is of a later life than the source's database
+  -- no window or log of the bag is from a later life than the source's database
   pub window_lives : (x : WindowValue) → Among x w.bag.windows → x.life ≤ w.source.db.life
   pub log_lives : (g : ℕ × List EntryValue) → Among g w.bag.logs → g.0 ≤ w.source.db.life
-  -- those of its life, with their asked lists and parcels, agree with the database as it is now
+  -- those of its life, with their requests and parcels, agree with the database as it is now
   pub windows : (x : WindowValue) → Among x w.bag.windows → x.life ≡ w.source.db.life
       → IsTiedWindow w.source.db w.chosen x
   pub asked : (a : ℕ × AskedValue) → Among a w.bag.asked → OwnAsked w a.0 a.1
   pub parcels : (p : ℕ × ParcelValue) → Among p w.bag.parcels → OwnParcel w p.0 p.1
   pub logs : (g : ℕ × List EntryValue) → Among g w.bag.logs → g.0 ≡ w.source.db.life
       → AreTiedEntries w.source.db w.target (rep_of w) g.1
-  -- each entry of the bag is what a session of the target said
+  -- each entry of the bag was the entry of a session of the target
   pub entries : (e : EntryValue) → Among e w.bag.entries → IsSentEntry w.target e
 
--- the target holds no session of the replication, and the source no entry of one; they may hold some of other choices
+-- the target has no session of the replication, and the source no entry of it; they may have some of other selections
 pub record HoldNone (source target : PeerValue) (chosen : Choice) : Type 0 where
   pub sessions : (s : SessionValue) → Among s target.sessions → s.rep ≡ rep_between source target chosen → ⊥
   pub log : source_log source (rep_between source target chosen) ≡ []
 
--- ---- what they may be trusted for
+-- ---- the guarantees of tied worlds
 
--- no settling of a parcel of the bag tells a leaf that isn't covered, where the session stores the parcel's own window,
--- and that is of the source's life
+-- settling a parcel of the bag never returns `Uncovered`, if the session has the parcel's own window and that is from
+-- the source's life
 abbrev pub NeverUncovered : (Document → Bool) → WorldValue → Type 0
 NeverUncovered refuses w =
     (p : ℕ × ParcelValue) → Among p w.bag.parcels
@@ -72,8 +72,8 @@ NeverUncovered refuses w =
     → (result : Result Settled TargetFault) (now : PeerValue) → SettleGives refuses w.target s.id p.1 result now
     → is_uncovered result ≡ false
 
--- the source's own feed: what both logs say is done is covered, the common checkpoint is so, an audit finds nothing,
--- and no settling of a parcel for its own window does
+-- for the source's own feed, what both logs claim is covered, and so is the common checkpoint; an audit finds nothing;
+-- and settling a parcel for its own window never returns `Uncovered`
 pub record IsTrustworthy (refuses : Document → Bool) (w : WorldValue) : Type 0 where
   pub tied : Tied w
   pub honest : LogsAreHonest w.source w.target w.chosen

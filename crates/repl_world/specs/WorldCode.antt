@@ -1,4 +1,4 @@
--- How worlds and their messages are stored as data.
+-- An encoding of worlds and their messages as data.
 use Rattle.std.specs.Prelude.{ℕ, List, refl}
 use Rattle.std.specs.Coded.{Coded, code_by, coded×, coded_ℕ, coded_list}
 use Rattle.doc_json.specs.Chosen.{Choice}

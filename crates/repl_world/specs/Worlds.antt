@@ -1,12 +1,12 @@
--- Two peers and a bag of messages, and what each step leaves: docs/PROFILE.md, "Worlds".
+-- Two peers and a bag of messages, and the effect of each step: docs/PROFILE.md, "Worlds".
 --
--- A replication is a conversation: pages of the source's feed, lists of what the target lacks, parcels of documents,
--- and what was recorded at the end. Between two databases such messages may be late, come twice, come in another order,
--- or never. A world is both peers with every message that was ever sent and not lost, and a step is one call on a peer,
--- with any message of the bag: a message stays in it when it is used, so it can come again, and a step needn't follow
--- the one before it. Copies of the source stand beside the bag. One of them may be put back at any moment, and the
--- source's database then begins another life. A crash loses all messages, and nothing else. What holds after every list
--- of steps holds however the two databases talk, and whoever else writes to them meanwhile.
+-- A replication exchanges messages: pages of the source's feed, requests for what the target lacks, parcels of
+-- documents, and log entries. Messages between two databases may be late, repeated, reordered or lost. A world is both
+-- peers with every message that was ever sent and not lost. A step is one call on a peer, with any message of the bag.
+-- A message stays in the bag when it is used, so it can be used again, and steps need not follow each other. Backups of
+-- the source are beside the bag; one of them may be restored at any time, and the source's database then begins another
+-- life. A crash loses all messages, and nothing else. What holds after every list of steps holds for every exchange
+-- between the two databases, whoever else writes to them meanwhile.
 use Rattle.std.specs.Prelude.{◌≡◌, ◌⊎◌, ℕ, ◌==◌, ◌≤◌, List, [], ◌∷◌, ◌++◌, Bool, if◌then◌else◌, Option, Some, None, IfSome, Result, Ok, Err, take, slice_get}
 use Rattle.rev_tree.specs.declared.origin.SessionId.{SessionId}
 use Rattle.doc_json.specs.Document.{Document}
@@ -34,7 +34,7 @@ use Rattle.repl_world.specs.declared.step.Step.{Step}
 use Rattle.repl_world.specs.declared.step.Step.TheVariants.{EditSource, EditTarget, LoadSource, ThirdParty, ReadLog, Begin, Page, Append, Diff, Fetch, Settle, Record, Conclude, PutEntry, Backup, Restore, Crash}
 use Rattle.repl_world.specs.Bags.{BagValue, empty_bag, with_window, with_asked, with_parcel, with_log, told, told_where}
 
--- the choice is that of the replication from the source to the target
+-- the selection is that of the replication from the source to the target
 pub record WorldValue : Type 0 where
   pub source : PeerValue
   pub target : PeerValue
@@ -63,7 +63,7 @@ new_answer source target chosen =
 abbrev pub rep_of : WorldValue → RepId
 rep_of w = rep_between w.source w.target w.chosen
 
--- ---- what each step leaves; a place that isn't in the bag changes nothing
+-- ---- the effect of each step; an index that is not in the bag changes nothing
 
 abbrev pub paged : WorldValue → Result WindowValue BaseFault → WorldValue
 paged w (Ok x) = record w { bag = with_window w.bag x }
@@ -85,22 +85,22 @@ abbrev pub settles : (Document → Bool) → WorldValue → SessionId → Option
 settles refuses w session None = w
 settles refuses w session (Some p) = record w { target = after_settle refuses w.target session p.1 }
 
--- where a settling found no memory after n documents, of those that it settles where it finds some
+-- settling ran out of memory after n documents, or after those that can be settled, if they are fewer
 abbrev pub stops : (Document → Bool) → WorldValue → SessionId → ℕ → Option (ℕ × ParcelValue) → WorldValue
 stops refuses w session n None = w
 stops refuses w session n (Some p) = record w { target = after_some refuses w.target session p.1 n }
 
--- what a log says of a session as it is now
+-- the current log entry of a session
 abbrev pub entry_in : PeerValue → SessionId → Result EntryValue TargetFault
 entry_in p session = session_answer p session (λ (s : SessionValue). Ok (entry_of s))
 
--- a session is recorded, and its entry, as it then is, goes into the bag
+-- records a session, and puts its new entry into the bag
 abbrev pub records : WorldValue → SessionId → ℕ → WorldValue
 records w session at =
     let now = after_record w.target session at in
     record w { target = now; bag = told w.bag (entry_in now session) }
 
--- a session is concluded, and so does its entry where it is
+-- concludes a session, and puts its entry into the bag if that succeeds
 abbrev pub concludes : WorldValue → SessionId → ℕ → WorldValue
 concludes w session at =
     let now = after_conclude w.target session at in
@@ -113,14 +113,14 @@ puts w (Some e) = record w { source = after_put_entry w.source (rep_of w) e }
 abbrev pub crashed : WorldValue → WorldValue
 crashed w = record w { bag = empty_bag }
 
--- the source's log of the replication, as it is now, with the life in which it is read
+-- the source's current log of the replication, with the life in which it is read
 abbrev pub log_of_source : WorldValue → ℕ × List EntryValue
 log_of_source w = (w.source.db.life, source_log w.source (rep_of w))
 
 abbrev pub reads_log : WorldValue → WorldValue
 reads_log w = record w { bag = with_log w.bag (log_of_source w) }
 
--- where a log that was read and the target's agree
+-- the common checkpoint of a log that was read and the target's log
 abbrev pub agreed : WorldValue → List EntryValue → Option (SessionId × ℕ)
 agreed w log = common log (target_log w.target (rep_of w))
 
@@ -135,7 +135,7 @@ abbrev pub begins : WorldValue → SessionId → ℕ → ℕ → Option (ℕ × 
 begins w session goal at None = w
 begins w session goal at (Some log) = record w { target = after_begin w.target session (beginning_in w goal log) at }
 
--- a copy of the source goes to the others, where the source may be copied
+-- adds a backup of the source, if it may be backed up
 abbrev pub backs_up : WorldValue → Result BackupValue TargetFault → WorldValue
 backs_up w (Ok b) = record w { backups = w.backups ++ b ∷ [] }
 backs_up w (Err fault) = w
@@ -163,15 +163,15 @@ happens refuses w Backup = backs_up w (backup_answer w.source)
 happens refuses w (Restore backup) = restores w (slice_get w.backups backup)
 happens refuses w Crash = crashed w
 
--- after some steps, in their order
+-- the world after a list of steps
 abbrev pub run : (Document → Bool) → WorldValue → List Step → WorldValue
 run refuses w [] = w
 run refuses w (step ∷ steps) = run refuses (happens refuses w step) steps
 
--- ---- where memory was wanting
+-- ---- steps that run out of memory
 
--- what a step leaves that found no memory: a settling is cut short after some of the documents that it settles where it
--- finds some, and any other changes nothing
+-- a step that ran out of memory changes nothing, except that settling may have settled some of the documents that it
+-- could settle
 abbrev pub IsStopped : (Document → Bool) → WorldValue → SessionId → Option (ℕ × ParcelValue) → WorldValue → Type 0
 IsStopped refuses w session parcel now =
     (now ≡ w)
@@ -182,7 +182,7 @@ abbrev pub CutShort : (Document → Bool) → WorldValue → Step → WorldValue
 CutShort refuses w (Settle session parcel) now = IsStopped refuses w session (slice_get w.bag.parcels parcel) now
 CutShort refuses w step now = now ≡ w
 
--- a run that found no memory: the steps before one are done, and that one is cut short
+-- a run that ran out of memory: the steps before one are done, and that one is partial
 abbrev pub StoppedIn : (Document → Bool) → WorldValue → List Step → WorldValue → Type 0
 StoppedIn refuses w steps now =
     (k : ℕ) × (step : Step) × (slice_get steps k ≡ Some step) × CutShort refuses (run refuses w (take k steps)) step now

@@ -1,11 +1,11 @@
-//! What a new world refuses.
+//! Errors of this crate.
 
 use thiserror::Error;
 
-/// Why a world isn't made.
+/// Why a world cannot be created.
 #[derive(Clone, Copy, Debug, PartialEq, Eq, Error)]
 pub enum WorldFault {
-    /// The source and the target have one UUID.
+    /// The source and the target have the same UUID.
     #[error("a database is not replicated into itself")]
     SamePeer,
 }

@@ -18,7 +18,7 @@ use rev_tree::SessionId;
 use std::alloc::{AllocError, Global};
 use std::marker::Model;
 
-/// A source, a target, a bag of windows, asked lists, parcels, entries and logs, and copies of the source.
+/// A source, a target, a bag of windows, requests, parcels, entries and logs, and backups of the source.
 #[derive(Drop)]
 pub struct World<F: WriteFilter> {
     source: Peer<F>,
@@ -53,11 +53,11 @@ impl<F: WriteFilter + Drop> World<F> {
     ghost use Rattle.repl_world.specs.Worlds.{new_answer};
     ghost use Rattle.repl_world.specs.Tied.{IsWorld, Tied, HoldNone};
 
-    /// A world of two peers, with an empty bag. It grows by `alloc`. Its replication is that of the chosen documents, or
-    /// of all where none are chosen.
+    /// Creates a world of two peers, with an empty bag. Its replication is that of the selected documents, or of all if
+    /// there is no selection.
     ///
-    /// `SamePeer` where the two databases have one UUID. A world whose target holds no session of the replication from
-    /// the source, and whose source holds no entry of it, is tied.
+    /// Returns `SamePeer` if the two databases have the same UUID. If the target has no session of the replication from
+    /// the source, and the source has no entry of it, the new world is consistent.
     pub fn new(
         alloc: Global,
         source: Peer<F>,
@@ -91,21 +91,21 @@ impl<F: WriteFilter> World<F> {
     ghost use Rattle.repl_world.specs.Worlds.{paged, appends, differs, fetches, settles, stops, records, concludes, puts, reads_log, begins, backs_up, restores, happens, run, IsStopped, CutShort, StoppedIn};
     ghost use Rattle.repl_world.specs.Tied.{IsWorld, Tied, IsTrustworthy};
 
-    /// The source.
+    /// Returns the source.
     pub fn source(&self) -> &Peer<F>
         ensures { result.now ≡ (self.now.0.0, self.now.1.source) }
     {
         &self.source
     }
 
-    /// The target.
+    /// Returns the target.
     pub fn target(&self) -> &Peer<F>
         ensures { result.now ≡ (self.now.0.1, self.now.1.target) }
     {
         &self.target
     }
 
-    /// How many windows, asked lists, parcels, entries and logs the bag holds.
+    /// Returns the numbers of windows, requests, parcels, entries and logs in the bag.
     pub fn bag_sizes(&self) -> (usize, usize, usize, usize, usize)
         ensures sizes { result
             ≡ (
@@ -121,7 +121,7 @@ impl<F: WriteFilter> World<F> {
         self.bag.sizes()
     }
 
-    /// What holds of the parts of each world, for the proofs that stand on it.
+    /// Does nothing; gives proofs the invariant of the world.
     fn law(&self)
         ensures { IsWorld (F.refuses self.now.0.1) self.now.1 }
     {
@@ -130,13 +130,13 @@ impl<F: WriteFilter> World<F> {
         self.bag.law();
     }
 
-    /// Takes steps in their order.
+    /// Takes steps in order.
     ///
-    /// A step that is refused leaves what that refusal leaves, and one whose place isn't in the bag changes nothing.
-    /// Where memory is wanting in a step, the world is that of the steps before it, or, in a settling, after `Stopped`
-    /// of it.
+    /// A failed step has the effect of the failed call, and a step with an index that is not in the bag changes
+    /// nothing. If an allocation fails in a step, the world is that after the previous steps; a settling may have
+    /// settled a part (`Stopped`).
     ///
-    /// Where the world was tied, it is tied then, and may be trusted: what both logs say is done is covered of the
+    /// If the world was consistent, it stays consistent and may be trusted: what both logs claim is covered, for the
     /// source's feed as it is now.
     pub fn run(&mut self, alloc: Global, steps: &[Step]) -> Result<(), AllocError>
         ensures filters { self.new.0 ≡ self.old.0 }
@@ -149,7 +149,7 @@ impl<F: WriteFilter> World<F> {
         answer
     }
 
-    /// Takes steps in their order.
+    /// Takes steps in order.
     fn take_all(&mut self, alloc: Global, steps: &[Step]) -> Result<(), AllocError>
         ensures filters { self.new.0 ≡ self.old.0 }
         ensures ok { OnOk result (self.new.1 ≡ run (F.refuses self.old.0.1) self.old.1 steps.now) }
@@ -173,7 +173,7 @@ impl<F: WriteFilter> World<F> {
         self.do_step(alloc, step)
     }
 
-    /// Does what a step says.
+    /// Performs a step.
     fn do_step(&mut self, alloc: Global, step: &Step) -> Result<(), AllocError>
         ensures filters { self.new.0 ≡ self.old.0 }
         ensures ok { OnOk result (self.new.1 ≡ happens (F.refuses self.old.0.1) self.old.1 step.now) }
@@ -218,7 +218,7 @@ impl<F: WriteFilter> World<F> {
         }
     }
 
-    /// An edit at the source.
+    /// Edits a document at the source.
     fn edit_source(
         &mut self,
         id: &DocId,
@@ -237,7 +237,7 @@ impl<F: WriteFilter> World<F> {
         }
     }
 
-    /// An edit at the target.
+    /// Edits a document at the target.
     fn edit_target(
         &mut self,
         id: &DocId,
@@ -256,7 +256,7 @@ impl<F: WriteFilter> World<F> {
         }
     }
 
-    /// A document is put at the source as it is given.
+    /// Stores a document at the source as given.
     fn load_source(&mut self, doc: &Doc) -> Result<(), AllocError>
         ensures filters { self.new.0 ≡ self.old.0 }
         ensures ok { OnOk result (self.new.1 ≡ record self.old.1 { source = after_load self.old.1.source doc.now }) }
@@ -268,7 +268,7 @@ impl<F: WriteFilter> World<F> {
         }
     }
 
-    /// A document is put at the target as it is given.
+    /// Stores a document at the target as given.
     fn load_target(&mut self, doc: &Doc) -> Result<(), AllocError>
         ensures filters { self.new.0 ≡ self.old.0 }
         ensures ok { OnOk result (self.new.1 ≡ record self.old.1 { target = after_load self.old.1.target doc.now }) }
@@ -280,7 +280,7 @@ impl<F: WriteFilter> World<F> {
         }
     }
 
-    /// The source's log of the replication goes into the bag.
+    /// Puts the source's log of the replication into the bag.
     fn read_log(&mut self, alloc: Global) -> Result<(), AllocError>
         ensures filters { self.new.0 ≡ self.old.0 }
         ensures ok { OnOk result (self.new.1 ≡ reads_log self.old.1) }
@@ -292,7 +292,8 @@ impl<F: WriteFilter> World<F> {
         self.bag.put_log(life, log)
     }
 
-    /// A session of the replication begins at the target, where a log of the bag and the target's agree.
+    /// Begins a session of the replication at the target, at the common checkpoint of a log in the bag and the target's
+    /// log.
     fn begin(
         &mut self,
         alloc: Global,
@@ -325,7 +326,7 @@ impl<F: WriteFilter> World<F> {
         unless_memory(self.target.begin(session, beginning, at))
     }
 
-    /// A page of the source's feed goes into the bag.
+    /// Puts a page of the source's feed into the bag.
     fn page(&mut self, alloc: Global, since: u64, goal: u64, limit: u64) -> Result<(), AllocError>
         ensures filters { self.new.0 ≡ self.old.0 }
         ensures ok { OnOk result (self.new.1 ≡ paged self.old.1 (page_answer self.old.1.source.db since goal limit self.old.1.chosen)) }
@@ -340,7 +341,7 @@ impl<F: WriteFilter> World<F> {
         }
     }
 
-    /// A window of the bag is stored for a session.
+    /// Stores a window of the bag for a session.
     fn append(&mut self, alloc: Global, session: SessionId, place: usize) -> Result<(), AllocError>
         ensures filters { self.new.0 ≡ self.old.0 }
         ensures ok { OnOk result (self.new.1 ≡ appends self.old.1 session (slice_get self.old.1.bag.windows place)) }
@@ -354,7 +355,7 @@ impl<F: WriteFilter> World<F> {
         unless_memory(self.target.append(session, window))
     }
 
-    /// What the target misses of a window of the bag goes into the bag.
+    /// Puts a request for what the target lacks of a window of the bag into the bag.
     fn diff(&mut self, alloc: Global, place: usize) -> Result<(), AllocError>
         ensures filters { self.new.0 ≡ self.old.0 }
         ensures ok { OnOk result (self.new.1 ≡ differs self.old.1 place (slice_get self.old.1.bag.windows place)) }
@@ -367,7 +368,7 @@ impl<F: WriteFilter> World<F> {
         self.bag.put_asked(place, asked)
     }
 
-    /// What the source has of an asked list of the bag goes into the bag.
+    /// Puts the source's parcel for a request of the bag into the bag.
     fn fetch(&mut self, alloc: Global, place: usize) -> Result<(), AllocError>
         ensures filters { self.new.0 ≡ self.old.0 }
         ensures ok { OnOk result (self.new.1 ≡ fetches self.old.1 (slice_get self.old.1.bag.asked place)) }
@@ -381,7 +382,7 @@ impl<F: WriteFilter> World<F> {
         self.bag.put_parcel(window, parcel)
     }
 
-    /// A parcel of the bag is settled for a session.
+    /// Settles a parcel of the bag for a session.
     fn settle(&mut self, alloc: Global, session: SessionId, place: usize) -> Result<(), AllocError>
         ensures filters { self.new.0 ≡ self.old.0 }
         ensures ok { OnOk result
@@ -398,7 +399,7 @@ impl<F: WriteFilter> World<F> {
         found_memory(self.target.settle(session, parcel))
     }
 
-    /// A session is recorded, and its entry goes into the bag.
+    /// Records a session, and puts its entry into the bag.
     fn record(&mut self, session: SessionId, at: Moment) -> Result<(), AllocError>
         ensures filters { self.new.0 ≡ self.old.0 }
         ensures ok { OnOk result (self.new.1 ≡ records self.old.1 session at) }
@@ -407,7 +408,7 @@ impl<F: WriteFilter> World<F> {
         self.bag.record(&mut self.target, session, at)
     }
 
-    /// A session is concluded; where it is, its entry goes into the bag.
+    /// Concludes a session; if that succeeds, puts its entry into the bag.
     fn conclude(&mut self, session: SessionId, at: Moment) -> Result<(), AllocError>
         ensures filters { self.new.0 ≡ self.old.0 }
         ensures ok { OnOk result (self.new.1 ≡ concludes self.old.1 session at) }
@@ -416,7 +417,7 @@ impl<F: WriteFilter> World<F> {
         self.bag.conclude(&mut self.target, session, at)
     }
 
-    /// A copy of the source goes to the others.
+    /// Adds a backup of the source to the backups.
     fn back_up(&mut self, alloc: Global) -> Result<(), AllocError>
         ensures filters { self.new.0 ≡ self.old.0 }
         ensures ok { OnOk result (self.new.1 ≡ backs_up self.old.1 (backup_answer self.old.1.source)) }
@@ -431,7 +432,7 @@ impl<F: WriteFilter> World<F> {
         }
     }
 
-    /// A copy of the source is put back.
+    /// Restores the source from a backup.
     fn restore(&mut self, place: usize) -> Result<(), AllocError>
         ensures filters { self.new.0 ≡ self.old.0 }
         ensures ok { OnOk result (self.new.1 ≡ restores self.old.1 (slice_get self.old.1.backups place)) }
@@ -443,7 +444,7 @@ impl<F: WriteFilter> World<F> {
         unless_memory(self.source.restore(backup))
     }
 
-    /// An entry of the bag is put into the source's log.
+    /// Stores an entry of the bag in the source's log.
     fn put_entry(&mut self, place: usize) -> Result<(), AllocError>
         ensures filters { self.new.0 ≡ self.old.0 }
         ensures ok { OnOk result (self.new.1 ≡ puts self.old.1 (slice_get self.old.1.bag.entries place)) }
@@ -457,7 +458,7 @@ impl<F: WriteFilter> World<F> {
     }
 }
 
-/// What a database's refusal is to a run, which goes on unless memory was refused.
+/// Converts a database error: only `Memory` ends a run.
 fn passed(fault: BaseFault) -> Result<(), AllocError>
     ensures ok { OnOk result (fault ≡ base_faults.Memory → ⊥) }
     ensures err { OnErr result (fault ≡ base_faults.Memory) }
@@ -468,7 +469,7 @@ fn passed(fault: BaseFault) -> Result<(), AllocError>
     }
 }
 
-/// Whether an answer is another one than that memory is wanting.
+/// Returns an error only if the result is `Memory`.
 fn unless_memory(answer: Result<(), TargetFault>) -> Result<(), AllocError>
     ensures ok { OnOk result (answer ≡ Err faults.Memory → ⊥) }
     ensures err { OnErr result (answer ≡ Err faults.Memory) }
@@ -479,7 +480,7 @@ fn unless_memory(answer: Result<(), TargetFault>) -> Result<(), AllocError>
     }
 }
 
-/// Whether a settling found memory.
+/// Returns an error only if settling ran out of memory.
 fn found_memory(answer: Result<Settled, TargetFault>) -> Result<(), AllocError>
     ensures ok { OnOk result (stopped_at answer ≡ None) }
     ensures err { OnErr result ((n : ℕ) × (stopped_at answer ≡ Some n)) }

@@ -1,4 +1,4 @@
--- Signatures are ordered as they are stored.
+-- Signatures are ordered as their arrays are.
 use Rattle.proof_prelude.proofs.{◌≡◌, ℕ, zero, suc, List, [], ◌∷◌, take, get_or, refl, sym, arith, false≢true, nat_cmp, ordering_then, slice_cmp, nat_cmp-IsAntisymmetric, Ordering, Less, Equal, Greater}
 use Rattle.rev_core.specs.{IsStored}
 
@@ -7,7 +7,7 @@ then_first Less p h = refl
 then_first Equal p h = absurd (h refl)
 then_first Greater p h = refl
 
--- first bytes that differ decide
+-- if the first bytes differ, they decide the order
 pub first_decides : (a b : List ℕ) (m n : ℕ) → IsStored a m → IsStored b n → (get_or a 0 0 ≡ get_or b 0 0 → ⊥) → nat_cmp (get_or a 0 0) (get_or b 0 0) ≡ slice_cmp nat_cmp (take m a) (take n b)
 first_decides [] b m n h k differ = absurd (omega (arith, h.size))
 first_decides (x ∷ a) [] m n h k differ = absurd (omega (arith, k.size))

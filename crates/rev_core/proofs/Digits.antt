@@ -18,7 +18,7 @@ too_large text h =
 abbrev rev_of : ℕ → List ℕ → RevId
 rev_of n s = record { generation = n; sig = s }
 
--- a signature that is read gives the revision
+-- a generation and a parsed signature give the revision
 pub with_read : (n : ℕ) (text sig : List ℕ) → sig_read text ≡ Ok sig → with_sig (Some n) text ≡ Ok (record { generation = n; sig = sig })
 with_read n text sig h =
     elim (is_sig text) as (λ b. cond b (Ok text) (Err faults.BadSig) ≡ Ok sig → cond b (Ok (rev_of n text)) (Err faults.BadSig) ≡ Ok (rev_of n sig)) [

@@ -4,7 +4,7 @@ use Rattle.hex.specs.Hex.{encode_with, encode_lower, lower_digits}
 use Rattle.hex.proofs.HexLemmas.{length-encode_with}
 use Rattle.rev_core.specs.{is_sig, is_sig_byte, is_hex_digit, is_short}
 
--- a test of the first digits
+-- whether p is true of all numbers below n
 abbrev all_below : (ℕ → Bool) → ℕ → Bool
 all_below p zero = true
 all_below p (suc n) = p (slice_index lower_digits n) && all_below p n
@@ -26,7 +26,7 @@ all_digits p all (b ∷ rest) h =
     let fits : b < 256 = h 0 in
     and_from _ _ (below_at p 16 (b / 16) all (omega arith)) (and_from _ _ (below_at p 16 (b % 16) all (omega arith)) (all_digits p all rest (λ i. h (suc i))))
 
--- the digits of 16 bytes
+-- the digits of 16 bytes are a signature
 pub is_sig-encode_lower : (bytes : List ℕ) → length bytes ≡ 16 → ((i : ℕ) → slice_index bytes i < 256) → is_sig (encode_lower bytes) ≡ true
 is_sig-encode_lower bytes n h =
     let size = length-encode_with lower_digits bytes in

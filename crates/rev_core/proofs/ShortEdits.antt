@@ -7,7 +7,7 @@ use Rattle.rev_core.specs.{RevId, edit_text, edit_sig, edit_rev, next_generation
 use Rattle.rev_core.specs.declared.fault.RevFault.TheVariants as rev_faults
 use Rattle.rev_core.proofs.HexSigs.{is_short-encode_lower}
 
--- each byte of a word is one
+-- each byte of a 32-bit word is below 256
 word_low : (word i : ℕ) → get_or (to_le_bytes w32 word) i 0 < 256
 word_low word zero = omega arith
 word_low word (suc zero) = omega arith
@@ -36,7 +36,7 @@ of_bool : (b : Bool) (r s : RevId) (fault : RevFault) → cond b (Ok r) (Err fau
 of_bool true r s fault e = ap (λ y. result_unwrap_or y r) e
 of_bool false r s fault e = absurd (false≢true (ap is_ok e))
 
--- the id of an edit is kept without a block
+-- the signature of a local edit is short
 pub is_short-edit_rev : (before : Option RevId) (deleted : Bool) (body : List ℕ) (r : RevId) → edit_rev before deleted body ≡ Ok r → is_short r.sig ≡ true
 is_short-edit_rev before deleted body r e =
     subst (λ (s : RevId). is_short s.sig ≡ true) (of_bool (nat_lt (next_generation before) (2 ^ 32)) _ r rev_faults.GenerationFull e) (is_short-edit_sig before deleted body)

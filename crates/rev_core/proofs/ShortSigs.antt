@@ -10,7 +10,7 @@ high b = digit_of (b / 16)
 abbrev low : ℕ → ℕ
 low b = digit_of (b % 16)
 
--- the first bytes, so many, have the first digits of both halves of a text
+-- the first n bytes have the first n digits of each half of the string
 pub record IsJoined (text bytes : List ℕ) (n : ℕ) : Type 0 where
   pub high : map high (take n bytes) ≡ take n text
   pub low : map low (take n bytes) ≡ take n (drop 16 text)
@@ -21,7 +21,7 @@ more f bytes text i b n m is h =
     ap (map f) (take_more_set bytes i b n) ∙ map-append f (take i bytes) (b ∷ [])
     ∙ (λ j. h j ++ is j ∷ []) ∙ sym (take_more text i 0 m)
 
--- one byte more
+-- one more byte
 joined_more : (text bytes : List ℕ) (i x y : ℕ) → length bytes ≡ 16 → length text ≡ 32 → i < 16 → x < 16 → y < 16
     → digit_of x ≡ get_or text i 0 → digit_of y ≡ get_or text (i + 16) 0
     → IsJoined text bytes i → IsJoined text (slice_set bytes i (x * 16 + y)) (i + 1)
@@ -35,7 +35,7 @@ joined_more text bytes i x y n m lt xs ys dx dy h =
       low = more low bytes (drop 16 text) i (x * 16 + y) (omega arith) rest (ap digit_of hy ∙ dy ∙ ap (λ n. get_or text n 0) place ∙ sym (get_or-drop 16 text i 0)) h.low;
     }
 
--- all bytes
+-- all 16 bytes
 joined_all : (text bytes : List ℕ) → length bytes ≡ 16 → length text ≡ 32 → IsJoined text bytes 16 → digits_of bytes ≡ text
 joined_all text bytes size m h =
     let whole = take_all 16 bytes (omega arith) in
@@ -44,7 +44,7 @@ joined_all text bytes size m h =
     let second : map low bytes ≡ drop 16 text = ap (map low) (sym whole) ∙ h.low ∙ rest in
     (λ i. first i ++ second i) ∙ take-append-drop 16 text
 
--- whether the first digits of both halves, so many, are digits, and the first bytes where they are
+-- `all` is whether the first n digits of each half are hexadecimal; if they are, the first n bytes have them
 pub record IsRead (text bytes : List ℕ) (all : Bool) (n : ℕ) : Type 0 where
   pub size : length bytes ≡ 16
   pub tested : all ≡ (list_all is_hex_digit (take n text) && list_all is_hex_digit (take n (drop 16 text)))
@@ -63,7 +63,7 @@ regroup false b false d = refl
 all_more : (xs : List ℕ) (i : ℕ) → i < length xs → list_all is_hex_digit (take (i + 1) xs) ≡ (list_all is_hex_digit (take i xs) && (is_hex_digit (get_or xs i 0) && true))
 all_more xs i n = ap (list_all is_hex_digit) (take_more xs i 0 n) ∙ list_all-append is_hex_digit (take i xs) (get_or xs i 0 ∷ [])
 
--- two digits more are read
+-- two more digits are read
 pub read_more : (text bytes : List ℕ) (all : Bool) (i x y : ℕ) → length text ≡ 32 → i < 16 → x < 16 → y < 16
     → (is_hex_digit (get_or text i 0) ≡ true → digit_of x ≡ get_or text i 0)
     → (is_hex_digit (get_or text (i + 16) 0) ≡ true → digit_of y ≡ get_or text (i + 16) 0)
@@ -110,7 +110,7 @@ low_at bytes i n ge lt =
     ∙ get_or-append-add (map high bytes) (map low bytes) (i - 16) 0
     ∙ get_or-map low bytes (i - 16) 0 0 (omega arith)
 
--- two digits for each byte
+-- there are two digits for each byte
 pub length-digits_of : (bytes : List ℕ) → length bytes ≡ 16 → length (digits_of bytes) ≡ 32
 length-digits_of bytes n =
     let first = length-map bytes high in
@@ -118,7 +118,7 @@ length-digits_of bytes n =
     let both = length-append (map high bytes) (map low bytes) in
     both ∙ omega (arith, first, second, n)
 
--- so many elements from a place on
+-- n elements from index k
 abbrev pub listed : ℕ → ℕ → List ℕ → List ℕ
 listed zero k xs = []
 listed (suc n) k xs = get_or xs k 0 ∷ listed n (k + 1) xs
@@ -138,7 +138,7 @@ listed-low zero k xs h i = omega arith
 listed-low (suc n) k xs h zero = h k
 listed-low (suc n) k xs h (suc i) = listed-low n (k + 1) xs h i
 
--- two numbers of eight bytes each have these bytes
+-- two integers of eight bytes each have these bytes
 pub numbers_of : (xs : List ℕ) (a b : ℕ) → length xs ≡ 16 → ((i : ℕ) → get_or xs i 0 < 256)
     → a ≡ from_le_bytes w64 (listed 8 0 xs) → b ≡ from_le_bytes w64 (listed 8 8 xs) → to_le_bytes w64 a ++ to_le_bytes w64 b ≡ xs
 numbers_of xs a b n low first second =
@@ -146,7 +146,7 @@ numbers_of xs a b n low first second =
     let y = le_bytes_8 (listed 8 8 xs) b refl (listed-low 8 8 xs low) second in
     (λ i. x i ++ y i) ∙ listed-drop 16 0 xs n
 
--- a short text is the front of what it is padded to
+-- a signature of at most 16 bytes is the front of its padded form
 pub few : (text : List ℕ) (len front back : ℕ) → is_sig text ≡ true → length text ≤ 16 → len ≡ length text
     → bytes_in front back ≡ take 16 (padded text) → text_in len front back ≡ text
 few [] len front back h fits same is = absurd (false≢true h)

@@ -23,26 +23,26 @@ abbrev pub head_of : List RevId → Option RevId
 head_of [] = None
 head_of (r ∷ rest) = Some r
 
--- neighbours: each child with its parent, newest child first
+-- the edges of an ancestry: each child with its parent, newest child first
 abbrev pub edges_of : List RevId → List (RevId × RevId)
 edges_of [] = []
 edges_of (r ∷ []) = []
 edges_of (r ∷ (s ∷ rest)) = (r, s) ∷ edges_of (s ∷ rest)
 
--- whether one of the edges has a revision as its parent
+-- whether r is the parent in one of the edges
 abbrev pub has_parent : List (RevId × RevId) → RevId → Bool
 has_parent edges r = list_any (λ (e : RevId × RevId). eq_by_cmp rev_cmp r e.1) edges
 
--- whether a revision is one of them
+-- whether r is in the list
 abbrev pub is_among : RevId → List RevId → Bool
 is_among r revs = list_any (eq_by_cmp rev_cmp r) revs
 
--- the revisions that signatures spell from a generation downwards
+-- the revisions that signatures denote, from generation `start` downwards
 abbrev pub numbered : ℕ → List (List ℕ) → List RevId
 numbered start [] = []
 numbered start (sig ∷ sigs) = record { generation = start; sig = sig } ∷ numbered (start - 1) sigs
 
--- what the newest generation and the signatures give
+-- the ancestry of a newest generation and signatures, or the error
 abbrev pub ancestry_read : ℕ → List (List ℕ) → Result (List RevId) RevFault
 ancestry_read start sigs =
     if length sigs == 0 then Err faults.NoIds

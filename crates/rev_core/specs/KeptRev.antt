@@ -1,8 +1,8 @@
--- Revisions kept in less memory.
+-- Compact revisions.
 use Rattle.std.specs.Prelude.{Option, Some, None, if◌then◌else◌}
 use Rattle.rev_core.specs.Rev.{RevId}
 use Rattle.rev_core.specs.ShortSig.{is_short}
 
--- a revision with a short signature
+-- the revision, if its signature is short
 abbrev pub short_of : RevId → Option RevId
 short_of r = if is_short r.sig then Some r else None

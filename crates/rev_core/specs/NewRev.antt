@@ -1,4 +1,4 @@
--- The ids of local edits: docs/PROFILE.md, "Ids of local edits"; MD5 is RFC 1321.
+-- Revision ids of local edits: docs/PROFILE.md, "Ids of local edits"; MD5 is RFC 1321.
 use Rattle.std.specs.Prelude.{ℕ, ◌+◌, ◌^◌, Bool, true, false, List, [], ◌∷◌, ◌++◌, Option, Some, None, Result, Ok, Err, if◌then◌else◌, nat_lt, codes}
 use Rattle.md5.specs.Md5.{md5}
 use Rattle.hex.specs.Hex.{encode_lower}
@@ -7,30 +7,30 @@ use Rattle.rev_core.specs.Text.{rev_text}
 use Rattle.rev_core.specs.declared.fault.RevFault.{RevFault}
 use Rattle.rev_core.specs.declared.fault.RevFault.TheVariants as faults
 
--- 1 without a parent, else the parent's generation plus 1
+-- the generation of a new revision: 1 without a parent, else the parent's generation plus 1
 abbrev pub next_generation : Option RevId → ℕ
 next_generation None = 1
 next_generation (Some parent) = parent.generation + 1
 
--- the parent's text, or nothing
+-- the parent's string, or an empty string
 abbrev pub parent_text : Option RevId → List ℕ
 parent_text None = []
 parent_text (Some parent) = rev_text parent
 
--- whether the edit deletes the document
+-- `deleted` or `live`
 abbrev pub kind_text : Bool → List ℕ
 kind_text true = codes "deleted"
 kind_text false = codes "live"
 
--- the parent, the kind and the body, with a line feed between
+-- the parent, the kind and the body, separated by line feeds
 abbrev pub edit_text : Option RevId → Bool → List ℕ → List ℕ
 edit_text parent deleted body = parent_text parent ++ 10 ∷ (kind_text deleted ++ 10 ∷ body)
 
--- the digits of its digest
+-- the signature of an edit: the hexadecimal digits of the MD5 of its text
 unfoldable pub edit_sig : Option RevId → Bool → List ℕ → List ℕ
 edit_sig parent deleted body = encode_lower (md5 (edit_text parent deleted body))
 
--- the id of an edit, unless the parent's generation is the greatest
+-- the revision id of an edit, or `GenerationFull` if the parent has the greatest generation
 abbrev pub edit_rev : Option RevId → Bool → List ℕ → Result RevId RevFault
 edit_rev parent deleted body =
     if nat_lt (next_generation parent) (2 ^ 32) then Ok

@@ -5,7 +5,7 @@ use Rattle.std.specs.Ordering.{nat_cmp, ordering_then}
 use Rattle.std.specs.Cmp.Lexicographic.{slice_cmp}
 use Rattle.rev_core.specs.Sig.{is_sig}
 
--- a revision id, as its generation and the text of its signature
+-- a revision id: its generation, and the bytes of its signature
 pub record RevId : Type 0 where
   pub generation : ℕ
   pub sig : List ℕ
@@ -16,6 +16,6 @@ pub record IsRev (r : RevId) : Type 0 where
   pub high : r.generation < 2 ^ 32
   pub sig : is_sig r.sig ≡ true
 
--- by generation, then by signature in ASCII order
+-- the order of revisions: by generation, then by signature in ASCII order
 abbrev pub rev_cmp : RevId → RevId → Ordering
 rev_cmp a b = ordering_then (nat_cmp a.generation b.generation) (slice_cmp nat_cmp a.sig b.sig)

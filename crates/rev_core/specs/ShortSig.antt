@@ -1,9 +1,9 @@
--- Signatures kept in two numbers.
+-- Signatures packed into two integers.
 use Rattle.std.specs.Prelude.{ℕ, ◌+◌, ◌/◌, ◌%◌, Bool, ◌&&◌, ◌||◌, List, ◌++◌, length, take, map, ◌==◌, nat_le, nat_lt, if◌then◌else◌}
 use Rattle.std.specs.List.{list_all}
 use Rattle.std.specs.Int.{to_le_bytes, w64}
 
--- a hexadecimal digit, with letters in lower case
+-- whether b is a digit or a letter from `a` to `f`
 abbrev pub is_hex_digit : ℕ → Bool
 is_hex_digit b = nat_le 48 b && nat_le b 57 || nat_le 97 b && nat_le b 102
 
@@ -11,18 +11,18 @@ is_hex_digit b = nat_le 48 b && nat_le b 57 || nat_le 97 b && nat_le b 102
 abbrev pub digit_of : ℕ → ℕ
 digit_of value = if nat_lt value 10 then value + 48 else value + 87
 
--- the digits of some bytes: the high ones of all, then the low ones
+-- the digits of bytes: the high digits of all bytes, then the low digits
 abbrev pub digits_of : List ℕ → List ℕ
 digits_of bytes = map (λ b. digit_of (b / 16)) bytes ++ map (λ b. digit_of (b % 16)) bytes
 
--- the digits of a digest, or another text of at most 16 bytes
+-- whether a signature is short: the digits of a digest, or any other signature of at most 16 bytes
 abbrev pub is_short : List ℕ → Bool
 is_short text = if length text == 32 then list_all is_hex_digit text else nat_le (length text) 16
 
--- sixteen bytes, of two numbers
+-- the sixteen bytes of two integers
 unfoldable pub bytes_in : ℕ → ℕ → List ℕ
 bytes_in front back = to_le_bytes w64 front ++ to_le_bytes w64 back
 
--- the text of which so many bytes are kept, or 0 where its digits are
+-- the signature packed with length `len`; length 0 stands for the 32 digits of the bytes
 abbrev pub text_in : ℕ → ℕ → ℕ → List ℕ
 text_in len front back = if len == 0 then digits_of (bytes_in front back) else take len (bytes_in front back)

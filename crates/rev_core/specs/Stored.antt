@@ -1,4 +1,4 @@
--- A signature's array and length come back from its text.
+-- A signature's array and length can be recovered from its string.
 use Rattle.std.specs.Prelude.{◌≡◌, take, length}
 use Rattle.std.proofs.Common.{arith, sym}
 use Rattle.std.proofs.lemmas.List.{length-take-le}

@@ -1,4 +1,4 @@
--- The texts of revision ids: docs/PROFILE.md, "Revision id text".
+-- The syntax of revision ids: docs/PROFILE.md, "Revision id text".
 use Rattle.std.specs.Prelude.{ℕ, ◌+◌, ◌-◌, ◌*◌, ◌^◌, Bool, ◌&&◌, List, ◌∷◌, ◌++◌, ◌==◌, nat_le, nat_lt, slice_index, take, drop, fold, Option, Some, None, Result, Ok, Err, if◌then◌else◌}
 use Rattle.std.specs.List.{list_all, position}
 use Rattle.std.specs.Fmt.{decimal}
@@ -10,39 +10,39 @@ use Rattle.rev_core.specs.declared.fault.RevFault.TheVariants as faults
 abbrev pub is_digit : ℕ → Bool
 is_digit c = nat_le 48 c && nat_le c 57
 
--- the number with one decimal digit more
+-- the number n with the decimal digit c appended
 abbrev pub with_digit : ℕ → ℕ → ℕ
 with_digit n c = n * 10 + (c - 48)
 
--- the number that decimal digits write
+-- the value of decimal digits
 abbrev pub value_of : List ℕ → ℕ
 value_of digits = fold with_digit 0 digits
 
--- 1 to 2^32 - 1 in decimal, without a leading zero
+-- whether a string is a generation: 1 to 2^32 - 1 in decimal, without leading zeros
 abbrev pub is_generation : List ℕ → Bool
 is_generation text = nat_le 49 (slice_index text 0) && list_all is_digit text && nat_lt (value_of text) (2 ^ 32)
 
--- the generation that a text writes
+-- the generation that a string denotes
 abbrev pub generation_read : List ℕ → Option ℕ
 generation_read text = if is_generation text then Some (value_of text) else None
 
 abbrev pub is_dash : ℕ → Bool
 is_dash c = c == 45
 
--- a generation and what stands behind the dash
+-- a revision from an optional generation and the string after the `-`
 abbrev pub with_sig : Option ℕ → List ℕ → Result RevId RevFault
 with_sig None text = Err faults.BadGeneration
 with_sig (Some n) text = if is_sig text then Ok (record { generation = n; sig = text }) else Err faults.BadSig
 
--- a text that is cut at a place
+-- the result of parsing a string split at index i
 abbrev pub cut_at : List ℕ → Option ℕ → Result RevId RevFault
 cut_at text None = Err faults.BadGeneration
 cut_at text (Some i) = with_sig (generation_read (take i text)) (drop (i + 1) text)
 
--- what reading a text as a revision id gives: it is cut at its first dash
+-- the result of parsing a revision id: it is split at its first `-`
 abbrev pub rev_read : List ℕ → Result RevId RevFault
 rev_read text = cut_at text (position is_dash text)
 
--- the text of a revision id: the generation in decimal, a dash, the signature
+-- the string of a revision id: the generation in decimal, `-`, the signature
 abbrev pub rev_text : RevId → List ℕ
 rev_text r = decimal r.generation ++ 45 ∷ r.sig

@@ -7,9 +7,10 @@ use crate::sig::Sig;
 use std::alloc::{AllocError, Global};
 use std::marker::Model;
 
-/// A revision and its known ancestors, newest first: at least one revision, generations falling by one.
+/// A revision and its known ancestors, newest first: at least one revision, and each is one generation below the
+/// previous.
 ///
-/// It may end above generation 1: older ancestors are then not known.
+/// An ancestry may end above generation 1 if the older ancestors are not known.
 #[derive(Debug, Drop)]
 pub struct Ancestry {
     revs: Vec<Rev>,
@@ -34,9 +35,13 @@ impl Ancestry {
     ghost use Rattle.rev_core.specs.Ancestry.{IsAncestry, ancestry_read, head_of, edges_of, is_among};
     ghost use Rattle.rev_core.specs.Answers.{GivesUnlessMemory};
 
-    /// The ancestry whose newest revision has the generation `start`, by its signatures, newest first.
+    /// Creates an ancestry from the newest generation `start` and the signatures, newest first.
     ///
-    /// `NoIds` where there are none; else `StartTooSmall` where there are more than `start`.
+    /// # Errors
+    ///
+    /// - `NoIds`: `ids` is empty.
+    /// - `StartTooSmall`: `ids` has more than `start` signatures.
+    /// - `Memory`: an allocation failed.
     pub fn from_parts(alloc: Global, start: u32, ids: &[Sig]) -> Result<Ancestry, RevFault>
         ensures { GivesUnlessMemory result (ancestry_read start ids.now) }
     {
@@ -55,7 +60,7 @@ impl Ancestry {
         Ok(Ancestry { revs })
     }
 
-    /// The ancestry of a list that is one.
+    /// Wraps a list of revisions that is known to be an ancestry.
     pub fn from_revs(revs: Vec<Rev>) -> Ancestry
         requires { IsAncestry revs.items }
         ensures { result ≡ revs.items }
@@ -63,7 +68,7 @@ impl Ancestry {
         Ancestry { revs }
     }
 
-    /// The revisions, newest first.
+    /// Returns the revisions, newest first.
     pub fn revs(&self) -> &[Rev]
         ensures all { result.now ≡ self.now }
         ensures ancestry { IsAncestry self.now }
@@ -71,21 +76,21 @@ impl Ancestry {
         &self.revs
     }
 
-    /// The newest revision.
+    /// Returns the newest revision.
     pub fn head(&self) -> Rev
         ensures { head_of self.now ≡ Some result }
     {
         self.revs[0]
     }
 
-    /// Whether a revision is one of them.
+    /// Whether the ancestry contains this revision.
     pub fn contains(&self, rev: Rev) -> bool
         ensures { result ≡ is_among rev self.now }
     {
         self.revs.contains(&rev)
     }
 
-    /// The revision behind a given one, which is its parent. None for the oldest, and for one that is not here.
+    /// Returns the parent of a revision, or `None` if the revision is the oldest or is not in the ancestry.
     pub fn parent_of(&self, rev: Rev) -> Option<Rev>
         ensures { result ≡ find rev_cmp rev (edges_of self.now) }
     {
@@ -97,7 +102,7 @@ impl Ancestry {
         None
     }
 
-    /// An ancestry of the same revisions.
+    /// Copies the ancestry.
     pub fn copy(&self, alloc: Global) -> Result<Ancestry, AllocError>
         ensures copied { IfOk result (λ a. a ≡ self.now) }
         ensures ancestry { IsAncestry self.now }

@@ -1,4 +1,4 @@
-//! What the calls of this crate refuse.
+//! Errors of this crate.
 
 ghost use Rattle.std.specs.Prelude.{◌≡◌};
 ghost use Rattle.rev_core.specs.declared.fault.RevFault.TheVariants.{Memory};
@@ -6,25 +6,25 @@ ghost use Rattle.rev_core.specs.declared.fault.RevFault.TheVariants.{Memory};
 use std::alloc::{AllocError, AllocFailed};
 use thiserror::Error;
 
-/// Why a text or a list is refused, or that memory ran out.
+/// Why a string or a list was rejected, or that an allocation failed.
 #[derive(Clone, Copy, Debug, PartialEq, Eq, Error)]
 pub enum RevFault {
-    /// There is no dash, or what stands before the first one is no generation.
+    /// The string has no `-`, or the part before the first `-` is not a generation.
     #[error("not a generation from 1 to 4294967295 before a dash")]
     BadGeneration,
-    /// The signature is no text of 1 to 64 letters, digits, `-`, `_` or `.`.
+    /// The signature does not have 1 to 64 bytes, or has a byte other than an ASCII letter, a digit, `-`, `_` or `.`.
     #[error("not a signature of 1 to 64 letters, digits, '-', '_' or '.'")]
     BadSig,
-    /// An ancestry has at least one revision.
+    /// The list of signatures is empty; an ancestry has at least one revision.
     #[error("an ancestry without revisions")]
     NoIds,
-    /// Generations would fall below 1: there are more signatures than the newest generation says.
+    /// There are more signatures than the newest generation, so generations would fall below 1.
     #[error("more revisions than generations")]
     StartTooSmall,
-    /// The parent has the greatest generation.
+    /// The parent has the greatest possible generation, 4,294,967,295.
     #[error("no generation after 4294967295")]
     GenerationFull,
-    /// An allocation was refused.
+    /// An allocation failed.
     #[error("out of memory")]
     Memory,
 }

@@ -1,4 +1,4 @@
-//! Revisions kept in less memory.
+//! Compact revisions.
 ghost use Rattle.std.specs.Prelude.{◌≡◌};
 ghost use Rattle.rev_core.specs.Rev.{RevId};
 ghost use Rattle.rev_core.specs.KeptRev.{short_of};
@@ -8,23 +8,23 @@ use crate::short_sig::ShortSig;
 use std::alloc::{AllocError, Global};
 use std::marker::Model;
 
-/// A revision in 24 bytes, where a `Rev` takes 72, for whoever keeps very many.
+/// A revision in 24 bytes instead of the 72 of a `Rev`, for lists of many revisions.
 ///
-/// A short signature stands in the value itself, and a revision with another one in a block of its own. Short are the
-/// 32 digits of a digest, with letters in lower case, as nearly all signatures are, and texts of at most 16 bytes.
+/// A short signature is stored in the value itself; any other revision is stored in a heap block. A signature is short
+/// if it is the 32 lower-case hexadecimal digits of a digest, as most signatures are, or has at most 16 bytes.
 #[derive(Debug)]
 pub struct KeptRev {
     form: Form,
 }
 
-// By hand, so that it is proved once: docs/DECISIONS.md, "Letting values go".
+// Written by hand so that it is proved once: docs/DECISIONS.md, "Letting values go".
 impl Drop for KeptRev {
     fn drop(self) {
         let KeptRev { form: _ } = self;
     }
 }
 
-/// Where the revision stands.
+/// How the revision is stored.
 #[derive(Debug, Drop)]
 enum Form {
     Short {
@@ -50,7 +50,7 @@ impl Model for KeptRev {
 impl KeptRev {
     ghost use Rattle.std.specs.Prelude.{IfOk};
 
-    /// The revision, kept.
+    /// Converts a revision. Allocates only if the signature is not short.
     pub fn keep(alloc: Global, rev: &Rev) -> Result<KeptRev, AllocError>
         ensures { IfOk result (λ k. k ≡ rev.now) }
     {
@@ -60,8 +60,8 @@ impl KeptRev {
         }
     }
 
-    /// The revision, kept without a block: where its signature is short.
-    // Inlined into an edit it takes more instructions.
+    /// Converts a revision with a short signature, without allocating. Returns `None` if the signature is not short.
+    // Inlined into an edit, this function takes more instructions.
     #[inline(never)]
     pub fn short(rev: &Rev) -> Option<KeptRev>
         ensures { result ≡ short_of rev.now }
@@ -78,7 +78,7 @@ impl KeptRev {
         })
     }
 
-    /// The revision, kept in a block.
+    /// Stores the revision in a heap block.
     fn long(alloc: Global, rev: &Rev) -> Result<KeptRev, AllocError>
         ensures { IfOk result (λ k. k ≡ rev.now) }
     {
@@ -88,7 +88,7 @@ impl KeptRev {
         })
     }
 
-    /// The revision.
+    /// Returns the revision.
     pub fn rev(&self) -> Rev
         ensures { result ≡ self.now }
     {
@@ -110,7 +110,7 @@ impl KeptRev {
         }
     }
 
-    /// The same revision, kept.
+    /// Copies the revision.
     pub fn copy(&self, alloc: Global) -> Result<KeptRev, AllocError>
         ensures { IfOk result (λ k. k ≡ self.now) }
     {

@@ -1,4 +1,4 @@
-//! The ids of local edits.
+//! Revision ids of local edits.
 ghost use Rattle.std.specs.Prelude.{◌≡◌, IfOk};
 ghost use Rattle.hex.specs.Hex.{encode_lower};
 ghost use Rattle.rev_core.specs.Rev.{IsRev};
@@ -11,10 +11,13 @@ use crate::sig::Sig;
 use md5::{Digest, Md5};
 use std::alloc::{AllocError, Global};
 
-/// The id that a local edit gives its document: the generation after the parent's, and a signature that
-/// names the parent, whether the edit deletes, and the body's compact text.
+/// Computes the revision id of a local edit: the generation after the parent's, and a digest of the parent, the deleted
+/// flag and the body's serialized form.
 ///
-/// `GenerationFull` where the parent has the greatest generation, 4,294,967,295.
+/// # Errors
+///
+/// - `GenerationFull`: the parent has the greatest generation, 4,294,967,295.
+/// - `Memory`: an allocation failed.
 pub fn new_rev(
     alloc: Global,
     parent: Option<Rev>,
@@ -35,7 +38,7 @@ pub fn new_rev(
     Ok(Rev::new(generation + 1, sig))
 }
 
-/// The digits of the digest of the parent's text, the kind of the edit and the body, a line feed between each.
+/// Computes the digest of the parent's string, `live` or `deleted`, and the body, separated by line feeds.
 fn edit_sig(
     alloc: Global,
     parent: Option<Rev>,
@@ -54,7 +57,7 @@ fn edit_sig(
     Ok(digits(&hasher.finalize()))
 }
 
-/// The parent's text, or nothing.
+/// Returns the parent's string, or an empty one if there is no parent.
 fn parent_text(alloc: Global, parent: Option<Rev>) -> Result<Vec<u8>, AllocError>
     ensures { IfOk result (λ v. v.items ≡ parent_text parent) }
 {
@@ -64,14 +67,14 @@ fn parent_text(alloc: Global, parent: Option<Rev>) -> Result<Vec<u8>, AllocError
     }
 }
 
-/// Whether the edit deletes its document.
+/// Returns `deleted` or `live`.
 fn kind_text(deleted: bool) -> &'static [u8]
     ensures { result.now ≡ kind_text deleted }
 {
     if deleted { b"deleted" } else { b"live" }
 }
 
-/// A digest as lower case hexadecimal digits.
+/// Formats a digest as lower-case hexadecimal digits.
 fn digits(digest: &[u8; 16]) -> Sig
     ensures { result ≡ encode_lower digest.now }
 {

@@ -16,7 +16,7 @@ use std::marker::Model;
 
 /// A revision id `N-sig`: a generation from 1 to 4,294,967,295, and a signature.
 ///
-/// It is a plain value of fixed size, copied without memory, and ordered by generation, then by signature.
+/// A value of fixed size that is copied without allocating. Revisions are ordered by generation, then by signature.
 #[derive(Clone, Copy, Debug)]
 pub struct Rev {
     generation: u32,
@@ -39,7 +39,7 @@ impl Rev {
     ghost use Rattle.rev_core.specs.Rev.{RevId, IsRev};
     ghost use Rattle.rev_core.specs.Text.{rev_read, rev_text};
 
-    /// The revision of a generation and a signature.
+    /// Creates a revision from its parts.
     pub fn new(generation: u32, sig: Sig) -> Rev
         requires { 1 ≤ generation }
         ensures parts { result ≡ record { generation = generation; sig = sig } }
@@ -49,10 +49,13 @@ impl Rev {
         Rev { generation, sig }
     }
 
-    /// The revision that a text spells, which is cut at its first dash.
+    /// Parses a revision id. The string is split at its first `-`; only the string that `write` returns is accepted for
+    /// a revision.
     ///
-    /// `BadGeneration` where there is no dash, or no generation before it; else `BadSig` where no signature is behind
-    /// it. Only the revision's own text spells it.
+    /// # Errors
+    ///
+    /// - `BadGeneration`: there is no `-`, or the part before it is not a generation.
+    /// - `BadSig`: the part after the `-` is not a signature.
     pub fn parse(text: &[u8]) -> Result<Rev, RevFault>
         ensures read { result ≡ rev_read text.now }
         ensures own_text { IfOk result (λ r. rev_text r ≡ text.now) }
@@ -69,7 +72,7 @@ impl Rev {
         }
     }
 
-    /// The text of the revision, which parses back to it.
+    /// Formats the revision as a string, which parses back to the same revision.
     pub fn write(&self, alloc: Global) -> Result<Vec<u8>, AllocError>
         ensures text { IfOk result (λ v. v.items ≡ rev_text self.now) }
         ensures parses_back { rev_read (rev_text self.now) ≡ Ok self.now }
@@ -80,7 +83,7 @@ impl Rev {
         Ok(bytes)
     }
 
-    /// The generation.
+    /// Returns the generation.
     pub fn generation(&self) -> u32
         ensures part { result ≡ self.now.generation }
         ensures is_rev { IsRev self.now }
@@ -88,21 +91,21 @@ impl Rev {
         self.generation
     }
 
-    /// The signature.
+    /// Returns the signature.
     pub fn sig(&self) -> Sig
         ensures { result ≡ self.now.sig }
     {
         self.sig
     }
 
-    /// The signature, where it stands.
+    /// Returns a reference to the signature.
     pub(crate) fn signature(&self) -> &Sig
         ensures { result.now ≡ self.now.sig }
     {
         &self.sig
     }
 
-    /// The text of the signature.
+    /// Returns the bytes of the signature.
     pub fn sig_bytes(&self) -> &[u8]
         ensures { result.now ≡ self.now.sig }
     {
@@ -116,7 +119,7 @@ impl PartialEq for Rev {
     ghost laws = { Cmp.partial_equiv_from_equiv (eq_by_cmp_equiv rev_cmp_total) };
 
     fn eq(&self, other: &Rev) -> bool {
-        // Most revisions that are compared differ in the generation.
+        // Most compared revisions differ in the generation.
         if self.generation != other.generation {
             return false;
         }
@@ -167,14 +170,14 @@ impl Hash for Rev {
     }
 }
 
-/// The place of the first dash.
+/// Returns the index of the first `-`.
 fn first_dash(text: &[u8]) -> Option<usize>
     ensures { result ≡ position is_dash text.now }
 {
     text.iter().position(|b| *b == b'-')
 }
 
-/// The generation that a text writes.
+/// Parses a generation.
 fn generation_of(text: &[u8]) -> Option<u32>
     ensures value { result ≡ generation_read text.now }
     ensures low { IfSome result (λ n. 1 ≤ n) }

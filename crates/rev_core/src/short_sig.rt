@@ -1,4 +1,4 @@
-//! Signatures kept in two numbers.
+//! Signatures packed into two integers.
 ghost use Rattle.std.specs.Prelude.{◌≡◌, ◌<◌, ◌≤◌, ◌++◌, true, length, IfSome, is_some, nat_le};
 ghost use Rattle.std.specs.List.{list_all};
 ghost use Rattle.rev_core.specs.Sig.{is_sig};
@@ -6,14 +6,14 @@ ghost use Rattle.rev_core.specs.ShortSig.{bytes_in, digit_of, digits_of, is_hex_
 
 use crate::sig::Sig;
 
-/// How many digits a digest has.
+/// The number of digits of a digest.
 const DIGITS: usize = 32;
 
-/// How many bytes two numbers hold.
+/// The number of bytes in two integers.
 const ROOM: usize = 16;
 
-/// A short signature, in two numbers of eight bytes each, the first byte lowest: how many bytes its text has, and these
-/// bytes; or 0, and the bytes whose digits are the text.
+/// A short signature, packed into two little-endian integers of eight bytes. `len` is the number of bytes of the
+/// signature; if it is 0, the signature is the 32 hexadecimal digits of the 16 bytes.
 #[derive(Clone, Copy)]
 pub(crate) struct ShortSig {
     pub(crate) len: u8,
@@ -22,7 +22,7 @@ pub(crate) struct ShortSig {
 }
 
 impl ShortSig {
-    /// A signature, where it is short.
+    /// Packs a signature, or returns `None` if it is not short.
     pub(crate) fn of(sig: &Sig) -> Option<ShortSig>
         ensures text { IfSome result (λ s. text_in s.len s.front s.back ≡ sig.now) }
         ensures short { is_some result ≡ is_short sig.now }
@@ -41,7 +41,7 @@ impl ShortSig {
         Some(ShortSig::new(text.len() as u8, &sig.front()))
     }
 
-    /// A length, and sixteen bytes.
+    /// Packs sixteen bytes with a length.
     fn new(len: u8, bytes: &[u8; ROOM]) -> ShortSig
         ensures len { result.len ≡ len }
         ensures bytes { bytes_in result.front result.back ≡ bytes.now }
@@ -58,7 +58,7 @@ impl ShortSig {
         }
     }
 
-    /// The sixteen bytes.
+    /// Unpacks the sixteen bytes.
     fn bytes(&self) -> [u8; ROOM]
         ensures { result ≡ bytes_in self.now.front self.now.back }
     {
@@ -70,7 +70,7 @@ impl ShortSig {
         ]
     }
 
-    /// The signature.
+    /// Unpacks the signature.
     pub(crate) fn sig(&self) -> Sig
         requires { is_sig (text_in self.now.len self.now.front self.now.back) ≡ true }
         ensures { result ≡ text_in self.now.len self.now.front self.now.back }
@@ -86,15 +86,15 @@ impl ShortSig {
     }
 }
 
-/// Whether a byte is a hexadecimal digit, with letters in lower case.
+/// Whether a byte is a digit or a letter from `a` to `f`.
 fn is_hex_digit(b: u8) -> bool
     ensures { result ≡ is_hex_digit b }
 {
     (b >= b'0') & (b <= b'9') | (b >= b'a') & (b <= b'f')
 }
 
-/// Whether each byte is a digit, and where they all are, the bytes whose digits they are: the first half of these are
-/// the high digits, the second half the low ones.
+/// Whether all bytes are hexadecimal digits, and if so, their 16 bytes: the first half of the string has the high
+/// digits of all bytes, the second half the low digits.
 fn joined(text: &[u8]) -> ([u8; ROOM], bool)
     requires { length text.now ≡ 32 }
     ensures all { result.1 ≡ list_all is_hex_digit text.now }
@@ -102,7 +102,7 @@ fn joined(text: &[u8]) -> ([u8; ROOM], bool)
 {
     let mut bytes = [0; ROOM];
     let mut all = true;
-    // Both in one loop without an early end: so many bytes are looked at in one instruction.
+    // One loop without an early exit, so that the compiler can process many bytes per instruction.
     for i in 0..ROOM {
         let (high, low) = (text[i], text[i + ROOM]);
         all = is_hex_digit(high) & is_hex_digit(low) & all;
@@ -111,7 +111,7 @@ fn joined(text: &[u8]) -> ([u8; ROOM], bool)
     (bytes, all)
 }
 
-/// The value of a digit; of another byte, some value.
+/// Returns the value of a digit. For any other byte the value is unspecified, but below 16.
 fn value_of(digit: u8) -> u8
     ensures low { result < 16 }
     ensures digit { is_hex_digit digit ≡ true → digit_of result ≡ digit }
@@ -123,7 +123,7 @@ fn value_of(digit: u8) -> u8
     }
 }
 
-/// The digits of some bytes: the high ones of all, then the low ones.
+/// Formats bytes as digits: the high digits of all bytes, then the low digits.
 fn digits_of(bytes: &[u8; ROOM]) -> [u8; DIGITS]
     ensures { result ≡ digits_of bytes.now }
 {
@@ -138,7 +138,7 @@ fn digits_of(bytes: &[u8; ROOM]) -> [u8; DIGITS]
     text
 }
 
-/// The digit of a value.
+/// Returns the digit of a value.
 fn digit_of(value: u8) -> u8
     requires { value < 16 }
     ensures { result ≡ digit_of value }

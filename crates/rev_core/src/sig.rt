@@ -1,4 +1,4 @@
-//! Signatures: the part of a revision id behind the dash.
+//! Signatures: the part of a revision id after the `-`.
 ghost use Rattle.std.specs.Prelude.{◌≡◌, ◌≤◌, ◌∷◌, [], true, length, nat_eq};
 ghost use Rattle.std.specs.List.{list_all};
 ghost use Rattle.std.specs.Ordering.{nat_cmp, as_partial_cmp};
@@ -15,13 +15,12 @@ use std::cmp::Ordering;
 use std::hash::{Hash, Hasher};
 use std::marker::Model;
 
-/// The most bytes of a signature.
+/// The maximum number of bytes of a signature.
 const MOST_BYTES: usize = 64;
 
-/// A signature: a text of 1 to 64 bytes, each an ASCII letter, a digit, `-`, `_` or `.`.
+/// A signature: 1 to 64 bytes, each an ASCII letter, a digit, `-`, `_` or `.`.
 ///
-/// It is a plain value of fixed size: the text stands in front, and zeros behind it.
-/// Signatures are ordered as their texts are in ASCII.
+/// A value of fixed size: the signature, followed by zeros. Signatures are ordered by their bytes.
 #[derive(Clone, Copy, Debug)]
 pub struct Sig {
     bytes: [u8; 64],
@@ -49,7 +48,7 @@ impl Sig {
     ghost use Rattle.std.specs.Prelude.{take};
     ghost use Rattle.rev_core.specs.Sig.{sig_read, is_sig};
 
-    /// The signature that a text spells, or `BadSig` where it spells none.
+    /// Parses a signature, or returns `BadSig`.
     pub fn parse(text: &[u8]) -> Result<Sig, RevFault>
         ensures { result ≡ sig_read text.now }
     {
@@ -62,7 +61,7 @@ impl Sig {
         })
     }
 
-    /// The text.
+    /// Returns the bytes of the signature.
     pub fn bytes(&self) -> &[u8]
         ensures text { result.now ≡ self.now }
         ensures sig { is_sig self.now ≡ true }
@@ -70,7 +69,7 @@ impl Sig {
         &self.bytes[..self.len as usize]
     }
 
-    /// The first sixteen bytes of the text, and zeros behind a shorter one.
+    /// Returns the first sixteen bytes of the signature, followed by zeros if it is shorter.
     pub(crate) fn front(&self) -> [u8; 16]
         ensures { result ≡ take 16 (padded self.now) }
     {
@@ -116,7 +115,7 @@ impl Ord for Sig {
     ghost matches_eq = { Prim.search (comparing, rules) };
 
     fn cmp(&self, other: &Sig) -> Ordering {
-        // Most signatures that are compared differ in the first byte.
+        // Most compared signatures differ in the first byte.
         let (first, against) = (self.bytes[0], other.bytes[0]);
         if first != against {
             return first.cmp(&against);
@@ -135,7 +134,7 @@ impl Hash for Sig {
     }
 }
 
-/// Whether a text is a signature.
+/// Whether a string is a signature.
 fn is_sig(text: &[u8]) -> bool
     ensures { result ≡ is_sig text.now }
 {
@@ -143,33 +142,33 @@ fn is_sig(text: &[u8]) -> bool
     1 <= text.len() && text.len() <= MOST_BYTES && all
 }
 
-/// Whether each byte may stand in a signature.
+/// Whether all bytes are allowed in a signature.
 fn all_sig_bytes(text: &[u8]) -> bool
     ensures { result ≡ list_all is_sig_byte text.now }
 {
     let mut all = true;
-    // Without an early end, many bytes are looked at in one instruction.
+    // Without an early exit, the compiler can process many bytes per instruction.
     for b in text {
         all = is_sig_byte(*b) & all;
     }
     all
 }
 
-/// Whether a byte may stand in a signature.
+/// Whether a byte is allowed in a signature.
 fn is_sig_byte(b: u8) -> bool
     ensures { result ≡ is_sig_byte b }
 {
     b.is_ascii_alphanumeric() || b == b'-' || b == b'_' || b == b'.'
 }
 
-/// A text with zeros behind it.
+/// Returns the string, followed by zeros up to 64 bytes.
 fn padded(text: &[u8]) -> [u8; 64]
     requires { length text.now ≤ 64 }
     ensures { result ≡ padded text.now }
 {
     let mut bytes = [0; 64];
     if text.len() == 32 {
-        // Most signatures are the digits of a digest: a copy of known length needs no call.
+        // Most signatures are the digits of a digest: a copy of a known length needs no call.
         bytes[..32].copy_from_slice(text);
     } else {
         bytes[..text.len()].copy_from_slice(text);

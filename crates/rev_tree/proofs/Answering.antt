@@ -1,16 +1,16 @@
--- What a merge answers, from the edges and the content of the head.
+-- The result of a merge, from the edges and the content of the head.
 use Rattle.proof_prelude.proofs.{◌≡◌, ◌&&◌, List, [], ◌∷◌, Option, Some, None, Bool, true, false, is_some, Result, Ok, Err, sym, ap, ◌∙◌, subst, refl, false≢true, and_parts, and_from, and-false, list_all, get, same_Some}
 use Rattle.std.specs.Cmp.{both_ways}
 use Rattle.rev_core.specs.{RevId, edges_of, head_of}
 use Rattle.rev_tree.specs.{TreeValue, IsTree, has, has_edge, contradiction_at, first_contradiction, is_same, at_head, answer_of, merge_answer, merged, ContentValue, both_none, agrees, same_from_merged, Merged, Contradiction, Origin}
 use Rattle.rev_tree.specs.declared.fault.Merged.TheVariants.{Same, Changed}
 
--- a parent that is known and contradicts nothing is in the tree
+-- a known parent that contradicts nothing is in the tree
 given_parent : (t : TreeValue) → IsTree t → (r s : RevId) (o : Option RevId) → get t.parents r ≡ o → contradiction_at r s o ≡ None → is_some o ≡ true → has t s ≡ true
 given_parent t tree r s None is none some = absurd (false≢true some)
 given_parent t tree r s (Some k) is none some = subst (λ q. has t q ≡ true) (agrees r k s none) (tree.parent r k is)
 
--- so where each edge is known, all revisions but the head are
+-- if each edge is known, all revisions but the head are in the tree
 known_rest : (t : TreeValue) → IsTree t → (r : RevId) (rest : List RevId) → first_contradiction t.parents (edges_of (r ∷ rest)) ≡ None → list_all (has_edge t) (edges_of (r ∷ rest)) ≡ true → list_all (has t) rest ≡ true
 known_rest t tree r [] none all = refl
 known_rest t tree r (s ∷ rest) none all =
@@ -18,7 +18,7 @@ known_rest t tree r (s ∷ rest) none all =
     let both = and_parts _ _ all in
     and_from _ _ (given_parent t tree r s (get t.parents r) refl apart.0 both.0) (known_rest t tree s rest apart.1 both.1)
 
--- and the head is where it has a content
+-- the merge changes nothing exactly if all edges are known and the head has a content
 pub is_same-edges : (t : TreeValue) → IsTree t → (revs : List RevId) (head : RevId) → head_of revs ≡ Some head → first_contradiction t.parents (edges_of revs) ≡ None
     → is_same t revs ≡ (list_all (has_edge t) (edges_of revs) && is_some (get t.contents head))
 is_same-edges t tree [] head h none = absurd (false≢true (ap is_some h))
@@ -32,7 +32,7 @@ is_same-edges t tree (r ∷ rest) head h none =
     let content = ap (λ q. is_some (get t.contents q)) (same_Some r head h) ∙ both.1 in
     and_from _ _ (and_from _ _ (and_from _ _ (tree.content r content) (known_rest t tree r rest none both.0)) both.0) (and_from _ _ content refl))
 
--- ---- the answer
+-- ---- the result
 
 answer_of_none : (t : TreeValue) (revs : List RevId) (b : Bool) → first_contradiction t.parents (edges_of revs) ≡ None → is_same t revs ≡ b → merge_answer t revs ≡ answer_of None b
 answer_of_none t revs b none same = ap (λ o. answer_of o (is_same t revs)) none ∙ ap (answer_of None) same
@@ -56,7 +56,7 @@ is_told_same (Ok Same) = true
 is_told_same (Ok Changed) = false
 is_told_same (Err e) = false
 
--- where it is Ok, nothing contradicts
+-- if the result is Ok, no edge contradicts
 pub none_from_answer : (t : TreeValue) (revs : List RevId) (m : Merged) → merge_answer t revs ≡ Ok m → first_contradiction t.parents (edges_of revs) ≡ None
 none_from_answer t revs m = by (first_contradiction t.parents (edges_of revs)) (is_same t revs)
   where
@@ -72,7 +72,7 @@ same_from_answer t revs = by (first_contradiction t.parents (edges_of revs)) (is
     by None false h = absurd (false≢true (ap is_told_same h))
     by (Some c) b h = absurd (false≢true (ap is_told h))
 
--- where a merge is a change, the tree doesn't stay as it is
+-- if the result is `Changed`, the tree changes
 pub changed_from_answer : (t : TreeValue) (revs : List RevId) (b : ContentValue) (o : Origin) → merge_answer t revs ≡ Ok Changed → merged t revs b o ≡ t → ⊥
 changed_from_answer t revs b o h stays = by (first_contradiction t.parents (edges_of revs)) h
   where

@@ -1,11 +1,11 @@
--- Revisions of which each is one generation below the one before it: where each of them stands.
+-- Revisions of which each is one generation below the previous one: the position of each.
 use Rattle.proof_prelude.proofs.{◌≡◌, ℕ, zero, suc, ◌+◌, ◌-◌, ◌<◌, ◌≤◌, ◌&&◌, List, [], ◌∷◌, length, take, drop, get_or, Some, None, true, false, slice_get, sym, ap, ◌∙◌, refl, arith, and_parts, false≢true, slice_get-get_or, same_Some, eq_by_cmp, drop_more, nat_eq, take-map, eqb-true, length-drop}
 use Rattle.rev_core.specs.{RevId, rev_cmp, rev_tie_self}
 use Rattle.rev_tree.specs.{falls, noted_from, place_of, revs_in, NodeValue}
 use Rattle.rev_tree.proofs.Places.{place_known, read_at, rev_at_place}
 use Rattle.rev_tree.proofs.Linking.{length-revs_in}
 
--- each is so many generations below the first
+-- the revision at index j is j generations below the first
 pub fallen_at : (revs : List RevId) (j : ℕ) (d : RevId) → falls revs ≡ true → j < length revs → (get_or revs j d).generation + j ≡ (get_or revs 0 d).generation
 fallen_at [] j d f low = absurd (omega arith)
 fallen_at (r ∷ revs) zero d f low = omega arith
@@ -16,7 +16,7 @@ fallen_at (r ∷ (s ∷ revs)) (suc j) d f low =
     let later = fallen_at (s ∷ revs) j d parts.1 (omega arith) in
     omega (arith, first, later)
 
--- where those up to a place fall, all do if those from there on do
+-- if the first k + 1 revisions fall, all fall if those from k on do
 pub falls_split : (k : ℕ) (revs : List RevId) → k < length revs → falls (take (suc k) revs) ≡ true → falls revs ≡ falls (drop k revs)
 falls_split k [] low f = absurd (omega arith)
 falls_split zero (r ∷ revs) low f = refl
@@ -25,7 +25,7 @@ falls_split (suc k) (r ∷ (s ∷ revs)) low f =
     let parts = and_parts _ _ f in
     ap (λ b. b && falls (s ∷ revs)) parts.0 ∙ falls_split k (s ∷ revs) (omega arith) parts.1
 
--- the first of those that fall do
+-- if all fall, the first k do
 pub falls_front : (k : ℕ) (revs : List RevId) → falls revs ≡ true → falls (take k revs) ≡ true
 falls_front zero [] f = refl
 falls_front zero (r ∷ revs) f = refl
@@ -37,7 +37,7 @@ falls_front (suc (suc k)) (r ∷ (s ∷ revs)) f =
     let parts = and_parts _ _ f in
     ap (λ b. b && falls (take (suc k) (s ∷ revs))) parts.0 ∙ falls_front (suc k) (s ∷ revs) parts.1
 
--- one more
+-- one more revision
 pub falls_step : (revs : List RevId) (i : ℕ) (d : RevId) → 1 ≤ i → i < length revs → falls (drop (i - 1) revs) ≡ (nat_eq (get_or revs (i - 1) d).generation ((get_or revs i d).generation + 1) && falls (drop i revs))
 falls_step revs i d one low =
     let a = get_or revs (i - 1) d in
@@ -72,7 +72,7 @@ nodes_step nodes i a b one low ia ib =
     falls_step revs i b.rev one (omega (arith, low, length-revs_in nodes))
     ∙ (λ k. nat_eq (first k).generation ((second k).generation + 1) && falls (drop i revs))
 
--- the place of a revision is told by its generation
+-- the generation determines the position of a revision
 pub fallen_place : (nodes : List NodeValue) (q : RevId) (j : ℕ) (top : NodeValue) → falls (revs_in nodes) ≡ true → top ≡ get_or nodes 0 top → place_of nodes q ≡ Some j → q.generation + j ≡ top.rev.generation
 fallen_place nodes q j top f first is =
     let revs = revs_in nodes in
@@ -88,7 +88,7 @@ fallen_place nodes q j top f first is =
 pub nowhere : (nodes : List NodeValue) (q : RevId) → ((j : ℕ) → place_of nodes q ≡ Some j → ⊥) → place_of nodes q ≡ None
 nowhere nodes q h = elim (place_of nodes q) as (λ o. place_of nodes q ≡ o → place_of nodes q ≡ None) [ None ↦ λ e. e | Some j ↦ λ e. absurd (h j e) ] refl
 
--- and where another one stands there, it is none of them
+-- if another revision is at that position, the revision is not in the list
 pub fallen_missed : (nodes : List NodeValue) (q : RevId) (p : ℕ) (top n : NodeValue) → falls (revs_in nodes) ≡ true → top ≡ get_or nodes 0 top → slice_get nodes p ≡ Some n → eq_by_cmp rev_cmp q n.rev ≡ false → q.generation + p ≡ top.rev.generation → place_of nodes q ≡ None
 fallen_missed nodes q p top n f first at other sum =
     nowhere nodes q (λ j is.
@@ -98,7 +98,7 @@ fallen_missed nodes q p top n f first at other sum =
     let node = same_Some n found.node (sym at ∙ ap (slice_get nodes) same ∙ found.at) in
     false≢true (sym other ∙ ap (λ (x : NodeValue). eq_by_cmp rev_cmp q x.rev) node ∙ ap (eq_by_cmp rev_cmp q) found.rev ∙ rev_tie_self q))
 
--- what doesn't fall never will
+-- a list that does not fall does not fall when it grows
 pub stays_unfallen : (nodes : List NodeValue) (k : ℕ) → falls (revs_in (take k nodes)) ≡ false → falls (revs_in nodes) ≡ false
 stays_unfallen nodes k other =
     elim (falls (revs_in nodes)) as (λ b. falls (revs_in nodes) ≡ b → b ≡ false) [

@@ -1,4 +1,4 @@
--- Bytes of texts as numbers, which stand to one another as the bytes do.
+-- Bytes as integers that are ordered as the bytes are.
 use Rattle.proof_prelude.proofs.{◌≡◌, ℕ, zero, suc, ◌+◌, ◌*◌, ◌^◌, ◌<◌, ◌≤◌, ◌++◌, ◌∷◌, [], List, Bool, true, false, not, ◌&&◌, length, length-drop, get_or, take, drop, replicate, sym, ap, ◌∙◌, refl, arith, and_parts, false≢true, beq, list_all, from_be_bytes, nat_cmp, bool_cmp, ordering_then, ordering_reverse, MatchOrdering, ranks, nat_cmp_total, bool_cmp_total, slice_cmp, pointwise, bytes_decides, nat_eq, drop_more, nat_tests, eqb-true, eq-eqb, Ordering, Less, Equal, Greater, drop-drop, take-append-drop, take_all}
 use Rattle.std.proofs.Math.Nat.{mul-le-mul_right, pow-suc}
 use Rattle.std.specs.Int.{w64}
@@ -7,7 +7,7 @@ use Rattle.std.specs.Cmp.Lexicographic.{nat_list_cmp_total}
 use Rattle.rev_core.specs.{is_sig, is_sig_byte}
 use Rattle.rev_tree.specs.{front_of}
 
--- each of some bytes is one
+-- all elements are bytes
 abbrev pub Bytes : List ℕ → Type 0
 Bytes [] = Unit {0}
 Bytes (b ∷ text) = (b < 256) × Bytes text
@@ -19,7 +19,7 @@ front_low (suc n) (b ∷ text) low =
     let most : b ≤ 255 = omega (arith, low.0) in
     omega (arith, pow-suc 256 n, front_low n text low.1, mul-le-mul_right (256 ^ n) most)
 
--- what has the smaller number stands first
+-- the string with the smaller integer is the smaller string
 pub front_less : (n : ℕ) (xs ys : List ℕ) → Bytes xs → Bytes ys → front_of n xs < front_of n ys → slice_cmp nat_cmp xs ys ≡ Less
 front_less zero xs ys bx by h = absurd (omega arith)
 front_less (suc n) xs [] bx by h = absurd (omega arith)
@@ -35,7 +35,7 @@ front_less (suc n) (x ∷ xs) (y ∷ ys) bx by h = split (nat_cmp x y) (ranks x 
         let more : y + 1 ≤ x = omega (arith, is) in
         absurd (omega (arith, h, mul-le-mul_right (256 ^ n) more, front_low n ys by.1))
 
--- and only the same bytes have the same number
+-- only equal bytes have equal integers
 pub front_exact : (n : ℕ) (xs ys : List ℕ) → Bytes xs → Bytes ys → n ≤ length xs → n ≤ length ys → front_of n xs ≡ front_of n ys → take n xs ≡ take n ys
 front_exact zero xs ys bx by lx ly h = refl
 front_exact (suc n) [] ys bx by lx ly h = absurd (omega arith)
@@ -54,7 +54,7 @@ front_exact (suc n) (x ∷ xs) (y ∷ ys) bx by lx ly h = split (nat_cmp x y) (r
         let more : y + 1 ≤ x = omega (arith, is) in
         absurd (omega (arith, h, mul-le-mul_right (256 ^ n) more, front_low n ys by.1))
 
--- so the numbers may be compared before the texts
+-- so the integers may be compared before the strings
 pub front_first : (n : ℕ) (xs ys : List ℕ) → Bytes xs → Bytes ys → (front_of n xs ≡ front_of n ys → ⊥) → nat_cmp (front_of n xs) (front_of n ys) ≡ slice_cmp nat_cmp xs ys
 front_first n xs ys bx by apart = split (nat_cmp (front_of n xs) (front_of n ys)) (ranks (front_of n xs) (front_of n ys))
   where
@@ -63,7 +63,7 @@ front_first n xs ys bx by apart = split (nat_cmp (front_of n xs) (front_of n ys)
     split Equal is = absurd (apart is)
     split Greater is = sym (nat_list_cmp_total.antisymm xs ys ∙ ap ordering_reverse (front_less n ys xs by bx is))
 
--- eight bytes are read so
+-- eight bytes are read as this integer
 pub eight_are : (text : List ℕ) → length text ≡ 8 → from_be_bytes w64 text ≡ front_of 8 text
 eight_are (a ∷ (b ∷ (c ∷ (d ∷ (e ∷ (f ∷ (g ∷ (h ∷ [])))))))) long = omega arith
 eight_are text long = absurd (omega arith)
@@ -71,7 +71,7 @@ eight_are text long = absurd (omega arith)
 step : (n : ℕ) (text : List ℕ) (i j : ℕ) → i < length text → j ≡ i + 1 → front_of (suc n) (drop i text) ≡ get_or text i 0 * 256 ^ n + front_of n (drop j text)
 step n text i j low next = ap (front_of (suc n)) (drop_more text i 0 low) ∙ (λ k. get_or text i 0 * 256 ^ n + front_of n (drop (sym next k) text))
 
--- and so from a place on
+-- eight bytes from an index are read as this integer
 pub eight_at : (text : List ℕ) (i : ℕ) → i + 8 ≤ length text
     → from_be_bytes w64 (get_or text i 0 ∷ (get_or text (i + 1) 0 ∷ (get_or text (i + 2) 0 ∷ (get_or text (i + 3) 0 ∷ (get_or text (i + 4) 0 ∷ (get_or text (i + 5) 0 ∷ (get_or text (i + 6) 0 ∷ (get_or text (i + 7) 0 ∷ []))))))))
     ≡ front_of 8 (drop i text)
@@ -93,7 +93,7 @@ zeros zero k = refl
 zeros (suc n) zero = refl
 zeros (suc n) (suc k) = omega (arith, zeros n k)
 
--- zeros behind a text count nothing
+-- zeros after a string do not change the integer
 pub front_of-padded : (n k : ℕ) (text : List ℕ) → front_of n (text ++ replicate k 0) ≡ front_of n text
 front_of-padded zero k text = refl
 front_of-padded (suc n) k [] = zeros (suc n) k
@@ -104,7 +104,7 @@ front_of-padded (suc n) k (b ∷ text) = ap (λ f. b * 256 ^ n + f) (front_of-pa
 byte_low : (b : ℕ) → is_sig_byte b ≡ true → b < 256
 byte_low b h = grind (arith, nat_tests)
 
--- a signature is of bytes
+-- a signature consists of bytes
 sig_bytes : (text : List ℕ) → list_all is_sig_byte text ≡ true → Bytes text
 sig_bytes [] h = tt
 sig_bytes (b ∷ text) h =
@@ -114,7 +114,7 @@ sig_bytes (b ∷ text) h =
 pub bytes_of_sig : (text : List ℕ) → is_sig text ≡ true → Bytes text
 bytes_of_sig text is = sig_bytes text (and_parts _ (list_all is_sig_byte text) is).1
 
--- ---- 32 bytes by four numbers
+-- ---- 32 bytes as four integers
 
 bytes_later : (k : ℕ) (text : List ℕ) → Bytes text → Bytes (drop k text)
 bytes_later zero text h = h
@@ -124,7 +124,7 @@ bytes_later (suc k) (b ∷ text) h = bytes_later k text h.1
 joined : (n : ℕ) (xs ys : List ℕ) → take n xs ≡ take n ys → drop n xs ≡ drop n ys → xs ≡ ys
 joined n xs ys p q = sym (take-append-drop n xs) ∙ (λ i. p i ++ q i) ∙ take-append-drop n ys
 
--- the numbers are the same just where the texts are
+-- the integers are equal exactly if the strings are
 pub words_decide : (xs ys : List ℕ) → Bytes xs → Bytes ys → length xs ≡ 32 → length ys ≡ 32
     → (nat_eq (front_of 8 xs) (front_of 8 ys) && nat_eq (front_of 8 (drop 8 xs)) (front_of 8 (drop 8 ys)) && nat_eq (front_of 8 (drop 16 xs)) (front_of 8 (drop 16 ys)) && nat_eq (front_of 8 (drop 24 xs)) (front_of 8 (drop 24 ys)))
     ≡ pointwise nat_eq xs ys
@@ -156,7 +156,7 @@ same_flag true false h = absurd (false≢true (sym h))
 same_flag false true h = absurd (false≢true (sym h))
 same_flag false false h = refl
 
--- what ties counts nothing in front
+-- equal first parts do not change the order
 pub behind_ties : (d e : Bool) (g h : ℕ) (o : Ordering) → not (beq d e) ≡ false → g ≡ h → o ≡ ordering_then (bool_cmp d e) (ordering_then (nat_cmp g h) o)
 behind_ties d e g h o flags level =
     let same = same_flag d e flags in

@@ -1,4 +1,4 @@
--- The index of the nodes: walked while they are few, and noted by marks from there on.
+-- The index of the nodes: none while they can be scanned, hashes otherwise.
 use Rattle.proof_prelude.proofs.{◌≡◌, ℕ, suc, ◌+◌, ◌<◌, ◌≤◌, ◌&&◌, ◌||◌, List, [], ◌∷◌, ◌++◌, length, take, drop, get_or, Option, Some, None, Bool, true, false, not, cond, is_some, inl, inr, sym, ap, ◌∙◌, subst, refl, arith, length-append, length-take, false≢true, and-false, drop_more, drop_all, nat_eq, nat_lt, eq_by_cmp, option_or, lookup, same_Some, lt-ltb, ltb-true, eq-eqb, eqb-true}
 use Rattle.std.specs.FinMap.{find}
 use Rattle.rev_core.specs.{RevId, rev_cmp, rev_tie_is, is_among}
@@ -6,7 +6,7 @@ use Rattle.rev_tree.specs.{some_or, falls, index_for, mark_of, noted, noted_from
 use Rattle.rev_tree.proofs.Linking.{length-revs_in}
 use Rattle.rev_tree.proofs.Leaves.{revs_more}
 
--- an index of many that don't fall, and none of those that do
+-- the index of many nodes: empty if they fall, else all hashes
 pub index_many : (revs : List RevId) → MOST_WALKED < length revs → falls revs ≡ false → index_for revs ≡ noted_from [] 0 revs
 index_many revs many stays =
     ap (λ b. cond (b && not (falls revs)) (noted_from [] 0 revs) []) (lt-ltb MOST_WALKED (length revs) many)
@@ -24,12 +24,12 @@ index_few revs few =
       | false ↦ λ _. refl
     ] refl
 
--- what an index that is empty, or not, says
+-- what follows from an empty or nonempty index
 pub index_gone : (revs : List RevId) (es : List (ℕ × ℕ)) → es ≡ index_for revs → nat_eq (length es) 0 ≡ true → index_for revs ≡ []
 index_gone revs [] is h = sym is
 index_gone revs (e ∷ es) is h = absurd (omega (arith, eqb-true (length (e ∷ es)) 0 h))
 
--- where the index has places, the revisions are many that don't fall
+-- if the index has entries, the revisions are many and do not fall
 pub index_told : (revs : List RevId) → 0 < length (index_for revs) → (MOST_WALKED < length revs) × (falls revs ≡ false)
 index_told revs some =
     elim (nat_lt MOST_WALKED (length revs)) as (λ b. nat_lt MOST_WALKED (length revs) ≡ b → 0 < length (cond (b && not (falls revs)) (noted_from [] 0 revs) []) → (MOST_WALKED < length revs) × (falls revs ≡ false)) [
@@ -44,7 +44,7 @@ pub index_held : (revs : List RevId) (es : List (ℕ × ℕ)) → es ≡ index_f
 index_held revs [] is h = absurd (false≢true (sym h))
 index_held revs (e ∷ es) is h = index_told revs (omega (arith, ap length is))
 
--- ---- one mark more
+-- ---- one more hash
 
 lookup_push : (t : ℕ → Bool) (es : List (ℕ × ℕ)) (m i : ℕ) → lookup t (es ++ (m, i) ∷ []) ≡ option_or (lookup t es) (cond (t m) (Some i) None)
 lookup_push t [] m i = refl
@@ -69,7 +69,7 @@ some_last : (a : Option ℕ) (i : ℕ) → is_some (option_or a (Some i)) ≡ tr
 some_last None i = refl
 some_last (Some x) i = refl
 
--- what has a place keeps one
+-- a hash that has a position keeps one
 noted_kept : (q : ℕ) (es : List (ℕ × ℕ)) (m i : ℕ) → is_some (lookup (nat_eq q) es) ≡ true → is_some (lookup (nat_eq q) (noted es m i)) ≡ true
 noted_kept q es m i h =
     elim (is_some (lookup (nat_eq m) es)) as (λ b. is_some (lookup (nat_eq q) (cond b es (es ++ (m, i) ∷ []))) ≡ true) [
@@ -77,7 +77,7 @@ noted_kept q es m i h =
       | false ↦ ap is_some (lookup_push (nat_eq q) es m i) ∙ some_first (lookup (nat_eq q) es) _ h
     ]
 
--- and the mark has one
+-- an added hash has a position
 noted_there : (es : List (ℕ × ℕ)) (m i : ℕ) → is_some (lookup (nat_eq m) (noted es m i)) ≡ true
 noted_there es m i =
     elim (is_some (lookup (nat_eq m) es)) as (λ b. is_some (lookup (nat_eq m) es) ≡ b → is_some (lookup (nat_eq m) (cond b es (es ++ (m, i) ∷ []))) ≡ true) [
@@ -88,7 +88,7 @@ noted_there es m i =
           ∙ some_last (lookup (nat_eq m) es) i
     ] refl
 
--- each place is below a bound
+-- each position is below a bound
 abbrev Below : List (ℕ × ℕ) → ℕ → Type 0
 Below es n = (q p : ℕ) → lookup (nat_eq q) es ≡ Some p → p < n
 
@@ -106,14 +106,14 @@ noted_below es m i low q p is =
     only true h = omega (arith, same_Some i p h)
     only false h = absurd (false≢true (ap is_some h))
 
--- ---- the marks of revisions
+-- ---- the hashes of revisions
 
 length_noted_from : (es : List (ℕ × ℕ)) (i : ℕ) (revs : List RevId) → length (noted_from es i revs) ≤ length es + length revs
 length_noted_from es i [] = omega arith
 length_noted_from es i (r ∷ revs) =
     omega (arith, length_noted es (mark_of r) i, length_noted_from (noted es (mark_of r) i) (i + 1) revs)
 
--- there are no more places than nodes
+-- there are no more entries than nodes
 pub length_marks : (revs : List RevId) → length (noted_from [] 0 revs) ≤ length revs
 length_marks revs = omega (arith, length_noted_from [] 0 revs)
 
@@ -137,7 +137,7 @@ some_noted [] h = absurd (omega arith)
 some_noted (r ∷ revs) h =
     some_found (mark_of r) (noted_from [] 0 (r ∷ revs)) (all_kept (mark_of r) (noted [] (mark_of r) 0) 1 revs (noted_there [] (mark_of r) 0))
 
--- many revisions with no index fall
+-- many revisions with an empty index fall
 pub index_empty : (revs : List RevId) → MOST_WALKED < length revs → length (index_for revs) ≡ 0 → falls revs ≡ true
 index_empty revs many none =
     elim (falls revs) as (λ f. falls revs ≡ f → f ≡ true) [
@@ -145,7 +145,7 @@ index_empty revs many none =
       | false ↦ λ e. absurd (omega (arith, some_noted revs (omega (arith, many)), ap length (index_many revs many e), none))
     ] refl
 
--- a revision whose mark has no place is none of them
+-- a revision whose hash has no position is not in the list
 pub unmarked : (es : List (ℕ × ℕ)) (i : ℕ) (revs : List RevId) (q : RevId) → is_some (lookup (nat_eq (mark_of q)) (noted_from es i revs)) ≡ false → is_among q revs ≡ false
 unmarked es i [] q h = refl
 unmarked es i (r ∷ revs) q h =
@@ -161,7 +161,7 @@ all_below es i [] low q p is = omega (arith, low q p is)
 all_below es i (r ∷ revs) low q p is =
     omega (arith, all_below (noted es (mark_of r) i) (i + 1) revs (noted_below es (mark_of r) i low) q p is)
 
--- and a place is that of a node
+-- each position is in range
 pub marks_within : (revs : List RevId) (q p : ℕ) → lookup (nat_eq q) (noted_from [] 0 revs) ≡ Some p → p < length revs
 marks_within revs q p is = omega (arith, all_below [] 0 revs (λ q p h. absurd (false≢true (ap is_some h))) q p is)
 
@@ -178,7 +178,7 @@ marks_more nodes i n low is =
     ∙ sym (noted_push [] 0 (revs_in (take i nodes)) n.rev)
     ∙ ap (noted_from [] 0) (sym (revs_more nodes i n low is))
 
--- ---- the walk for a revision
+-- ---- scanning for a revision
 
 pub walk_here : (nodes : List NodeValue) (i : ℕ) (d : NodeValue) (q : RevId) → i < length nodes → eq_by_cmp rev_cmp q (get_or nodes i d).rev ≡ true → find rev_cmp q (places_from i (revs_in (drop i nodes))) ≡ Some i
 walk_here nodes i d q low tie =

@@ -1,4 +1,4 @@
--- The leaves among the nodes, counted, put in order and sorted.
+-- The leaves among the nodes: counted, sorted, and the first.
 use Rattle.proof_prelude.proofs.{◌≡◌, ℕ, zero, suc, ◌+◌, ◌<◌, ◌≤◌, ◌&&◌, ◌++◌, ◌∷◌, [], List, Bool, true, false, cond, not, length, take, drop, get_or, filter, sym, ap, ◌∙◌, subst, Option, Some, None, is_some, refl, arith, add-one, false≢true, or_parts, list_any, list_any-IsPermutation, length_permutation, eq_by_cmp, is_lt, is_eq, bool_cmp, ordering_reverse, ordering_then, IsTotalOrder, keys, contains_key-keys, IsAntisymmetric, by_order, take_more, map-append, filter-append, option_map, option_map_or, option_to_list, same_Some, IsSortedBy, IsPermutation, Ordering, Less, Equal, Greater, take_all, take-append-drop, append-nil, length-append}
 use Rattle.rev_core.specs.{RevId, rev_cmp}
 use Rattle.rev_tree.specs.{in_order, placed, first_of, first_of-placed, better, only_of, same_in_order, in_order-push, in_order-cons, in_order-nil, length-placed, TreeValue, is_leaf, is_deleted, leaf_cmp, leaves, ContentValue, leaf_cmp_total, leaf_cmp_exact, leaf_tie, any_agree, any_filter, revs_in, tree_of, deletes, goes_before, Distinct, IsLinked, NodeValue}
@@ -11,24 +11,24 @@ revs_more nodes i n low is =
     ap revs_in (take_more nodes i n low ∙ ap (λ x. take i nodes ++ x ∷ []) (sym is))
     ∙ map-append (λ (x : NodeValue). x.rev) (take i nodes) (n ∷ [])
 
--- the mark of a node tells whether its revision is a leaf
+-- the flag of a node says whether its revision is a leaf
 pub leaf_item : (nodes items : List NodeValue) (t : TreeValue) → IsLinked nodes → tree_of nodes ≡ t → items ≡ nodes → (i : ℕ) (n : NodeValue) → i < length items → n ≡ get_or items i n → is_leaf t n.rev ≡ not n.has_child
 leaf_item nodes items t linked view same i n low is =
     leaf_is nodes t n.rev (Some n) linked view
     (node_at nodes linked.once i n (read_at nodes i n (subst (λ l. i < length l) same low) (subst (λ l. n ≡ get_or l i n) same is)))
 
--- and its content whether it deletes
+-- the content of a node says whether its revision deletes
 pub deleted_item : (nodes items : List NodeValue) (t : TreeValue) → IsLinked nodes → tree_of nodes ≡ t → items ≡ nodes → (i : ℕ) (n : NodeValue) → i < length items → n ≡ get_or items i n → is_deleted t n.rev ≡ deletes n
 deleted_item nodes items t linked view same i n low is =
     ap (λ o. option_map_or (λ (b : ContentValue). b.deleted) o false)
     (content_is nodes t n.rev (Some n) linked view
     (node_at nodes linked.once i n (read_at nodes i n (subst (λ l. i < length l) same low) (subst (λ l. n ≡ get_or l i n) same is))))
 
--- the leaves so far, with one node more
+-- the leaves so far, and one more node
 pub leaves_pushed : (t : TreeValue) (nodes : List NodeValue) (i : ℕ) (n : NodeValue) → i < length nodes → n ≡ get_or nodes i n → filter (is_leaf t) (revs_in (take (i + 1) nodes)) ≡ filter (is_leaf t) (revs_in (take i nodes)) ++ cond (is_leaf t n.rev) (n.rev ∷ []) []
 leaves_pushed t nodes i n low is = ap (filter (is_leaf t)) (revs_more nodes i n low is) ∙ filter-append (is_leaf t) (revs_in (take i nodes)) (n.rev ∷ [])
 
--- one revision more: a leaf is placed, another is passed over
+-- one more revision: a leaf is inserted, any other is skipped
 pub leaves_more : (t : TreeValue) (nodes : List NodeValue) (i : ℕ) (n : NodeValue) → i < length nodes → n ≡ get_or nodes i n
     → in_order (leaf_cmp t) (filter (is_leaf t) (revs_in (take (i + 1) nodes)))
     ≡ cond (is_leaf t n.rev) (placed (leaf_cmp t) n.rev (in_order (leaf_cmp t) (filter (is_leaf t) (revs_in (take i nodes))))) (in_order (leaf_cmp t) (filter (is_leaf t) (revs_in (take i nodes))))
@@ -40,7 +40,7 @@ leaves_more t nodes i n low is =
       | false ↦ ap (in_order (leaf_cmp t)) (append-nil before)
     ]
 
--- the nodes have all leaves among them
+-- the nodes include all leaves
 pub leaves_of_nodes : (nodes : List NodeValue) (t : TreeValue) → IsLinked nodes → tree_of nodes ≡ t → in_order (leaf_cmp t) (filter (is_leaf t) (revs_in nodes)) ≡ leaves t
 leaves_of_nodes nodes t linked view =
     same_in_order (leaf_cmp_total t) (leaf_cmp_exact t) (filter (is_leaf t) (revs_in nodes)) (filter (is_leaf t) (keys t.origins)) (λ q.
@@ -52,7 +52,7 @@ leaves_of_nodes nodes t linked view =
 
 -- ---- the first
 
--- a node is that of the first, and tells whether it is deleted
+-- the node is that of the first leaf, with its deleted flag
 pub record IsBest (t : TreeValue) (ordered : List RevId) (best : Option NodeValue) : Type 0 where
   pub first : option_map (λ (n : NodeValue). n.rev) best ≡ first_of ordered
   pub told : (n : NodeValue) → best ≡ Some n → is_deleted t n.rev ≡ deletes n
@@ -87,7 +87,7 @@ pub best_of_all : (nodes items : List NodeValue) (t : TreeValue) → IsLinked no
 best_of_all nodes items t linked view same k best all h =
     h.first ∙ ap (λ l. first_of (in_order (leaf_cmp t) (filter (is_leaf t) (revs_in l)))) (take_all k items all ∙ same) ∙ ap first_of (leaves_of_nodes nodes t linked view)
 
--- ---- how many
+-- ---- the number of leaves
 
 pub count_once : (t : TreeValue) (revs : List RevId) → Distinct revs → length (in_order (leaf_cmp t) (filter (is_leaf t) revs)) ≡ length (filter (is_leaf t) revs)
 count_once t [] once = ap length (in_order-nil (leaf_cmp t))
@@ -113,7 +113,7 @@ count_more t nodes i n low is =
     ∙ length-append before (cond (is_leaf t n.rev) (n.rev ∷ []) [])
     ∙ ap (λ k. length before + k) (elim (is_leaf t n.rev) as (λ b. length (cond b (n.rev ∷ []) []) ≡ cond b 1 0) [ true ↦ refl | false ↦ refl ])
 
--- ---- one alone
+-- ---- a single leaf
 
 pub none_there : (found : Option RevId) → is_some found ≡ false → found ≡ None
 none_there None e = refl
@@ -124,7 +124,7 @@ two_are_not_one [] two = absurd (omega (arith, two))
 two_are_not_one (x ∷ []) two = absurd (omega (arith, two))
 two_are_not_one (x ∷ (y ∷ xs)) two = refl
 
--- a beginning of the nodes has no more leaves than all
+-- a prefix of the nodes has no more leaves than all nodes
 as_many : (t : TreeValue) (nodes : List NodeValue) (k : ℕ) → length (filter (is_leaf t) (revs_in (take k nodes))) ≤ length (filter (is_leaf t) (revs_in nodes))
 as_many t nodes k =
     let first = revs_in (take k nodes) in
@@ -136,7 +136,7 @@ as_many t nodes k =
     ∙ length-append (filter (is_leaf t) first) (filter (is_leaf t) rest) in
     omega (arith, e)
 
--- a leaf behind another: none is alone
+-- with a second leaf there is no single leaf
 pub second_leaf : (nodes : List NodeValue) (t : TreeValue) → IsLinked nodes → tree_of nodes ≡ t → (i : ℕ) (n : NodeValue) (found : Option RevId) → i < length nodes → n ≡ get_or nodes i n → filter (is_leaf t) (revs_in (take i nodes)) ≡ option_to_list found → is_some found ≡ true → is_leaf t n.rev ≡ true → None ≡ only_of (leaves t)
 second_leaf nodes t linked view i n found low is before some leaf =
     let more = count_more t nodes i n low is ∙ ap (λ b. length (filter (is_leaf t) (revs_in (take i nodes))) + cond b 1 0) leaf in
@@ -149,7 +149,7 @@ second_leaf nodes t linked view i n found low is before some leaf =
     one_of None e = absurd (false≢true e)
     one_of (Some r) e = refl
 
--- the leaves of all nodes, where there is one at most
+-- the leaves of all nodes, if there is at most one
 pub lone_leaf : (nodes : List NodeValue) (t : TreeValue) → IsLinked nodes → tree_of nodes ≡ t → (found : Option RevId) → filter (is_leaf t) (revs_in nodes) ≡ option_to_list found → found ≡ only_of (leaves t)
 lone_leaf nodes t linked view found e = sym (ap only_of (sym (leaves_of_nodes nodes t linked view) ∙ ap (in_order (leaf_cmp t)) e ∙ ordered found) ∙ only found)
   where
@@ -163,7 +163,7 @@ lone_leaf nodes t linked view found e = sym (ap only_of (sym (leaves_of_nodes no
 
 -- ---- a sorted list
 
--- no element is less than the one before it
+-- no element is less than the previous one
 abbrev Rises : {K : Type 0} → (K → K → Ordering) → List K → Type 0
 Rises R [] = Unit {0}
 Rises R (x ∷ []) = Unit {0}
@@ -194,7 +194,7 @@ goes_first a Less e ne nl = absurd (false≢true (sym nl))
 goes_first a Equal e ne nl = absurd (false≢true (sym ne ∙ ap is_eq e))
 goes_first a Greater e ne nl = e
 
--- one that rises and has nothing twice is in order
+-- a rising list without duplicates is in order
 pub in_order-sorted : {K : Type 0} (R : K → K → Ordering) → IsTotalOrder R → (xs : List K) → Rises R xs → length xs ≤ length (in_order R xs) → in_order R xs ≡ xs
 in_order-sorted R o [] up h = in_order-nil R
 in_order-sorted {K} R o (x ∷ xs) up h =
@@ -211,7 +211,7 @@ in_order-sorted {K} R o (x ∷ xs) up h =
     placed_first (y ∷ xs) up none =
         ap (λ r. by_order r (x ∷ (y ∷ xs)) (y ∷ xs) (y ∷ placed R x xs)) (goes_first (R x y) (R y x) (o.antisymm x y) (or_parts (eq_by_cmp R x y) (list_any (eq_by_cmp R x) xs) none).0 up.0)
 
--- and a sorted list that has the elements of one with nothing twice is that one in order
+-- a sorted list with the elements of a list without duplicates is that list in order
 pub sorted_in_order : {K : Type 0} (R : K → K → Ordering) → IsTotalOrder R → IsAntisymmetric R → (xs ys : List K) → length (in_order R xs) ≡ length xs → IsPermutation xs ys → IsSortedBy (λ x y. is_lt (R x y)) ys → ys ≡ in_order R xs
 sorted_in_order {K} R o exact xs ys once moved up =
     let same = same_in_order o exact xs ys (λ q. list_any-IsPermutation (eq_by_cmp R q) xs ys moved) in

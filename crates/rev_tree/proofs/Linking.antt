@@ -8,7 +8,7 @@ use Rattle.rev_tree.proofs.Places.{is_some-node_of, node_rev, node_at, among_at,
 use Rattle.rev_tree.proofs.Setting.{revs_in-set, node_of-set}
 use Rattle.rev_tree.proofs.Views.{part, get-origins, get-parents, get-contents, joined_entries, same_entries}
 
--- ---- a node is changed: what a part of it becomes
+-- ---- a part of a changed node
 
 cond_part : {X : Type 0} (f : NodeValue → Option X) (b : Bool) (m : NodeValue) (o : Option NodeValue) → part f (cond b (Some m) o) ≡ cond b (f m) (part f o)
 cond_part f true m o = refl
@@ -24,7 +24,7 @@ module _ {X : Type 0} (f : NodeValue → Option X) (nodes : List NodeValue) (d :
   set_part : (q : RevId) → part f (node_of (set nodes k m) q) ≡ cond (eq_by_cmp rev_cmp q n.rev) (f m) (part f (node_of nodes q))
   set_part q = ap (part f) (node_of-set nodes d k n m at same q) ∙ cond_part f (eq_by_cmp rev_cmp q n.rev) m (node_of nodes q)
 
-  -- a part that isn't touched stays
+  -- a part that is not changed stays
   pub part_kept : f m ≡ f n → from_entries {R = rev_cmp} (entries_of f (set nodes k m)) ≡ from_entries (entries_of f nodes)
   part_kept e = same_entries f f nodes (set nodes k m) d still_distinct (λ q.
       set_part q ∙ elim (eq_by_cmp rev_cmp q n.rev) as (λ b. eq_by_cmp rev_cmp q n.rev ≡ b → cond b (f m) (part f (node_of nodes q)) ≡ part f (node_of nodes q)) [
@@ -32,7 +32,7 @@ module _ {X : Type 0} (f : NodeValue → Option X) (nodes : List NodeValue) (d :
         | false ↦ λ _. refl
       ] refl)
 
-  -- a part that was none and is filled is one entry more
+  -- a part that was empty and is filled is one more entry
   pub part_filled : (x : X) → f n ≡ None → f m ≡ Some x → from_entries {R = rev_cmp} (entries_of f (set nodes k m)) ≡ joined (from_entries (entries_of f nodes)) ((n.rev, x) ∷ [])
   part_filled x none some = joined_entries f f nodes (set nodes k m) ((n.rev, x) ∷ []) d still_distinct (λ q.
       set_part q ∙ elim (eq_by_cmp rev_cmp q n.rev) as (λ b. eq_by_cmp rev_cmp q n.rev ≡ b → cond b (f m) (part f (node_of nodes q)) ≡ option_or (part f (node_of nodes q)) (cond b (Some x) None)) [
@@ -44,7 +44,7 @@ module _ {X : Type 0} (f : NodeValue → Option X) (nodes : List NodeValue) (d :
       or_none None = refl
       or_none (Some y) = refl
 
--- ---- what holds of each node, with the marks told by a test
+-- ---- the invariant of each node
 
 pub record IsMarked (nodes : List NodeValue) (mark : RevId → Bool) : Type 0 where
   pub once : Distinct (revs_in nodes)
@@ -115,14 +115,14 @@ module _ (nodes : List NodeValue) (k : ℕ) (n : NodeValue) (linked : IsLinked n
         same_parent : (q : RevId) → is_parent (tree_of nodes) q ≡ is_parent (tree_of (set nodes k (with_body n b))) q
         same_parent q = λ i. is_parent (record { origins = (tree_of nodes).origins; parents = sym given_parents i; contents = (tree_of nodes).contents }) q
 
-  -- a node that has one keeps it
+  -- a node that has a content keeps it
   pub tree_has : (b : ContentValue) → is_some n.content ≡ true → (r : RevId) → slice_get (revs_in nodes) k ≡ Some r → tree_of nodes ≡ with_content (tree_of nodes) r b
   tree_has b some r is =
       let there = ap is_some (get-contents nodes linked.once r ∙ ap (λ q. part (λ (x : NodeValue). x.content) (node_of nodes q)) (sym (rev_is r is)) ∙ ap (part (λ (x : NodeValue). x.content)) same_node) ∙ some in
       let cs = same_joined (tree_of nodes).contents ((r, b) ∷ []) (ap (λ t. t && true) there) in
       λ i. record { origins = (tree_of nodes).origins; parents = (tree_of nodes).parents; contents = sym cs i }
 
--- what a content given to the node at a place makes of the nodes
+-- the effect of giving a content to the node at an index
 pub record IsGiven (nodes after : List NodeValue) (k : ℕ) (b : ContentValue) : Type 0 where
   pub revs : revs_in after ≡ revs_in nodes
   pub linked : IsLinked after
@@ -143,7 +143,7 @@ with_parent n j = record { rev = n.rev; parent = Some j; content = n.content; or
 abbrev pub with_mark : NodeValue → NodeValue
 with_mark n = record { rev = n.rev; parent = n.parent; content = n.content; origin = n.origin; has_child = true }
 
--- whose parent a new edge names
+-- which revisions are parents after a new edge
 pub is_parent-edge : (t : TreeValue) (c p : RevId) → get t.parents c ≡ None → (q : RevId) → (is_parent t q || eq_by_cmp rev_cmp q p) ≡ is_parent (with_edge t c p) q
 is_parent-edge t c p none q =
     both_ways _ _
@@ -180,7 +180,7 @@ within_known revs (Some i) h low = there revs i low
 pub length-revs_in : (nodes : List NodeValue) → length (revs_in nodes) ≡ length nodes
 length-revs_in nodes = length-map nodes (λ (n : NodeValue). n.rev)
 
--- the child n at its place k names the place j, and then the node m that is at j is marked
+-- the child n at index k names the index j, and then the node m at j is marked
 module _ (nodes : List NodeValue) (k j : ℕ) (n m : NodeValue) (linked : IsLinked nodes) (at : slice_get nodes k ≡ Some n) (low : j < length nodes) (none : n.parent ≡ None)
     (there : slice_get (set nodes k (with_parent n j)) j ≡ Some m) where
   once_named : Distinct (revs_in (set nodes k (with_parent n j)))
@@ -189,7 +189,7 @@ module _ (nodes : List NodeValue) (k j : ℕ) (n m : NodeValue) (linked : IsLink
   pub revs_linked : revs_in (set (set nodes k (with_parent n j)) j (with_mark m)) ≡ revs_in nodes
   revs_linked = revs_in-set (set nodes k (with_parent n j)) j m (with_mark m) there refl ∙ revs_in-set nodes k n (with_parent n j) at refl
 
-  -- a part that is not touched
+  -- a part that neither step changes
   kept_twice : {X : Type 0} (f : NodeValue → Option X) → f (with_parent n j) ≡ f n → f (with_mark m) ≡ f m → from_entries {R = rev_cmp} (entries_of f (set (set nodes k (with_parent n j)) j (with_mark m))) ≡ from_entries (entries_of f nodes)
   kept_twice f e g = part_kept f (set nodes k (with_parent n j)) once_named j m (with_mark m) there refl g ∙ part_kept f nodes linked.once k n (with_parent n j) at refl e
 
@@ -223,7 +223,7 @@ module _ (nodes : List NodeValue) (k j : ℕ) (n m : NodeValue) (linked : IsLink
       ∙ ap (λ u. is_parent u q) (sym (tree_linked n.rev m.rev (rev_at_place nodes k n at) (ap (λ revs. slice_get revs j) (sym (revs_in-set nodes k n (with_parent n j) at refl)) ∙ rev_at_place (set nodes k (with_parent n j)) j m there))))
       second
 
--- what an edge from the node at one place to that at another makes of the nodes
+-- the effect of an edge from the node at one index to the node at another
 pub record IsEdged (nodes after : List NodeValue) (k j : ℕ) : Type 0 where
   pub revs : revs_in after ≡ revs_in nodes
   pub linked : IsLinked after
@@ -272,7 +272,7 @@ parent_among revs (Some n) r h = by n.parent h
     by None h = absurd (false≢true (ap is_some h))
     by (Some i) h = among_at revs i r h
 
--- a revision that has no node is nobody's parent
+-- a revision that has no node is not a parent
 nobodys : (nodes : List NodeValue) → Distinct (revs_in nodes) → (r : RevId) → node_of nodes r ≡ None → is_parent (tree_of nodes) r ≡ false
 nobodys nodes d r none =
     elim (is_parent (tree_of nodes) r) as (λ b. is_parent (tree_of nodes) r ≡ b → b ≡ false) [
@@ -338,7 +338,7 @@ module _ (nodes : List NodeValue) (r : RevId) (o : Origin) (linked : IsLinked no
     ];
   }
 
--- what a new revision makes of the nodes
+-- the effect of a new revision
 pub record IsAdded (nodes after : List NodeValue) (r : RevId) (o : Origin) : Type 0 where
   pub revs : revs_in after ≡ revs_in nodes ++ r ∷ []
   pub linked : IsLinked after
@@ -355,7 +355,7 @@ added nodes after r o linked new is =
       kept = λ i q h. ap (λ l. slice_get l i) (revs_in-push nodes (new_node r o)) ∙ slice_get-append (revs_in nodes) (r ∷ []) i q h;
     })
 
--- a revision that is there
+-- a revision that has a node is not added
 pub tree_known : (nodes : List NodeValue) (r : RevId) (o : Origin) (n : NodeValue) → IsLinked nodes → node_of nodes r ≡ Some n → tree_of nodes ≡ with_rev (tree_of nodes) r o
 tree_known nodes r o n linked is =
     let os = same_joined (tree_of nodes).origins ((r, o) ∷ []) (ap (λ t. t && true) (ap is_some (get-origins nodes linked.once r ∙ ap (part (λ (x : NodeValue). Some x.origin)) is))) in

@@ -1,10 +1,10 @@
--- Nodes by their places and by their revisions.
+-- Nodes by index and by revision.
 use Rattle.proof_prelude.proofs.{◌≡◌, ℕ, zero, suc, ◌+◌, ◌<◌, List, [], ◌∷◌, ◌++◌, map, length, get_or, Option, Some, None, true, false, ◌||◌, cond, is_some, IfSome, slice_get, sym, ap, ◌∙◌, subst, refl, arith, false≢true, or_right, or_parts, or_from, slice_get-map, slice_get_within, slice_get_read, same_Some, map-append, eq_by_cmp, option_map, option_or, eq_by_cmp_equiv}
 use Rattle.std.specs.FinMap.{find}
 use Rattle.rev_core.specs.{RevId, rev_cmp, rev_cmp_total, rev_tie_is, rev_tie_self, is_among}
 use Rattle.rev_tree.specs.{find-joined, revs_in, node_of, place_of, places_from, Distinct, NodeValue}
 
--- the place, counted from i, is that of the revision's node
+-- index j, counted from i, is that of the node of q
 pub record IsFound (nodes : List NodeValue) (q : RevId) (i j : ℕ) : Type 0 where
   pub place : ℕ
   pub node : NodeValue
@@ -39,7 +39,7 @@ place_found (n ∷ nodes) q i j h =
           }
     ] refl h
 
--- and no place where there is no node
+-- there is no index if there is no node
 pub place_none : (nodes : List NodeValue) (q : RevId) (i : ℕ) → is_some (find rev_cmp q (places_from i (revs_in nodes))) ≡ is_some (node_of nodes q)
 place_none [] q i = refl
 place_none (n ∷ nodes) q i =
@@ -52,7 +52,7 @@ pub none_of : {X : Type 0} (o : Option X) → is_some o ≡ false → o ≡ None
 none_of None h = refl
 none_of (Some x) h = absurd (false≢true (sym h))
 
--- a node is found just where the revision is among those of the nodes
+-- a node is found exactly if the revision is among those of the nodes
 pub is_some-node_of : (nodes : List NodeValue) (q : RevId) → is_some (node_of nodes q) ≡ is_among q (revs_in nodes)
 is_some-node_of [] q = refl
 is_some-node_of (n ∷ nodes) q =
@@ -61,7 +61,7 @@ is_some-node_of (n ∷ nodes) q =
       | false ↦ is_some-node_of nodes q
     ]
 
--- the node of a revision has it
+-- the node of a revision has this revision
 pub node_rev : (nodes : List NodeValue) (q : RevId) (n : NodeValue) → node_of nodes q ≡ Some n → n.rev ≡ q
 node_rev [] q n h = absurd (false≢true (ap is_some h))
 node_rev (m ∷ nodes) q n h =
@@ -78,7 +78,7 @@ among_at [] k r h = absurd (false≢true (ap is_some h))
 among_at (x ∷ revs) zero r h = ap (λ y. eq_by_cmp rev_cmp r y || is_among r revs) (same_Some x r h) ∙ ap (λ b. b || is_among r revs) (rev_tie_self r)
 among_at (x ∷ revs) (suc k) r h = or_right _ _ (among_at revs k r h)
 
--- a revision that isn't among others is none of them
+-- a revision that is not in a list differs from each of its members
 pub apart_from : (x : RevId) (revs : List RevId) (r : RevId) → is_among x revs ≡ false → is_among r revs ≡ true → eq_by_cmp rev_cmp r x ≡ false
 apart_from x revs r none h =
     elim (eq_by_cmp rev_cmp r x) as (λ b. eq_by_cmp rev_cmp r x ≡ b → b ≡ false) [
@@ -86,7 +86,7 @@ apart_from x revs r none h =
       | false ↦ λ _. refl
     ] refl
 
--- the node at a place is that of its revision
+-- the node at an index is the node of its revision
 pub node_at : (nodes : List NodeValue) → Distinct (revs_in nodes) → (k : ℕ) (n : NodeValue) → slice_get nodes k ≡ Some n → node_of nodes n.rev ≡ Some n
 node_at [] d k n h = absurd (false≢true (ap is_some h))
 node_at (m ∷ nodes) d zero n h =
@@ -97,7 +97,7 @@ node_at (m ∷ nodes) d (suc k) n h =
     ap (λ b. cond b (Some m) (node_of nodes n.rev)) (apart_from m.rev (revs_in nodes) n.rev d.0 (among_at (revs_in nodes) k n.rev (rev_at_place nodes k n h)))
     ∙ node_at nodes d.1 k n h
 
--- ---- one node more
+-- ---- one more node
 
 pub node_of-push : (nodes : List NodeValue) (n : NodeValue) (q : RevId) → node_of (nodes ++ n ∷ []) q ≡ option_or (node_of nodes q) (cond (eq_by_cmp rev_cmp q n.rev) (Some n) None)
 node_of-push nodes n q = ap (find rev_cmp q) (map-append (λ (m : NodeValue). (m.rev, m)) nodes (n ∷ [])) ∙ find-joined q (map (λ (m : NodeValue). (m.rev, m)) nodes) ((n.rev, n) ∷ [])
@@ -118,7 +118,7 @@ distinct_push (x ∷ revs) r d none =
     let parts = or_parts (eq_by_cmp rev_cmp r x) (is_among r revs) none in
     (among_push revs r x ∙ or_from _ _ d.0 ((eq_by_cmp_equiv rev_cmp_total).symm x r ∙ parts.0), distinct_push revs r d.1 parts.1)
 
--- a place stays
+-- an index stays valid
 pub slice_get-append : {X : Type 0} (xs ys : List X) (k : ℕ) (x : X) → slice_get xs k ≡ Some x → slice_get (xs ++ ys) k ≡ Some x
 slice_get-append [] ys k x h = absurd (false≢true (ap is_some h))
 slice_get-append (z ∷ xs) ys zero x h = h
@@ -128,7 +128,7 @@ pub slice_get-last : {X : Type 0} (xs : List X) (x : X) → slice_get (xs ++ x �
 slice_get-last [] x = refl
 slice_get-last (y ∷ xs) x = slice_get-last xs x
 
--- ---- places from the beginning
+-- ---- indices from the start
 
 pub record IsNodeOf (nodes : List NodeValue) (q : RevId) (i : ℕ) : Type 0 where
   pub node : NodeValue
@@ -156,7 +156,7 @@ pub place_within : (nodes : List NodeValue) (q : RevId) (o : Option ℕ) → o �
 place_within nodes q None is = tt
 place_within nodes q (Some i) is = (place_known nodes q i (sym is)).within
 
--- the place at which a revision stands
+-- the index of a revision
 placed_at : (nodes : List NodeValue) → Distinct (revs_in nodes) → (i k : ℕ) (n : NodeValue) → slice_get nodes k ≡ Some n → find rev_cmp n.rev (places_from i (revs_in nodes)) ≡ Some (i + k)
 placed_at [] d i k n h = absurd (false≢true (ap is_some h))
 placed_at (m ∷ nodes) d i zero n h =
@@ -174,7 +174,7 @@ place_at nodes d k n q h tie =
     let here : 0 + k ≡ k = omega arith in
     ap (place_of nodes) (rev_tie_is q n.rev tie) ∙ placed_at nodes d 0 k n h ∙ ap Some here
 
--- what is read at a place
+-- what is read at an index
 pub read_at : {X : Type 0} (xs : List X) (k : ℕ) (x : X) → k < length xs → x ≡ get_or xs k x → slice_get xs k ≡ Some x
 read_at xs k x low is = slice_get_read xs (length xs) k x refl low is
 

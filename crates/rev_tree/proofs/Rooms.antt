@@ -1,10 +1,10 @@
--- How many revisions have no node yet: there is to be room for them.
+-- The number of revisions without a node: space is reserved for them.
 use Rattle.proof_prelude.proofs.{◌≡◌, ℕ, zero, suc, ◌+◌, ◌<◌, ◌≤◌, List, [], ◌∷◌, length, take, get_or, Some, None, true, false, ◌||◌, cond, is_some, slice_get, sym, ap, ◌∙◌, refl, arith, false≢true, same_Some, eq_by_cmp}
 use Rattle.rev_core.specs.{RevId, rev_cmp, is_among}
 use Rattle.rev_tree.specs.{NodeValue, count_new, place_of, revs_in, unless_among}
 use Rattle.rev_tree.proofs.Places.{is_some-node_of, place_none}
 
--- a revision counts once at most
+-- a revision counts at most once
 most_once : (known : List RevId) (r : RevId) → unless_among known r ≤ 1
 most_once known r = elim (is_among r known) as (λ b. cond b 0 1 ≤ 1) [
   | true ↦ omega arith
@@ -15,13 +15,13 @@ pub count_within : (known revs : List RevId) → count_new known revs ≤ length
 count_within known [] = omega arith
 count_within known (r ∷ revs) = omega (arith, most_once known r, count_within known revs)
 
--- where no node is all count
+-- if there are no nodes, all revisions count
 pub all_new : (nodes : List NodeValue) (revs : List RevId) → length nodes ≡ 0 → count_new (revs_in nodes) revs ≡ length revs
 all_new [] [] none = refl
 all_new [] (r ∷ revs) none = omega (arith, all_new [] revs refl)
 all_new (n ∷ nodes) revs none = absurd (omega (arith, none))
 
--- the next one counts where it is new
+-- the next revision counts if it is new
 pub count_next : (known revs : List RevId) (i : ℕ) (d : RevId) → i < length revs → count_new known (take (i + 1) revs) ≡ count_new known (take i revs) + unless_among known (get_or revs i d)
 count_next known [] i d low = absurd (omega arith)
 count_next known (r ∷ revs) zero d low = omega arith
@@ -30,15 +30,15 @@ count_next known (r ∷ revs) (suc j) d low =
     let later : count_new known (take (suc j + 1) (r ∷ revs)) ≡ unless_among known r + count_new known (take (j + 1) revs) = ap (λ n. count_new known (take n (r ∷ revs))) e in
     omega (arith, later, count_next known revs j d (omega (arith, low)))
 
--- a revision that has no place is new
+-- a revision without an index is new
 pub new_counts : (nodes : List NodeValue) (r : RevId) → place_of nodes r ≡ None → unless_among (revs_in nodes) r ≡ 1
 new_counts nodes r none = ap (λ b. cond b 0 1) (sym (is_some-node_of nodes r) ∙ sym (place_none nodes r 0) ∙ ap is_some none)
 
--- and one that has a place is not
+-- a revision with an index is not new
 pub known_counts_not : (nodes : List NodeValue) (r : RevId) (k : ℕ) → place_of nodes r ≡ Some k → unless_among (revs_in nodes) r ≡ 0
 known_counts_not nodes r k at = ap (λ b. cond b 0 1) (sym (is_some-node_of nodes r) ∙ sym (place_none nodes r 0) ∙ ap is_some at)
 
--- what is among some is among others that have each of them at its place
+-- a member stays a member if each element keeps its index
 among_kept : (r : RevId) (old new : List RevId) → ((i : ℕ) (q : RevId) → slice_get old i ≡ Some q → slice_get new i ≡ Some q) → is_among r old ≡ true → is_among r new ≡ true
 among_kept r [] new kept h = absurd (false≢true h)
 among_kept r (q ∷ old) [] kept h = absurd (false≢true (ap is_some (kept 0 q refl)))
@@ -49,7 +49,7 @@ among_kept r (q ∷ old) (s ∷ new) kept h =
       | false ↦ λ tie k. ap (λ b. b || is_among r new) (ap (eq_by_cmp rev_cmp r) first ∙ tie) ∙ among_kept r old new (λ i x at. kept (suc i) x at) k
     ] refl h
 
--- no more are new then
+-- then no more revisions are new
 fewer_once : (r : RevId) (old new : List RevId) → ((i : ℕ) (q : RevId) → slice_get old i ≡ Some q → slice_get new i ≡ Some q) → unless_among new r ≤ unless_among old r
 fewer_once r old new kept =
     elim (is_among r old) as (λ b. is_among r old ≡ b → unless_among new r ≤ cond b 0 1) [

@@ -1,4 +1,4 @@
--- No nodes, and the tree of no revisions.
+-- An empty list of nodes, and the empty tree.
 use Rattle.proof_prelude.proofs.{[], sym, ap, ◌∙◌, is_some, refl, arith, and_parts, false≢true, get-empty}
 use Rattle.rev_core.specs.{rev_cmp}
 use Rattle.rev_tree.specs.{IsTree, has, no_revisions, IsIndexed}

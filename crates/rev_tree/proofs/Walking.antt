@@ -1,4 +1,4 @@
--- One step of a walk from a node to its parent.
+-- One step of a traversal, from a node to its parent.
 use Rattle.proof_prelude.proofs.{◌≡◌, ℕ, zero, suc, ◌<◌, List, [], ◌∷◌, length, slice_get, Some, None, true, IfSome, sym, ap, ◌∙◌, subst, refl, arith, option_map_or, FinMap, get}
 use Rattle.rev_core.specs.{RevId, rev_cmp}
 use Rattle.rev_tree.specs.{TreeValue, IsTree, has, ancestors, walk, ancestors_step, ancestors_last, revs_in, rev_at, place_of, tree_of, IsLinked, ancestors_at, NodeValue}
@@ -6,7 +6,7 @@ use Rattle.rev_tree.proofs.Places.{node_at, rev_at_place, place_known}
 use Rattle.rev_tree.proofs.Linking.{length-revs_in}
 use Rattle.rev_tree.proofs.Lookups.{has_is, parent_is}
 
--- the generation at a place
+-- the generation at an index
 abbrev pub generation_at : List NodeValue → ℕ → ℕ
 generation_at nodes i = option_map_or (λ (r : RevId). r.generation) (slice_get (revs_in nodes) i) 0
 
@@ -14,7 +14,7 @@ walk_first : (m : FinMap rev_cmp RevId) (n : ℕ) (r : RevId) → slice_get (wal
 walk_first m zero r = refl
 walk_first m (suc n) r = refl
 
--- from a node to its parent at p
+-- a step from a node to its parent at p
 pub record IsStep (nodes : List NodeValue) (i p : ℕ) (n : NodeValue) : Type 0 where
   pub within : p < length nodes
   pub falls : generation_at nodes p < generation_at nodes i
@@ -51,11 +51,11 @@ module _ (nodes : List NodeValue) (linked : IsLinked nodes) (i : ℕ) (n : NodeV
   pub last : n.parent ≡ None → ancestors_at nodes i ≡ n.rev ∷ []
   last is = ancestors_here ∙ ancestors_last (tree_of nodes) n.rev (known_parent ∙ ap (rev_at (revs_in nodes)) is)
 
-  -- the revision itself is the first
+  -- the revision itself is the first ancestor
   pub first_there : slice_get (ancestors_at nodes i) 0 ≡ Some n.rev
   first_there = ap (λ l. slice_get l 0) ancestors_here ∙ walk_first (tree_of nodes).parents n.rev.generation n.rev
 
--- what the place of a revision gives
+-- what follows from the index of a revision
 pub record IsPlaceOf (nodes : List NodeValue) (t : TreeValue) (q : RevId) (i : ℕ) : Type 0 where
   pub within : i < length nodes
   pub known : has t q ≡ true

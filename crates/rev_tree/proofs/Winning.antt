@@ -1,4 +1,4 @@
--- The winner after a merge: the head, the winner before, or another leaf.
+-- The winner after a merge: the head, the previous winner, or another leaf.
 use Rattle.proof_prelude.proofs.{◌≡◌, ℕ, ◌<◌, length, arith, List, [], ◌∷◌, Option, Some, None, true, false, not, cond, ◌||◌, ◌&&◌, is_some, inl, inr, ◌⊎◌, filter, slice_get, sym, ap, ◌∙◌, subst, refl, false≢true, or_cases, or_right, not-true, same_Some, list_any, option_map, option_map_or, eq_by_cmp, is_eq, is_lt, bool_cmp, ordering_reverse, ordering_then, IsTotalOrder, eq_by_cmp_equiv, get, keys, get-empty, Ordering, Less, Equal, Greater}
 use Rattle.rev_core.specs.{RevId, rev_cmp, rev_tie_self, IsAncestry, edges_of, is_among}
 use Rattle.rev_tree.specs.{ContentValue, in_order, first_of, first_of-placed, better, in_order-cons, in_order-nil, any-in_order, TreeValue, IsTree, at_head, first_contradiction, is_deleted, is_leaf, is_parent, leaf_cmp, leaves, merged, no_revisions, IsTree-merged, get-joined_known, has-merged_given, head_is, leaf_cases, any_agree, is_among-leaves, leaf_above, leaf_cmp_exact, leaf_cmp_total, leaf_tie, NodeValue, IsLed, IsLinked, deletes, goes_before, revs_in, tree_of, AddsHead, Origin}
@@ -24,7 +24,7 @@ not_lt Less h = absurd (false≢true (h refl))
 not_lt Equal h = refl
 not_lt Greater h = refl
 
--- neither goes before the other
+-- if neither goes before the other, they are equal
 both_ties : (r s : Ordering) → r ≡ ordering_reverse s → is_lt r ≡ false → is_lt s ≡ false → r ≡ Equal
 both_ties Less s e h k = absurd (false≢true (sym h))
 both_ties Equal s e h k = refl
@@ -36,12 +36,12 @@ module _ {K : Type 0} {R : K → K → Ordering} (o : IsTotalOrder R) where
   tied : (x y : K) → is_lt (R x y) ≡ false → is_lt (R y x) ≡ false → R x y ≡ Equal
   tied x y h k = both_ties (R x y) (R y x) (o.antisymm x y) h k
 
-  -- what doesn't go behind a first one, and goes before another that doesn't, ties with it
+  -- if h goes before w, w is not after the first element f, and h is not before f, then h is equal to f
   head_tie : (f h w : K) → is_lt (R f w) ≡ false → R h w ≡ Less → is_lt (R h f) ≡ false → R h f ≡ Equal
   head_tie f h w low before least =
       tied h f least (not_lt (R f h) (λ e. sym low ∙ ap is_lt (o.trans f h w e before)))
 
-  -- the first of a list in order is an element, and none goes before it
+  -- the first of a sorted list is an element, and no element goes before it
   pub record IsFirst (xs : List K) (f : K) : Type 0 where
     pub among : list_any (eq_by_cmp R f) xs ≡ true
     pub least : (x : K) → list_any (eq_by_cmp R x) xs ≡ true → is_lt (R x f) ≡ false
@@ -106,7 +106,7 @@ module _ {K : Type 0} {R : K → K → Ordering} (o : IsTotalOrder R) where
 
 -- ---- the winner
 
--- the winner is a leaf, and none goes before it
+-- the winner is a leaf, and no leaf goes before it
 pub record IsWinner (t : TreeValue) (f : RevId) : Type 0 where
   pub leaf : is_leaf t f ≡ true
   pub least : (r : RevId) → is_leaf t r ≡ true → is_lt (leaf_cmp t r f) ≡ false
@@ -129,20 +129,20 @@ some_first : (r : RevId) (l : List RevId) → is_among r l ≡ true → (f : Rev
 some_first r [] h = absurd (false≢true h)
 some_first r (x ∷ l) h = (x, refl)
 
--- where there is a leaf there is a winner
+-- if there is a leaf, there is a winner
 pub some_winner : (t : TreeValue) (r : RevId) → is_leaf t r ≡ true → (f : RevId) × (first_of (leaves t) ≡ Some f)
 some_winner t r leaf = some_first r (leaves t) (is_among-leaves t r ∙ leaf)
 
 module _ (t u : TreeValue) (h : RevId) (adds : AddsHead t u h) where
-  -- leaves that were there stand to each other as before
+  -- the order of two old leaves stays the same
   order_kept : (a b : RevId) → is_leaf t a ≡ true → is_leaf t b ≡ true → leaf_cmp u a b ≡ leaf_cmp t a b
   order_kept a b x y = λ i. ordering_then (bool_cmp (adds.deleted a x i) (adds.deleted b y i)) (rev_cmp b a)
 
-  -- no leaf that was there goes before the winner before
+  -- no old leaf goes before the previous winner
   none_before : (w f : RevId) → IsWinner t w → is_leaf t f ≡ true → is_lt (leaf_cmp u f w) ≡ false
   none_before w f won old = ap is_lt (order_kept f w old won.leaf) ∙ won.least f old
 
-  -- the head, where it goes before the winner before
+  -- the head wins if it goes before the previous winner
   pub head_wins : (w : RevId) → first_of (leaves t) ≡ Some w → is_leaf u h ≡ true → leaf_cmp u h w ≡ Less → first_of (leaves u) ≡ Some h
   head_wins w first leaf before =
       let f = some_winner u h leaf in
@@ -154,7 +154,7 @@ module _ (t u : TreeValue) (h : RevId) (adds : AddsHead t u h) where
         | inr is ↦ is
       ])
 
-  -- the winner before, where it is a leaf still and the head doesn't go before it
+  -- the previous winner stays if it is still a leaf and the head does not go before it
   pub winner_stays : (w : RevId) → first_of (leaves t) ≡ Some w → is_leaf u w ≡ true → (is_leaf u h ≡ true → is_lt (leaf_cmp u h w) ≡ false) → first_of (leaves u) ≡ Some w
   winner_stays w first leaf behind =
       let f = some_winner u w leaf in
@@ -165,7 +165,7 @@ module _ (t u : TreeValue) (h : RevId) (adds : AddsHead t u h) where
       ] in
       f.1 ∙ ap Some (leaf_cmp_exact u f.0 w (tied (leaf_cmp_total u) f.0 w low (won.least w leaf)))
 
-  -- the head, where there was no leaf
+  -- the head wins if there was no leaf
   pub head_alone : ((r : RevId) → is_leaf t r ≡ false) → first_of (leaves u) ≡ Some h
   head_alone none =
       let f = some_winner u adds.some.0 adds.some.1 in
@@ -199,11 +199,11 @@ adds_head t revs b o h tree ancestry none head = record {
           | Some x ↦ λ e _. ap (λ c. option_map_or (λ (x : ContentValue). x.deleted) c false) (get-joined_known t.contents (at_head revs b) r x e)
         ] refl some
 
--- the tree of no revisions has no leaf
+-- the empty tree has no leaf
 pub no_leaf : (r : RevId) → is_leaf no_revisions r ≡ false
 no_leaf r = ap (λ c. is_some c && not (is_parent no_revisions r)) (get-empty rev_cmp r)
 
--- ---- nodes at their places
+-- ---- nodes by index
 
 module _ (nodes : List NodeValue) (linked : IsLinked nodes) (k : ℕ) (n : NodeValue) (at : slice_get nodes k ≡ Some n) where
   pub leaf_at : is_leaf (tree_of nodes) n.rev ≡ not n.has_child
@@ -217,7 +217,7 @@ module _ (nodes : List NodeValue) (linked : IsLinked nodes) (k : ℕ) (n : NodeV
       let other = ap (λ c. option_map_or (λ (x : ContentValue). x.deleted) c false) (content_is nodes (tree_of nodes) m.rev (Some m) linked refl (node_at nodes linked.once j m there)) in
       λ i. is_lt (ordering_then (bool_cmp (sym deleted_at i) (sym other i)) (rev_cmp m.rev n.rev))
 
--- ---- after an ancestry was put
+-- ---- after an ancestry was inserted
 
 pub first_at : (l : List RevId) → slice_get l 0 ≡ first_of l
 first_at [] = refl
@@ -227,12 +227,12 @@ pub some_head : (l : List RevId) → 0 < length l → (h : RevId) × (first_of l
 some_head [] h = absurd (omega arith)
 some_head (x ∷ l) h = (x, refl)
 
--- the revision of a node that stands at a place
+-- the revision of the node at an index
 pub rev_of_place : (nodes : List NodeValue) (k : ℕ) (r : RevId) (best : Option NodeValue) → ((n : NodeValue) → best ≡ Some n → slice_get nodes k ≡ Some n) → option_map (λ (n : NodeValue). n.rev) best ≡ Some r → slice_get (revs_in nodes) k ≡ Some r
 rev_of_place nodes k r None at e = absurd (false≢true (ap is_some e))
 rev_of_place nodes k r (Some n) at e = rev_at_place nodes k n (at n refl) ∙ e
 
--- where no node was, the head's is the first
+-- in an empty tree, the head's node is the first
 pub first_put : (old new : List NodeValue) (revs : List RevId) (b : ContentValue) (o : Origin) → old ≡ [] → IsTree (tree_of old) → IsAncestry revs → first_contradiction (tree_of old).parents (edges_of revs) ≡ None
     → tree_of new ≡ merged (tree_of old) revs b o → revs_in new ≡ revs → slice_get (revs_in new) 0 ≡ first_of (leaves (tree_of new))
 first_put old new revs b o empty tree ancestry none is same =
@@ -241,7 +241,7 @@ first_put old new revs b o empty tree ancestry none is same =
     let adds = subst (λ u. AddsHead t u h.0) (sym is) (adds_head t revs b o h.0 tree ancestry none h.1) in
     ap (λ l. slice_get l 0) same ∙ first_at revs ∙ h.1 ∙ sym (head_alone t (tree_of new) h.0 adds (λ r. ap (λ l. is_leaf (tree_of l) r) empty ∙ no_leaf r))
 
--- where some node is, there is a winner
+-- if there is a node, there is a winner
 pub led_winner : (nodes : List NodeValue) (best : ℕ) → IsLinked nodes → IsLed nodes best → 0 < length nodes → (w : RevId) × (first_of (leaves (tree_of nodes)) ≡ Some w)
 led_winner [] best linked led some = absurd (omega arith)
 led_winner (n ∷ nodes) best linked led some =
@@ -249,7 +249,7 @@ led_winner (n ∷ nodes) best linked led some =
     let up = leaf_above (tree_of (n ∷ nodes)) led.tree n.rev known in
     some_winner (tree_of (n ∷ nodes)) up.0 up.1.leaf
 
--- no nodes lead nowhere
+-- an empty tree has no winner
 no_winner : (o : Option RevId) → first_of (leaves no_revisions) ≡ o → None ≡ o
 no_winner None e = refl
 no_winner (Some f) e = absurd (false≢true (sym (no_leaf f) ∙ (winner_is no_revisions f e).leaf))

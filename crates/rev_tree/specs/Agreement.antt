@@ -5,21 +5,21 @@ use Rattle.rev_core.specs.Rev.{RevId}
 use Rattle.rev_tree.specs.Content.{ContentValue}
 use Rattle.rev_tree.specs.Tree.{TreeValue, has}
 
--- two trees give no revision two parents, and none two contents
+-- two trees agree: they give no revision two parents, and no revision two contents
 pub record Agree (s t : TreeValue) : Type 0 where
   pub parents : (c p q : RevId) → get s.parents c ≡ Some p → get t.parents c ≡ Some q → p ≡ q
   pub contents : (r : RevId) (b d : ContentValue) → get s.contents r ≡ Some b → get t.contents r ≡ Some d → b ≡ d
 
--- no history is cut off: a revision without a parent is a first one
+-- the tree has complete histories: a revision without a known parent has generation 1
 abbrev pub IsWhole : TreeValue → Type 0
 IsWhole t = (r : RevId) → has t r ≡ true → get t.parents r ≡ None → r.generation ≡ 1
 
--- a revision is a root: in the tree, without a parent
+-- whether r is a root: a revision of the tree without a known parent
 abbrev pub IsRoot : TreeValue → RevId → Type 0
 IsRoot t r = (has t r ≡ true) × (get t.parents r ≡ None)
 
--- a tree has grown from an older one by what another has: it keeps the edges, and whatever is in it comes from one of the
--- two, a root from a root
+-- a tree t has grown from `old` by data of `other`: it keeps the edges of `old`, and all of its data is from one of the
+-- two trees; a root of t is a root there
 pub record IsGrownBy (old other t : TreeValue) : Type 0 where
   pub kept : (c p : RevId) → get old.parents c ≡ Some p → get t.parents c ≡ Some p
   pub revs : (r : RevId) → has t r ≡ true → (has old r ≡ true) ⊎ (has other r ≡ true)

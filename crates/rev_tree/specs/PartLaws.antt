@@ -1,4 +1,5 @@
--- Trees that are parts of others: they grow by leaves with their ancestors, and with all leaves they are the whole.
+-- Trees that are parts of others: they grow by leaves with their ancestors, and a part that has all leaves is the
+-- complete tree.
 use Rattle.std.proofs.Common.{◌≡◌, ℕ, zero, suc, ◌≤◌, true, false, not, cond, ◌||◌, List, [], ◌∷◌, Option, Some, None, is_some, refl, sym, ap, ◌∙◌, inl, inr, arith}
 use Rattle.std.specs.Option.{option_map_or, option_or}
 use Rattle.std.specs.Ordering.{eq_by_cmp}
@@ -28,7 +29,7 @@ or_known : {X : Type 0} (x y : Option X) → is_some x ≡ true → option_or x 
 or_known None y h = absurd (false≢true h)
 or_known (Some x) y h = refl
 
--- what isn't some is none
+-- an option without a value is `None`
 pub none_is : {X : Type 0} (o : Option X) → ((x : X) → o ≡ Some x → ⊥) → o ≡ None
 none_is None h = refl
 none_is (Some x) h = absurd (h x refl)
@@ -40,13 +41,13 @@ some_told (Some x) h = (x, refl)
 pub told_some : {X : Type 0} (o : Option X) (x : X) → o ≡ Some x → is_some o ≡ true
 told_some o x h = ap is_some h
 
--- ---- the edges of a walk
+-- ---- the edges of a traversal
 
 pub walk_begins : (m : FinMap rev_cmp RevId) (n : ℕ) (p : RevId) → (rest : List RevId) × (walk m n p ≡ p ∷ rest)
 walk_begins m zero p = ([], refl)
 walk_begins m (suc n) p = (option_map_or (walk m n) (get m p) [], refl)
 
--- each member of a walk has in its edges the parent that it has in the tree
+-- the edges of a traversal give each member its parent in the tree
 pub edges_walked : (s : TreeValue) → IsTree s → (n : ℕ) (x c : RevId) → has s x ≡ true → x.generation ≤ n → is_among c (walk s.parents n x) ≡ true → find rev_cmp c (edges_of (walk s.parents n x)) ≡ get s.parents c
 edges_walked s tree zero x c known low h = let low' = (tree.revs x known).low in absurd (omega arith)
 edges_walked s tree (suc n) x c known low h = go (λ p there under among. edges_walked s tree n p c there under among) (get s.parents x) refl
@@ -70,14 +71,14 @@ edges_walked s tree (suc n) x c known low h = go (λ p there under among. edges_
           | false ↦ λ _ later. further p (tree.parent x p e) (omega (arith, falls, low)) later
         ] refl among)
 
--- who is no member has none in them
+-- a revision outside the traversal has no edge in it
 edges_apart : (s : TreeValue) → IsTree s → (x c : RevId) → has s x ≡ true → is_among c (ancestors s x) ≡ false → find rev_cmp c (edges_of (ancestors s x)) ≡ None
 edges_apart s tree x c known apart =
     none_is (find rev_cmp c (edges_of (ancestors s x))) (λ p e. false≢true (sym apart ∙ (edge_found (ancestors s x) c p (IsAncestry-ancestors s tree x known).falls e).child))
 
 -- ---- parts
 
--- some revisions of a tree, each with all of its ancestors, and the contents of the leaves
+-- t is a part of s: some of its revisions, each with all ancestors, and the contents of the leaves
 pub record IsPart (s t : TreeValue) : Type 0 where
   pub within : (r : RevId) → has t r ≡ true → has s r ≡ true
   pub parents : (r : RevId) → has t r ≡ true → get t.parents r ≡ get s.parents r
@@ -99,7 +100,7 @@ nothing_is_part s = record {
     none : (r : RevId) → has no_revisions r ≡ true → ⊥
     none r h = false≢true (sym (ap is_some (get-empty rev_cmp r)) ∙ h)
 
--- the content of a leaf, as it is handed over
+-- the content of a leaf as it is sent
 abbrev pub given : TreeValue → RevId → ContentValue
 given s leaf = record {
   deleted = is_deleted s leaf;
@@ -122,7 +123,7 @@ at_leaf s leaf q h =
       | false ↦ λ _ e. absurd (false≢true (sym (ap is_some e) ∙ h))
     ] refl at)
 
--- a leaf with its ancestors keeps a part a part
+-- adding a leaf with its ancestors to a part gives a part
 module _ (s t : TreeValue) (tree : IsTree s) (part : IsPart s t) (leaf : RevId) (is : is_leaf s leaf ≡ true) (o : Origin) where
   abbrev revs : List RevId
   revs = ancestors s leaf
@@ -142,7 +143,7 @@ module _ (s t : TreeValue) (tree : IsTree s) (part : IsPart s t) (leaf : RevId) 
   absent_parent : (q : RevId) → has t q ≡ false → get t.parents q ≡ None
   absent_parent q h = none_is (get t.parents q) (λ p e. false≢true (sym h ∙ part.child q p e))
 
-  -- of what is brought
+  -- lemmas about the added revisions
   brought_parent : (q : RevId) → is_among q revs ≡ true → get grown.parents q ≡ get s.parents q
   brought_parent q among =
       let edge : find rev_cmp q (edges_of revs) ≡ get s.parents q = edges_walked s tree leaf.generation leaf q known (omega arith) among in
@@ -216,9 +217,9 @@ module _ (s t : TreeValue) (tree : IsTree s) (part : IsPart s t) (leaf : RevId) 
     leaves = grown_leaves;
   }
 
--- ---- the whole
+-- ---- the complete tree
 
--- with a revision a part has what the walk from it meets
+-- a part that has a revision has everything that the traversal from it visits
 part_walked : (s t : TreeValue) → IsPart s t → (n : ℕ) (x r : RevId) → has t x ≡ true → is_among r (walk s.parents n x) ≡ true → has t r ≡ true
 part_walked s t part zero x r there h = elim (or_cases _ _ h) [ inl tie ↦ ap (has t) (rev_tie_is r x tie) ∙ there | inr nothing ↦ absurd (false≢true nothing) ]
 part_walked s t part (suc n) x r there h =
@@ -230,7 +231,7 @@ part_walked s t part (suc n) x r there h =
       ] refl later
     ]
 
--- a part with all leaves is the whole
+-- a part that has all leaves is the complete tree
 pub whole_part : (s t : TreeValue) → IsTree s → IsPart s t → ((leaf : RevId) → is_leaf s leaf ≡ true → has t leaf ≡ true) → SameRevisions s t
 whole_part s t tree part all = record {
   revs = same;

@@ -1,4 +1,4 @@
-//! A leaf, as leaves are sorted.
+//! Leaves with their sort keys.
 ghost use Rattle.std.specs.Prelude.{◌≡◌};
 ghost use Rattle.std.specs.Ordering.{bool_cmp, ordering_then};
 ghost use Rattle.rev_core.specs.Rev.{IsRev, rev_cmp};
@@ -8,7 +8,7 @@ use crate::words::front_of;
 use rev_core::Rev;
 use std::cmp::Ordering;
 
-/// A leaf, with what mostly decides where it stands among leaves: so the revision is seldom looked at.
+/// A leaf with the parts that usually decide its order, so that sorting rarely reads the revision.
 #[derive(Clone, Copy)]
 pub(crate) struct Leaf<'a> {
     pub(crate) deleted: bool,
@@ -21,7 +21,7 @@ pub(crate) struct Leaf<'a> {
 }
 
 impl<'a> Leaf<'a> {
-    /// The leaf of a revision, and whether its content deletes.
+    /// Creates the sort entry of a leaf.
     pub(crate) fn new(deleted: bool, rev: &'a Rev) -> Leaf<'a>
         ensures deleted { result.deleted ≡ deleted }
         ensures rev { result.rev.now ≡ rev.now }
@@ -36,7 +36,7 @@ impl<'a> Leaf<'a> {
         }
     }
 
-    /// How it stands to another: one that is not deleted first, then the greater generation, then the greater
+    /// Compares two leaves in the winner's order: live before deleted, then the greater generation, then the greater
     /// signature.
     pub(crate) fn order(&self, other: &Leaf<'_>) -> Ordering
         ensures { result ≡ ordering_then (bool_cmp self.now.deleted other.now.deleted)

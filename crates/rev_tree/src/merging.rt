@@ -1,4 +1,4 @@
-//! An ancestry beside the nodes of a tree, and put among them.
+//! Comparing an ancestry with the nodes of a tree, and inserting it.
 ghost use Rattle.std.specs.Prelude.{◌≡◌, ℕ, ◌<◌, [], Some, None, IfSome, IfOk, IfErr, OnOk, length, slice_get};
 ghost use Rattle.std.specs.FinMap.{get};
 ghost use Rattle.std.specs.List.{list_all};
@@ -15,10 +15,11 @@ use crate::origin::Origin;
 use rev_core::Rev;
 
 impl Nodes {
-    /// Whether each given child has a known parent, or the first whose known parent is another than the given one.
+    /// Whether every given child has a known parent. Returns the first child whose known parent differs from the given
+    /// one as an error.
     ///
-    /// The place of a known parent is known with it, so an ancestry that is there is followed with one look-up. The
-    /// parent of a child that is new is looked for first where the last node has its own.
+    /// The index of a known parent is stored in the child, so a known ancestry needs one lookup. For a new child, the
+    /// parent of the last node is tried first.
     pub(crate) fn knows_edges(&self, revs: &[Rev]) -> Result<bool, Contradiction>
         requires some { 0 < length revs.now }
         ensures edges { IfOk result (λ b. b ≡ list_all (has_edge (tree_of self.now.items)) (edges_of revs.now)) }
@@ -54,8 +55,8 @@ impl Nodes {
         Ok(all)
     }
 
-    /// Where the parent of a node may be: at the place that it names, or else at the one that the node before it names.
-    /// Leaves of one parent often come one behind the other.
+    /// Returns a guess for the index of a child's parent: the parent of the child, or else the parent of the previous
+    /// node. Consecutive nodes are often leaves of one parent.
     fn near(&self, child: usize) -> Option<usize>
         requires { child < length self.now.items }
         ensures { IfSome result (λ i. i < length self.now.items) }
@@ -66,7 +67,7 @@ impl Nodes {
         }
     }
 
-    /// The place of the known parent of the revision at a place.
+    /// Returns the index of the known parent of the revision at an index.
     fn parent_at(&self, place: Option<usize>) -> Option<usize>
         requires within { IfSome place (λ i. i < length self.now.items) }
         ensures within { IfSome result (λ i. i < length self.now.items) }
@@ -79,8 +80,9 @@ impl Nodes {
         nodes[place].parent()
     }
 
-    /// Puts the revisions of an ancestry, its edges and the content of its head among the nodes, of which the winner's
-    /// stands at a place, and gives the place of the winner's node then. There is room for the missing ones.
+    /// Inserts the revisions of an ancestry, its edges and the content of its head, and returns the index of the
+    /// winner's node. `best` is the index of the winner's node before. The caller has reserved space for the missing
+    /// revisions.
     pub(crate) fn put(
         &mut self,
         best: usize,
@@ -104,7 +106,7 @@ impl Nodes {
         }
     }
 
-    /// Puts an ancestry where no node is, from the first place on. Its revisions differ, so none is looked for.
+    /// Inserts an ancestry into an empty tree. The revisions of an ancestry differ, so none is looked up.
     fn put_first(&mut self, revs: &[Rev], content: Content, origin: Origin)
         requires none { self.old.items ≡ [] }
         requires ancestry { IsAncestry revs.now }
@@ -121,7 +123,7 @@ impl Nodes {
         }
     }
 
-    /// Puts an ancestry among nodes, of which some may be its own, and gives the place of its head.
+    /// Inserts an ancestry, some of whose revisions may already have nodes, and returns the index of its head.
     fn put_among(&mut self, revs: &[Rev], content: Content, origin: Origin) -> usize
         requires some { 0 < length revs.now }
         requires room { HasRoom self.old (count_new (revs_in self.old.items) revs.now) }
@@ -143,9 +145,8 @@ impl Nodes {
         head
     }
 
-    /// Puts a revision with its origin at the end, unless it is there, and gives its place. There is room for it.
-    ///
-    /// It is looked for at one place first.
+    /// Appends a revision with its origin, unless it has a node, and returns its index. The index `near` is tried
+    /// first. The caller has reserved the space.
     fn add(&mut self, near: Option<usize>, rev: Rev, origin: Origin) -> usize
         requires near { IfSome near (λ i. i < length self.old.items) }
         requires room { HasRoom self.old (unless_among (revs_in self.old.items) rev) }
@@ -157,7 +158,7 @@ impl Nodes {
         }
     }
 
-    /// The place of a revision, which is looked for at one place first.
+    /// Returns the index of a revision. The index `near` is tried first.
     fn place_near(&self, near: Option<usize>, rev: &Rev) -> Option<usize>
         requires near { IfSome near (λ i. i < length self.now.items) }
         ensures place { result ≡ place_of self.now.items rev.now }

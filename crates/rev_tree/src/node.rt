@@ -1,4 +1,4 @@
-//! A node of a tree: a revision with what the tree knows of it.
+//! A node of a tree: a revision with what the tree knows about it.
 ghost use Rattle.std.specs.Prelude.{◌≡◌, ◌+◌, ◌<◌, ◌^◌, Some, None, IfOk, true, false};
 ghost use Rattle.std.specs.Option.{option_copied};
 ghost use Rattle.std.specs.Ordering.{eq_by_cmp};
@@ -12,13 +12,13 @@ use rev_core::Rev;
 use std::alloc::AllocError;
 use std::marker::Model;
 
-/// How many numbers of 64 bits there are: each half of a session's number is one of them.
+/// The number of 64-bit integers: a session's number is stored as two of them.
 const HALF: u128 = 1 << 64;
 
-/// A revision, the place of its parent where one is known, where it came from, and what else a tree knows of it.
+/// A revision, the index of its parent if it is known, its origin, and the other data of the tree.
 ///
-/// There may be very many, so they are kept small. A session's number is kept in halves: a `u128` stands at multiples of
-/// 16 bytes.
+/// A tree may have very many nodes, so they are small. A session's number is stored in halves because a `u128` is
+/// aligned to 16 bytes.
 #[derive(Drop)]
 pub(crate) struct Node {
     rev: Rev,
@@ -28,17 +28,17 @@ pub(crate) struct Node {
     number: u64,
 }
 
-/// Whether a feed brought a node, and whether it is the parent of another node.
+/// Whether a node's origin is a feed, and whether the node has a child.
 #[derive(Clone, Copy)]
 pub(crate) struct Marks {
     is_fed: bool,
     has_child: bool,
 }
 
-/// The marks of a node, the place of its parent, and what stands at it where that is known.
+/// The flags of a node, the index of its parent, and its content if it is known.
 ///
-/// They are one enum, since marks and place lie in the room that its own tag leaves free. The place is counted from 1, and
-/// 0 where no parent is known.
+/// One enum holds them all, because flags and index fit into the padding of its tag. The index is counted from 1; it is
+/// 0 if no parent is known.
 #[derive(Drop)]
 pub(crate) enum Known {
     Bare(Marks, u32),
@@ -46,7 +46,7 @@ pub(crate) enum Known {
 }
 
 impl Known {
-    /// The marks.
+    /// Returns the flags.
     fn marks(&self) -> Marks
         ensures { result ≡ marks_of self.now }
     {
@@ -56,7 +56,7 @@ impl Known {
         }
     }
 
-    /// The place of the parent, counted from 1, and 0 where none is known.
+    /// Returns the index of the parent, counted from 1, or 0 if no parent is known.
     fn parent(&self) -> u32
         ensures { result ≡ counted_of self.now }
     {
@@ -66,7 +66,7 @@ impl Known {
         }
     }
 
-    /// What stands at the node, where that is known.
+    /// Returns the content, if it is known.
     fn content(&self) -> Option<&Content>
         ensures { option_copied result ≡ content_of self.now }
     {
@@ -76,7 +76,7 @@ impl Known {
         }
     }
 
-    /// Takes other marks.
+    /// Replaces the flags.
     fn mark(&mut self, marks: Marks)
         ensures marks { marks_of self.new ≡ marks }
         ensures parent { counted_of self.new ≡ counted_of self.old }
@@ -88,7 +88,7 @@ impl Known {
         }
     }
 
-    /// Takes another place of the parent, counted from 1.
+    /// Sets the index of the parent, counted from 1.
     fn name_parent(&mut self, parent: u32)
         ensures marks { marks_of self.new ≡ marks_of self.old }
         ensures parent { counted_of self.new ≡ parent }
@@ -100,7 +100,7 @@ impl Known {
         }
     }
 
-    /// The same.
+    /// Copies the value.
     fn copy(&self) -> Result<Known, AllocError>
         ensures { IfOk result (λ k. k ≡ self.now) }
     {
@@ -129,7 +129,7 @@ impl Model for Node {
 }
 
 impl Node {
-    /// The node of a revision of which the origin alone is known.
+    /// Creates a node without parent, content or child.
     pub(crate) fn new(rev: Rev, origin: Origin) -> Node
         ensures { result ≡ record { rev = rev; parent = None; content = None; origin = origin; has_child = false } }
     {
@@ -150,14 +150,14 @@ impl Node {
         }
     }
 
-    /// The revision.
+    /// Returns the revision.
     pub(crate) fn rev(&self) -> &Rev
         ensures { result.now ≡ self.now.rev }
     {
         &self.rev
     }
 
-    /// The generation of its revision.
+    /// Returns the generation of the revision.
     pub(crate) fn generation(&self) -> u32
         ensures part { result ≡ self.now.rev.generation }
         ensures is_rev { IsRev self.now.rev }
@@ -165,7 +165,7 @@ impl Node {
         self.rev.generation()
     }
 
-    /// Whether it is the node of a revision.
+    /// Whether this is the node of the given revision.
     pub(crate) fn is_of(&self, rev: &Rev) -> bool
         ensures { result ≡ eq_by_cmp rev_cmp rev.now self.now.rev }
     {
@@ -175,7 +175,7 @@ impl Node {
         is_same(rev.sig_bytes(), self.rev.sig_bytes())
     }
 
-    /// The place of its parent, where one is known.
+    /// Returns the index of the parent, if it is known.
     pub(crate) fn parent(&self) -> Option<usize>
         ensures { result ≡ self.now.parent }
     {
@@ -185,14 +185,14 @@ impl Node {
         }
     }
 
-    /// What stands at it, where that is known.
+    /// Returns the content, if it is known.
     pub(crate) fn content(&self) -> Option<&Content>
         ensures { option_copied result ≡ self.now.content }
     {
         self.known.content()
     }
 
-    /// Where it came from.
+    /// Returns the origin.
     pub(crate) fn origin(&self) -> Origin
         ensures { result ≡ self.now.origin }
     {
@@ -204,14 +204,14 @@ impl Node {
         }
     }
 
-    /// Whether it is the parent of another node.
+    /// Whether the node is the parent of another node.
     pub(crate) fn has_child(&self) -> bool
         ensures { result ≡ self.now.has_child }
     {
         self.known.marks().has_child
     }
 
-    /// Tells what stands at it.
+    /// Sets the content.
     pub(crate) fn give(&mut self, content: Content)
         ensures { self.new ≡ record {
           rev = self.old.rev;
@@ -224,7 +224,7 @@ impl Node {
         self.known = Known::Full(self.known.marks(), self.known.parent(), content);
     }
 
-    /// Names its parent, by its place.
+    /// Sets the index of the parent.
     pub(crate) fn name_parent(&mut self, place: usize)
         requires { place + 1 < 2 ^ 32 }
         ensures { self.new ≡ record {
@@ -238,7 +238,7 @@ impl Node {
         self.known.name_parent(place as u32 + 1);
     }
 
-    /// Marks it as the parent of another node.
+    /// Marks the node as the parent of another node.
     pub(crate) fn mark(&mut self)
         ensures { self.new ≡ record {
           rev = self.old.rev;
@@ -255,7 +255,7 @@ impl Node {
         self.known.mark(marks);
     }
 
-    /// The same node.
+    /// Copies the node.
     pub(crate) fn copy(&self) -> Result<Node, AllocError>
         ensures { IfOk result (λ n. n ≡ self.now) }
     {

@@ -1,4 +1,4 @@
-//! The nodes of a tree, and the place of each revision among them.
+//! The nodes of a tree, and lookup by revision.
 ghost use Rattle.std.specs.Prelude.{◌≡◌, ℕ, ◌+◌, ◌<◌, ◌≤◌, ◌∷◌, ◌++◌, [], Some, None, IfOk, OnOk, slice_get, length, take, drop, true, nat_eq, vec_capacity};
 ghost use Rattle.std.specs.Option.{option_copied};
 ghost use Rattle.rev_core.specs.Rev.{RevId};
@@ -15,22 +15,23 @@ use std::alloc::{AllocError, Global};
 use std::hash::{FoldHasher, Hasher};
 use std::marker::Model;
 
-/// The most nodes that are walked for a revision. From one more on an index has their places.
+/// The maximum number of nodes that a lookup scans. A larger tree has an index.
 pub(crate) const MOST_WALKED: usize = 8;
 
-/// The most nodes and given revisions together of which the missing ones are counted, so that room is made for them alone.
+/// The maximum number of nodes and given revisions together for which the missing revisions are counted, so that space
+/// is reserved for them alone.
 const MOST_COUNTED: usize = 4;
 
-/// The most nodes of a tree: the place of a parent, counted from 1, is kept in 32 bits.
+/// The maximum number of nodes of a tree: the index of a parent, counted from 1, has 32 bits.
 const MOST_NODES: usize = u32::MAX as usize;
 
 ghost use Rattle.rev_tree.specs.Index.{falls, index_for, mark_of, noted_from};
 ghost use Rattle.rev_tree.specs.Nodes.{Distinct, HasGained, HasRoom, IsLinked, count_new, node_of, place_of, revs_in, tree_of, unless_among};
 
-/// Nodes with the index of their places. A node is never removed, so places stay.
+/// Nodes with their index. Nodes are never removed, so their positions do not change.
 ///
-/// No revision has two nodes, each parent's place is one of the list's, and a node is marked where another names it as
-/// its parent.
+/// Invariant: no revision has two nodes, the index of each parent is in range, and a node is marked exactly if another
+/// node names it as its parent.
 #[derive(Drop)]
 pub(crate) struct Nodes {
     list: Vec<Node>,
@@ -53,7 +54,7 @@ impl Model for Nodes {
 }
 
 impl Nodes {
-    /// None yet.
+    /// Creates an empty list.
     pub(crate) fn new(alloc: Global) -> Nodes
         ensures { result.items ≡ [] }
     {
@@ -63,7 +64,7 @@ impl Nodes {
         }
     }
 
-    /// The nodes in their places.
+    /// Returns the nodes.
     pub(crate) fn all(&self) -> &[Node]
         ensures items { result.now ≡ self.now.items }
         ensures linked { IsLinked self.now.items }
@@ -71,7 +72,7 @@ impl Nodes {
         &self.list
     }
 
-    /// The node at a place.
+    /// Returns the node at an index.
     pub(crate) fn node_at(&self, place: usize) -> &Node
         requires { place < length self.now.items }
         ensures node { slice_get self.now.items place ≡ Some result.now }
@@ -80,7 +81,7 @@ impl Nodes {
         &self.list[place]
     }
 
-    /// The node of a revision.
+    /// Returns the node of a revision.
     pub(crate) fn node_in(&self, rev: &Rev) -> Option<&Node>
         ensures node { option_copied result ≡ node_of self.now.items rev.now }
         ensures linked { IsLinked self.now.items }
@@ -89,7 +90,7 @@ impl Nodes {
         Some(self.node_at(place))
     }
 
-    /// The place of a revision.
+    /// Returns the position of a revision.
     pub(crate) fn place_in(&self, rev: &Rev) -> Option<usize>
         ensures place { result ≡ place_of self.now.items rev.now }
         ensures linked { IsLinked self.now.items }
@@ -102,13 +103,13 @@ impl Nodes {
             if self.list[place].is_of(rev) {
                 return Some(place);
             }
-            // Another revision has the same mark.
+            // Another revision has the same hash.
         }
         walked_to(&self.list, rev)
     }
 
-    /// Makes room for the revisions of an ancestry, known ones too, for no more where all together are few, and for the
-    /// missing ones alone where they are very few. For more nodes than have places there is none.
+    /// Reserves space for inserting an ancestry. If nodes and ancestry together are few, exactly enough for all of its
+    /// revisions; if they are very few, only for the missing ones. Fails if the tree could exceed `MOST_NODES`.
     #[tactic(auto, using(crate::proofs::Rooms::count_within))]
     pub(crate) fn make_room(&mut self, revs: &[Rev]) -> Result<(), AllocError>
         ensures items { self.new.items ≡ self.old.items }
@@ -122,8 +123,8 @@ impl Nodes {
         reserve_index(*self.list.allocator(), &mut self.places, all)
     }
 
-    /// Gives back the room that no node and no place takes, where they are few and it was made for many: an ancestry may
-    /// have brought known revisions.
+    /// Releases unused space if the tree has few nodes and space for many was reserved, as happens if an ancestry had
+    /// many known revisions.
     pub(crate) fn give_back(&mut self)
         ensures { self.new.items ≡ self.old.items }
     {
@@ -131,7 +132,7 @@ impl Nodes {
         fit_index(&mut self.places);
     }
 
-    /// Puts a revision, which is new, with its origin at the end, and gives its place. There is room for it.
+    /// Appends a new revision with its origin and returns its index. The caller has reserved the space.
     pub(crate) fn push(&mut self, rev: Rev, origin: Origin) -> usize
         requires new { place_of self.old.items rev ≡ None }
         requires room { HasRoom self.old 1 }
@@ -144,7 +145,7 @@ impl Nodes {
         place
     }
 
-    /// Gives a node a content, unless it has one.
+    /// Sets the content of a node, unless it has one.
     pub(crate) fn give(&mut self, place: usize, content: Content)
         requires within { place < length self.old.items }
         ensures tree { (r : RevId)
@@ -158,7 +159,7 @@ impl Nodes {
         }
     }
 
-    /// Names a node as the parent of another, unless that has one.
+    /// Sets the parent of a node, unless it has one.
     pub(crate) fn link(&mut self, child: usize, parent: usize)
         requires child_within { child < length self.old.items }
         requires parent_within { parent < length self.old.items }
@@ -175,7 +176,7 @@ impl Nodes {
         }
     }
 
-    /// The same nodes.
+    /// Copies the nodes.
     pub(crate) fn copy(&self, alloc: Global) -> Result<Nodes, AllocError>
         ensures { IfOk result (λ n. n.items ≡ self.now.items) }
     {
@@ -185,7 +186,7 @@ impl Nodes {
     }
 }
 
-/// A number of 64 bits, which two revisions hardly ever share.
+/// Returns a 64-bit hash of a revision.
 fn mark_of(rev: &Rev) -> u64
     ensures { result ≡ mark_of rev.now }
 {
@@ -194,7 +195,7 @@ fn mark_of(rev: &Rev) -> u64
     hasher.finish().wrapping_add(u64::from(rev.generation()))
 }
 
-/// The place of a revision among nodes of which each is one generation below the one before it.
+/// Returns the position of a revision in nodes of which each is one generation below the previous one.
 #[inline(never)]
 fn fallen_to(nodes: &[Node], rev: &Rev) -> Option<usize>
     requires some { 0 < length nodes.now }
@@ -218,7 +219,7 @@ fn fallen_to(nodes: &[Node], rev: &Rev) -> Option<usize>
     }
 }
 
-/// The place of a revision, for which the nodes are walked.
+/// Returns the position of a revision by scanning the nodes.
 fn walked_to(nodes: &[Node], rev: &Rev) -> Option<usize>
     ensures { result ≡ place_of nodes.now rev.now }
 {
@@ -230,7 +231,7 @@ fn walked_to(nodes: &[Node], rev: &Rev) -> Option<usize>
     None
 }
 
-/// Makes the index of the first nodes, so many, that of all of them. There is room for it.
+/// Extends the index from the first `known` nodes to all nodes. The caller has reserved the space.
 fn index_rest(nodes: &[Node], places: &mut Places, known: usize)
     requires known { known ≤ length nodes.now }
     requires begun { places.old.entries ≡ index_for (revs_in (take known nodes.now)) }
@@ -251,7 +252,7 @@ fn index_rest(nodes: &[Node], places: &mut Places, known: usize)
     index_from(nodes, places, 0);
 }
 
-/// Whether each node is one generation below the one before it, where this is known of the first ones, so many.
+/// Whether each node is one generation below the previous one, given that this is so for the first `known` nodes.
 #[inline(never)]
 fn all_fall(nodes: &[Node], known: usize) -> bool
     requires known { known ≤ length nodes.now }
@@ -266,7 +267,7 @@ fn all_fall(nodes: &[Node], known: usize) -> bool
     }
 }
 
-/// Whether each node behind a place is one generation below the one before it.
+/// Whether each node after index `first` is one generation below the previous one.
 fn falls_from(nodes: &[Node], first: usize) -> bool
     requires { first < length nodes.now }
     ensures { result ≡ falls (drop first (revs_in nodes.now)) }
@@ -281,14 +282,14 @@ fn falls_from(nodes: &[Node], first: usize) -> bool
     true
 }
 
-/// Whether a node is one generation below another.
+/// Whether `lower` is one generation below `upper`.
 fn is_below(upper: &Node, lower: &Node) -> bool
     ensures { result ≡ nat_eq upper.now.rev.generation (lower.now.rev.generation + 1) }
 {
     upper.generation() - 1 == lower.generation()
 }
 
-/// Puts the places of the nodes from one on into the index, which has those before. There is room for them.
+/// Adds the nodes from index `first` to the index, which has those before it. The caller has reserved the space.
 fn index_from(nodes: &[Node], places: &mut Places, first: usize)
     requires first { first ≤ length nodes.now }
     requires begun { places.old.entries ≡ noted_from [] 0 (revs_in (take first nodes.now)) }
@@ -301,7 +302,7 @@ fn index_from(nodes: &[Node], places: &mut Places, first: usize)
     }
 }
 
-/// How many of some revisions have no node. The nodes are walked.
+/// Counts the given revisions that have no node, by scanning the nodes.
 fn count_new(nodes: &[Node], revs: &[Rev]) -> usize
     ensures { result ≡ count_new (revs_in nodes.now) revs.now }
 {
@@ -315,7 +316,7 @@ fn count_new(nodes: &[Node], revs: &[Rev]) -> usize
     count
 }
 
-/// 1 for a revision that has no node, else 0. The nodes are walked.
+/// Returns 1 if the revision has no node, else 0, by scanning the nodes.
 fn once_new(nodes: &[Node], rev: &Rev) -> usize
     ensures new { result ≡ unless_among (revs_in nodes.now) rev.now }
     ensures most { result ≤ 1 }
@@ -326,8 +327,8 @@ fn once_new(nodes: &[Node], rev: &Rev) -> usize
     }
 }
 
-/// Makes room in the list for the nodes of revisions: for no more where all together are few, and for the missing ones
-/// alone where they are very few.
+/// Reserves space in the list for the revisions of an ancestry: exactly enough if all together are few, and only for
+/// the missing ones if they are very few.
 #[tactic(auto, using(crate::proofs::Rooms::count_within))]
 fn reserve_nodes(list: &mut Vec<Node>, revs: &[Rev]) -> Result<(), AllocError>
     ensures items { list.new.items ≡ list.old.items }
@@ -344,7 +345,7 @@ fn reserve_nodes(list: &mut Vec<Node>, revs: &[Rev]) -> Result<(), AllocError>
     }
 }
 
-/// Gives back the room that no node takes, where the nodes are few and the room was made for many.
+/// Releases unused space of the list if it has few nodes and space for many was reserved.
 fn fit_nodes(list: &mut Vec<Node>)
     ensures { list.new.items ≡ list.old.items }
 {
@@ -353,7 +354,7 @@ fn fit_nodes(list: &mut Vec<Node>)
     }
 }
 
-/// Gives back the room in an index that has no place.
+/// Releases the space of an empty index.
 fn fit_index(places: &mut Places)
     ensures { places.new.entries ≡ places.old.entries }
 {
@@ -362,7 +363,7 @@ fn fit_index(places: &mut Places)
     }
 }
 
-/// Makes room in the index for so many nodes, unless they are few enough to be walked.
+/// Reserves space in the index for `nodes` nodes, unless they are few enough to be scanned.
 fn reserve_index(alloc: Global, places: &mut Places, nodes: usize) -> Result<(), AllocError>
     requires { length places.old.entries ≤ nodes }
     ensures index { places.new.entries ≡ places.old.entries }
@@ -374,7 +375,7 @@ fn reserve_index(alloc: Global, places: &mut Places, nodes: usize) -> Result<(),
     places.reserve(alloc, nodes - places.len())
 }
 
-/// The index of the nodes.
+/// Builds the index of the nodes.
 fn index_of(alloc: Global, nodes: &[Node]) -> Result<Places, AllocError>
     ensures { IfOk result (λ m. m.entries ≡ index_for (revs_in nodes.now)) }
 {
@@ -390,7 +391,7 @@ fn index_of(alloc: Global, nodes: &[Node]) -> Result<Places, AllocError>
     Ok(places)
 }
 
-/// The same nodes.
+/// Copies the nodes.
 fn copy_nodes(alloc: Global, nodes: &[Node]) -> Result<Vec<Node>, AllocError>
     ensures { IfOk result (λ v. v.items ≡ nodes.now) }
 {

@@ -1,4 +1,4 @@
-//! The index of the places of a tree's nodes.
+//! The index from revisions to the positions of their nodes.
 ghost use Rattle.std.specs.Prelude.{◌≡◌, ◌+◌, ◌<◌, ◌≤◌, ◌∷◌, ◌++◌, [], length, nat_eq, None, OnOk};
 ghost use Rattle.std.specs.Map.{lookup};
 ghost use Rattle.rev_tree.specs.Index.{noted};
@@ -7,12 +7,12 @@ use indexmap::IndexMap;
 use std::alloc::{AllocError, Global};
 use std::marker::Model;
 
-/// Places by the marks of their revisions, which take less room than the revisions themselves. Where revisions share a
-/// mark, the first has its place here, and the others are walked for. That happens only where somebody looked for
-/// such revisions on purpose.
+/// Positions of nodes by the hashes of their revisions, which need less memory than the revisions. If revisions share a
+/// hash, the first has its position here, and the others are found by scanning. In practice this happens only if
+/// someone constructs such revisions.
 ///
-/// A tree whose nodes are walked has none of them, nor has one of which each node is a generation below the one before it:
-/// they take memory from the first one on.
+/// The index is empty, and takes no memory, if the tree has few nodes or if each node is one generation below the
+/// previous one.
 #[derive(Drop)]
 pub(crate) struct Places {
     index: Option<Box<IndexMap<u64, usize>>>,
@@ -33,14 +33,14 @@ impl Model for Places {
 }
 
 impl Places {
-    /// None yet.
+    /// Creates an empty index.
     pub(crate) fn new() -> Places
         ensures { result.entries ≡ [] }
     {
         Places { index: None }
     }
 
-    /// How many there are.
+    /// Returns the number of entries.
     pub(crate) fn len(&self) -> usize
         ensures { result ≡ length self.now.entries }
     {
@@ -50,14 +50,14 @@ impl Places {
         }
     }
 
-    /// Whether there are none.
+    /// Whether the index is empty.
     pub(crate) fn is_empty(&self) -> bool
         ensures { result ≡ nat_eq (length self.now.entries) 0 }
     {
         self.len() == 0
     }
 
-    /// The place of a mark.
+    /// Returns the position stored for a hash.
     pub(crate) fn get(&self, mark: u64) -> Option<usize>
         ensures { result ≡ lookup (nat_eq mark) self.now.entries }
     {
@@ -67,7 +67,7 @@ impl Places {
         }
     }
 
-    /// Puts in a mark with its place, unless it has one. There is room for it.
+    /// Adds a hash with its position, unless the hash has an entry. The caller has reserved the space.
     pub(crate) fn note(&mut self, mark: u64, place: usize)
         requires { 0 < self.old.spare }
         ensures entries { self.new.entries ≡ noted self.old.entries mark place }
@@ -78,7 +78,7 @@ impl Places {
         }
     }
 
-    /// Puts in a mark, which is new, with its place. There is room for it.
+    /// Adds a new hash with its position. The caller has reserved the space.
     fn insert(&mut self, mark: u64, place: usize)
         requires room { 0 < self.old.spare }
         requires new { lookup (nat_eq mark) self.old.entries ≡ None }
@@ -94,7 +94,7 @@ impl Places {
         self.index = Some(index);
     }
 
-    /// Makes room for so many more.
+    /// Reserves space for `additional` entries.
     pub(crate) fn reserve(&mut self, alloc: Global, additional: usize) -> Result<(), AllocError>
         ensures entries { self.new.entries ≡ self.old.entries }
         ensures room { OnOk result (additional ≤ self.new.spare) }

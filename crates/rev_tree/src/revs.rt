@@ -8,22 +8,22 @@ use std::marker::Model;
 use std::ops::DerefSlice;
 use std::slice;
 
-/// Revisions in an order. One alone stands in the value itself, so that its list takes no memory.
+/// A list of revisions. A single revision is stored in the value itself, without allocating.
 ///
-/// Most documents have one leaf, and one revision is asked of most.
+/// Most documents have one leaf, and most requests name one revision.
 #[derive(Debug)]
 pub struct Revs {
     kept: Kept,
 }
 
-// By hand, so that it is proved once: docs/DECISIONS.md, "Letting values go".
+// Written by hand so that it is proved once: docs/DECISIONS.md, "Letting values go".
 impl Drop for Revs {
     fn drop(self) {
         let Revs { kept: _ } = self;
     }
 }
 
-/// Where the revisions stand.
+/// How the revisions are stored.
 #[derive(Debug, Drop)]
 enum Kept {
     One(Rev),
@@ -41,14 +41,14 @@ impl Model for Revs {
 }
 
 impl Revs {
-    /// The list of none.
+    /// Creates an empty list.
     pub fn none(alloc: Global) -> Revs
         ensures { result ≡ [] }
     {
         Revs::from(Vec::new(alloc))
     }
 
-    /// The list of one revision.
+    /// Creates a list of one revision.
     pub fn one(rev: Rev) -> Revs
         ensures { result ≡ rev ∷ [] }
     {
@@ -57,7 +57,7 @@ impl Revs {
         }
     }
 
-    /// A list of the same revisions.
+    /// Copies a slice of revisions.
     pub fn from_slice(alloc: Global, revs: &[Rev]) -> Result<Revs, AllocError>
         ensures { IfOk result (λ r. r ≡ revs.now) }
     {
@@ -67,7 +67,7 @@ impl Revs {
         Ok(Revs::from(Vec::from_slice(alloc, revs)?))
     }
 
-    /// The revisions.
+    /// Returns the revisions.
     pub fn as_slice(&self) -> &[Rev]
         ensures { result.now ≡ self.now }
     {
@@ -77,7 +77,7 @@ impl Revs {
         }
     }
 
-    /// A list of the same revisions.
+    /// Copies the list.
     pub fn copy(&self, alloc: Global) -> Result<Revs, AllocError>
         ensures { IfOk result (λ r. r ≡ self.now) }
     {

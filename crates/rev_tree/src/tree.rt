@@ -1,4 +1,4 @@
-//! Trees.
+//! Revision trees.
 ghost use Rattle.std.specs.Prelude.{◌≡◌, ◌∷◌, [], Ok, OnOk, OnErr, IfOk, MatchOption, length, map, slice_get, true, false};
 ghost use Rattle.std.specs.Option.{option_copied};
 
@@ -13,22 +13,23 @@ use rev_core::{Ancestry, Rev};
 use std::alloc::{AllocError, Global};
 use std::marker::Model;
 
-/// What a tree has of one of its revisions: its ancestors, itself first, and what stands at it where that is known.
+/// What a tree has about one of its revisions: its ancestors, the revision itself first, and its content if it is
+/// known.
 #[derive(Drop)]
 pub struct RevInfo<'a> {
     pub ancestry: Ancestry,
     pub content: Option<&'a Content>,
 }
 
-/// A document's revisions with their parents, contents and origins.
+/// The revisions of a document with their parents, contents and origins.
 ///
-/// Each revision is a node, which names its parent by its place. The place of the winner's node is kept.
+/// Each revision is a node, which names its parent by index. The index of the winner's node is stored.
 pub struct Tree {
     nodes: Nodes,
     best: usize,
 }
 
-// By hand, so that it is proved once: docs/DECISIONS.md, "Letting values go".
+// Written by hand so that it is proved once: docs/DECISIONS.md, "Letting values go".
 impl Drop for Tree {
     fn drop(self) {
         let Tree { nodes: _, best: _ } = self;
@@ -54,7 +55,7 @@ impl Tree {
     ghost use Rattle.rev_tree.specs.Tree.{IsTree, no_revisions, has, is_leaf, merged, merge_answer, ancestors, ancestry_answer, leaves, is_deleted, missing, leaves_above, GivesUnlessMemory, MergeGives, IsStanding};
     ghost use Rattle.rev_tree.specs.InOrder.{first_of, only_of};
 
-    /// The tree of no revisions.
+    /// Creates an empty tree.
     pub fn new(alloc: Global) -> Tree
         ensures { result ≡ no_revisions }
     {
@@ -64,7 +65,7 @@ impl Tree {
         }
     }
 
-    /// Whether a revision is in the tree.
+    /// Whether the tree has the revision.
     pub fn has(&self, rev: Rev) -> bool
         ensures found { result ≡ has self.now rev }
         ensures tree { IsTree self.now }
@@ -72,7 +73,7 @@ impl Tree {
         self.nodes.node_in(&rev).is_some()
     }
 
-    /// The parent of a revision, where one is known.
+    /// Returns the parent of a revision, if it is known.
     pub fn parent_of(&self, rev: Rev) -> Option<Rev>
         ensures { result ≡ get self.now.parents rev }
     {
@@ -81,7 +82,7 @@ impl Tree {
         Some(*self.nodes.node_at(parent).rev())
     }
 
-    /// What stands at a revision, where it is known.
+    /// Returns the content of a revision, if it is known.
     pub fn content(&self, rev: Rev) -> Option<&Content>
         ensures { option_copied result ≡ get self.now.contents rev }
     {
@@ -89,7 +90,7 @@ impl Tree {
         node.content()
     }
 
-    /// Where a revision came from.
+    /// Returns the origin of a revision.
     pub fn origin(&self, rev: Rev) -> Option<Origin>
         ensures { result ≡ get self.now.origins rev }
     {
@@ -107,7 +108,7 @@ impl Tree {
         !node.has_child()
     }
 
-    /// Whether a revision has a content that deletes.
+    /// Whether a revision has a content that deletes the document.
     pub fn is_deleted(&self, rev: Rev) -> bool
         ensures { result ≡ is_deleted self.now rev }
     {
@@ -117,7 +118,7 @@ impl Tree {
         }
     }
 
-    /// A revision and its known ancestors.
+    /// Returns a revision and its known ancestors, or `NoSuchRevision` if the revision is not in the tree.
     pub fn ancestry(&self, alloc: Global, rev: Rev) -> Result<Ancestry, TreeFault>
         ensures { GivesUnlessMemory result (ancestry_answer self.now rev) }
     {
@@ -127,7 +128,7 @@ impl Tree {
         Ok(self.known_ancestry(alloc, rev)?)
     }
 
-    /// A revision of the tree and its known ancestors.
+    /// Returns a revision of the tree and its known ancestors.
     pub fn known_ancestry(&self, alloc: Global, rev: Rev) -> Result<Ancestry, AllocError>
         requires { has self.now rev ≡ true }
         ensures { IfOk result (λ a. a ≡ ancestors self.now rev) }
@@ -139,8 +140,8 @@ impl Tree {
         Ok(Ancestry::from_revs(revs))
     }
 
-    /// One of a revision's known ancestors, by its place: the revision itself has place 0, its parent 1, and so on. `None`
-    /// where so many are not known.
+    /// Returns a known ancestor by its distance: 0 is the revision itself, 1 its parent, and so on. `None` if fewer
+    /// ancestors are known.
     pub fn ancestor(&self, rev: Rev, place: usize) -> Option<Rev>
         requires { has self.now rev ≡ true }
         ensures { result ≡ slice_get (ancestors self.now rev) place }
@@ -151,8 +152,8 @@ impl Tree {
         self.nodes.ancestor_at(start, place)
     }
 
-    /// What the tree has of a revision, found with one look-up: its ancestors, and what stands at it where that is known.
-    /// `None` where it is not in the tree.
+    /// Returns the ancestors and the content of a revision, with one lookup, or `None` if the revision is not in the
+    /// tree.
     pub fn rev_info(&self, alloc: Global, rev: Rev) -> Result<Option<RevInfo<'_>>, AllocError>
         ensures { IfOk result
             (λ o. MatchOption o (has self.now rev ≡ false) (λ s. IsStanding self.now rev s.ancestry (option_copied s.content))) }
@@ -167,7 +168,7 @@ impl Tree {
         }))
     }
 
-    /// The winning leaf, where there is a revision.
+    /// Returns the winning leaf, or `None` if the tree is empty.
     pub fn winner(&self) -> Option<Rev>
         ensures { result ≡ first_of (leaves self.now) }
     {
@@ -175,7 +176,7 @@ impl Tree {
         Some(*node.rev())
     }
 
-    /// The leaves, winner first. One alone takes no memory.
+    /// Returns the leaves, winner first. Does not allocate for a single leaf.
     pub fn leaves(&self, alloc: Global) -> Result<Revs, AllocError>
         ensures { IfOk result (λ out. out ≡ leaves self.now) }
     {
@@ -185,7 +186,7 @@ impl Tree {
         }
     }
 
-    /// The leaf, where there is one alone.
+    /// Returns the leaf, if there is exactly one.
     fn only_leaf(&self) -> Option<&Rev>
         ensures { option_copied result ≡ only_of (leaves self.now) }
     {
@@ -201,7 +202,7 @@ impl Tree {
         found
     }
 
-    /// The leaves, winner first, of which there may be several.
+    /// Collects and sorts the leaves, winner first.
     #[inline(never)]
     fn sorted_leaves(&self, alloc: Global) -> Result<Vec<Rev>, AllocError>
         ensures { IfOk result (λ v. v.items ≡ leaves self.now) }
@@ -216,7 +217,7 @@ impl Tree {
         revs_of(alloc, &found)
     }
 
-    /// How many leaves there are.
+    /// Returns the number of leaves.
     pub fn leaf_count(&self) -> usize
         ensures { result ≡ length (leaves self.now) }
     {
@@ -229,16 +230,16 @@ impl Tree {
         count
     }
 
-    /// How many revisions there are.
+    /// Returns the number of revisions.
     pub fn rev_count(&self) -> usize
         ensures { result ≡ len self.now.origins }
     {
         self.nodes.all().len()
     }
 
-    /// The leaves at or above one of the revisions, winner first.
+    /// Returns the leaves that are equal to or descend from one of the revisions, winner first.
     ///
-    /// The only leaf, where it is itself one of them, takes no memory.
+    /// Does not allocate if the only leaf is itself one of the revisions.
     pub fn leaves_above(&self, alloc: Global, revs: &[Rev]) -> Result<Revs, AllocError>
         ensures { IfOk result (λ out. out ≡ leaves_above self.now revs.now) }
     {
@@ -251,7 +252,8 @@ impl Tree {
         Ok(Revs::from(self.nodes.those_above(alloc, &leaves, revs)?))
     }
 
-    /// Those that are not in the tree, in their order. Of one revision alone it takes no memory.
+    /// Returns the given revisions that are not in the tree, in their order. Does not allocate for a single given
+    /// revision.
     pub fn missing(&self, alloc: Global, revs: &[Rev]) -> Result<Revs, AllocError>
         ensures { IfOk result (λ out. out ≡ missing self.now revs.now) }
     {
@@ -265,7 +267,7 @@ impl Tree {
         }
     }
 
-    /// Those that are not in the tree, in their order, of which there may be several.
+    /// Collects the given revisions that are not in the tree, in their order.
     fn missing_listed(&self, alloc: Global, revs: &[Rev]) -> Result<Vec<Rev>, AllocError>
         ensures { IfOk result (λ v. v.items ≡ missing self.now revs.now) }
     {
@@ -278,7 +280,7 @@ impl Tree {
         Ok(missing)
     }
 
-    /// The same tree.
+    /// Copies the tree.
     pub fn copy(&self, alloc: Global) -> Result<Tree, AllocError>
         ensures copied { IfOk result (λ t. t ≡ self.now) }
         ensures tree { IsTree self.now }
@@ -290,11 +292,12 @@ impl Tree {
         })
     }
 
-    /// What a merge of the ancestry would do. It takes no memory.
+    /// Returns what merging the ancestry would do, without allocating: `Same` if the tree has all revisions, their
+    /// edges and a content of the head; else `Changed`.
     ///
-    /// The contradiction is the first given child, newest first, whose known parent is another than the given one. Else
-    /// `Same` where all revisions, their edges and a content of the head are in the tree, so that a merge changes
-    /// nothing; else `Changed`.
+    /// # Errors
+    ///
+    /// Returns the first given child, newest first, whose known parent differs from the given one.
     pub fn merge_answer(&self, ancestry: &Ancestry) -> Result<Merged, Contradiction>
         ensures answer { result ≡ merge_answer self.now ancestry.now }
         ensures tree { IsTree self.now }
@@ -311,10 +314,17 @@ impl Tree {
         }
     }
 
-    /// Merges an ancestry, the content of its head and the origin of what is new: the tree becomes the union. What is
-    /// known stays as it is.
+    /// Merges an ancestry and the content of its head into the tree, as a union. New revisions get the given origin;
+    /// known data stays.
     ///
-    /// It answers what `merge_answer` does, or `Memory` where the tree would change. A refusal changes nothing.
+    /// Returns what `merge_answer` returns.
+    ///
+    /// # Errors
+    ///
+    /// - `Contradiction`: as `merge_answer`.
+    /// - `Memory`: an allocation failed. Not returned if the tree would stay the same.
+    ///
+    /// After an error the tree is unchanged.
     pub fn merge(
         &mut self,
         ancestry: &Ancestry,
@@ -348,7 +358,7 @@ impl Tree {
         Ok(Merged::Changed)
     }
 
-    /// Merges an ancestry of which `merge_answer` says that the tree changes, without asking again.
+    /// Merges an ancestry for which `merge_answer` has returned `Changed`, without checking again.
     pub fn merge_change(
         &mut self,
         ancestry: &Ancestry,
@@ -369,7 +379,7 @@ impl Tree {
     }
 }
 
-/// The revisions of leaves.
+/// Collects the revisions of leaves.
 fn revs_of(alloc: Global, leaves: &[Leaf<'_>]) -> Result<Vec<Rev>, AllocError>
     ensures { IfOk result (λ v. v.items ≡ map (λ l. l.rev.now) leaves.now) }
 {

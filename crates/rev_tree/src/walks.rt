@@ -1,4 +1,4 @@
-//! Walks from a node to its ancestors, by their places.
+//! Traversals from a node to its ancestors, by index.
 ghost use Rattle.std.specs.Prelude.{◌≡◌, ◌<◌, List, IfOk, true, filter, length, slice_get};
 ghost use Rattle.rev_core.specs.Rev.{RevId};
 ghost use Rattle.rev_core.specs.Ancestry.{is_among};
@@ -11,13 +11,13 @@ use rev_core::Rev;
 use std::alloc::{AllocError, Global};
 
 impl Nodes {
-    /// The revision at a place and its known ancestors.
+    /// Returns the revision at an index and its known ancestors.
     pub(crate) fn walk(&self, alloc: Global, start: usize) -> Result<Vec<Rev>, AllocError>
         requires within { start < length self.now.items }
         requires tree { IsTree (tree_of self.now.items) }
         ensures { IfOk result (λ v. v.items ≡ ancestors_at self.now.items start) }
     {
-        // There are at most so many ancestors as nodes, and at most so many as the generation says.
+        // A revision has no more ancestors than the tree has nodes, or than its generation.
         let most = self
             .all()
             .len()
@@ -36,7 +36,7 @@ impl Nodes {
         Ok(revs)
     }
 
-    /// The ancestor of the revision at a place that is so many steps from it, where so many are known.
+    /// Returns the known ancestor that is `steps` steps from the revision at an index.
     pub(crate) fn ancestor_at(&self, start: usize, steps: usize) -> Option<Rev>
         requires within { start < length self.now.items }
         requires tree { IsTree (tree_of self.now.items) }
@@ -49,9 +49,9 @@ impl Nodes {
         Some(*self.node_at(at).rev())
     }
 
-    /// Those of the leaves that are one of the revisions asked or have one among their ancestors, in their order.
+    /// Returns those leaves that are one of the given revisions or have one among their ancestors, in their order.
     ///
-    /// What is found on the way down from one leaf is told to the next, so each node is passed once.
+    /// The result for each visited node is stored for the next leaves, so each node is visited once.
     pub(crate) fn those_above(
         &self,
         alloc: Global,
@@ -77,7 +77,7 @@ impl Nodes {
         Ok(above)
     }
 
-    /// For each place, that the answer is yes where the revision is one of those asked, and is not known elsewhere.
+    /// Creates the table of results by index: true for the given revisions, unknown for all others.
     fn asked(&self, alloc: Global, revs: &[Rev]) -> Result<Vec<Option<bool>>, AllocError>
         ensures { IfOk result (λ v. IsTold self.now.items revs.now v.items) }
     {
@@ -90,7 +90,8 @@ impl Nodes {
         Ok(told)
     }
 
-    /// Whether one of the revisions asked is that at a place or its ancestor, and the same told along the way.
+    /// Whether the revision at an index or one of its ancestors is one of the given revisions. Stores the result for
+    /// all visited nodes.
     fn is_above(&self, told: &mut Vec<Option<bool>>, start: usize) -> bool
         requires within { start < length self.now.items }
         requires len { length told.old.items ≡ length self.now.items }
@@ -108,7 +109,7 @@ impl Nodes {
         answer
     }
 
-    /// The first answer that is known on the way down from a place, and no where there is none.
+    /// Returns the first known result on the path from an index to its oldest ancestor, or false if there is none.
     fn first_told(&self, told: &[Option<bool>], start: usize) -> bool
         requires within { start < length self.now.items }
         requires len { length told.now ≡ length self.now.items }
@@ -130,7 +131,7 @@ impl Nodes {
         false
     }
 
-    /// Tells an answer at each place on the way down where none is known yet, up to the first where one is.
+    /// Stores a result for each node on the path from an index, up to the first node that has one.
     fn tell(&self, told: &mut Vec<Option<bool>>, start: usize, answer: bool)
         requires within { start < length self.now.items }
         requires len { length told.old.items ≡ length self.now.items }

@@ -1,4 +1,4 @@
-//! The winner's node among the nodes of a tree.
+//! Finding the winner's node.
 ghost use Rattle.std.specs.Prelude.{◌≡◌, ◌<◌, Some, slice_get, length};
 ghost use Rattle.std.specs.Option.{option_copied};
 ghost use Rattle.rev_core.specs.Rev.{RevId};
@@ -12,10 +12,11 @@ use crate::nodes::Nodes;
 use std::cmp::Ordering;
 
 impl Nodes {
-    /// The place of the winner's node, after an ancestry was put among nodes that had theirs at a place before.
+    /// Returns the index of the winner's node after an ancestry was inserted. `before` is the index of the previous
+    /// winner.
     ///
-    /// It is the head's, where the head goes before the old winner, or the old one's, where that is a leaf still. Else
-    /// all nodes are walked.
+    /// It is the head's node if the head goes before the previous winner, or the previous winner's node if that is
+    /// still a leaf. Otherwise all nodes are scanned.
     pub(crate) fn winner_after(&self, before: usize, head: usize) -> usize
         requires before { before < length self.now.items }
         requires head { head < length self.now.items }
@@ -39,7 +40,7 @@ impl Nodes {
         self.first_leaf()
     }
 
-    /// The place of the first leaf in the winner's order, for which all nodes are walked.
+    /// Returns the index of the first leaf in the winner's order, by scanning all nodes.
     #[inline(never)]
     fn first_leaf(&self) -> usize
         ensures { (r : RevId)
@@ -62,8 +63,8 @@ impl Nodes {
     }
 }
 
-/// Whether a leaf goes before the best one so far, where there is one: one that is not deleted first, then the greater
-/// generation, then the greater signature.
+/// Whether a leaf goes before the best leaf so far, if there is one: live before deleted, then the greater generation,
+/// then the greater signature.
 pub(crate) fn goes_before(leaf: &Node, best: Option<&Node>) -> bool
     ensures { result ≡ goes_before leaf.now (option_copied best.entry) }
 {
@@ -78,7 +79,7 @@ pub(crate) fn goes_before(leaf: &Node, best: Option<&Node>) -> bool
     }
 }
 
-/// Whether a node has a content that deletes.
+/// Whether a node has a content that deletes the document.
 pub(crate) fn is_deleted(node: &Node) -> bool
     ensures { result ≡ deletes node.now }
 {

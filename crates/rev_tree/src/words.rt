@@ -1,16 +1,16 @@
-//! Bytes of signatures, eight at a time as one number.
+//! Comparing signatures eight bytes at a time.
 ghost use Rattle.std.specs.Prelude.{◌≡◌, ◌+◌, ◌≤◌, true, drop, length, nat_eq};
 ghost use Rattle.std.specs.Cmp.Lexicographic.{pointwise};
 ghost use Rattle.rev_core.specs.Sig.{is_sig};
 ghost use Rattle.rev_tree.specs.Words.{front_of};
 
-/// How many bytes are one number.
+/// The number of bytes in one integer.
 const WORD: usize = 8;
 
-/// How many digits a digest has, as most signatures do.
+/// The number of digits of a digest, as most signatures have.
 const DIGITS: usize = 32;
 
-/// The first bytes of a text as one number, the first byte highest, and zeros behind a shorter one.
+/// Returns the first eight bytes of a signature as a big-endian integer, with zeros after a shorter signature.
 pub(crate) fn front_of(text: &[u8]) -> u64
     ensures { result ≡ front_of 8 text.now }
 {
@@ -22,9 +22,9 @@ pub(crate) fn front_of(text: &[u8]) -> u64
     u64::from_be_bytes(bytes)
 }
 
-/// Whether two signatures are the same.
+/// Whether two signatures are equal.
 ///
-/// Two digests are compared by four numbers each, which needs no loop.
+/// Two digests are compared as four integers each, without a loop.
 pub(crate) fn is_same(one: &[u8], other: &[u8]) -> bool
     requires one { is_sig one.now ≡ true }
     requires other { is_sig other.now ≡ true }
@@ -42,7 +42,7 @@ pub(crate) fn is_same(one: &[u8], other: &[u8]) -> bool
         & (word_at(one, 24) == word_at(other, 24))
 }
 
-/// Eight bytes from a place on as one number, the first byte highest.
+/// Returns the eight bytes from index `at` as a big-endian integer.
 fn word_at(text: &[u8], at: usize) -> u64
     requires { at + 8 ≤ length text.now }
     ensures { result ≡ front_of 8 (drop at text.now) }

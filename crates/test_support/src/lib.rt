@@ -1,7 +1,6 @@
-//! The texts in which tests tell what calls answer, revisions of texts, and the plainest entry of a log.
+//! Helpers that several test crates share: strings of results, revisions from strings, and a minimal log entry.
 //!
-//! Tests of several crates stand on it. It has no contracts: what it tells is compared with texts that are written by
-//! hand.
+//! This crate has no contracts: its results are compared with strings written by hand.
 #![tactic(auto)]
 
 mod entries;

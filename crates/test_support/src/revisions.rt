@@ -1,25 +1,26 @@
-//! Revisions and plain values, of texts and as texts. `None` where a text is none, or no memory is left.
+//! Conversions of revisions and other values from and to strings. `None` if the string is invalid or an allocation
+//! fails.
 use rev_core::Rev;
 use std::alloc::Global;
 use std::fmt::Debug;
 
-/// The revision of a text that is one.
+/// Parses a revision.
 pub fn rev(text: &str) -> Option<Rev> {
     Rev::parse(text.as_bytes()).ok()
 }
 
-/// A plain value as its type shows it.
+/// Formats a value with `Debug`.
 pub fn shown<T: Debug>(alloc: Global, value: &T) -> Option<String> {
     format!(in alloc; "{value:?}").ok()
 }
 
-/// The text of a revision.
+/// Formats a revision.
 pub fn rev_text(alloc: Global, rev: Rev) -> Option<String> {
     let bytes = rev.write(alloc).ok()?;
     String::from_utf8(bytes).ok()
 }
 
-/// The texts of revisions, joined by commas.
+/// Formats revisions, separated by commas.
 pub fn revs_text(alloc: Global, revs: &[Rev]) -> Option<String> {
     let mut all = String::new(alloc);
     for rev in revs {

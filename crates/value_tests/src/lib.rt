@@ -1,4 +1,4 @@
-//! Tests of revisions, trees, documents and what else is a value.
+//! Tests of revisions, JSON values, fronts, logs and boards.
 #![tactic(auto)]
 
 #[cfg(test)]

@@ -1,9 +1,9 @@
-//! Tests of revisions, JSON values, fronts, logs and boards, each a table of calls with the texts that they must answer:
-//! the worked rows, and that each call succeeds where memory suffices. They stand above the crates that they test, since a
-//! crate with tests is proved twice. Trees and documents are tested by the scripts of the program, and by crates above.
+//! Tests of revisions, JSON values, fronts, logs and boards. Each is a table of calls with their expected results as
+//! strings: worked rows, and each call once with ample memory. They are above the crates that they test, because a
+//! crate with tests is proved twice. Trees and documents are tested by scripts of the program, and by other crates.
 //!
-//! A call is made by its name, so a proof sees each kind of call once. The tables are statics, so it sees none of their
-//! rows.
+//! A call is an enum value, so a proof covers each kind of call once. The tables are statics, so a proof does not cover
+//! their rows.
 
 // Revisions.
 mod revisions;
@@ -18,5 +18,5 @@ mod logs;
 // The progress board.
 mod boards;
 
-// Texts of answers.
+// Strings of results.
 mod texts;

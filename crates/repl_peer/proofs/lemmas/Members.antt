@@ -1,4 +1,4 @@
--- Members of lists that were filtered or joined, and members at places.
+-- Members of filtered or concatenated lists, and members by index.
 use Rattle.proof_prelude.proofs.{◌≡◌, ◌⊎◌, ℕ, zero, suc, List, [], ◌∷◌, ◌++◌, filter, Bool, true, Some, slice_get, sym, ap, ◌∙◌, subst, inl, inr, eq_by_cmp, cond_both, both_ways, or_cases, or_left, or_right, false≢true}
 use Rattle.rev_core.specs.{RevId, rev_cmp, rev_tie_is, rev_tie_self, is_among}
 use Rattle.couch_base.specs.{Among, some_is, none_some}

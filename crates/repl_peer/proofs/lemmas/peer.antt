@@ -1,4 +1,4 @@
--- Lemmas of peers and their law.
+-- Lemmas about peers and their invariant.
 pub mod RulesTested
 pub mod WritesStand
 pub mod LaterPeers

@@ -1,4 +1,4 @@
--- Lemmas of sessions and settling.
+-- Lemmas about sessions and settling.
 pub mod SessionTable
 pub mod AddedToRepIndex
 pub mod SessionIndex

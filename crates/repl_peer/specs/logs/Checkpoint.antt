@@ -1,4 +1,4 @@
--- The replication between two peers, and where it goes on: docs/PROFILE.md, "Replication ids and logs" and "Common
+-- The replication between two peers, and its common checkpoint: docs/PROFILE.md, "Replication ids and logs" and "Common
 -- checkpoint".
 use Rattle.std.specs.Prelude.{ℕ, Option}
 use Rattle.rev_tree.specs.declared.origin.SessionId.{SessionId}
@@ -8,7 +8,7 @@ use Rattle.repl_log.specs.Log.{common}
 use Rattle.repl_peer.specs.peer.Peer.{PeerValue}
 use Rattle.repl_peer.specs.logs.Logs.{source_log, target_log}
 
--- the replication of the chosen documents from one peer's database into another's
+-- the replication of the selected documents from one peer's database into another's
 abbrev pub rep_between : PeerValue → PeerValue → Choice → RepId
 rep_between source target chosen = record { source = source.db.uuid; target = target.db.uuid; chosen = chosen }
 

@@ -1,4 +1,4 @@
--- Earlier copies of peers, and putting them back: docs/PROFILE.md, "Backup and restore".
+-- Backups of peers, and restoring them: docs/PROFILE.md, "Backup and restore".
 use Rattle.std.specs.Prelude.{ℕ, ◌+◌, ◌==◌, max, Bool, true, false, nat_lt, List, [], ◌∷◌, Result, Ok, Err, if◌then◌else◌}
 use Rattle.couch_base.specs.Lists.{Among}
 use Rattle.couch_base.specs.Database.{DatabaseValue, in_life, most}
@@ -10,27 +10,28 @@ use Rattle.repl_peer.specs.peer.Origins.{HasOrigins}
 use Rattle.repl_peer.specs.declared.fault.TargetFault.{TargetFault}
 use Rattle.repl_peer.specs.declared.fault.TargetFault.TheVariants as faults
 
--- a copy of what a peer without incoming sessions holds
+-- a copy of a peer without incoming sessions
 pub record BackupValue : Type 0 where
   pub db : DatabaseValue
   pub locals : List WrittenValue
   pub outgoing : List (RepId × List EntryValue)
 
--- the peer that a copy is of
+-- the peer of which a backup is a copy
 abbrev pub peer_of : BackupValue → PeerValue
 peer_of b = record { db = b.db; locals = b.locals; sessions = []; outgoing = b.outgoing }
 
--- what holds of every copy: each revision comes from a local write, and these stand in the trees of their documents
+-- the invariant of a backup: each revision comes from a local write, and the local writes are in the trees of their
+-- documents
 pub record IsBackup (b : BackupValue) : Type 0 where
   pub origins : HasOrigins (peer_of b)
   pub locals : (a : WrittenValue) → Among a b.locals → StandsIn b.db a
 
--- whether something was replicated into a peer
+-- whether a peer with these sessions has been a target
 abbrev pub is_target : List SessionValue → Bool
 is_target [] = false
 is_target (s ∷ sessions) = true
 
--- ---- making one
+-- ---- making a backup
 
 abbrev pub copy_of : PeerValue → BackupValue
 copy_of p = record { db = p.db; locals = p.locals; outgoing = p.outgoing }
@@ -38,13 +39,13 @@ copy_of p = record { db = p.db; locals = p.locals; outgoing = p.outgoing }
 abbrev pub backup_answer : PeerValue → Result BackupValue TargetFault
 backup_answer p = if is_target p.sessions then Err faults.IsTarget else Ok (copy_of p)
 
--- ---- putting one back
+-- ---- restoring a backup
 
--- the life before, and that of the copy
+-- the greater of the lives of the peer and the backup
 abbrev pub greater_life : PeerValue → BackupValue → ℕ
 greater_life p b = max p.db.life b.db.life
 
--- a target isn't put back, nor another database's copy, nor behind the last life
+-- the result of restoring, if no allocation fails
 abbrev pub restore_answer : PeerValue → BackupValue → Result (Unit {0}) TargetFault
 restore_answer p b =
     if is_target p.sessions then Err faults.IsTarget
@@ -52,7 +53,7 @@ restore_answer p b =
     then (if nat_lt (greater_life p b) most then Ok tt else Err faults.LifeFull)
     else Err faults.ForeignBackup)
 
--- the copy's contents, in a life above both
+-- the peer after restoring: the backup's content, in a life above both
 abbrev pub restored : PeerValue → BackupValue → PeerValue
 restored p b =
     record p { db = in_life b.db (greater_life p b + 1); locals = b.locals; outgoing = b.outgoing }

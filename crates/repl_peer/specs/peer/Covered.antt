@@ -1,4 +1,4 @@
--- What a peer covers: docs/PROFILE.md, "Covered leaves".
+-- Covered revisions: docs/PROFILE.md, "Covered leaves".
 use Rattle.std.specs.Prelude.{◌≡◌, ℕ, ◌≤◌, Bool, true, not, ◌&&◌, ◌||◌, List, [], ◌∷◌, Option, Some, None, is_some, if◌then◌else◌}
 use Rattle.std.specs.List.{find, list_any, list_all}
 use Rattle.std.specs.Option.{option_map, option_or}
@@ -15,33 +15,33 @@ use Rattle.repl_peer.specs.peer.Peer.{PeerValue, SessionValue, RefusedValue}
 use Rattle.repl_peer.specs.declared.fault.Reason.{Reason}
 use Rattle.repl_peer.specs.declared.fault.Reason.TheVariants as reasons
 
--- the contradiction of a document with its tree
+-- the contradiction of a document with its tree, if there is one
 abbrev pub contradiction_of : DatabaseValue → Document → Option Contradiction
 contradiction_of db d = first_contradiction (tree_of db.docs d.id).parents (edges_of d.ancestry)
 
--- why a document is refused: the filter is asked first
+-- why a document is refused, if it is; the filter is checked first
 abbrev pub refusal_of : (Document → Bool) → DatabaseValue → Document → Option Reason
 refusal_of refuses db d =
     if refuses d then Some reasons.Filtered
     else option_map (λ c. reasons.Contradicting c.child c.known c.given) (contradiction_of db d)
 
--- a document is rightly refused where the filter refuses it, or its ancestry contradicts its tree
+-- whether a document is rightly refused: the filter refuses it, or its ancestry contradicts its tree
 abbrev pub rightly_refused : (Document → Bool) → DatabaseValue → Document → Bool
 rightly_refused refuses db d = refuses d || is_some (contradiction_of db d)
 
--- whether a refused document of an id has a revision in its ancestry
+-- whether a refused document with this id has the revision in its ancestry
 abbrev pub in_ledger : List RefusedValue → Id → RevId → Bool
 in_ledger ledger id r = list_any (λ x. bytes_eq x.doc.id id && is_among r x.doc.ancestry) ledger
 
--- a revision is covered where it is in its document's tree, or in the ancestry of a document of a ledger
+-- whether a revision is covered: it is in its document's tree, or in the ancestry of a document in a ledger
 abbrev pub covers : PeerValue → Id → RevId → Bool
 covers p id r = has (tree_of p.db.docs id) r || list_any (λ s. in_ledger s.ledger id r) p.sessions
 
--- each leaf that a row names is known
+-- whether each leaf of a row is known
 abbrev pub knows_row : (Id → RevId → Bool) → RowValue → Bool
 knows_row known row = list_all (known row.id) row.leaves
 
--- each leaf that a window names is covered
+-- whether each leaf of a window is covered
 abbrev pub covers_window : PeerValue → WindowValue → Bool
 covers_window p w = list_all (knows_row (covers p)) w.rows
 
@@ -55,7 +55,7 @@ pub record Leaf : Type 0 where
   pub id : Id
   pub rev : RevId
 
--- the first leaf of some rows that isn't known
+-- the first leaf of a row that is not known
 abbrev pub unknown_in : (Id → RevId → Bool) → RowValue → Option Leaf
 unknown_in known row =
     option_map (λ rev. record { seq = row.seq; id = row.id; rev = rev })
@@ -65,11 +65,11 @@ abbrev pub first_unknown : (Id → RevId → Bool) → List RowValue → Option 
 first_unknown known [] = None
 first_unknown known (row ∷ rows) = option_or (unknown_in known row) (first_unknown known rows)
 
--- the first leaf of some rows that isn't covered
+-- the first leaf of the rows that is not covered
 abbrev pub first_uncovered : PeerValue → List RowValue → Option Leaf
 first_uncovered p rows = first_unknown (covers p) rows
 
--- every row of the stored windows at or under a sequence has its leaves covered
+-- every leaf of the session's window rows at or below sequence n is covered
 abbrev pub Honest : PeerValue → SessionValue → ℕ → Type 0
 Honest p s n =
     (w : WindowValue) → Among w s.windows → (row : RowValue) → Among row w.rows → row.seq ≤ n → (leaf : RevId)

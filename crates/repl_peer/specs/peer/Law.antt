@@ -1,4 +1,4 @@
--- What every peer keeps: docs/PROFILE.md, "The peer's law".
+-- The invariant of a peer: docs/PROFILE.md, "The peer's law".
 use Rattle.std.specs.Prelude.{◌≡◌, ◌⊎◌, ℕ, ◌≤◌, Bool, true, List, [], ◌∷◌, map, length, Some, None, nat_eq}
 use Rattle.std.specs.List.{IsDistinct, AllByRecursion}
 use Rattle.rev_core.specs.Rev.{RevId}
@@ -19,18 +19,18 @@ use Rattle.repl_peer.specs.peer.Origins.{HasOrigins}
 abbrev pub window_bounds : List WindowValue → List (ℕ × ℕ)
 window_bounds ws = map (λ w. (w.lo, w.hi)) ws
 
--- what a session stores: its front, its windows, what it has recorded, and its goal
+-- the windows of a session: its front, its windows, its recorded sequence and its goal
 pub record LawfulStore (f : FrontValue) (ws : List WindowValue) (n goal : ℕ) : Type 0 where
-  -- the windows are consecutive from the start, inside the goal, with rows rising; the done ones are of them
+  -- the windows are consecutive from the start, at or below the goal, with rising rows; the front has the same windows
   pub front : IsFront f
   pub bounds : window_bounds ws ≡ bounds f
   pub within : end_of f ≤ goal
   pub windows : AllByRecursion IsWindow ws
-  -- what is recorded is within the low water
+  -- the recorded sequence is at most the low water
   pub start : f.start ≤ n
   pub recorded : n ≤ low_water f
 
--- the counts add up
+-- the counts agree with the lists
 pub record LawfulCounts (arrivals : List WrittenValue) (ledger : List RefusedValue) (counts : Counts) : Type 0 where
   pub written : counts.written ≡ length arrivals
   pub failures : counts.failures ≡ length ledger
@@ -41,16 +41,17 @@ pub record LawfulSession (refuses : Document → Bool) (p : PeerValue) (s : Sess
   pub open store use *
   -- each leaf in the rows of a done window is covered
   pub done : (w : WindowValue) → Among w s.windows → is_done s.front w.lo w.hi ≡ true → CoversWindow p w
-  -- each document of the ledger is rightly refused
+  -- each document in the ledger is rightly refused
   pub ledger : (x : RefusedValue) → Among x s.ledger → rightly_refused refuses p.db x.doc ≡ true
-  -- each arrival stands in its document's tree
+  -- each arrival is in its document's tree
   pub arrivals : (a : WrittenValue) → Among a s.arrivals → (r : RevId) → is_among r a.ancestry ≡ true
       → has (tree_of p.db.docs a.id) r ≡ true
   pub stands : (a : WrittenValue) → Among a s.arrivals → StandsIn p.db a
   pub counts : LawfulCounts s.arrivals s.ledger s.counts
   pub open counts use *
 
--- a session starts at 0, or at most at what an earlier one of the same replication has recorded
+-- a session starts at 0 without a base, or at or below the recorded sequence of an earlier session of the same
+-- replication
 abbrev pub IsBased : List SessionValue → SessionValue → Type 0
 IsBased earlier s =
     (s.base ≡ None) × (s.front.start ≡ 0)
@@ -63,14 +64,14 @@ AllBased (s ∷ earlier) = IsBased earlier s × AllBased earlier
 abbrev pub session_numbers : List SessionValue → List ℕ
 session_numbers sessions = map (λ s. s.id.0) sessions
 
--- what holds of the sessions of every peer
+-- the invariant of the sessions of a peer
 pub record LawfulSessions (refuses : Document → Bool) (p : PeerValue) : Type 0 where
   pub sessions : (s : SessionValue) → Among s p.sessions → LawfulSession refuses p s
   pub based : AllBased p.sessions
   pub distinct : IsDistinct nat_eq (session_numbers p.sessions)
 
--- what holds of every peer: the laws of its sessions, that each of its revisions has an origin, and that its local writes
--- stand in the trees of their documents
+-- the invariant of a peer: that of its sessions; each of its revisions has an origin; and its local writes are in the
+-- trees of their documents
 pub record Lawful (refuses : Document → Bool) (p : PeerValue) : Type 0 where
   pub sessions : LawfulSessions refuses p
   pub origins : HasOrigins p

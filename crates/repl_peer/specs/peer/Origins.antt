@@ -1,4 +1,4 @@
--- Where the revisions of a peer come from: docs/PROFILE.md, "Revision trees" and "The peer's law".
+-- Origins of the revisions of a peer: docs/PROFILE.md, "Revision trees" and "The peer's law".
 use Rattle.std.specs.Prelude.{◌≡◌, ℕ, true, Some, slice_get}
 use Rattle.std.specs.FinMap.{get}
 use Rattle.rev_core.specs.Rev.{RevId}
@@ -12,14 +12,14 @@ use Rattle.couch_base.specs.Database.{Id, tree_of}
 use Rattle.couch_base.specs.Feed.{RowValue, WindowValue}
 use Rattle.repl_peer.specs.peer.Peer.{PeerValue, SessionValue, WrittenValue}
 
--- the n-th stored local write is of this document, and holds the revision
+-- the n-th local write is of this document and has the revision
 pub record IsLocal (p : PeerValue) (id : Id) (r : RevId) (n : ℕ) : Type 0 where
   pub write : WrittenValue
   pub stored : slice_get p.locals n ≡ Some write
   pub of : write.id ≡ id
   pub brings : is_among r write.ancestry ≡ true
 
--- the stored windows of a session have a row of this document at a sequence
+-- a window of the session has a row of this document at a sequence
 pub record IsListed (s : SessionValue) (id : Id) (seq : ℕ) : Type 0 where
   pub window : WindowValue
   pub stored : Among window s.windows
@@ -28,14 +28,14 @@ pub record IsListed (s : SessionValue) (id : Id) (seq : ℕ) : Type 0 where
   pub at : row.seq ≡ seq
   pub of : row.id ≡ id
 
--- an arrival of a session is of this document, and holds the revision
+-- an arrival of the session is of this document and has the revision
 pub record IsArrival (s : SessionValue) (id : Id) (r : RevId) : Type 0 where
   pub arrival : WrittenValue
   pub stored : Among arrival s.arrivals
   pub of : arrival.id ≡ id
   pub brings : is_among r arrival.ancestry ≡ true
 
--- a session of the peer lists the document at a sequence, and brought the revision
+-- a session of the peer has a row of the document at a sequence, and an arrival with the revision
 pub record IsFed (p : PeerValue) (id : Id) (r : RevId) (session : SessionId) (seq : ℕ) : Type 0 where
   pub by : SessionValue
   pub held : Among by p.sessions
@@ -43,12 +43,12 @@ pub record IsFed (p : PeerValue) (id : Id) (r : RevId) (session : SessionId) (se
   pub listed : IsListed by id seq
   pub arrived : IsArrival by id r
 
--- what an origin says is so
+-- an origin is true
 abbrev pub ComesFrom : PeerValue → Id → RevId → Origin → Type 0
 ComesFrom p id r (Local n) = IsLocal p id r n
 ComesFrom p id r (Feed session seq) = IsFed p id r session seq
 
--- every revision of every tree has an origin
+-- every revision of every tree has a true origin
 abbrev pub HasOrigins : PeerValue → Type 0
 HasOrigins p =
     (id : Id) (r : RevId) → has (tree_of p.db.docs id) r ≡ true

@@ -1,11 +1,11 @@
 -- Peers and their sessions: docs/PROFILE.md, "Sessions of a peer".
 --
--- A peer is a database with what replication must remember beside it. A target holds a session for each replication
--- into it that ever began: the windows of the source's changes feed that were stored for it, which of them are done,
--- and of each document that came whether it was taken (an arrival) or refused (a row of the ledger). So what a session
--- may claim as carried can be held against what stands there. A source holds a log for each replication out of it: what
--- the target said, session by session, that it had recorded. The common checkpoint of a later replication is read from
--- both. Local writes are noted too, so that of each revision of a tree it can be said where it came from.
+-- A peer is a database with the state that replication needs. A target has a session for each replication into it: the
+-- windows of the source's changes feed, which of them are done, and for each document that came, whether it was
+-- accepted (an arrival) or refused (a ledger row). What a session claims to have replicated can therefore be checked
+-- against what the target has. A source has a log for each replication from it: for each session, the sequence that the
+-- target recorded. The common checkpoint of the next replication is read from both. Local writes are stored too, so
+-- that each revision of a tree has an origin.
 use Rattle.std.specs.Prelude.{ℕ, ◌==◌, Bool, nat_le, if◌then◌else◌, List, [], map, Option, Result, Ok, Err}
 use Rattle.std.specs.List.{find, list_any}
 use Rattle.rev_core.specs.Rev.{RevId}
@@ -22,19 +22,19 @@ use Rattle.repl_log.specs.declared.counts.Counts.{Counts}
 use Rattle.repl_peer.specs.declared.fault.Reason.{Reason}
 use Rattle.repl_peer.specs.declared.session.beginning.Scope.{Scope}
 
--- revisions of a document that were written: those of a local write, or the ancestry of an arrival
+-- the revisions of a local write or an arrival of a document
 pub record WrittenValue : Type 0 where
   pub id : Id
   pub ancestry : List RevId
 
--- a document that was refused, and why
+-- a refused document, and why it was refused
 pub record RefusedValue : Type 0 where
   pub doc : Document
   pub reason : Reason
 
--- an incoming session: what it belongs to, which stays; its windows, and which of them are done, from its start on; the
--- documents that were taken and those that were refused; the counts of leaves checked and found missing, and of
--- documents read, written and refused; and when it began and last recorded
+-- an incoming session: its scope, which never changes; its windows, and which of them are done; the accepted and the
+-- refused documents; the counts of leaves checked and found missing, and of documents read, written and refused; and
+-- when it began and last recorded
 pub record SessionValue : Type 0 where
   pub id : SessionId
   pub scope : Scope
@@ -48,22 +48,22 @@ pub record SessionValue : Type 0 where
   pub start_time : ℕ
   pub end_time : ℕ
 
--- a database, its local writes, its incoming sessions newest first, and its outgoing logs, each newest first
+-- a peer: a database, its local writes, its incoming sessions (newest first), and its outgoing logs (each newest first)
 pub record PeerValue : Type 0 where
   pub db : DatabaseValue
   pub locals : List WrittenValue
   pub sessions : List SessionValue
   pub outgoing : List (RepId × List EntryValue)
 
--- a peer as it begins, with a database of no documents at a sequence
+-- a peer without documents whose update sequence is `seq`
 abbrev pub new_peer_at : ℕ → ℕ → PeerValue
 new_peer_at uuid seq = record { db = no_documents_at uuid seq; locals = []; sessions = []; outgoing = [] }
 
--- a new one has no change behind it
+-- a new peer
 abbrev pub new_peer : ℕ → PeerValue
 new_peer uuid = new_peer_at uuid 0
 
--- there is one with its filter at each sequence
+-- the result of creating a peer at a sequence
 abbrev pub new_at_answer : {F : Type 0} → F → ℕ → ℕ → Result (F × PeerValue) BaseFault
 new_at_answer filter uuid seq =
     if nat_le seq most then Ok (filter, new_peer_at uuid seq) else Err base_faults.SeqTooLarge
@@ -76,18 +76,18 @@ written_of d = record { id = d.id; ancestry = d.ancestry }
 abbrev pub is_of : SessionId → SessionValue → Bool
 is_of id s = s.id.0 == id.0
 
--- the session of an id, where the peer holds it
+-- the session with an id, if the peer has it
 abbrev pub session_in : List SessionValue → SessionId → Option SessionValue
 session_in sessions id = find (is_of id) sessions
 
 abbrev pub holds : List SessionValue → SessionId → Bool
 holds sessions id = list_any (is_of id) sessions
 
--- the session stands in the place of the one of its id
+-- replaces the session with t's id by t
 abbrev pub with_session : List SessionValue → SessionValue → List SessionValue
 with_session sessions t = map (λ s. if is_of t.id s then t else s) sessions
 
--- what a log says of a session
+-- the log entry of a session
 abbrev pub entry_of : SessionValue → EntryValue
 entry_of s = record {
   session = s.id;

@@ -1,4 +1,4 @@
--- How peers are stored as data, by which a proof tells two of them apart.
+-- An encoding of peers as data, by which proofs decide their equality.
 use Rattle.std.specs.Prelude.{◌≡◌, ◌⊎◌, ℕ, List, Option, refl}
 use Rattle.std.specs.Coded.{Coded, code_by, coded×, coded⊎, coded_ℕ, coded_list, coded_option}
 use mathlib.Core.Logic.{inl, inr}
@@ -54,7 +54,7 @@ coded_refused =
 
 -- ---- sessions
 
--- what a session belongs to
+-- the scope of a session
 abbrev coded_scope : Coded Scope
 coded_scope =
     code_by (RepId × (ℕ × (Option SessionId × ℕ)))
@@ -62,7 +62,7 @@ coded_scope =
     (λ c. (c.rep, (c.life, (c.base, c.goal))))
     (λ p. record { rep = p.0; life = p.1.0; base = p.1.1.0; goal = p.1.1.1 }) (λ _. refl)
 
--- its windows, which of them are done, and what is recorded
+-- its windows, which of them are done, and the recorded sequence
 abbrev Windows : Type 0
 Windows = FrontValue × (List WindowValue × ℕ)
 
@@ -70,7 +70,7 @@ Windows = FrontValue × (List WindowValue × ℕ)
 abbrev Brought : Type 0
 Brought = List WrittenValue × List RefusedValue
 
--- its counts, and its two moments
+-- its counts, and its two timestamps
 abbrev Counted : Type 0
 Counted = Counts × (ℕ × ℕ)
 
@@ -111,7 +111,7 @@ coded_peer = code_by (DatabaseValue × (List WrittenValue × (List SessionValue 
     (λ p. (p.db, (p.locals, (p.sessions, p.outgoing))))
     (λ q. record { db = q.0; locals = q.1.0; sessions = q.1.1.0; outgoing = q.1.1.1 }) (λ _. refl)
 
--- ---- copies of peers
+-- ---- backups
 
 abbrev pub coded_backup : Coded BackupValue
 coded_backup = code_by (DatabaseValue × (List WrittenValue × List (RepId × List EntryValue)))

@@ -1,4 +1,4 @@
--- How a write stands in the tree of its document: docs/PROFILE.md, "The peer's law".
+-- The revisions of a write in the tree of its document: docs/PROFILE.md, "The peer's law".
 use Rattle.std.specs.Prelude.{◌≡◌, List, [], ◌∷◌, Some}
 use Rattle.std.specs.FinMap.{FinMap, get}
 use Rattle.rev_core.specs.Rev.{RevId, rev_cmp}
@@ -12,7 +12,6 @@ Follows parents [] = Unit {0}
 Follows parents (r ∷ []) = Unit {0}
 Follows parents (r ∷ (s ∷ rest)) = (get parents r ≡ Some s) × Follows parents (s ∷ rest)
 
--- the revisions of a write, where their generations fall by one, are what the tree of its document walks from the newest
--- on
+-- if the generations of a write's revisions fall by one, the tree of its document has each next one as the parent
 abbrev pub StandsIn : DatabaseValue → WrittenValue → Type 0
 StandsIn db w = FallsByOne w.ancestry → Follows (tree_of db.docs w.id).parents w.ancestry

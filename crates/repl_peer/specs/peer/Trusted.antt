@@ -1,4 +1,4 @@
--- What may be trusted of a peer: docs/PROFILE.md, "The peer's law".
+-- What every peer guarantees: docs/PROFILE.md, "The peer's law".
 use Rattle.std.specs.Prelude.{◌≡◌, ◌⊎◌, ◌≤◌, Bool, true}
 use Rattle.rev_core.specs.Rev.{RevId}
 use Rattle.rev_core.specs.Ancestry.{is_among}
@@ -12,7 +12,7 @@ use Rattle.repl_peer.specs.peer.Peer.{PeerValue, SessionValue, RefusedValue}
 use Rattle.repl_peer.specs.peer.Covered.{rightly_refused}
 use Rattle.repl_peer.specs.peer.Origins.{HasOrigins}
 
--- a ledger has a document of this id, rightly refused, whose ancestry holds the revision
+-- a ledger has a rightly refused document with this id whose ancestry has the revision
 pub record IsRightlyRefused (refuses : Document → Bool) (p : PeerValue) (id : Id) (r : RevId) : Type 0 where
   pub by : SessionValue
   pub held : Among by p.sessions
@@ -26,8 +26,8 @@ pub record IsRightlyRefused (refuses : Document → Bool) (p : PeerValue) (id : 
 abbrev pub IsAccounted : (Document → Bool) → PeerValue → Id → RevId → Type 0
 IsAccounted refuses p id r = (has (tree_of p.db.docs id) r ≡ true) ⊎ IsRightlyRefused refuses p id r
 
--- every leaf that a session's stored rows name at or under what it has recorded stands or was rightly refused; every
--- revision comes from a stored row's change or a local write; documents read are documents written and those refused
+-- every leaf of a session's window rows at or below its recorded sequence is accounted for; every revision comes from a
+-- window row or a local write; the documents read are those written plus those refused
 pub record IsTrusted (refuses : Document → Bool) (p : PeerValue) : Type 0 where
   pub recorded : (s : SessionValue) → Among s p.sessions → (w : WindowValue) → Among w s.windows → (row : RowValue)
       → Among row w.rows → row.seq ≤ s.recorded → (leaf : RevId) → Among leaf row.leaves

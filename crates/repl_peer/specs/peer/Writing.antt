@@ -10,18 +10,18 @@ use Rattle.couch_base.specs.Edit.{edited, edit_document}
 use Rattle.couch_base.specs.declared.fault.BaseFault.{BaseFault}
 use Rattle.repl_peer.specs.peer.Peer.{PeerValue, written_of}
 
--- the number of the next local write, as the origin of what it brings
+-- the origin of the next local write
 abbrev pub next_local : PeerValue → Origin
 next_local p = Local (length p.locals)
 
--- a put of the user's own: where it changes the database, it is stored as the next local write
+-- the peer after a user's put: if the database changes, it is the next local write
 abbrev pub after_load : PeerValue → Document → PeerValue
 after_load p d = record p {
   db = after_put p.db d (next_local p);
   locals = if is_changed (put_answer p.db d) then p.locals ++ written_of d ∷ [] else p.locals;
 }
 
--- an edit is the put of what it brings: the new revision, and the one that it stands on
+-- the peer after an edit, which stores a document with the new revision and its parent
 abbrev pub load_edited : PeerValue → Id → Bool → List ℕ → Result (RevId × Option RevId) BaseFault → PeerValue
 load_edited p id deleted body (Ok e) = after_load p (edit_document id e deleted body)
 load_edited p id deleted body (Err fault) = p

@@ -1,4 +1,4 @@
--- What is kept of a stored window, as callers see it.
+-- The stored form of a window, as callers see it.
 use Rattle.std.specs.Prelude.{true, false}
 use Rattle.repl_peer.specs.session.Windows.{StoredWindowValue}
 use Rattle.repl_peer.specs.declared.session.window.Kept.{Kept}

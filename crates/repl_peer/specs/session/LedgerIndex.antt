@@ -1,4 +1,4 @@
--- The index of ledgered revisions: those in the ancestries of ledgered documents.
+-- The index of revisions in the ancestries of refused documents.
 use Rattle.std.specs.Prelude.{Bool, false}
 use Rattle.std.specs.Map.{lookup}
 use Rattle.std.specs.Option.{option_map_or}

@@ -1,4 +1,4 @@
--- The index of sessions by their replications.
+-- The index of sessions by replication.
 use Rattle.std.specs.Prelude.{List, []}
 use Rattle.std.specs.Map.{lookup}
 use Rattle.std.specs.Option.{option_map_or}
@@ -7,6 +7,6 @@ use Rattle.repl_log.specs.declared.replication.RepId.{RepId}
 use Rattle.repl_log.specs.RepId.{same_rep}
 use Rattle.repl_peer.specs.declared.session.rep_index.RepIndex.{RepIndex}
 
--- the sessions that the index has of a replication, the oldest first
+-- the sessions of a replication in the index, oldest first
 abbrev pub listed : RepIndex → RepId → List SessionId
 listed index rep = option_map_or (λ ids. ids.items) (lookup (same_rep rep) index.ids.entries) []

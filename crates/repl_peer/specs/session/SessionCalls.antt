@@ -1,4 +1,4 @@
--- Calls on a peer's sessions alone.
+-- Calls that concern only a peer's sessions.
 use Rattle.std.specs.Prelude.{Bool, ℕ, List, Option, Some, None, Result, Ok, Err, if◌then◌else◌}
 use Rattle.std.specs.List.{list_any}
 use Rattle.rev_core.specs.Rev.{RevId}
@@ -14,7 +14,7 @@ use Rattle.repl_peer.specs.declared.session.beginning.Beginning.{Beginning}
 use Rattle.repl_peer.specs.declared.fault.TargetFault.{TargetFault}
 use Rattle.repl_peer.specs.declared.fault.TargetFault.TheVariants as faults
 
--- the sessions after a change of one of them, where it is there
+-- the sessions after changing one of them, if it exists
 abbrev pub changed : (SessionValue → SessionValue) → List SessionValue → Option SessionValue → List SessionValue
 changed change sessions None = sessions
 changed change sessions (Some s) = with_session sessions (change s)
@@ -22,18 +22,18 @@ changed change sessions (Some s) = with_session sessions (change s)
 abbrev pub with_changed : List SessionValue → SessionId → (SessionValue → SessionValue) → List SessionValue
 with_changed sessions id change = changed change sessions (session_in sessions id)
 
--- an answer that a session gives
+-- the result that a session gives, or `NoSuchSession`
 abbrev pub answer_in : {A : Type 0} → List SessionValue → SessionId → (SessionValue → Result A TargetFault)
     → Result A TargetFault
 answer_in sessions id answer = found_answer answer (session_in sessions id)
 
--- what beginning a session answers where memory is left
+-- the result of beginning a session, if no allocation fails
 abbrev pub begin_in : List SessionValue → SessionId → Beginning → Result (Unit {0}) TargetFault
 begin_in sessions id b =
     if holds sessions id then Err faults.SessionExists
     else goal_answer b.start b.scope.goal (base_answer sessions b.scope.rep b.scope.base b.start)
 
--- what a base has recorded, 0 where there is none
+-- the recorded sequence of a base, or `NoSuchBase`
 abbrev pub recorded_of : Option SessionValue → Result ℕ TargetFault
 recorded_of None = Err faults.NoSuchBase
 recorded_of (Some s) = Ok s.recorded
@@ -46,7 +46,7 @@ recorded_by sessions rep (Some base) = recorded_of (base_in sessions rep base)
 abbrev pub in_ledgers : List SessionValue → Id → RevId → Bool
 in_ledgers sessions id r = list_any (λ s. in_ledger s.ledger id r) sessions
 
--- an answer with the numbers of its entry
+-- a result with the value of its entry
 abbrev pub entry_value : Result Entry TargetFault → Result EntryValue TargetFault
 entry_value (Ok e) = Ok (value_of e)
 entry_value (Err fault) = Err fault

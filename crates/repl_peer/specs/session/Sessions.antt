@@ -15,19 +15,19 @@ use Rattle.repl_peer.specs.declared.fault.Report.{Report}
 use Rattle.repl_peer.specs.declared.fault.TargetFault.{TargetFault}
 use Rattle.repl_peer.specs.declared.fault.TargetFault.TheVariants as faults
 
--- the result is the expected one; `Memory` stands only where `Ok` is expected
+-- the result is the expected one, or `Memory` if `Ok` is expected
 abbrev pub GivesUnlessMemory : {A : Type 0} → Result A TargetFault → Result A TargetFault → Type 0
 GivesUnlessMemory (Err faults.Memory) expected = IsOk expected
 GivesUnlessMemory result expected = result ≡ expected
 
--- what a session's front refuses, as the session refuses it
+-- the error of a front, as an error of the session
 abbrev pub refused_by_front : FrontFault → TargetFault
 refused_by_front (front_faults.NotRising end) = faults.Gap end
 refused_by_front front_faults.NoSuchWindow = faults.ForeignParcel
 refused_by_front front_faults.AlreadyDone = faults.AlreadyDone
 refused_by_front front_faults.Memory = faults.Memory
 
--- a change of one session, where the peer holds it
+-- changes one session, if the peer has it
 abbrev pub on_found : PeerValue → (SessionValue → SessionValue) → Option SessionValue → PeerValue
 on_found p change None = p
 on_found p change (Some s) = record p { sessions = with_session p.sessions (change s) }
@@ -35,7 +35,7 @@ on_found p change (Some s) = record p { sessions = with_session p.sessions (chan
 abbrev pub on_session : PeerValue → SessionId → (SessionValue → SessionValue) → PeerValue
 on_session p id change = on_found p change (session_in p.sessions id)
 
--- an answer that a session gives
+-- the result that a session gives, or `NoSuchSession`
 abbrev pub found_answer : {A : Type 0} → (SessionValue → Result A TargetFault) → Option SessionValue
     → Result A TargetFault
 found_answer answer None = Err faults.NoSuchSession
@@ -47,7 +47,7 @@ session_answer p id answer = found_answer answer (session_in p.sessions id)
 
 -- ---- beginning
 
--- a start at or under what a base has recorded
+-- the start must be at or below the recorded sequence of the base
 abbrev pub start_answer : ℕ → ℕ → Result (Unit {0}) TargetFault
 start_answer start recorded = if nat_lt recorded start then Err (faults.StartAboveBase recorded) else Ok tt
 
@@ -59,7 +59,7 @@ abbrev pub on_base : ℕ → Option SessionValue → Result (Unit {0}) TargetFau
 on_base start None = Err faults.NoSuchBase
 on_base start (Some s) = start_answer start s.recorded
 
--- the base against the start: without a base the start is 0
+-- checks the start against the base; without a base the start must be 0
 abbrev pub base_answer : List SessionValue → RepId → Option SessionId → ℕ → Result (Unit {0}) TargetFault
 base_answer sessions rep None start = start_answer start 0
 base_answer sessions rep (Some base) start = on_base start (base_in sessions rep base)
@@ -68,13 +68,13 @@ abbrev pub goal_answer : ℕ → ℕ → Result (Unit {0}) TargetFault → Resul
 goal_answer start goal (Err fault) = Err fault
 goal_answer start goal (Ok done) = if nat_lt goal start then Err faults.GoalBelowStart else Ok tt
 
--- what beginning a session answers where memory is left
+-- the result of beginning a session, if no allocation fails
 abbrev pub begin_answer : PeerValue → SessionId → Beginning → Result (Unit {0}) TargetFault
 begin_answer p id b =
     if holds p.sessions id then Err faults.SessionExists
     else goal_answer b.start b.scope.goal (base_answer p.sessions b.scope.rep b.scope.base b.start)
 
--- a session as it begins: nothing is stored, and its start is recorded
+-- a new session: it has no windows, and its start is recorded
 abbrev pub new_session : SessionId → Beginning → ℕ → SessionValue
 new_session id b at = record {
   id = id;
@@ -89,7 +89,7 @@ new_session id b at = record {
   end_time = at;
 }
 
--- the newest session comes first, unless it is refused
+-- adds the new session as the first, unless there is an error
 abbrev pub begun : PeerValue → SessionValue → Result (Unit {0}) TargetFault → PeerValue
 begun p s (Ok done) = record p { sessions = s ∷ p.sessions }
 begun p s (Err fault) = p
@@ -99,13 +99,13 @@ after_begin p id b at = begun p (new_session id b at) (begin_answer p id b)
 
 -- ---- appending
 
--- a window begins where the stored ones end, and ends at or under the goal
+-- the window must begin where the stored ones end, and end at or below the goal
 abbrev pub next_in : WindowValue → SessionValue → Result (Unit {0}) TargetFault
 next_in w s =
     if w.lo == end_of s.front then (if nat_lt s.goal w.hi then Err faults.PastGoal else Ok tt)
     else Err (faults.Gap (end_of s.front))
 
--- and is of the session's life
+-- the window must also be from the session's life
 abbrev pub append_in : WindowValue → SessionValue → Result (Unit {0}) TargetFault
 append_in w s = if w.life == s.life then next_in w s else Err (faults.OtherLife s.life)
 
@@ -116,13 +116,13 @@ abbrev pub with_window : WindowValue → SessionValue → Result (Unit {0}) Targ
 with_window w s (Ok done) = record s { front = appended s.front w.hi; windows = s.windows ++ w ∷ [] }
 with_window w s (Err fault) = s
 
--- the window comes last, unless it is refused
+-- adds the window as the last, unless there is an error
 abbrev pub after_append : PeerValue → SessionId → WindowValue → PeerValue
 after_append p id w = on_session p id (λ s. with_window w s (append_in w s))
 
 -- ---- recording
 
--- what is done without a gap is recorded, exactly
+-- records the low water
 abbrev pub recorded_at : ℕ → SessionValue → SessionValue
 recorded_at at s = record s { recorded = low_water s.front; end_time = at }
 
@@ -132,7 +132,7 @@ record_answer p id = session_answer p id (λ s. Ok (low_water s.front))
 abbrev pub after_record : PeerValue → SessionId → ℕ → PeerValue
 after_record p id at = on_session p id (recorded_at at)
 
--- what a session reports
+-- the report of a session
 abbrev pub report_of : SessionValue → Report
 report_of s = record {
   session = s.id;
@@ -141,7 +141,7 @@ report_of s = record {
   counts = s.counts;
 }
 
--- a session is concluded where all is done up to its goal
+-- the result of concluding: a report if everything is done up to the goal
 abbrev pub conclude_in : SessionValue → Result Report TargetFault
 conclude_in s =
     if low_water s.front == s.goal then Ok (report_of (record s { recorded = low_water s.front }))

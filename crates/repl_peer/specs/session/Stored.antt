@@ -1,4 +1,4 @@
--- A session as it is stored.
+-- The stored form of a session.
 use Rattle.std.specs.Prelude.{◌≡◌, ◌≤◌, ◌++◌}
 use Rattle.std.specs.List.{flat_map}
 use Rattle.range_front.specs.Front.{IsFront, bounds}
@@ -8,7 +8,7 @@ use Rattle.repl_peer.specs.peer.Law.{window_bounds}
 use Rattle.repl_peer.specs.session.Windows.{windows_of, IsThinnedWhereDone}
 use Rattle.repl_peer.specs.declared.session.Session.TheInside.{Inside}
 
--- what contracts see of a session
+-- the session that contracts see
 abbrev pub session_value : Inside → SessionValue
 session_value s = record {
   id = s.id;
@@ -23,11 +23,11 @@ session_value s = record {
   end_time = s.end_time;
 }
 
--- what holds of a session alone
+-- the invariant of a session alone
 pub record IsSession (s : Inside) : Type 0 where
   pub front : IsFront s.front.front
   pub bounds : window_bounds (windows_of s.windows.items) ≡ bounds s.front.front
   pub start : s.front.front.start ≤ s.recorded
   pub read : AddUp s.counts
-  -- where leaves are let go, their window is done
+  -- a window without leaves is done
   pub thinned : IsThinnedWhereDone s.front.front s.windows.items

@@ -1,4 +1,4 @@
--- Sessions as they are stored: the table of a peer, its index of refused revisions, and that of replications.
+-- The stored form of a peer's sessions: the table, the index of refused revisions, and the index by replication.
 use Rattle.std.specs.Prelude.{◌≡◌, List, map, reverse}
 use Rattle.std.specs.List.{IsDistinct}
 use Rattle.std.specs.Map.{keys_of}
@@ -19,11 +19,11 @@ use Rattle.repl_peer.specs.declared.session.ledger_index.LedgerIndex.{LedgerInde
 abbrev pub sessions_of : List (SessionId × SessionValue) → List SessionValue
 sessions_of es = newest_first (λ s. s) es
 
--- the index has the revisions of the documents of the ledgers, and no others
+-- the index has exactly the revisions of the documents in the ledgers
 abbrev pub Indexes : LedgerIndex → List SessionValue → Type 0
 Indexes ledgered sessions = (id : Id) (r : RevId) → is_ledgered ledgered id r ≡ in_ledgers sessions id r
 
--- no id comes twice, each session stands under its own, and the index is that of their ledgers
+-- no id occurs twice, each session is stored under its own id, and the index is that of the ledgers
 pub record IsTableOf (ledgered : LedgerIndex) (es : List (SessionId × SessionValue)) : Type 0 where
   pub once : IsDistinct at_session (keys_of es)
   pub keyed : IsKeyed (λ s. s.id) es
@@ -33,6 +33,6 @@ pub record IsTableOf (ledgered : LedgerIndex) (es : List (SessionId × SessionVa
 abbrev pub ids_of : List SessionValue → RepId → List SessionId
 ids_of sessions rep = map (λ e. e.session) (log_of sessions rep)
 
--- the index has the sessions of each replication, and no others
+-- the index has exactly the sessions of each replication
 abbrev pub AreListed : RepIndex → List SessionValue → Type 0
 AreListed by_rep sessions = (rep : RepId) → listed by_rep rep ≡ reverse (ids_of sessions rep)

@@ -1,4 +1,4 @@
-//! Earlier copies of a peer, and putting them back.
+//! Backups of a peer, and restoring them.
 ghost use Rattle.std.specs.Prelude.{◌≡◌, ◌+◌, ◌≤◌, false, Ok, Err, IfOk, IfErr, OnOk, OnErr};
 ghost use Rattle.couch_base.specs.Database.{most};
 ghost use Rattle.repl_peer.specs.peer.Law.{Lawful};
@@ -14,14 +14,14 @@ use repl_log::Logs;
 use std::alloc::Global;
 use std::marker::Model;
 
-/// A copy of what a peer holds into which nothing was replicated: its database, its local writes, and its outgoing logs.
+/// A copy of a peer without incoming sessions: its database, its local writes, and its outgoing logs.
 pub struct Backup {
     pub(crate) db: Database,
     pub(crate) locals: Vec<Written>,
     pub(crate) outgoing: Logs,
 }
 
-// By hand, so that it is proved once: docs/DECISIONS.md, "Letting values go".
+// Written by hand so that it is proved once: docs/DECISIONS.md, "Letting values go".
 impl Drop for Backup {
     fn drop(self) {
         let Backup {
@@ -54,7 +54,7 @@ impl Model for Backup {
 impl Backup {
     ghost use Rattle.repl_peer.specs.peer.Backups.{IsBackup};
 
-    /// The database that was copied. Each of its revisions comes from a local write of the copy.
+    /// Returns the copied database. Each of its revisions comes from a local write of the backup.
     pub fn db(&self) -> &Database
         ensures value { result.now ≡ self.now.db }
         ensures backup { IsBackup self.now }
@@ -64,9 +64,12 @@ impl Backup {
 }
 
 impl<F: WriteFilter> Peer<F> {
-    /// A copy of the database, the local writes and the outgoing logs.
+    /// Copies the database, the local writes and the outgoing logs.
     ///
-    /// `IsTarget` where something was replicated into the peer; else `Memory`.
+    /// # Errors
+    ///
+    /// - `IsTarget`: the peer has an incoming session.
+    /// - `Memory`: an allocation failed.
     pub fn backup(&self, alloc: Global) -> Result<Backup, TargetFault>
         ensures { GivesUnlessMemory result (backup_answer self.now.1) }
     {
@@ -83,11 +86,17 @@ impl<F: WriteFilter> Peer<F> {
         })
     }
 
-    /// Puts the database, the local writes and the outgoing logs back to what a copy holds. The database's life is one
-    /// above its own and the copy's.
+    /// Replaces the database, the local writes and the outgoing logs by those of a backup. The database's new life is
+    /// one above the greater of its own and the backup's.
     ///
-    /// `IsTarget` where something was replicated into the peer; else `ForeignBackup` where the copy's database has
-    /// another UUID; else `LifeFull` where no life is left; else `Memory`. A refusal changes nothing.
+    /// # Errors
+    ///
+    /// Checked in this order; an error changes nothing:
+    ///
+    /// - `IsTarget`: the peer has an incoming session.
+    /// - `ForeignBackup`: the backup's database has another UUID.
+    /// - `LifeFull`: no life is left.
+    /// - `Memory`: an allocation failed.
     pub fn restore(&mut self, backup: &Backup) -> Result<(), TargetFault>
         ensures answer { GivesUnlessMemory result (restore_answer self.old.1 backup.now) }
         ensures filter { self.new.0 ≡ self.old.0 }
@@ -96,7 +105,7 @@ impl<F: WriteFilter> Peer<F> {
         ensures law { Lawful (F.refuses self.new.0) self.new.1 }
     {
         let life = self.next_life(backup)?;
-        // The reading tells the proof that the copy is one.
+        // Gives proofs the fact that the backup satisfies its invariant.
         let _copy = backup.db();
         self.law();
         let alloc = *self.locals.allocator();
@@ -109,7 +118,7 @@ impl<F: WriteFilter> Peer<F> {
         Ok(())
     }
 
-    /// The life that putting a copy back begins, where that may be done.
+    /// Returns the life after restoring a backup, or the error.
     fn next_life(&self, backup: &Backup) -> Result<u64, TargetFault>
         ensures ok { OnOk result (restore_answer self.now.1 backup.now ≡ Ok tt) }
         ensures life { IfOk result (λ life. (life ≡ greater_life self.now.1 backup.now + 1) × (life ≤ most)) }

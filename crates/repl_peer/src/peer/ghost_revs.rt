@@ -1,4 +1,4 @@
-//! The revisions of a write, for contracts alone.
+//! The revisions of a write, for contracts only.
 ghost use Rattle.std.specs.Prelude.{◌≡◌, List};
 ghost use Rattle.std.specs.Borrow.{ftrue};
 ghost use Rattle.std.specs.Coded.{coded_list};
@@ -8,7 +8,7 @@ ghost use Rattle.rev_core.specs.RevOrder.{coded_rev};
 use rev_core::Rev;
 use std::marker::Model;
 
-/// The revisions of a write as they came, newest first: a value of no bytes, which contracts see and no program reads.
+/// The revisions of a write, newest first: a zero-size value that contracts see and the program cannot read.
 #[derive(Drop)]
 pub(crate) struct GhostRevs {
     pub(crate) ghost revs: { List RevId } by { coded_list coded_rev },
@@ -18,26 +18,26 @@ impl Model for GhostRevs {
     ghost also_owns = { λ _. ftrue };
 }
 
-// A struct with `also_owns` has neither by itself. This one owns nothing.
+// A struct with `also_owns` does not implement `Send` or `Sync` automatically. This one owns nothing.
 unsafe impl Send for GhostRevs {}
 
 unsafe impl Sync for GhostRevs {}
 
-/// Where the revisions of a write come from.
+/// The origin of the revisions of a write.
 #[derive(Clone, Copy, Drop)]
 pub(crate) enum Came<'a> {
-    /// From a document: its revisions.
+    /// A document: all of its revisions.
     Whole(&'a [Rev]),
-    /// From an edit: the new revision, and the one that it stands on.
+    /// An edit: the new revision and its parent.
     Edit(Rev, Option<Rev>),
-    /// From a write that is copied.
+    /// A write that is copied.
     Again(&'a GhostRevs),
 }
 
 impl GhostRevs {
     ghost use Rattle.repl_peer.specs.peer.Came.{came_revs};
 
-    /// The revisions that came.
+    /// Creates the ghost value of these revisions.
     #[inline(always)]
     pub(crate) fn of(_came: &Came<'_>) -> GhostRevs
         ensures { result.revs ≡ came_revs _came.now }

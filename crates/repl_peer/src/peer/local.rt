@@ -16,10 +16,10 @@ use rev_core::Rev;
 use rev_tree::Origin;
 use std::alloc::AllocError;
 
-/// Puts a document of the user's own.
+/// Stores a user's document and its local write.
 ///
-/// What the local write needs is made first, so that a refusal changes nothing. Where that finds no memory, the answer
-/// is what a put refuses, or `Same`, which need none.
+/// The local write is built first, so that an error changes nothing. If that fails, the result is still the error of
+/// the put, or `Same`, if it does not depend on memory.
 pub(crate) fn load(
     db: &mut Database,
     locals: &mut Vec<Written>,
@@ -50,7 +50,7 @@ pub(crate) fn load(
     }
 }
 
-/// The local write that a put brings, and a place for it.
+/// Builds the local write of a put, and reserves space for it.
 fn prepare(locals: &mut Vec<Written>, doc: &Doc) -> Result<Written, AllocError>
     ensures written { IfOk result (λ w. w ≡ written_of doc.now) }
     ensures place { OnOk result (vec_len locals.new < vec_capacity locals.new) }
@@ -60,7 +60,7 @@ fn prepare(locals: &mut Vec<Written>, doc: &Doc) -> Result<Written, AllocError>
     Written::of(*locals.allocator(), doc)
 }
 
-/// The id of a document that a local write names, and a place for it.
+/// Copies the document id for a local write, and reserves space for the write.
 fn prepare_id(locals: &mut Vec<Written>, id: &DocId) -> Result<DocId, AllocError>
     ensures copied { IfOk result (λ again. again ≡ id.now) }
     ensures place { OnOk result (vec_len locals.new < vec_capacity locals.new) }
@@ -70,10 +70,10 @@ fn prepare_id(locals: &mut Vec<Written>, id: &DocId) -> Result<DocId, AllocError
     id.copy(*locals.allocator())
 }
 
-/// Edits a document.
+/// Edits a document and stores its local write.
 ///
-/// What the local write needs is made first, so that a refusal changes nothing. Where that finds no memory, the answer
-/// is what an edit refuses without any.
+/// The local write is prepared first, so that an error changes nothing. If that fails, the result is still the error of
+/// the edit, if it does not depend on memory.
 pub(crate) fn edit(
     db: &mut Database,
     locals: &mut Vec<Written>,
@@ -112,7 +112,7 @@ pub(crate) fn edit(
     }
 }
 
-/// The winner of a document that is there.
+/// Returns the winner of a document, if it exists.
 fn winner(db: &Database, id: &DocId) -> Option<Rev>
     ensures { result ≡ stood_on (tree_in db.now.docs id.now) None }
 {

@@ -1,4 +1,4 @@
-//! Revisions that were written.
+//! Local writes and arrivals.
 ghost use Rattle.std.specs.Prelude.{◌≡◌, ◌∷◌, Some, true, length, slice_get, IfOk};
 ghost use Rattle.std.specs.FinMap.{get};
 ghost use Rattle.std.specs.Option.{option_to_list};
@@ -15,8 +15,8 @@ use std::marker::Model;
 
 /// A local write or an arrival: a document's id and the revisions that were written, newest first.
 ///
-/// There may be very many, and their ancestries may be long, so the newest revision and their number alone are kept:
-/// the others stand in the document's tree, where no edge is ever changed.
+/// There may be very many, with long ancestries, so only the newest revision and the number of revisions are stored.
+/// The others are read from the document's tree, whose edges never change.
 #[derive(Drop)]
 pub struct Written {
     id: DocId,
@@ -40,7 +40,7 @@ impl Written {
     ghost use Rattle.repl_peer.specs.peer.Peer.{WrittenValue, written_of};
     ghost use Rattle.repl_peer.specs.peer.Stands.{StandsIn};
 
-    /// A document with its whole ancestry.
+    /// Creates the write of a document with its complete ancestry.
     pub(crate) fn of(alloc: Global, doc: &Doc) -> Result<Written, AllocError>
         ensures { IfOk result (λ w. w ≡ written_of doc.now) }
     {
@@ -55,7 +55,7 @@ impl Written {
         })
     }
 
-    /// What an edit brought: the new revision, which has a short signature, and the one that it stands on.
+    /// Creates the write of an edit: the new revision, which has a short signature, and its parent.
     pub(crate) fn edit(id: DocId, rev: Rev, parent: Option<Rev>) -> Written
         requires { (is_short rev.sig ≡ true) × FallsByOne (rev ∷ option_to_list parent) }
         ensures { result ≡ record { id = id; ancestry = rev ∷ option_to_list parent } }
@@ -75,7 +75,7 @@ impl Written {
         }
     }
 
-    /// The same write.
+    /// Copies the write.
     pub(crate) fn copy(&self, alloc: Global) -> Result<Written, AllocError>
         ensures copied { IfOk result (λ w. w ≡ self.now) }
     {
@@ -89,15 +89,15 @@ impl Written {
         })
     }
 
-    /// The document's id.
+    /// Returns the document's id.
     pub fn id(&self) -> &DocId
         ensures { result.now ≡ self.now.id }
     {
         &self.id
     }
 
-    /// The revision at a place, where there are so many; the newest is at 0. The others are read in the database, in
-    /// which the write stands.
+    /// Returns the revision at an index, if there is one. The newest has index 0; the others are read from the database
+    /// that has the write.
     pub fn rev(&self, db: &Database, place: usize) -> Option<Rev>
         requires { StandsIn db.now self.now }
         ensures { result ≡ slice_get self.now.ancestry place }
@@ -107,7 +107,7 @@ impl Written {
         }
         let mut at = self.head.rev();
         for step in 0..place {
-            // The write stands in the database, so the parent is there.
+            // The database has the write, so the parent exists.
             let Some(parent) = parent_in(db, &self.id, at) else {
                 unreachable!()
             };
@@ -116,7 +116,7 @@ impl Written {
         Some(at)
     }
 
-    /// How many revisions were written.
+    /// Returns the number of revisions.
     pub fn len(&self) -> usize
         ensures { result ≡ length self.now.ancestry }
     {
@@ -124,7 +124,7 @@ impl Written {
     }
 }
 
-/// The parent of a document's revision, where one is known.
+/// Returns the parent of a document's revision, if it is known.
 fn parent_in(db: &Database, id: &DocId, rev: Rev) -> Option<Rev>
     ensures { result ≡ get (tree_of db.now.docs id.now).parents rev }
 {
@@ -134,7 +134,7 @@ fn parent_in(db: &Database, id: &DocId, rev: Rev) -> Option<Rev>
     }
 }
 
-/// The same writes.
+/// Copies a list of writes.
 pub(crate) fn copy_writes(alloc: Global, writes: &[Written]) -> Result<Vec<Written>, AllocError>
     ensures copied { IfOk result (λ v. v.items ≡ writes.now) }
 {

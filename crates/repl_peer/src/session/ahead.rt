@@ -1,4 +1,4 @@
-//! Putting the first documents of a parcel, of which what they need is made.
+//! Settling the prepared documents at the front of a parcel in bulk.
 ghost use Rattle.std.specs.Prelude.{◌≡◌, ◌<◌, ◌≤◌, ◌+◌, ◌++◌, Some, Ok, true, false, map, length, take, drop, slice_get};
 ghost use Rattle.std.specs.List.{flat_map, list_all, list_any};
 ghost use Rattle.std.specs.Str.{bytes_eq};
@@ -27,11 +27,11 @@ use repl_log::Counts;
 use rev_tree::{Origin, SessionId};
 use std::mem::replace;
 
-/// Settles the first documents of a parcel, of which what they enter among the arrivals is made: as many as are put one
-/// behind the other. How many these are; what stops the next one is left to who settles it by itself.
+/// Settles the first documents of a parcel, whose arrivals are prepared, until one cannot be stored. Returns their
+/// number. The caller settles that document individually and finds out why it stopped.
 ///
-/// Their arrivals are entered at once, as a list of their own, so that the peer spends no time on each under its lock.
-/// Where there is no memory for that list none is settled.
+/// The arrivals are added as one list, so the peer spends no time on each under its lock. If the allocation for this
+/// list fails, no document is settled.
 pub(crate) fn settle_prepared<F: WriteFilter>(
     filter: &F,
     db: &mut Database,
@@ -64,7 +64,7 @@ pub(crate) fn settle_prepared<F: WriteFilter>(
     if arrivals.is_empty() || session.earlier.reserve(2).is_err() {
         return 0;
     }
-    // Only done windows are not kept whole.
+    // Only done windows drop their rows.
     let Some(rows) = session.windows[place].rows() else {
         unreachable!()
     };
@@ -79,7 +79,7 @@ pub(crate) fn settle_prepared<F: WriteFilter>(
     count
 }
 
-/// Puts the first documents, at most so many, until one is refused or can't be put. How many were.
+/// Stores the first documents, at most `limit`, until one is refused or cannot be stored. Returns their number.
 fn put_ahead<F: WriteFilter>(
     filter: &F,
     db: &mut Database,
@@ -114,8 +114,8 @@ fn put_ahead<F: WriteFilter>(
     limit
 }
 
-/// Puts the document at a place: by what was made of it, where that can be. False where it can't be put: then nothing has
-/// changed, but what was made of it may be gone.
+/// Stores the document at an index, from its prepared tree if possible. Returns false if it cannot be stored; then
+/// nothing has changed, but the prepared tree may have been dropped.
 fn put_next(
     db: &mut Database,
     docs: &[Doc],
@@ -133,7 +133,7 @@ fn put_next(
     put_prepared_at(db, docs, i, made, origin) || db.put(&docs[i], origin).is_ok()
 }
 
-/// Puts the document at a place by what was made of it, where that can be: `Database::put_prepared`.
+/// Stores the document at an index from its prepared tree, if possible: `Database::put_prepared`.
 pub(crate) fn put_prepared_at(
     db: &mut Database,
     docs: &[Doc],
@@ -152,7 +152,7 @@ pub(crate) fn put_prepared_at(
     i < made.len() && db.put_prepared(&docs[i], &mut made[i], origin)
 }
 
-/// Enters the first of some arrivals, for whose list there is room, and counts them.
+/// Adds the first `count` of a list of arrivals, for which space is reserved, and counts them.
 fn enter(
     earlier: &mut Vec<Vec<Written>>,
     arrivals: &mut Vec<Written>,

@@ -1,25 +1,25 @@
-//! What a session begins with.
+//! The parameters of a session.
 use repl_log::RepId;
 use rev_tree::SessionId;
 
-/// What a session belongs to, for as long as it stands (docs/PROFILE.md, "Sessions of a peer").
+/// What a session belongs to; this never changes (docs/PROFILE.md, "Sessions of a peer").
 #[derive(Debug, Drop)]
 pub struct Scope {
-    /// The replication that it belongs to.
+    /// The replication.
     pub rep: RepId,
-    /// The life of the source's database, as it was read with the log that gave the start.
+    /// The life of the source's database when the log that gave the start was read.
     pub life: u64,
-    /// The earlier session that it starts from, where there is one.
+    /// The earlier session that this one starts from, if there is one.
     pub base: Option<SessionId>,
-    /// The sequence of the source up to which it reads.
+    /// The source's sequence up to which the session reads.
     pub goal: u64,
 }
 
-/// What a session begins with.
+/// The parameters of a new session.
 #[derive(Debug, Drop)]
 pub struct Beginning {
-    /// What it belongs to.
+    /// What the session belongs to.
     pub scope: Scope,
-    /// The sequence of the source above which it reads.
+    /// The source's sequence above which the session reads.
     pub start: u64,
 }

@@ -1,11 +1,11 @@
-//! What a settling has used up.
+//! Values that are dropped after settling.
 use couch_base::{Asked, PreparedTree};
 use doc_json::{Doc, DocId};
 use rev_core::Rev;
 use std::alloc::Global;
 
-/// What a settling has used up of its parcel: what was asked, the documents, the gone revisions, and what was made and not
-/// used. It is let go of with this value, and not while the peer is settling.
+/// The remains of settled parcels: requests, documents, gone revisions and unused prepared trees. They are dropped with
+/// this value, not while the peer is settling.
 #[derive(Drop)]
 pub struct DeferredDrops {
     asked: Option<Asked>,
@@ -15,7 +15,7 @@ pub struct DeferredDrops {
 }
 
 impl DeferredDrops {
-    /// Nothing.
+    /// Creates an empty value.
     pub fn new(alloc: Global) -> DeferredDrops {
         DeferredDrops {
             asked: None,
@@ -25,7 +25,7 @@ impl DeferredDrops {
         }
     }
 
-    /// Takes in what is left of a parcel.
+    /// Stores the remains of a parcel.
     pub(crate) fn keep(
         &mut self,
         asked: Asked,

@@ -1,4 +1,4 @@
-//! The index of ledgered revisions: which revisions a refused document stands for.
+//! The index of revisions in ledgers.
 ghost use Rattle.std.specs.Prelude.{◌≡◌, ◌≤◌, ◌||◌, ◌&&◌, false, length, OnOk, OnErr};
 ghost use Rattle.std.specs.Str.{bytes_eq};
 ghost use Rattle.rev_core.specs.Rev.{RevId};
@@ -10,7 +10,7 @@ use indexmap::{IndexMap, IndexSet};
 use rev_core::Rev;
 use std::alloc::{AllocError, Global};
 
-/// The revisions in the ancestries of ledgered documents, by document.
+/// The revisions in the ancestries of refused documents, by document.
 #[derive(Drop)]
 pub(crate) struct LedgerIndex {
     docs: IndexMap<DocId, IndexSet<Rev>>,
@@ -19,7 +19,7 @@ pub(crate) struct LedgerIndex {
 impl LedgerIndex {
     ghost use Rattle.repl_peer.specs.session.LedgerIndex.{is_ledgered};
 
-    /// No revisions. It grows by `alloc`.
+    /// Creates an empty index.
     pub(crate) fn new(alloc: Global) -> LedgerIndex
         ensures { (id : Id) (r : RevId) → is_ledgered result id r ≡ false }
     {
@@ -28,7 +28,7 @@ impl LedgerIndex {
         }
     }
 
-    /// Whether a revision is in the ancestry of a ledgered document of an id.
+    /// Whether a revision is in the ancestry of a refused document with this id.
     pub(crate) fn has(&self, id: &DocId, rev: Rev) -> bool
         ensures { result ≡ is_ledgered self.now id.now rev }
     {
@@ -38,7 +38,7 @@ impl LedgerIndex {
         }
     }
 
-    /// Adds the revisions of a document that goes into the ledger. A refusal changes nothing.
+    /// Adds the revisions of a refused document. An error changes nothing.
     pub(crate) fn add(&mut self, doc: &Doc) -> Result<(), AllocError>
         ensures ok { OnOk result
             ((id : Id) (r : RevId)
@@ -60,7 +60,7 @@ impl LedgerIndex {
     }
 }
 
-/// Adds revisions. The growth comes first, so that a refusal changes nothing.
+/// Adds revisions to a set. Space is reserved first, so that an error changes nothing.
 fn add_revs(known: &mut IndexSet<Rev>, revs: &[Rev]) -> Result<(), AllocError>
     ensures ok { OnOk result
         ((r : RevId) → is_among r known.new.keys ≡ (is_among r known.old.keys || is_among r revs.now)) }

@@ -1,4 +1,4 @@
-//! Parcels that are made ready before they are settled.
+//! Parcels that are prepared before they are settled.
 ghost use Rattle.std.specs.Prelude.{◌≡◌, map, IfOk};
 ghost use Rattle.couch_base.specs.Readied.{AreMade};
 ghost use Rattle.repl_peer.specs.peer.Peer.{written_of};
@@ -12,14 +12,13 @@ use rev_tree::SessionId;
 use std::alloc::{AllocError, Global};
 use std::marker::Model;
 
-/// A parcel, perhaps with what its documents make where they are new and what they enter among the arrivals, which are
-/// made before the peer is locked.
+/// A parcel, optionally with the trees and arrivals of its documents, which are built before the peer is locked.
 pub struct PreparedParcel {
     parcel: Parcel,
     arrivals: Vec<Written>,
 }
 
-// By hand, so that it is proved once: docs/DECISIONS.md, "Letting values go".
+// Written by hand so that it is proved once: docs/DECISIONS.md, "Letting values go".
 impl Drop for PreparedParcel {
     fn drop(self) {
         let PreparedParcel {
@@ -42,7 +41,7 @@ impl Model for PreparedParcel {
 }
 
 impl PreparedParcel {
-    /// A parcel of which nothing is made yet.
+    /// Wraps a parcel without preparing it.
     pub fn new(alloc: Global, parcel: Parcel) -> PreparedParcel
         ensures { result ≡ parcel }
     {
@@ -52,8 +51,8 @@ impl PreparedParcel {
         }
     }
 
-    /// Makes what the documents make where they are new, and come from a session's feed at the sequences of some rows,
-    /// and what they enter among its arrivals. It stays the same parcel.
+    /// Builds the trees of the documents as new documents, with a session's feed at the sequences of the rows as
+    /// origins, and their arrivals. The parcel's value does not change.
     pub fn prepare(
         &mut self,
         alloc: Global,
@@ -68,15 +67,14 @@ impl PreparedParcel {
         Ok(())
     }
 
-    /// The parcel.
+    /// Returns the parcel.
     pub fn parcel(&self) -> &Parcel
         ensures { result.now ≡ self.now }
     {
         &self.parcel
     }
 
-    /// The asked, the documents, the gone revisions, what was made of the documents, and what the first of them enter
-    /// among the arrivals.
+    /// Splits the value into request, documents, gone revisions, prepared trees and prepared arrivals.
     pub(crate) fn into_parts(
         self,
     ) -> (
@@ -96,7 +94,7 @@ impl PreparedParcel {
     }
 }
 
-/// What documents enter among the arrivals.
+/// Builds the arrivals of documents.
 fn arrivals_of(alloc: Global, docs: &[Doc]) -> Result<Vec<Written>, AllocError>
     ensures { IfOk result (λ all. all.items ≡ map written_of docs.now) }
 {

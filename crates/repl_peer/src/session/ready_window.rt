@@ -1,4 +1,4 @@
-//! Windows that are made ready before they are stored.
+//! Windows that are prepared before they are stored.
 ghost use Rattle.std.specs.Prelude.{◌≡◌, IfSome};
 
 use crate::session::window::DoneWindow;
@@ -6,13 +6,13 @@ use couch_base::Window;
 use std::alloc::Global;
 use std::marker::Model;
 
-/// A window, perhaps with what is kept of it once it is done, which is made before the peer is locked.
+/// A window, optionally with the shorter form that is kept when it is done, which is built before the peer is locked.
 pub struct ReadyWindow {
     window: Window,
     done: Option<DoneWindow>,
 }
 
-// By hand, so that it is proved once: docs/DECISIONS.md, "Letting values go".
+// Written by hand so that it is proved once: docs/DECISIONS.md, "Letting values go".
 impl Drop for ReadyWindow {
     fn drop(self) {
         let ReadyWindow { window: _, done: _ } = self;
@@ -31,15 +31,14 @@ impl Model for ReadyWindow {
 }
 
 impl ReadyWindow {
-    /// A window of which nothing is made yet.
+    /// Wraps a window without preparing it.
     pub fn new(window: Window) -> ReadyWindow
         ensures { result ≡ window }
     {
         ReadyWindow { window, done: None }
     }
 
-    /// Makes what is kept of the window once it is done. Where there is no memory for it nothing is made, and it is made
-    /// once it is needed.
+    /// Builds the shorter form of the window. If the allocation fails, it is built when the window is done.
     pub fn prepare(&mut self, alloc: Global)
         ensures { self.new ≡ self.old }
     {
@@ -48,14 +47,14 @@ impl ReadyWindow {
         }
     }
 
-    /// The window.
+    /// Returns the window.
     pub fn window(&self) -> &Window
         ensures { result.now ≡ self.now }
     {
         &self.window
     }
 
-    /// What is kept of the window once it is done, where it is made or there is memory for it. It is taken out.
+    /// Takes the shorter form of the window, and builds it if necessary. `None` if the allocation fails.
     pub(crate) fn take_done(&mut self, alloc: Global) -> Option<DoneWindow>
         ensures same { self.new ≡ self.old }
         ensures done { IfSome result (λ done. done ≡ self.old) }

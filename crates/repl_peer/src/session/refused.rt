@@ -1,9 +1,9 @@
-//! Documents that were refused.
+//! Refused documents.
 use crate::fault::Reason;
 use doc_json::Doc;
 use std::marker::Model;
 
-/// A document of a ledger: it was refused, and why.
+/// A document in a ledger, and why it was refused.
 #[derive(Drop)]
 pub struct Refused {
     doc: Doc,
@@ -21,21 +21,21 @@ impl Model for Refused {
 impl Refused {
     ghost use Rattle.std.specs.Prelude.{◌≡◌};
 
-    /// A document, and why it is refused.
+    /// Creates a ledger row.
     pub(crate) fn new(doc: Doc, reason: Reason) -> Refused
         ensures { result ≡ record { doc = doc; reason = reason } }
     {
         Refused { doc, reason }
     }
 
-    /// The document.
+    /// Returns the document.
     pub fn doc(&self) -> &Doc
         ensures { result.now ≡ self.now.doc }
     {
         &self.doc
     }
 
-    /// Why it was refused.
+    /// Returns why the document was refused.
     pub fn reason(&self) -> Reason
         ensures { result ≡ self.now.reason }
     {

@@ -1,4 +1,4 @@
-//! The index of sessions: which sessions a replication has.
+//! The index of sessions by replication.
 ghost use Rattle.std.specs.Prelude.{◌≡◌, ◌++◌, ◌∷◌, [], OnOk, OnErr, if◌then◌else◌};
 ghost use Rattle.repl_log.specs.declared.replication.RepId.{RepId};
 ghost use Rattle.repl_log.specs.RepId.{same_rep};
@@ -8,7 +8,7 @@ use repl_log::RepId;
 use rev_tree::SessionId;
 use std::alloc::{AllocError, Global};
 
-/// The ids of sessions by their replication, in the order in which they began.
+/// The ids of sessions by replication, in the order in which they began.
 #[derive(Drop)]
 pub(crate) struct RepIndex {
     ids: IndexMap<RepId, Vec<SessionId>>,
@@ -17,7 +17,7 @@ pub(crate) struct RepIndex {
 impl RepIndex {
     ghost use Rattle.repl_peer.specs.session.RepIndex.{listed};
 
-    /// No sessions. It grows by `alloc`.
+    /// Creates an empty index.
     pub(crate) fn new(alloc: Global) -> RepIndex
         ensures { (rep : RepId) → listed result rep ≡ [] }
     {
@@ -26,7 +26,7 @@ impl RepIndex {
         }
     }
 
-    /// The sessions of a replication, the oldest first.
+    /// Returns the sessions of a replication, oldest first.
     pub(crate) fn of(&self, rep: &RepId) -> &[SessionId]
         ensures { result.now ≡ listed self.now rep.now }
     {
@@ -36,7 +36,7 @@ impl RepIndex {
         }
     }
 
-    /// Adds a session, which is the newest of its replication. A refusal changes nothing.
+    /// Adds a session, which is the newest of its replication. An error changes nothing.
     pub(crate) fn add(&mut self, rep: &RepId, id: SessionId) -> Result<(), AllocError>
         ensures ok { OnOk result ((asked : RepId) → listed self.new asked
             ≡ (if same_rep rep.now asked then listed self.old asked ++ id ∷ [] else listed self.old asked)) }

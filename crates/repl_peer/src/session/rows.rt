@@ -1,4 +1,4 @@
-//! The rows of a stored window.
+//! Searching the rows of a window.
 ghost use Rattle.std.specs.Prelude.{◌≡◌, ◌≤◌, ◌-◌, ◌^◌, ◌||◌, true, false, not, map, length, min, unwrap_or, IfSome, IfNone};
 ghost use Rattle.std.specs.List.{find, list_any, list_all, sum_by};
 ghost use Rattle.std.specs.Option.{option_map, option_copied};
@@ -16,7 +16,7 @@ use doc_json::{Doc, DocId};
 use rev_core::Rev;
 use rev_tree::Tree;
 
-/// The place of the first row of an id.
+/// Returns the index of the first row with an id.
 fn row_in(rows: &[Row], id: &DocId) -> Option<usize>
     ensures some { IfSome result (IsRowOf rows.now id.now) }
     ensures none { IfNone result (list_any (λ row. bytes_eq row.id id.now) rows.now ≡ false) }
@@ -29,9 +29,9 @@ fn row_in(rows: &[Row], id: &DocId) -> Option<usize>
     None
 }
 
-/// The place of a row of an id, which is looked for behind a place, then from there on, and then before it.
+/// Returns the index of a row with an id. Tries the row after `from`, then searches from there on, then before it.
 ///
-/// Where the last document had its row, the next one has the next row mostly, or the same.
+/// The row of the next document is usually the next one, or the same.
 pub(crate) fn row_from(rows: &[Row], id: &DocId, from: usize) -> Option<usize>
     requires { from ≤ length rows.now }
     ensures some { IfSome result (IsRowOf rows.now id.now) }
@@ -49,7 +49,7 @@ pub(crate) fn row_from(rows: &[Row], id: &DocId, from: usize) -> Option<usize>
     }
 }
 
-/// The place and the sequence of the row of an id, which has one. It is looked for from a place on, and then before it.
+/// Returns the index and the sequence of the row with an id, which exists. Searches from an index on, then before it.
 pub(crate) fn seq_from(rows: &[Row], id: &DocId, from: usize) -> (usize, u64)
     requires within { from ≤ length rows.now }
     requires there { list_any (λ row. bytes_eq row.id id.now) rows.now ≡ true }
@@ -75,7 +75,7 @@ pub(crate) fn all_have_rows(rows: &[Row], docs: &[Doc]) -> bool
     true
 }
 
-/// How many leaves the rows name, or the greatest `u64` where these are more.
+/// Returns the number of leaves in the rows, or the greatest `u64` if there are more.
 pub(crate) fn leaf_count(rows: &[Row]) -> u64
     ensures { result ≡ min (sum_by (λ row. length row.leaves) rows.now) (2 ^ 64 - 1) }
 {
@@ -86,7 +86,7 @@ pub(crate) fn leaf_count(rows: &[Row]) -> u64
     count
 }
 
-/// How many revisions are asked for, or the greatest `u64` where these are more.
+/// Returns the number of requested revisions, or the greatest `u64` if there are more.
 pub(crate) fn asked_count(docs: &[Wanted]) -> u64
     ensures { result ≡ min (sum_by (λ wanted. length wanted.revs) docs.now) (2 ^ 64 - 1) }
 {
@@ -97,7 +97,7 @@ pub(crate) fn asked_count(docs: &[Wanted]) -> u64
     count
 }
 
-/// Whether a revision is in a tree, which may not be there.
+/// Whether an optional tree has a revision.
 pub(crate) fn has_in(tree: Option<&Tree>, rev: Rev) -> bool
     ensures { result ≡ has (unwrap_or (option_copied tree.entry) no_revisions) rev }
 {
@@ -115,7 +115,7 @@ fn is_known(tree: Option<&Tree>, ledgered: &LedgerIndex, id: &DocId, rev: Rev) -
     has_in(tree, rev) || ledgered.has(id, rev)
 }
 
-/// The first leaf of a row that is neither in its document's tree nor refused.
+/// Returns the first leaf of a row that is neither in its document's tree nor refused.
 fn unknown_in(
     db: &Database,
     ledgered: &LedgerIndex,
@@ -133,7 +133,7 @@ fn unknown_in(
     None
 }
 
-/// The first such leaf of some rows, with its row.
+/// Returns the first leaf of the rows that is neither in its document's tree nor refused, with its row.
 pub(crate) fn first_unknown<'a>(
     db: &Database,
     ledgered: &LedgerIndex,

@@ -1,4 +1,4 @@
-//! The incoming sessions of a peer.
+//! The table of a peer's incoming sessions.
 ghost use Rattle.std.specs.Prelude.{◌≡◌, [], ◌∷◌, ◌==◌, Ok, length, slice_get, OnOk, OnErr, IfOk, if◌then◌else◌};
 ghost use Rattle.std.specs.Option.{option_copied, option_map};
 ghost use Rattle.range_front.specs.Front.{low_water};
@@ -29,10 +29,10 @@ use rev_tree::SessionId;
 use std::alloc::{AllocError, Global};
 use std::marker::Model;
 
-/// The sessions that were replicated into a peer, newest first, each id once, with the index of what they refused and that
-/// of their replications.
+/// The incoming sessions of a peer, newest first, with distinct ids, an index of refused revisions, and an index by
+/// replication.
 ///
-/// They are kept the oldest first, under their ids: what a call does with one session doesn't look at the others.
+/// Stored oldest first, as a table by session id, so that a call about one session does not scan the others.
 #[derive(Drop)]
 pub(crate) struct Sessions {
     entries: IndexMap<SessionId, Session>,
@@ -58,7 +58,7 @@ impl Model for Sessions {
 }
 
 impl Sessions {
-    /// No sessions. They grow by `alloc`.
+    /// Creates an empty table.
     pub(crate) fn new(alloc: Global) -> Sessions
         ensures { result ≡ [] }
     {
@@ -69,16 +69,16 @@ impl Sessions {
         }
     }
 
-    // ---- readings
+    // ---- readers
 
-    /// How many there are.
+    /// Returns the number of sessions.
     pub(crate) fn len(&self) -> usize
         ensures { result ≡ length self.now }
     {
         self.entries.len()
     }
 
-    /// The id of the session at a place, where there are so many; the newest is at 0.
+    /// Returns the id of the session at an index, if there is one. The newest session has index 0.
     pub(crate) fn id_at(&self, place: usize) -> Option<SessionId>
         ensures { result ≡ option_map (λ s. s.id) (slice_get self.now place) }
     {
@@ -90,7 +90,7 @@ impl Sessions {
         Some(session.id)
     }
 
-    /// The session of an id.
+    /// Returns the session with an id.
     pub(crate) fn find(&self, id: SessionId) -> Option<&Session>
         ensures { option_copied result ≡ session_in self.now id }
     {
@@ -104,7 +104,7 @@ impl Sessions {
         self.ledgered.has(id, rev)
     }
 
-    /// What the sessions of a replication say, newest first.
+    /// Returns the log entries of the sessions of a replication, newest first.
     pub(crate) fn log(&self, alloc: Global, rep: &RepId) -> Result<Log, AllocError>
         ensures log { IfOk result (λ l. l ≡ log_of self.now rep.now) }
     {
@@ -120,8 +120,8 @@ impl Sessions {
         Ok(log)
     }
 
-    /// The newest session of a replication that the source's log also holds, with the lesser of its two recorded
-    /// sequences. It looks at no other replication's sessions, and at none behind the one that it finds.
+    /// Returns the newest session of a replication that is also in the source's log, with the lesser of its two
+    /// recorded sequences. Scans only sessions of this replication, up to the one it finds.
     pub(crate) fn shared_with(&self, rep: &RepId, source: &Log) -> Option<(SessionId, u64)>
         ensures { result ≡ common source.now (log_of self.now rep.now) }
     {
@@ -142,11 +142,17 @@ impl Sessions {
 
     // ---- changes
 
-    /// Begins a session, which is the newest.
+    /// Begins a session, which becomes the newest.
     ///
-    /// `SessionExists` where the id is there; else `NoSuchBase` where the base is no session of the same replication;
-    /// else `StartAboveBase` where the start is above what it has recorded, or above 0 where there is no base; else
-    /// `GoalBelowStart`; else `Memory`. A refusal changes nothing.
+    /// # Errors
+    ///
+    /// Checked in this order; an error changes nothing:
+    ///
+    /// - `SessionExists`: there is a session with this id.
+    /// - `NoSuchBase`: the base is not a session of the same replication.
+    /// - `StartAboveBase`: the start exceeds the base's recorded sequence, or 0 if there is no base.
+    /// - `GoalBelowStart`: the goal is below the start.
+    /// - `Memory`: an allocation failed.
     pub(crate) fn begin(
         &mut self,
         id: SessionId,
@@ -168,7 +174,7 @@ impl Sessions {
         Ok(())
     }
 
-    /// Whether a session may begin.
+    /// Checks whether a session may begin.
     fn check_new(&self, id: SessionId, beginning: &Beginning) -> Result<(), TargetFault>
         ensures { result ≡ begin_in self.now id beginning.now }
     {
@@ -186,7 +192,8 @@ impl Sessions {
         Ok(())
     }
 
-    /// What the base has recorded, 0 where there is none; `NoSuchBase` where it is no session of the same replication.
+    /// Returns the recorded sequence of the base, or 0 if there is none; `NoSuchBase` if it is not a session of the
+    /// same replication.
     fn recorded_of(&self, rep: &RepId, base: Option<SessionId>) -> Result<u64, TargetFault>
         ensures { result ≡ recorded_by self.now rep.now base }
     {
@@ -205,7 +212,7 @@ impl Sessions {
         }
     }
 
-    /// Stores the next window of a session.
+    /// Adds the next window to a session.
     pub(crate) fn append(&mut self, id: SessionId, ready: ReadyWindow) -> Result<(), TargetFault>
         ensures answer { GivesUnlessMemory result (answer_in self.old id (append_in ready)) }
         ensures ok { OnOk result (self.new
@@ -218,7 +225,7 @@ impl Sessions {
         session.append(ready)
     }
 
-    /// Settles a parcel of a session, as `settle_parcel` says. `NoSuchSession` comes before all else.
+    /// Settles a parcel of a session, as `settle_parcel` does. Returns `NoSuchSession` before any other error.
     pub(crate) fn settle_session<F: WriteFilter>(
         &mut self,
         filter: &F,
@@ -237,7 +244,7 @@ impl Sessions {
         settle_parcel(filter, db, &mut self.ledgered, session, parcel, spent)
     }
 
-    /// Records what a session has done without a gap.
+    /// Records the low water of a session.
     pub(crate) fn record(&mut self, id: SessionId, at: Moment) -> Result<u64, TargetFault>
         ensures answer { result ≡ answer_in self.old id (λ s. Ok (low_water s.front)) }
         ensures sessions { self.new ≡ with_changed self.old id (recorded_at at) }
@@ -248,7 +255,7 @@ impl Sessions {
         Ok(session.record(at))
     }
 
-    /// Concludes a session where all is done up to its goal.
+    /// Concludes a session if everything is done up to its goal.
     pub(crate) fn conclude(&mut self, id: SessionId, at: Moment) -> Result<Report, TargetFault>
         ensures answer { result ≡ answer_in self.old id conclude_in }
         ensures sessions { self.new

@@ -1,4 +1,4 @@
-//! The stored window that a parcel settles.
+//! Finding the window that a parcel settles.
 ghost use Rattle.std.specs.Prelude.{◌≡◌, ◌<◌, ◌≤◌, ◌+◌, ◌==◌, ◌&&◌, ℕ, Err, None, nat_le, IfOk, IfErr, IfSome, IfNone};
 ghost use Rattle.std.specs.List.{find};
 ghost use Rattle.std.specs.List.Sorted.{IsPartitionPoint};
@@ -13,8 +13,8 @@ use crate::session::rows::{asked_count, leaf_count};
 use crate::session::window::StoredWindow;
 use couch_base::{MOST_SEQUENCE, Parcel};
 
-/// The place of a parcel's window among the stored ones, how many leaves its rows name, and how many revisions the
-/// parcel asked for.
+/// The index of a parcel's window, the number of leaves in its rows, and the number of revisions that the parcel
+/// requested.
 #[derive(Clone, Copy)]
 pub(crate) struct Checked {
     pub(crate) place: usize,
@@ -22,7 +22,8 @@ pub(crate) struct Checked {
     pub(crate) asked: u64,
 }
 
-/// The window that a parcel settles: stored, with a row for each document, not done, and with room for the counts.
+/// Checks a parcel: its window exists, has a row for each document and is not done, and the counts do not overflow.
+/// Returns the window, or the error.
 pub(crate) fn check(session: &Session, parcel: &Parcel) -> Result<Checked, TargetFault>
     ensures ok { IfOk result
         (λ found. Passes session.now parcel.now found.place found.leaves found.asked) }
@@ -42,7 +43,7 @@ pub(crate) fn check(session: &Session, parcel: &Parcel) -> Result<Checked, Targe
     if session.front.is_done(lo, hi) {
         return Err(TargetFault::AlreadyDone);
     }
-    // Only done windows are not kept whole.
+    // Only done windows drop their rows.
     let Some(rows) = window.rows() else {
         unreachable!()
     };
@@ -58,7 +59,7 @@ pub(crate) fn check(session: &Session, parcel: &Parcel) -> Result<Checked, Targe
     })
 }
 
-/// The place of the stored window of some bounds.
+/// Returns the index of the window with these bounds.
 fn find_window(windows: &[StoredWindow], lo: u64, hi: u64) -> Option<usize>
     requires { (start : ℕ) × Consecutive start (windows_of windows.now) }
     ensures some { IfSome result (IsWindowAt (windows_of windows.now) lo hi) }
@@ -71,7 +72,7 @@ fn find_window(windows: &[StoredWindow], lo: u64, hi: u64) -> Option<usize>
     }
 }
 
-/// The place of the first window that begins at a bound or above it.
+/// Returns the index of the first window that begins at or above a bound.
 fn place_from(windows: &[StoredWindow], lo: u64) -> usize
     requires { (start : ℕ) × Consecutive start (windows_of windows.now) }
     ensures { IsPartitionPoint (λ w. w.lo < lo) (λ w. lo ≤ w.lo) (windows_of windows.now) result }
@@ -79,7 +80,7 @@ fn place_from(windows: &[StoredWindow], lo: u64) -> usize
     windows.partition_point(|window| window.lo() < lo)
 }
 
-/// Whether the counts of a session with some more stay in their range.
+/// Whether the counts of a session stay in range after adding these numbers.
 fn has_room(session: &Session, read: u64, checked: u64, found: u64) -> bool
     ensures { result
         ≡ (nat_le (session.now.counts.read + read) most
@@ -90,7 +91,7 @@ fn has_room(session: &Session, read: u64, checked: u64, found: u64) -> bool
         && fits(session.counts.found, found)
 }
 
-/// Whether a count with some more stays in its range.
+/// Whether a count stays in range after adding a number.
 fn fits(count: u64, more: u64) -> bool
     ensures { result ≡ nat_le (count + more) most }
 {

@@ -1,4 +1,4 @@
-//! Windows as sessions store them.
+//! The stored form of windows.
 ghost use Rattle.std.specs.Prelude.{◌≡◌, ◌<◌, true, length, is_some, IfOk, IfSome};
 ghost use Rattle.std.specs.List.{list_any, list_all};
 ghost use Rattle.std.specs.Str.{bytes_eq};
@@ -15,7 +15,7 @@ use std::marker::Model;
 
 // ---- done windows
 
-/// A row of a done window, without its leaves: contracts alone see them.
+/// A row of a done window, without its leaves; only contracts see them.
 #[derive(Drop)]
 pub(crate) struct DoneRow {
     seq: u64,
@@ -32,7 +32,7 @@ impl Model for DoneRow {
 }
 
 impl DoneRow {
-    /// A row without its leaves.
+    /// Creates a row without leaves.
     fn of(alloc: Global, row: &Row) -> Result<DoneRow, AllocError>
         ensures of { IfOk result (λ r. r ≡ row.now) }
     {
@@ -44,7 +44,7 @@ impl DoneRow {
         })
     }
 
-    /// The document's id.
+    /// Returns the document's id.
     fn id(&self) -> &DocId
         ensures { result.now ≡ self.now.id }
     {
@@ -52,7 +52,7 @@ impl DoneRow {
     }
 }
 
-/// A window that is done. Of its rows nothing is asked but which documents have one, so their leaves are let go.
+/// A done window. Only the ids of its rows are used, so the leaves are dropped.
 #[derive(Drop)]
 pub(crate) struct DoneWindow {
     life: u64,
@@ -70,7 +70,7 @@ impl Model for DoneWindow {
 }
 
 impl DoneWindow {
-    /// A window without the leaves of its rows.
+    /// Creates a window without the leaves of its rows.
     pub(crate) fn of(alloc: Global, window: &Window) -> Result<DoneWindow, AllocError>
         ensures of { IfOk result (λ w. w ≡ window.now) }
     {
@@ -96,7 +96,7 @@ impl DoneWindow {
     }
 }
 
-/// The same rows, without their leaves.
+/// Copies rows without their leaves.
 fn done_rows(alloc: Global, rows: &[Row]) -> Result<Vec<DoneRow>, AllocError>
     ensures of { IfOk result (λ v. v.items ≡ rows.now) }
 {
@@ -108,7 +108,7 @@ fn done_rows(alloc: Global, rows: &[Row]) -> Result<Vec<DoneRow>, AllocError>
     Ok(done)
 }
 
-/// Whether some row is of an id.
+/// Whether there is a row with this id.
 fn has_done_row(rows: &[DoneRow], id: &DocId) -> bool
     ensures { result ≡ list_any (λ row. bytes_eq row.id id.now) rows.now }
 {
@@ -122,18 +122,18 @@ fn has_done_row(rows: &[DoneRow], id: &DocId) -> bool
 
 // ---- stored windows
 
-/// A window that a session stores: whole, or, where it is done, without the leaves of its rows.
+/// A window of a session: complete, or, if it is done, without the leaves of its rows.
 #[derive(Drop)]
 pub struct StoredWindow {
     kept: Kept,
 }
 
-/// What is kept of a stored window.
+/// How a window is stored.
 #[derive(Drop)]
 pub(crate) enum Kept {
-    /// All of it.
+    /// The complete window.
     Whole(ReadyWindow),
-    /// What is asked of a done window.
+    /// A done window without its leaves.
     Done(DoneWindow),
 }
 
@@ -152,7 +152,7 @@ impl Model for StoredWindow {
 impl StoredWindow {
     ghost use Rattle.couch_base.specs.Feed.{IsWindow};
 
-    /// A window as it comes.
+    /// Stores a complete window.
     pub(crate) fn whole(ready: ReadyWindow) -> StoredWindow
         requires { IsWindow ready }
         ensures { result ≡ record { window = ready; whole = true } }
@@ -162,7 +162,7 @@ impl StoredWindow {
         }
     }
 
-    /// The life of the database whose rows these are.
+    /// Returns the life of the database that the rows are from.
     pub fn life(&self) -> u64
         ensures { result ≡ self.now.window.life }
     {
@@ -172,7 +172,7 @@ impl StoredWindow {
         }
     }
 
-    /// The sequence above which the window begins.
+    /// Returns the sequence above which the window begins.
     pub fn lo(&self) -> u64
         ensures value { result ≡ self.now.window.lo }
         ensures window { IsWindow self.now.window }
@@ -183,7 +183,7 @@ impl StoredWindow {
         }
     }
 
-    /// The sequence at which it ends.
+    /// Returns the sequence at which the window ends.
     pub fn hi(&self) -> u64
         ensures value { result ≡ self.now.window.hi }
         ensures window { IsWindow self.now.window }
@@ -194,7 +194,7 @@ impl StoredWindow {
         }
     }
 
-    /// The rows, by rising sequences, where the window is kept whole.
+    /// Returns the rows, by rising sequence, if the window is complete.
     pub fn rows(&self) -> Option<&[Row]>
         ensures whole { is_some result ≡ self.now.whole }
         ensures rows { IfSome result (λ r. r.now ≡ self.now.window.rows) }
@@ -216,8 +216,8 @@ impl StoredWindow {
         }
     }
 
-    /// Lets the leaves of the rows go. Where what is left was not made beforehand, and there is no memory for it, the
-    /// window stays as it is.
+    /// Drops the leaves of the rows. If the shorter form was not prepared and its allocation fails, the window stays
+    /// complete.
     pub(crate) fn let_leaves_go(&mut self, alloc: Global)
         ensures { self.new.window ≡ self.old.window }
     {
@@ -229,7 +229,7 @@ impl StoredWindow {
     }
 }
 
-/// Lets the leaves of the window at a place go, where there is memory for what is left of it.
+/// Drops the leaves of the window at an index, if the allocation for its shorter form succeeds.
 pub(crate) fn let_leaves_go_at(windows: &mut Vec<StoredWindow>, place: usize)
     requires within { place < length windows.old.items }
     ensures windows { windows_of windows.new.items ≡ windows_of windows.old.items }

@@ -1,4 +1,4 @@
--- Lemmas of replications.
+-- Lemmas about replications.
 pub mod RunsConcluded
 pub mod FetchedDocuments
 pub mod EmptyTargetCopied

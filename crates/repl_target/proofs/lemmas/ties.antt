@@ -1,4 +1,4 @@
--- Lemmas of what is tied.
+-- Lemmas about tied windows, messages and peers.
 pub mod TiedPages
 pub mod TiedMessages
 pub mod SettlingTakes

@@ -1,5 +1,5 @@
--- What a replication leaves of two peers, by one thread or by many: docs/PROFILE.md, "Replication by one thread", "The
--- pool" and "Tied peers".
+-- The effect of a replication on both peers, on one thread or several: docs/PROFILE.md, "Replication by one thread",
+-- "The pool" and "Tied peers".
 use Rattle.std.specs.Prelude.{◌≡◌, ◌⊎◌, Bool, List}
 use Rattle.rev_tree.specs.Agreement.{IsGrownBy}
 use Rattle.doc_json.specs.Document.{Document}
@@ -14,18 +14,18 @@ use Rattle.repl_target.specs.declared.replication.Plan.{Plan}
 use Rattle.repl_target.specs.ties.Ties.{IsTiedWith, IsSentEntry, KeepsOthersTied}
 use Rattle.repl_target.specs.replication.Calls.{IsLeft}
 
--- each tree of a database has grown from an older one's by what another has
+-- each tree of a database has grown from the older one by data of the other database
 abbrev pub HasGrownBy : DatabaseValue → DatabaseValue → DatabaseValue → Type 0
 HasGrownBy old other now = (id : Id) → IsGrownBy (tree_of old.docs id) (tree_of other.docs id) (tree_of now.docs id)
 
--- the source is as it was given, or an entry of the target's was put into its log
+-- the source is unchanged, or an entry of the target's was stored in its log
 abbrev pub IsPut : PeerValue → PeerValue → Choice → PeerValue → Type 0
 IsPut source target chosen source' =
     (source' ≡ source)
     ⊎ (e : EntryValue) × IsSentEntry target e × (source' ≡ after_put_entry source (rep_between source target chosen) e)
 
--- the two: of the source only the log, where an entry may have been put; the target as it was given or grown by calls of
--- the plan's session; and tied, the two and others, as they were
+-- of the source only the log changes, in which an entry may have been stored; the target is unchanged or has grown by
+-- calls of the plan's session; and the two peers, and third ones, stay tied
 pub record Leaves (refuses : Document → Bool) (source target : PeerValue) (plan : Plan) (source' target' : PeerValue)
     : Type 0 where
   pub log : source' ≡ record source { outgoing = source'.outgoing }

@@ -29,17 +29,17 @@ use Rattle.repl_target.specs.declared.replication.Plan.{Plan}
 
 -- ---- before a session begins
 
--- a window has 1 to 10,000 rows
+-- whether the maximum number of rows of a window is 1 to 10,000
 abbrev pub is_batch : ℕ → Bool
 is_batch n = nat_le 1 n && nat_le n 10000
 
--- what is asked first, between the databases of two UUIDs: the batch, and that they are not one
+-- the result of the first checks, for databases with these UUIDs
 abbrev pub plan_answer : ℕ → ℕ → Plan → Result (Unit {0}) TargetFault
 plan_answer source target plan =
     if is_batch plan.batch then (if source == target then Err faults.SamePeer else Ok tt)
     else Err faults.BadBatch
 
--- a session begins where the two logs agree, on the session of that checkpoint, or at 0
+-- the base of a session: the session of the common checkpoint, if there is one
 abbrev pub base_at : Option (SessionId × ℕ) → Option SessionId
 base_at None = None
 base_at (Some checkpoint) = Some checkpoint.0
@@ -55,8 +55,8 @@ checkpoint_of source target chosen = checkpoint_between source target (rep_betwe
 abbrev pub start_between : PeerValue → PeerValue → Choice → ℕ
 start_between source target chosen = start_at (checkpoint_of source target chosen)
 
--- what its session belongs to: it is of the source's life, based on the session of that checkpoint, and its goal is the
--- source's update sequence
+-- the scope of the session: the source's life, the session of the common checkpoint as base, and the source's update
+-- sequence as goal
 abbrev pub scope_between : PeerValue → PeerValue → Choice → Scope
 scope_between source target chosen = record {
   rep = rep_between source target chosen;
@@ -77,20 +77,20 @@ after_begins source target plan = after_begin target plan.session (beginning_bet
 
 -- ---- windows
 
--- how far the source's feed is read, and the target then
+-- the sequence up to which the source's feed is read, and the target at that time
 pub record Reading : Type 0 where
   pub since : ℕ
   pub target : PeerValue
 
--- the next window of the source's feed, which has the rows of chosen documents
+-- the next window of the source's feed, with the rows of selected documents
 abbrev pub next_window : DatabaseValue → Plan → ℕ → WindowValue
 next_window source plan since = page source since source.update_seq plan.batch plan.chosen
 
--- what a target misses of a window, as the source has it
+-- the documents of a window that the target lacks, as the source has them
 abbrev pub parcel_for : DatabaseValue → PeerValue → WindowValue → ParcelValue
 parcel_for source p w = open_revs source (revs_diff p.db w)
 
--- the session stores the window, and what the target missed of it is settled
+-- the session stores the window, and the missing documents are settled, with this result
 abbrev pub StoresAndSettles : (Document → Bool) → Plan → PeerValue → WindowValue → ParcelValue
     → Result Settled TargetFault → PeerValue → Type 0
 StoresAndSettles refuses plan p w parcel result q =
@@ -108,7 +108,7 @@ pub record Carries (refuses : Document → Bool) (source : DatabaseValue) (plan 
         (Ok settled) after.target
     pub reached : after.since ≡ window.hi
 
--- or it is refused: it finds no memory, or the session doesn't store it, or settling is refused
+-- the next window fails: an allocation fails, or the session does not store it, or settling fails
 abbrev pub WindowRefused : (Document → Bool) → DatabaseValue → Plan → Reading → TargetFault → PeerValue → Type 0
 WindowRefused refuses source plan before why q =
     (why ≡ faults.Memory) × (q ≡ before.target)
@@ -116,7 +116,7 @@ WindowRefused refuses source plan before why q =
     ⊎ StoresAndSettles refuses plan before.target (next_window source plan before.since)
     (parcel_for source before.target (next_window source plan before.since)) (Err why) q
 
--- whether a plan lets another window be read after n
+-- whether a plan allows another window after n windows
 abbrev pub has_left : Option ℕ → ℕ → Bool
 has_left None n = true
 has_left (Some stop_after) n = nat_lt n stop_after
@@ -125,20 +125,20 @@ has_left (Some stop_after) n = nat_lt n stop_after
 abbrev pub is_due : DatabaseValue → Plan → ℕ → ℕ → Bool
 is_due source plan n since = nat_lt since source.update_seq && has_left plan.stop_after n
 
--- n windows are read, one behind the other, each stored and settled before the next
+-- n windows are read in order, each stored and settled before the next
 abbrev pub Reads : (Document → Bool) → DatabaseValue → Plan → ℕ → Reading → Reading → Type 0
 Reads refuses source plan zero from to = to ≡ from
 Reads refuses source plan (suc n) from to =
     (before : Reading) × Reads refuses source plan n from before × (is_due source plan n before.since ≡ true)
     × Carries refuses source plan before to
 
--- windows are read until none is due
+-- windows are read until no other is due
 abbrev pub ReadsAll : (Document → Bool) → DatabaseValue → Plan → Reading → PeerValue → Type 0
 ReadsAll refuses source plan from target' =
     (n : ℕ) × (now : Reading) × Reads refuses source plan n from now × (is_due source plan n now.since ≡ false)
     × (target' ≡ now.target)
 
--- or until one is refused
+-- windows are read until one fails
 abbrev pub ReadsUntil : (Document → Bool) → DatabaseValue → Plan → Reading → TargetFault → PeerValue → Type 0
 ReadsUntil refuses source plan from why target' =
     (n : ℕ) × (now : Reading) × Reads refuses source plan n from now × (is_due source plan n now.since ≡ true)
@@ -146,7 +146,7 @@ ReadsUntil refuses source plan from why target' =
 
 -- ---- the end
 
--- the session is concluded where all is done up to its goal, and recorded where it isn't
+-- the target after the session is concluded, or recorded if it cannot be concluded
 abbrev pub closed_as : PeerValue → Plan → Result Report TargetFault → PeerValue
 closed_as p plan (Ok report) = after_conclude p plan.session plan.at
 closed_as p plan (Err fault) = after_record (after_conclude p plan.session plan.at) plan.session plan.at
@@ -154,17 +154,17 @@ closed_as p plan (Err fault) = after_record (after_conclude p plan.session plan.
 abbrev pub closed : PeerValue → Plan → PeerValue
 closed p plan = closed_as p plan (conclude_answer p plan.session)
 
--- an entry is put into the log of a replication, where an older one is passed over, or finds no memory
+-- an entry is stored in the log of a replication, or skipped if it is older, or an allocation fails
 abbrev pub PutsOver : PeerValue → RepId → EntryValue → Result (Unit {0}) AllocError → PeerValue → Type 0
 PutsOver source rep entry (Ok done) source' = source' ≡ after_put_entry source rep entry
 PutsOver source rep entry (Err refused) source' = source' ≡ source
 
--- the answer of recording both sides: that of concluding, unless the second finds no memory
+-- the result of recording both sides: that of concluding, or `Memory` if the allocation at the source fails
 abbrev pub told_by : Result Report TargetFault → Result (Unit {0}) AllocError → Result Report TargetFault
 told_by concluded (Ok done) = concluded
 told_by concluded (Err refused) = Err faults.Memory
 
--- both sides are recorded, the target first: then its session's entry is put at the source
+-- both sides are recorded: the target first, then the entry of its session at the source
 pub record Closes (source target : PeerValue) (plan : Plan) (result : Result Report TargetFault)
     (source' target' : PeerValue) : Type 0 where
   pub at_target : target' ≡ closed target plan
@@ -180,18 +180,18 @@ abbrev pub first_reading : PeerValue → PeerValue → Plan → Reading
 first_reading source target plan =
     record { since = start_between source target plan.chosen; target = after_begins source target plan }
 
--- What replicating by one thread answers, and the source and the target that it leaves.
+-- the result of a replication by one thread, and the source and target after it
 pub data Replicates (refuses : Document → Bool) (source target : PeerValue) (plan : Plan) : Result Report TargetFault
     → PeerValue → PeerValue → Type 0 where
-  -- the plan isn't one for these peers
+  -- the plan is not valid for these peers
   not_planned : {why : TargetFault} → plan_answer source.db.uuid target.db.uuid plan ≡ Err why
       → Replicates refuses source target plan (Err why) source target
-  -- the logs find no memory, or the session isn't begun
+  -- an allocation fails before the session begins, or the session cannot begin
   no_memory : plan_answer source.db.uuid target.db.uuid plan ≡ Ok tt
       → Replicates refuses source target plan (Err faults.Memory) source target
   not_begun : {why : TargetFault} → plan_answer source.db.uuid target.db.uuid plan ≡ Ok tt → begins_answer source target plan ≡ Err why
       → Replicates refuses source target plan (Err why) source target
-  -- after some windows the next is refused
+  -- a window fails
   cut : {why : TargetFault} {target' : PeerValue} → plan_answer source.db.uuid target.db.uuid plan ≡ Ok tt
       → begins_answer source target plan ≡ Ok tt
       → ReadsUntil refuses source.db plan (first_reading source target plan) why target'
@@ -202,16 +202,16 @@ pub data Replicates (refuses : Document → Bool) (source target : PeerValue) (p
       → ReadsAll refuses source.db plan (first_reading source target plan) read
       → Closes source read plan result source' target' → Replicates refuses source target plan result source' target'
 
--- ---- what it says
+-- ---- meaning
 
--- each leaf of the source's chosen feed above a sequence is covered at the target
+-- each leaf of the source's selected feed above n is covered at the target
 abbrev pub CoversFrom : PeerValue → PeerValue → Choice → ℕ → Type 0
 CoversFrom source target chosen n =
     (row : RowValue) → Among row (chosen_feed chosen source.db n source.db.update_seq) → (leaf : RevId) → Among leaf row.leaves
     → covers target row.id leaf ≡ true
 
--- the report is that of the plan's session: of this replication, of the source's life, based on the session of the common
--- checkpoint, begun there, and recorded at its goal, which is the source's update sequence
+-- the report is that of the plan's session: of this replication and the source's life, based on the session of the
+-- common checkpoint, begun there, and recorded at its goal, the source's update sequence
 pub record IsReported (source target target' : PeerValue) (plan : Plan) (report : Report) : Type 0 where
   pub session : SessionValue
   pub held : session_in target'.sessions plan.session ≡ Some session
@@ -225,12 +225,12 @@ pub record IsReported (source target target' : PeerValue) (plan : Plan) (report 
 abbrev pub IsEmpty : PeerValue → Type 0
 IsEmpty p = (p.db.docs ≡ []) × (p.sessions ≡ [])
 
--- a document has the same revisions, parents and contents of leaves in two databases; so it has the same leaves there,
--- the winner first
+-- a document has the same revisions, parents and contents of leaves in two databases, and so the same leaves in the
+-- same order
 abbrev pub SameDocument : DatabaseValue → DatabaseValue → Id → Type 0
 SameDocument a b id =
     SameRevisions (tree_of a.docs id) (tree_of b.docs id) × (leaves (tree_of a.docs id) ≡ leaves (tree_of b.docs id))
 
--- each chosen document of one database is in the other as it is there
+-- each selected document is the same in both databases
 abbrev pub SameDocuments : Choice → DatabaseValue → DatabaseValue → Type 0
 SameDocuments chosen a b = (id : Id) → is_chosen chosen id ≡ true → SameDocument a b id

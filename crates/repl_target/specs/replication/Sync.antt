@@ -1,4 +1,4 @@
--- Replication both ways: docs/PROFILE.md, "Both ways"; PouchDB, `sync`.
+-- Replication in both directions: docs/PROFILE.md, "Both ways"; PouchDB, `sync`.
 use Rattle.std.specs.Prelude.{◌≡◌, Bool, true, Result, Ok, Err}
 use Rattle.rev_core.specs.Rev.{RevId}
 use Rattle.rev_tree.specs.Tree.{has, is_leaf}
@@ -17,8 +17,8 @@ use Rattle.repl_peer.specs.declared.fault.Report.{Report}
 use Rattle.repl_peer.specs.declared.fault.TargetFault.{TargetFault}
 use Rattle.repl_target.specs.declared.replication.Plan.{Plan}
 
--- What replicating a into b and then b into a answers, and the two peers that it leaves: one replication each way, the
--- second where the first was refused nothing.
+-- the result of replicating a into b and then b into a, and the two peers after it; the second replication runs only if
+-- the first succeeded
 pub data Syncs (refuses_a refuses_b : Document → Bool) (a b : PeerValue) (there back : Plan) : Result Synced
     SyncFault → PeerValue → PeerValue → Type 0 where
   refused_there : {why : TargetFault} {a' b' : PeerValue} → Replicates refuses_b a b there (Err why) a' b'
@@ -30,31 +30,31 @@ pub data Syncs (refuses_a refuses_b : Document → Bool) (a b : PeerValue) (ther
       → Replicates refuses_a b' a' back (Ok reports.back) b'' a''
       → Syncs refuses_a refuses_b a b there back (Ok reports) a'' b''
 
--- ---- what it says
+-- ---- meaning
 
--- each leaf that one database has of a document is a revision of the other's
+-- each leaf that one database has of a document is a revision of the other database
 abbrev pub KnowsLeaves : DatabaseValue → DatabaseValue → Id → Type 0
 KnowsLeaves knower db id =
     (leaf : RevId) → is_leaf (tree_of db.docs id) leaf ≡ true → has (tree_of knower.docs id) leaf ≡ true
 
--- no session of a peer has refused this document
+-- no session of the peer has refused this document
 abbrev pub HasRefusedNone : PeerValue → Id → Type 0
 HasRefusedNone p id =
     (s : SessionValue) → Among s p.sessions → (x : RefusedValue) → Among x s.ledger → x.doc.id ≡ id → ⊥
 
--- what both ways leave of a document: each side knows the other's leaves. Where the trees before agreed and no history
--- was cut off, both sides have the same document
+-- the effect of both replications on a document: each side has the other's leaves; if the trees agreed before and had
+-- complete histories, both sides have the same document
 pub record Meets (a b a' b' : DatabaseValue) (id : Id) : Type 0 where
   pub there : KnowsLeaves b' a' id
   pub back : KnowsLeaves a' b' id
   pub same : Agree (tree_of a.docs id) (tree_of b.docs id) → IsWhole (tree_of a.docs id) → IsWhole (tree_of b.docs id)
       → SameDocument a' b' id
-  -- and both premises hold again
+  -- both conditions hold again afterwards
   pub agree : Agree (tree_of a.docs id) (tree_of b.docs id) → Agree (tree_of a'.docs id) (tree_of b'.docs id)
   pub whole : IsWhole (tree_of a.docs id) → IsWhole (tree_of b.docs id)
       → IsWhole (tree_of a'.docs id) × IsWhole (tree_of b'.docs id)
 
--- each document that is chosen both ways, from peers that are tied each way, where neither side has refused it
+-- for tied peers, each document that both plans select and neither side has refused meets
 abbrev pub MeetBoth : PeerValue → PeerValue → PeerValue → PeerValue → Plan → Plan → Type 0
 MeetBoth a b a' b' there back =
     IsTiedPair a b there.chosen → IsTiedPair b a back.chosen → (id : Id) → HasRefusedNone a' id → HasRefusedNone b' id

@@ -1,4 +1,4 @@
-//! Replication both ways, by one thread.
+//! Replication in both directions by one thread.
 ghost use Rattle.std.specs.Prelude.{◌≡◌, List, OnOk};
 ghost use Rattle.doc_json.specs.Chosen.{Choice};
 ghost use Rattle.repl_peer.specs.peer.Backups.{BackupValue};
@@ -11,36 +11,37 @@ use repl_peer::{Peer, Report, TargetFault, WriteFilter};
 use std::alloc::Global;
 use thiserror::Error;
 
-/// What a replication each way reports.
+/// The reports of two replications, one in each direction.
 #[derive(Clone, Copy, Debug, PartialEq, Eq)]
 pub struct Synced {
-    /// Of the replication from the first peer into the second.
+    /// The report of the replication from the first peer into the second.
     pub there: Report,
-    /// Of the one from the second into the first.
+    /// The report of the replication from the second peer into the first.
     pub back: Report,
 }
 
-/// Which of two replications was refused, and why.
+/// Which of the two replications failed, and why.
 #[derive(Debug, Drop, Error)]
 pub enum SyncFault {
-    /// The one from the first peer into the second; the other wasn't begun.
+    /// The replication from the first peer into the second failed; the other was not begun.
     #[error("there: {0}")]
     There(TargetFault),
-    /// The one from the second peer into the first; the other was Ok.
+    /// The replication from the second peer into the first failed; the other one succeeded.
     #[error("back: {0}")]
     Back(TargetFault),
 }
 
-/// Replicates both ways, by one thread: first `a` into `b`, then, where that was refused nothing, `b` into `a`. Each way
-/// is `replicate_alone` by the plan of its own, whose session is of its own target.
+/// Replicates in both directions, on one thread: first `a` into `b`, then, if that succeeded, `b` into `a`. Each
+/// direction is a `replicate_alone` with its own plan.
 ///
-/// Where each of the two is tied to the other (docs/PROFILE.md, "Tied peers"), then at `Ok` each side knows every leaf
-/// that the other has of a document which both plans choose and neither has refused. Where the trees that the two had of
-/// it agreed, no revision with two parents or two contents, and no history was cut off, both sides have the same
-/// revisions, the same parents and the same contents of leaves afterwards, and so the same winner; and their trees agree
-/// and are whole again.
+/// Suppose that the peers are consistent in both directions (docs/PROFILE.md, "Tied peers"), and that the call
+/// succeeds. Then for each document that both plans select and neither side has refused, each side has every leaf of
+/// the other. If also the two trees agreed before (no revision with two parents or two contents) and had complete
+/// histories, the document is the same on both sides: revisions, parents, contents of leaves and winner. The trees then
+/// agree again and have complete histories.
 ///
-/// Tied peers stay tied each way, whatever the answer, and each of the two stays tied to every third one.
+/// Consistent peers stay consistent in both directions, whatever the result, and each of the two stays consistent with
+/// every third peer.
 pub fn sync_alone<F: WriteFilter, G: WriteFilter>(
     alloc: Global,
     a: &mut Peer<F>,

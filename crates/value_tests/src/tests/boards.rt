@@ -1,12 +1,12 @@
-//! The worked row of the progress board, its refusals, and each public call once with ample memory.
+//! The worked row of the progress board, its errors, and each public call once with ample memory.
 use progress_board::{Board, BoardFault};
 use std::alloc::Global;
 use std::process::Abort;
 
-/// What a board answers to an addition.
+/// The result of an addition.
 type Added = Result<(), BoardFault>;
 
-/// What a board of two workers and a viewer answers to the first worker and to the viewer.
+/// Returns the results of additions and readings on a board of two workers and a viewer.
 fn two_workers(alloc: Global) -> Option<([Added; 4], [(u64, u64); 2])> {
     let Ok((board, mut seats)) = Board::new(alloc, 2, 1) else {
         return None;
@@ -40,7 +40,7 @@ fn board_read(rt: HostRuntime) {
     assert!(rt; added == wanted && seen == [(2, 3), (2, 3)]);
 }
 
-/// What a board of a worker and a viewer answers where the worker has read all that can be counted.
+/// Returns the results on a board of one worker and a viewer after the worker has read the maximum.
 fn all_read(alloc: Global) -> Option<([Added; 3], (u64, u64))> {
     let Ok((board, mut seats)) = Board::new(alloc, 1, 1) else {
         return None;
@@ -68,7 +68,7 @@ fn full_board(rt: HostRuntime) {
     assert!(rt; added == wanted && seen == (0, 9_007_199_254_740_991));
 }
 
-/// Workers and viewers, and how many seats the board then has.
+/// Numbers of workers and viewers, and the number of seats of the board.
 static SEATS: &[(usize, usize, Result<usize, BoardFault>)] = &[
     (1, 1, Ok(2)),
     (64, 64, Ok(128)),
@@ -78,7 +78,7 @@ static SEATS: &[(usize, usize, Result<usize, BoardFault>)] = &[
     (1, 65, Err(BoardFault::BadSeats)),
 ];
 
-/// How many seats a board is made with.
+/// Returns the number of seats of a new board.
 fn seats_made(alloc: Global, workers: usize, viewers: usize) -> Result<usize, BoardFault> {
     let (_board, seats) = Board::new(alloc, workers, viewers)?;
     Ok(seats.len())

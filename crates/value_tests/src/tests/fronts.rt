@@ -1,4 +1,4 @@
-//! The worked rows of fronts as calls with the texts of their answers. They make each public call once at least.
+//! The worked rows of fronts: calls with their expected results. They use each public call at least once.
 use crate::tests::texts::expect_answer;
 use range_front::Front;
 use std::alloc::Global;
@@ -8,25 +8,25 @@ use test_support::shown;
 /// A call on a front.
 #[derive(Clone, Copy)]
 enum Call {
-    /// Appends the window up to a number.
+    /// Append the window up to a sequence.
     Append(u64),
-    /// Makes room to finish a window.
+    /// Reserve space to finish a window.
     Reserve,
-    /// Finishes a window.
+    /// Finish a window.
     Finish(u64, u64),
-    /// Asks whether a window is done.
+    /// Read whether a window is done.
     IsDone(u64, u64),
-    /// Reads the start.
+    /// Read the start.
     Start,
-    /// Reads the end.
+    /// Read the end.
     End,
-    /// Reads the low water.
+    /// Read the low water.
     LowWater,
-    /// Counts the runs of done windows above the low water.
+    /// Count the runs of done windows above the low water.
     RangeCount,
 }
 
-/// Makes a call, and gives the text of its answer.
+/// Performs a call and returns its result as a string.
 fn answer(alloc: Global, front: &mut Front, call: &Call) -> Option<String> {
     match *call {
         Call::Append(hi) => shown(alloc, &front.append(hi)),
@@ -40,7 +40,7 @@ fn answer(alloc: Global, front: &mut Front, call: &Call) -> Option<String> {
     }
 }
 
-/// Makes the calls in order, and asserts what each answers.
+/// Performs the calls in order, and asserts each result.
 fn run(rt: &impl Abort, alloc: Global, front: &mut Front, calls: &[(Call, &str)]) {
     for (i, (call, wanted)) in calls.iter().enumerate() {
         expect_answer(rt, i, answer(alloc, front, call), wanted);
@@ -67,7 +67,7 @@ static OUT_OF_ORDER: &[(Call, &str)] = &[
     (Call::Append(6), "Err(NotRising { end: 6 })"),
 ];
 
-/// Windows up to 2, 4, 6, 8 and 10, finished so that ranges come up, join, and are passed by the low water.
+/// Windows up to 2, 4, 6, 8 and 10, finished so that ranges appear, merge, and are passed by the low water.
 static RANGES_MERGED: &[(Call, &str)] = &[
     (Call::Append(2), "Ok(())"),
     (Call::Append(4), "Ok(())"),

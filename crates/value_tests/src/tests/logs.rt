@@ -1,4 +1,4 @@
-//! The worked rows of logs as calls with the texts of their answers, and each public call once with ample memory.
+//! The worked rows of logs: calls with their expected results, and each public call once with ample memory.
 use crate::tests::texts::expect_answer;
 use repl_log::{Counts, Entry, Log, Logs, Moment, RepId, common, rep_id, write_log};
 use rev_tree::SessionId;
@@ -6,36 +6,36 @@ use std::alloc::Global;
 use std::process::Abort;
 use test_support::{bare_entry, shown};
 
-/// A call on logs, which are named by their places.
+/// A call on logs, which are named by index.
 #[derive(Clone, Copy)]
 enum Call<'a> {
-    /// Makes the next log, which is empty.
+    /// Create the next log, which is empty.
     Make,
-    /// Copies a log, which becomes the next log.
+    /// Copy a log, as the next log.
     Copy(usize),
-    /// Puts the entry of a session that recorded up to a sequence and read nothing.
+    /// Store the entry of a session that recorded up to a sequence and read nothing.
     Put(usize, u128, u64),
-    /// Puts the entry of the session 1 that read one document at a moment.
+    /// Store the entry of session 1 that read one document, with a timestamp.
     PutOne(usize, u64),
-    /// Puts such an entry into the log of the replication from 1 into a database.
+    /// Store such an entry in the log of the replication from 1 into a database.
     PutInto(u128, u128, u64),
-    /// Copies the log of the replication from 1 into a database, out of a copy of all: it becomes the next log.
+    /// Copy the log of the replication from 1 into a database, from a copy of all logs, as the next log.
     CopyInto(u128),
-    /// Asks whether there is a log of the replication from 1 into a database.
+    /// Read whether there is a log of the replication from 1 into a database.
     HasInto(u128),
-    /// Asks whether a log has just the entries of sessions that recorded up to sequences, newest first.
+    /// Read whether a log has exactly the entries of sessions with these sequences, newest first.
     Has(usize, &'a [(u128, u64)]),
-    /// Compares the logs of a source and a target.
+    /// Compare the logs of a source and a target.
     Common(usize, usize),
-    /// Writes a copy of the replication id of the row `log_text`.
+    /// Write a copy of the replication id of the row `log_text`.
     Name,
-    /// Writes a log of that replication.
+    /// Write a log of that replication.
     Write(usize),
-    /// Makes a moment, and reads its seconds.
+    /// Create a timestamp, and read its seconds.
     Moment(u64),
 }
 
-/// Calls, each with the text that it must answer.
+/// Calls, each with its expected result.
 type Rows = &'static [(Call<'static>, &'static str)];
 
 /// Logs, and those of the replications from 1.
@@ -47,7 +47,7 @@ struct Bench {
 }
 
 impl Bench {
-    /// No logs.
+    /// Creates a bench without logs.
     fn new(alloc: Global) -> Bench {
         Bench {
             alloc,
@@ -56,7 +56,7 @@ impl Bench {
         }
     }
 
-    /// Makes a call, and gives the text of its answer.
+    /// Performs a call and returns its result as a string.
     fn answer(&mut self, call: &Call) -> Option<String> {
         match *call {
             Call::Make => self.keep(Log::new(self.alloc)),
@@ -71,14 +71,14 @@ impl Bench {
         }
     }
 
-    /// Makes the calls in order, and asserts what each answers.
+    /// Performs the calls in order, and asserts each result.
     fn run(&mut self, rt: &impl Abort, calls: &[(Call, &str)]) {
         for (i, (call, wanted)) in calls.iter().enumerate() {
             expect_answer(rt, i, self.answer(call), wanted);
         }
     }
 
-    /// Makes a call that changes nothing.
+    /// Performs a call that changes nothing.
     fn reading(&self, call: &Call) -> Option<String> {
         match *call {
             Call::HasInto(target) => self.has_into(target),
@@ -91,7 +91,7 @@ impl Bench {
         }
     }
 
-    /// Keeps a log.
+    /// Stores a log.
     fn keep(&mut self, log: Log) -> Option<String> {
         match self.logs.push(log) {
             Ok(()) => "made".to_string(self.alloc).ok(),
@@ -99,7 +99,7 @@ impl Bench {
         }
     }
 
-    /// Keeps a copy of a log.
+    /// Stores a copy of a log.
     fn keep_copy(&mut self, at: usize) -> Option<String> {
         let Some(log) = self.logs.get(at) else {
             return None;
@@ -110,7 +110,7 @@ impl Bench {
         }
     }
 
-    /// Puts an entry, where there is one, into a log.
+    /// Stores an optional entry in a log.
     fn put(&mut self, at: usize, entry: Option<Entry>) -> Option<String> {
         match (self.logs.get_mut(at), entry) {
             (Some(log), Some(entry)) => shown(self.alloc, &log.put(entry)),
@@ -118,7 +118,7 @@ impl Bench {
         }
     }
 
-    /// Puts an entry, where there is one, into the log of the replication from 1 into a database.
+    /// Stores an optional entry in the log of the replication from 1 into a database.
     fn put_into(&mut self, target: u128, entry: Option<Entry>) -> Option<String> {
         match entry {
             Some(entry) => shown(self.alloc, &self.all.put(&from_one(target), entry)),
@@ -126,7 +126,7 @@ impl Bench {
         }
     }
 
-    /// Keeps a copy of the log of the replication from 1 into a database, out of a copy of all.
+    /// Stores a copy of the log of the replication from 1 into a database, from a copy of all logs.
     fn keep_into(&mut self, target: u128) -> Option<String> {
         match copy_into(self.alloc, &self.all, target) {
             Some(log) => self.keep(log),
@@ -134,12 +134,12 @@ impl Bench {
         }
     }
 
-    /// Whether there is a log of the replication from 1 into a database.
+    /// Returns whether there is a log of the replication from 1 into a database.
     fn has_into(&self, target: u128) -> Option<String> {
         shown(self.alloc, &self.all.get(&from_one(target)).is_some())
     }
 
-    /// Whether a log has just the entries of sessions, newest first.
+    /// Returns whether a log has exactly the entries of these sessions, newest first.
     fn has(&self, at: usize, sessions: &[(u128, u64)]) -> Option<String> {
         match self.logs.get(at) {
             Some(log) => has(self.alloc, log, sessions),
@@ -147,7 +147,7 @@ impl Bench {
         }
     }
 
-    /// What writing a log answers.
+    /// Returns the result of writing a log.
     fn written(&self, at: usize) -> Option<String> {
         match self.logs.get(at) {
             Some(log) => written(self.alloc, &replication(), log),
@@ -164,7 +164,7 @@ impl Bench {
     }
 }
 
-/// A copy of the log of the replication from 1 into a database, out of a copy of all.
+/// Copies the log of the replication from 1 into a database, from a copy of all logs.
 fn copy_into(alloc: Global, all: &Logs, target: u128) -> Option<Log> {
     match all.copy(alloc) {
         Ok(all) => all.copy_of(alloc, &from_one(target)).ok(),
@@ -172,7 +172,7 @@ fn copy_into(alloc: Global, all: &Logs, target: u128) -> Option<Log> {
     }
 }
 
-/// The replication of all documents from 1 into a database.
+/// Returns the id of the replication of all documents from 1 into a database.
 fn from_one(target: u128) -> RepId {
     RepId {
         source: 1,
@@ -181,7 +181,7 @@ fn from_one(target: u128) -> RepId {
     }
 }
 
-/// An entry of a session that recorded up to a sequence and read nothing.
+/// Creates the entry of a session that recorded up to a sequence and read nothing.
 fn entry(session: u128, recorded: u64) -> Option<Entry> {
     let Ok(at) = Moment::new(0) else {
         return None;
@@ -189,7 +189,7 @@ fn entry(session: u128, recorded: u64) -> Option<Entry> {
     Some(bare_entry(SessionId(session), recorded, at))
 }
 
-/// The entry of the session 1 that read one document, and recorded 1, at a moment.
+/// Creates the entry of session 1 that read one document and recorded 1, with a timestamp.
 fn one_document(moment: u64) -> Option<Entry> {
     let Ok(at) = Moment::new(moment) else {
         return None;
@@ -211,7 +211,7 @@ fn one_document(moment: u64) -> Option<Entry> {
     })
 }
 
-/// Whether a log has just the entries of sessions, newest first.
+/// Returns whether a log has exactly the entries of these sessions, newest first.
 fn has(alloc: Global, log: &Log, sessions: &[(u128, u64)]) -> Option<String> {
     let mut same = log.len() == sessions.len();
     for (i, &(session, recorded)) in sessions.iter().enumerate() {
@@ -223,7 +223,7 @@ fn has(alloc: Global, log: &Log, sessions: &[(u128, u64)]) -> Option<String> {
     shown(alloc, &same)
 }
 
-/// The name of a copy of a replication id.
+/// Returns the text of a copy of a replication id.
 fn named(alloc: Global, id: &RepId) -> Option<String> {
     let Ok(copy) = id.copy(alloc) else {
         return None;
@@ -234,7 +234,7 @@ fn named(alloc: Global, id: &RepId) -> Option<String> {
     String::from_utf8(name).ok()
 }
 
-/// What writing a log answers.
+/// Returns the result of writing a log.
 fn written(alloc: Global, id: &RepId, log: &Log) -> Option<String> {
     match write_log(alloc, id, log) {
         Ok(text) => String::from_utf8(text).ok(),
@@ -242,7 +242,7 @@ fn written(alloc: Global, id: &RepId, log: &Log) -> Option<String> {
     }
 }
 
-/// The seconds of a moment, or why it is none.
+/// Returns the seconds of a timestamp, or the error.
 fn moment_text(alloc: Global, seconds: u64) -> Option<String> {
     match Moment::new(seconds) {
         Ok(moment) => shown(alloc, &moment.seconds()),
@@ -250,7 +250,7 @@ fn moment_text(alloc: Global, seconds: u64) -> Option<String> {
     }
 }
 
-/// Sessions A, B and C are numbered 10, 11 and 12. The logs are those of the source, the target and an empty one.
+/// Sessions A, B and C have the numbers 10, 11 and 12. The logs are those of the source, the target, and an empty one.
 static COMMON_ROWS: Rows = &[
     (Call::Make, "made"),
     (Call::Put(0, 10, 9), "Ok(())"),
@@ -271,7 +271,7 @@ fn common_session(rt: HostRuntime) {
     Bench::new(rt.alloc()).run(&rt, COMMON_ROWS);
 }
 
-/// A session that is there is replaced in its place.
+/// An existing session is replaced in place.
 static REPLACED_ROWS: Rows = &[
     (Call::Make, "made"),
     (Call::Put(0, 10, 9), "Ok(())"),
@@ -288,7 +288,7 @@ fn session_replaced(rt: HostRuntime) {
     Bench::new(rt.alloc()).run(&rt, REPLACED_ROWS);
 }
 
-/// Each replication has a log of its own, which begins with its first entry.
+/// Each replication has its own log, which begins with its first entry.
 static LOGS_ROWS: Rows = &[
     (Call::HasInto(2), "false"),
     (Call::PutInto(2, 10, 9), "Ok(())"),
@@ -310,7 +310,7 @@ fn logs_by_replication(rt: HostRuntime) {
     Bench::new(rt.alloc()).run(&rt, LOGS_ROWS);
 }
 
-/// The replication of the row `log_text`.
+/// Returns the replication of the row `log_text`.
 fn replication() -> RepId {
     RepId {
         source: 0x1111_1111_1111_4111_8111_1111_1111_1111,
@@ -319,7 +319,7 @@ fn replication() -> RepId {
     }
 }
 
-/// The text of the log of the row `log_text`.
+/// The text of the log in the row `log_text`.
 const LOG_TEXT: &str =
     "{\"_id\":\"_local/11111111111141118111111111111111-22222222222242228222222222222222\",\
     \"history\":[{\"doc_write_failures\":0,\"docs_read\":1,\"docs_written\":1,\"end_last_seq\":1,\

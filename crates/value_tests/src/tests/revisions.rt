@@ -1,4 +1,4 @@
-//! The worked rows of revisions as calls with the texts of their answers, and each call once with ample memory.
+//! The worked rows of revisions: calls with their expected results, and each call once with ample memory.
 use crate::tests::texts::{ancestry, expect_answer, sigs};
 use md5::{Digest, Md5};
 use rev_core::{Ancestry, KeptRev, Rev, new_rev};
@@ -6,34 +6,34 @@ use std::alloc::Global;
 use std::process::Abort;
 use test_support::{rev, rev_text, revs_text, shown};
 
-/// A call on texts of revisions.
+/// A call on revisions given as strings.
 #[derive(Clone, Copy)]
 enum Call<'a> {
-    /// Reads a revision: its generation and its signature.
+    /// Parse a revision: its generation and its signature.
     Parse(&'a str),
-    /// Reads a revision, and writes it.
+    /// Parse a revision, and write it.
     Write(&'a str),
-    /// Compares two revisions.
+    /// Compare two revisions.
     Compare(&'a str, &'a str),
-    /// Makes an ancestry of the newest generation and the signatures.
+    /// Create an ancestry from the newest generation and signatures.
     Ancestry(u32, &'a [&'a str]),
-    /// Makes an ancestry, and reads the revisions and the head of a copy.
+    /// Create an ancestry, and read the revisions and the head of a copy.
     Copy(Parts<'a>),
-    /// Asks whether the copy of an ancestry contains a revision.
+    /// Read whether the copy of an ancestry contains a revision.
     Contains(Parts<'a>, &'a str),
-    /// Reads the parent of a revision in the copy of an ancestry.
+    /// Read the parent of a revision in the copy of an ancestry.
     Parent(Parts<'a>, &'a str),
-    /// Keeps a revision, and reads a copy: whether its signature is short, and its text.
+    /// Store a compact revision, and read a copy: whether its signature is short, and its string.
     Keep(&'a str),
-    /// The hexadecimal digits of the digest of a text.
+    /// Compute the hexadecimal digits of the digest of a string.
     Digest(&'a str),
-    /// The text of hexadecimal digits.
+    /// Decode hexadecimal digits.
     Decode(&'a str),
-    /// Makes the id of an edit: the parent (an empty text for none), whether it deletes, and the body.
+    /// Compute the revision of an edit: the parent (an empty string for none), whether it deletes, and the body.
     Edit(&'a str, bool, &'a str),
 }
 
-/// Calls, each with the text that it must answer.
+/// Calls, each with its expected result.
 type Rows = &'static [(Call<'static>, &'static str)];
 
 /// The newest generation of an ancestry, and its signatures.
@@ -43,20 +43,20 @@ struct Parts<'a> {
     sigs: &'a [&'a str],
 }
 
-/// 3-c, 2-b, 1-a.
+/// The ancestry 3-c, 2-b, 1-a.
 const THREE: Parts<'static> = Parts {
     start: 3,
     sigs: &["c", "b", "a"],
 };
 
-/// Makes the calls in order, and asserts what each answers.
+/// Performs the calls in order, and asserts each result.
 fn run(rt: &impl Abort, alloc: Global, calls: &[(Call, &str)]) {
     for (i, (call, wanted)) in calls.iter().enumerate() {
         expect_answer(rt, i, answer(alloc, call), wanted);
     }
 }
 
-/// Makes a call, and gives the text of its answer.
+/// Performs a call and returns its result as a string.
 fn answer(alloc: Global, call: &Call) -> Option<String> {
     match *call {
         Call::Parse(text) => parsed(alloc, text),
@@ -73,13 +73,13 @@ fn answer(alloc: Global, call: &Call) -> Option<String> {
     }
 }
 
-/// The hexadecimal digits of the digest of a text.
+/// Returns the hexadecimal digits of the digest of a string.
 fn digest_text(alloc: Global, text: &str) -> Option<String> {
     let digest = Md5::digest(text.as_bytes());
     hex::encode(alloc, digest.as_slice()).ok()
 }
 
-/// The text of hexadecimal digits.
+/// Decodes hexadecimal digits.
 fn decoded(alloc: Global, digits: &str) -> Option<String> {
     let Ok(bytes) = hex::decode(alloc, digits) else {
         return None;
@@ -87,7 +87,7 @@ fn decoded(alloc: Global, digits: &str) -> Option<String> {
     String::from_utf8(bytes).ok()
 }
 
-/// What reading a text as a revision answers.
+/// Returns the result of parsing a revision.
 fn parsed(alloc: Global, text: &str) -> Option<String> {
     match Rev::parse(text.as_bytes()) {
         Ok(rev) => parts_text(alloc, rev),
@@ -95,7 +95,7 @@ fn parsed(alloc: Global, text: &str) -> Option<String> {
     }
 }
 
-/// The generation and the signature of a revision.
+/// Returns the generation and the signature of a revision.
 fn parts_text(alloc: Global, rev: Rev) -> Option<String> {
     let sig = rev.sig();
     let Ok(sig) = std::str::from_utf8(sig.bytes()) else {
@@ -104,7 +104,7 @@ fn parts_text(alloc: Global, rev: Rev) -> Option<String> {
     format!(in alloc; "{} {sig}", rev.generation()).ok()
 }
 
-/// The text of the revision of a text.
+/// Parses a revision and formats it.
 fn written(alloc: Global, text: &str) -> Option<String> {
     let Some(rev) = rev(text) else {
         return None;
@@ -112,7 +112,7 @@ fn written(alloc: Global, text: &str) -> Option<String> {
     rev_text(alloc, rev)
 }
 
-/// Whether the first of two revisions is less, and whether they are equal.
+/// Returns whether the first of two parsed revisions is less, and whether they are equal.
 fn compared_texts(alloc: Global, first: &str, second: &str) -> Option<String> {
     match (rev(first), rev(second)) {
         (Some(first), Some(second)) => compared(alloc, first, second),
@@ -120,13 +120,13 @@ fn compared_texts(alloc: Global, first: &str, second: &str) -> Option<String> {
     }
 }
 
-/// Whether the first revision is less, and whether the two are equal.
+/// Returns whether the first revision is less, and whether the two are equal.
 fn compared(alloc: Global, first: Rev, second: Rev) -> Option<String> {
     let (less, equal) = (first < second, first == second);
     format!(in alloc; "less {less}, equal {equal}").ok()
 }
 
-/// What making an ancestry answers.
+/// Returns the result of creating an ancestry.
 fn made(alloc: Global, start: u32, texts: &[&str]) -> Option<String> {
     let Some(sigs) = sigs(alloc, texts) else {
         return None;
@@ -137,12 +137,12 @@ fn made(alloc: Global, start: u32, texts: &[&str]) -> Option<String> {
     }
 }
 
-/// The copy of an ancestry.
+/// Returns the copy of an ancestry.
 fn copied(alloc: Global, parts: Parts) -> Option<Ancestry> {
     ancestry(alloc, parts.start, parts.sigs)?.copy(alloc).ok()
 }
 
-/// The head and the revisions of the copy of an ancestry.
+/// Returns the head and the revisions of the copy of an ancestry.
 fn copy_text(alloc: Global, parts: Parts) -> Option<String> {
     let Some(copy) = copied(alloc, parts) else {
         return None;
@@ -150,7 +150,7 @@ fn copy_text(alloc: Global, parts: Parts) -> Option<String> {
     head_text(alloc, &copy)
 }
 
-/// The head and the revisions of an ancestry.
+/// Returns the head and the revisions of an ancestry.
 fn head_text(alloc: Global, copy: &Ancestry) -> Option<String> {
     let Some(head) = rev_text(alloc, copy.head()) else {
         return None;
@@ -161,7 +161,7 @@ fn head_text(alloc: Global, copy: &Ancestry) -> Option<String> {
     format!(in alloc; "{head} of {revs}").ok()
 }
 
-/// Whether the copy of an ancestry contains a revision.
+/// Returns whether the copy of an ancestry contains a revision.
 fn contains_text(alloc: Global, parts: Parts, text: &str) -> Option<String> {
     match (copied(alloc, parts), rev(text)) {
         (Some(copy), Some(rev)) => shown(alloc, &copy.contains(rev)),
@@ -169,7 +169,7 @@ fn contains_text(alloc: Global, parts: Parts, text: &str) -> Option<String> {
     }
 }
 
-/// The parent of a revision in the copy of an ancestry.
+/// Returns the parent of a revision in the copy of an ancestry.
 fn parent_text(alloc: Global, parts: Parts, text: &str) -> Option<String> {
     let (Some(copy), Some(rev)) = (copied(alloc, parts), rev(text)) else {
         return None;
@@ -180,7 +180,7 @@ fn parent_text(alloc: Global, parts: Parts, text: &str) -> Option<String> {
     }
 }
 
-/// Whether a revision has a short signature, and the text of the copy of it that is kept.
+/// Returns whether a revision has a short signature, and the string of its copied compact form.
 fn kept_text(alloc: Global, text: &str) -> Option<String> {
     let Some(rev) = rev(text) else {
         return None;
@@ -197,7 +197,7 @@ fn kept_text(alloc: Global, text: &str) -> Option<String> {
     }
 }
 
-/// Whether a revision has a short signature, and a blank.
+/// Returns whether a revision has a short signature, and a space.
 fn form_text(alloc: Global, rev: &Rev) -> Option<String> {
     match KeptRev::short(rev) {
         Some(_) => "short ".to_string(alloc).ok(),
@@ -205,7 +205,7 @@ fn form_text(alloc: Global, rev: &Rev) -> Option<String> {
     }
 }
 
-/// The text of a copy of what is kept of a revision.
+/// Returns the string of a copy of a compact revision.
 fn copy_of_kept(alloc: Global, rev: &Rev) -> Option<String> {
     let Ok(kept) = KeptRev::keep(alloc, rev) else {
         return None;
@@ -216,7 +216,7 @@ fn copy_of_kept(alloc: Global, rev: &Rev) -> Option<String> {
     }
 }
 
-/// What making the id of an edit answers.
+/// Returns the result of computing the revision of an edit.
 fn edited(alloc: Global, parent: &str, deleted: bool, body: &str) -> Option<String> {
     let parent = if parent.is_empty() {
         None
@@ -304,7 +304,7 @@ fn makes_and_copies_an_ancestry(rt: HostRuntime) {
     run(&rt, rt.alloc(), ANCESTRY_ROWS);
 }
 
-/// 32 bytes behind the dash, and 33.
+/// A signature of 32 bytes, and one of 33.
 const DIGITS: &str = "2-0123456789abcdef0123456789abcdef";
 
 const DIGITS_AND_ONE: &str = "2-0123456789abcdef0123456789abcdef0";
@@ -380,7 +380,7 @@ const LIVE: &str = r#"{"n":1}"#;
 
 const STATED: &str = "1-a\nlive\n{\"n\":1}";
 
-/// The signatures are MD5 of the parent, the kind and the body, with a line feed between each.
+/// The signatures are the MD5 of the parent, the kind and the body, separated by line feeds.
 static EDIT_ROWS: Rows = &[
     (Call::Decode("312d610a6c6976650a7b226e223a317d"), STATED),
     (Call::Digest(STATED), "c96964c5f2e1e7ba6a7331423f490bd6"),
@@ -403,7 +403,7 @@ fn ids_of_local_edits(rt: HostRuntime) {
     run(&rt, rt.alloc(), EDIT_ROWS);
 }
 
-/// The signature was worked out by md5sum.
+/// The signature was computed by md5sum.
 const GREATEST: &str = "4294967295-62296738d45faefb3c4ca58de75db3a8";
 
 static GREATEST_ROWS: Rows = &[

@@ -1,9 +1,10 @@
-//! Signatures and ancestries of texts, and the wanted answers.
+//! Signatures and ancestries from strings, and comparing results.
 use rev_core::{Ancestry, Sig};
 use std::alloc::Global;
 use std::process::Abort;
 
-/// Asserts that the call of a number could be made, and what it answered. `None` is told of a call that could not.
+/// Asserts that a call could be performed and returned the expected string. `None` means that the call could not be
+/// performed.
 pub(crate) fn expect_answer(rt: &impl Abort, number: usize, answer: Option<String>, wanted: &str) {
     let is_wanted = match &answer {
         Some(text) => text.as_str() == wanted,
@@ -12,7 +13,7 @@ pub(crate) fn expect_answer(rt: &impl Abort, number: usize, answer: Option<Strin
     assert!(rt; is_wanted, "call {number}: {answer:?}, not {wanted}");
 }
 
-/// The signatures of texts that are some.
+/// Parses signatures.
 pub(crate) fn sigs(alloc: Global, texts: &[&str]) -> Option<Vec<Sig>> {
     let mut all = Vec::new(alloc);
     for text in texts {
@@ -26,7 +27,7 @@ pub(crate) fn sigs(alloc: Global, texts: &[&str]) -> Option<Vec<Sig>> {
     Some(all)
 }
 
-/// The ancestry of a generation and texts of signatures that make one.
+/// Creates an ancestry from a generation and signatures.
 pub(crate) fn ancestry(alloc: Global, start: u32, ids: &[&str]) -> Option<Ancestry> {
     let Some(sigs) = sigs(alloc, ids) else {
         return None;

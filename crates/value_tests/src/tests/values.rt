@@ -1,4 +1,4 @@
-//! Texts that one reader reads as JSON values, one after another, with what the values are written as.
+//! Texts that one reader reads as JSON values in order, with their expected compact form.
 use crate::tests::texts::expect_answer;
 use json_values::{LineValue, ValueReader};
 use serde_json::{Map, Value};
@@ -6,21 +6,21 @@ use std::alloc::Global;
 use std::process::Abort;
 use test_support::shown;
 
-/// What is read.
+/// What to read.
 #[derive(Clone, Copy)]
 enum Call<'a> {
     /// Bytes.
     Read(&'a [u8]),
-    /// A list in a list, so many deep.
+    /// Arrays nested to this depth.
     Nested(usize),
-    /// An object of so many names in falling order, each twice, of which the second has its number.
+    /// An object of this many names in falling order, each twice; the second occurrence has its number as value.
     Falling(usize),
 }
 
-/// What is read, each with the compact text of its value or the refusal.
+/// What to read, each with the compact form of its value, or the error.
 type Rows = &'static [(Call<'static>, &'static str)];
 
-/// Reads all with one reader, and asserts what each is.
+/// Reads everything with one reader, and asserts each result.
 fn run(rt: &impl Abort, alloc: Global, calls: &[(Call, &str)]) {
     let mut reader = ValueReader::new(alloc);
     for (i, (call, wanted)) in calls.iter().enumerate() {
@@ -28,7 +28,7 @@ fn run(rt: &impl Abort, alloc: Global, calls: &[(Call, &str)]) {
     }
 }
 
-/// What a call answers.
+/// Performs a call and returns its result.
 fn answer(alloc: Global, reader: &mut ValueReader, call: &Call) -> Option<String> {
     match *call {
         Call::Read(bytes) => written(alloc, reader, bytes),
@@ -37,7 +37,7 @@ fn answer(alloc: Global, reader: &mut ValueReader, call: &Call) -> Option<String
     }
 }
 
-/// What lists in one another, so many deep, are written as.
+/// Returns the compact form of nested arrays.
 fn nested_text(alloc: Global, reader: &mut ValueReader, depth: usize) -> Option<String> {
     let Some(text) = nested(alloc, depth) else {
         return None;
@@ -48,7 +48,7 @@ fn nested_text(alloc: Global, reader: &mut ValueReader, depth: usize) -> Option<
     }
 }
 
-/// What an object of so many names in falling order, each twice, is written as.
+/// Returns the compact form of an object of names in falling order, each twice.
 fn falling_text(alloc: Global, reader: &mut ValueReader, count: usize) -> Option<String> {
     let (Some(text), Some(wanted)) = (falling(alloc, count), rising(alloc, count)) else {
         return None;
@@ -59,7 +59,7 @@ fn falling_text(alloc: Global, reader: &mut ValueReader, count: usize) -> Option
     }
 }
 
-/// The compact text of the value that bytes are, or why they are none.
+/// Returns the compact form of the value that bytes denote, or the error.
 fn written(alloc: Global, reader: &mut ValueReader, bytes: &[u8]) -> Option<String> {
     match reader.read_line(alloc, bytes) {
         Ok(line) => value_text(alloc, line.value()),
@@ -67,7 +67,7 @@ fn written(alloc: Global, reader: &mut ValueReader, bytes: &[u8]) -> Option<Stri
     }
 }
 
-/// The compact text of a value.
+/// Returns the compact form of a value.
 fn value_text(alloc: Global, value: &LineValue<'_>) -> Option<String> {
     match owned(alloc, value) {
         Some(value) => value.to_string(alloc).ok(),
@@ -75,7 +75,7 @@ fn value_text(alloc: Global, value: &LineValue<'_>) -> Option<String> {
     }
 }
 
-/// The same value with texts of its own.
+/// Copies a value with owned strings.
 #[cycle(owned)]
 fn owned(alloc: Global, value: &LineValue<'_>) -> Option<Value> {
     match value {
@@ -88,7 +88,7 @@ fn owned(alloc: Global, value: &LineValue<'_>) -> Option<Value> {
     }
 }
 
-/// The list of the same items.
+/// Copies an array.
 #[cycle(owned)]
 fn owned_items(alloc: Global, items: &Vec<LineValue<'_>>) -> Option<Value> {
     let mut list = Vec::new(alloc);
@@ -100,7 +100,7 @@ fn owned_items(alloc: Global, items: &Vec<LineValue<'_>>) -> Option<Value> {
     Some(Value::Array(list))
 }
 
-/// The object of the same members.
+/// Copies an object.
 #[cycle(owned)]
 fn owned_members(alloc: Global, members: &Vec<(&str, LineValue<'_>)>) -> Option<Value> {
     let mut object = Map::new(alloc);
@@ -112,7 +112,7 @@ fn owned_members(alloc: Global, members: &Vec<(&str, LineValue<'_>)>) -> Option<
     Some(Value::Object(object))
 }
 
-/// Lists in one another, so many deep.
+/// Returns the text of nested arrays.
 fn nested(alloc: Global, depth: usize) -> Option<String> {
     let mut text = String::new(alloc);
     for _ in 0..depth {
@@ -128,7 +128,7 @@ fn nested(alloc: Global, depth: usize) -> Option<String> {
     Some(text)
 }
 
-/// An object of so many names in falling order, each twice.
+/// Returns the text of an object of names in falling order, each twice.
 fn falling(alloc: Global, count: usize) -> Option<String> {
     let Ok(mut text) = "{".to_string(alloc) else {
         return None;
@@ -148,7 +148,7 @@ fn falling(alloc: Global, count: usize) -> Option<String> {
     Some(text)
 }
 
-/// Appends a member whose name is a number, and whose value is null.
+/// Appends a member whose name is a number and whose value is null.
 fn append_null(alloc: Global, text: &mut String, number: usize) -> Option<()> {
     match format!(in alloc; "\"{number:05}\":null,") {
         Ok(member) => text.push_str(member.as_str()).ok(),
@@ -156,7 +156,7 @@ fn append_null(alloc: Global, text: &mut String, number: usize) -> Option<()> {
     }
 }
 
-/// Appends a member whose name is a number and its value too, and what stands behind it.
+/// Appends a member whose name and value are a number, and the text after it.
 fn append_number(alloc: Global, text: &mut String, number: usize, end: &str) -> Option<()> {
     match format!(in alloc; "\"{number:05}\":{number}{end}") {
         Ok(member) => text.push_str(member.as_str()).ok(),
@@ -164,7 +164,7 @@ fn append_number(alloc: Global, text: &mut String, number: usize, end: &str) -> 
     }
 }
 
-/// The same object with each name once, in rising order.
+/// Returns the text of the same object with each name once, in rising order.
 fn rising(alloc: Global, count: usize) -> Option<String> {
     let Ok(mut text) = "{".to_string(alloc) else {
         return None;
@@ -179,7 +179,7 @@ fn rising(alloc: Global, count: usize) -> Option<String> {
     Some(text)
 }
 
-/// Short texts behind long ones: what is kept of a text is seen in none that follows.
+/// Short texts after long ones: no result depends on what is in the buffer.
 static VALUES: Rows = &[
     (Call::Read(b"null"), "null"),
     (Call::Read(b" [ true , false ] "), "[true,false]"),
@@ -204,7 +204,7 @@ static VALUES: Rows = &[
     (Call::Read(b"{}"), "{}"),
 ];
 
-/// Whole numbers of 64 bits stay what they are; others are the nearest float.
+/// Integers of 64 bits are exact; other numbers are the nearest float.
 static NUMBERS: Rows = &[
     (Call::Read(b"0"), "0"),
     (Call::Read(b"18446744073709551615"), "18446744073709551615"),
@@ -229,7 +229,7 @@ static NUMBERS: Rows = &[
     (Call::Read(b"1."), "NotJson"),
 ];
 
-/// What is no value, with one behind it that is.
+/// Invalid texts, followed by a valid one.
 static REFUSED: Rows = &[
     (Call::Read(b""), "NotJson"),
     (Call::Read(b" \n"), "NotJson"),

@@ -4,7 +4,7 @@ use Rattle.couch_base.specs.{Id, Kept, found}
 use Rattle.couch_base.proofs.{inserted}
 use Rattle.couch_base.proofs.table.append.Goals as goal
 
--- what is inserted as new stands last
+-- what is inserted as new is last
 last : (docs new : List (Id × Kept)) (id : Id) (k : Kept) → found docs id ≡ None → new ≡ insert_entry bytes_eq docs id k → (found docs id ≡ None) × (new ≡ docs ++ (id, k) ∷ [])
 last docs new id k absent put = (absent, put ∙ inserted docs id k absent)
 

@@ -5,7 +5,7 @@ use Rattle.doc_json.specs.{plain_members, MembersReadBack}
 use Rattle.doc_json.proofs.{count}
 use Rattle.doc_json.proofs.compact.push_plain.Given as goal
 
--- what stands there and the plain members that are left are the object's text
+-- what is written and the remaining plain members are the object's text
 abbrev pub invariant-loop-name : goal.invariant-loop-name
 invariant-loop-name g l =
     let left = plain_members (g.V.JsonValue.left l.left) in

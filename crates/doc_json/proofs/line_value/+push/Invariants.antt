@@ -4,7 +4,7 @@ use Rattle.serde_json.specs.Written.{items_text, members_text, items_have_float,
 use Rattle.doc_json.specs.{ItemsReadBack, MembersReadBack}
 use Rattle.doc_json.proofs.line_value.+push.Given as goal
 
--- what stands there and the items that are left are the list's text
+-- what is written and the remaining items are the array's text
 abbrev pub invariant-push_items-loop-item : goal.invariant-push_items-loop-item
 invariant-push_items-loop-item l =
     let left = line_items (drop l.item-index l.item-items) in
@@ -12,7 +12,7 @@ invariant-push_items-loop-item l =
     → AreItemsPlain l.plain left × (l.out.items ++ items_text l.later left ≡ l.fn.out.items ++ 91 ∷ items_text false (line_items l.item-items)))
     × (ItemsReadBack left → ItemsReadBack (line_items l.item-items)) × (items_have_float left ≡ false)
 
--- what stands there and the members that are left are the object's text
+-- what is written and the remaining members are the object's text
 abbrev pub invariant-push_members-loop-entry : goal.invariant-push_members-loop-entry
 invariant-push_members-loop-entry l =
     let left = line_members (drop l.entry-index l.entry-items) in

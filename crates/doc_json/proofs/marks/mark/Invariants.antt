@@ -2,7 +2,7 @@ use Rattle.proof_prelude.proofs.{◌≡◌, length, take}
 use Rattle.doc_json.specs.{AreMarks}
 use Rattle.doc_json.proofs.marks.mark.Given as goal
 
--- the places of the ids so far are marked
+-- the entries of the ids so far are true
 abbrev pub invariant-loop-id : goal.invariant-loop-id
 invariant-loop-id l = record {
   size : length l.marks.items ≡ l.places;

@@ -2,7 +2,7 @@ use Rattle.proof_prelude.proofs.{◌≡◌, ◌-◌, ◌<◌, drop, length}
 use Rattle.doc_json.specs.{place_from}
 use Rattle.doc_json.proofs.marks.place_of.Given as goal
 
--- the rest of the bytes leads to the place of all
+-- the rest of the bytes leads to the final index
 abbrev pub invariant-loop-byte : goal.invariant-loop-byte
 invariant-loop-byte l = record {
   within : l.place < 8192;

@@ -13,7 +13,7 @@ or_false : (a : Bool) → (a || false) ≡ a
 or_false true = refl
 or_false false = refl
 
--- a float is among the plain members of one and more where it is in the first or in the others
+-- a float is among the plain members exactly if it is in the first one or in the others
 parted : (k : List ℕ) (d : Data) (ms : Members) → members_have_float (plain_members (member k d ms)) ≡ (members_have_float (plain_members (member k d no_members)) || members_have_float (plain_members ms))
 parted k d ms = by (is_special k)
   where

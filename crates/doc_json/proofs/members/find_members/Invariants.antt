@@ -5,7 +5,7 @@ use Rattle.doc_json.specs.{has_unknown, plain_members}
 use Rattle.doc_json.proofs.{count}
 use Rattle.doc_json.proofs.members.find_members.Given as goal
 
--- what was found, and else what is found in the members that are left
+-- what was found so far, or else what is found in the remaining members
 abbrev pub invariant-loop-name : goal.invariant-loop-name
 invariant-loop-name g l =
     let all = g.V.JsonValue.members_seen l.members in

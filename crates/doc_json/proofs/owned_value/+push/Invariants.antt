@@ -5,7 +5,7 @@ use Rattle.json_values.specs.{AreOrdered, IsInOrderOfNames}
 use Rattle.doc_json.specs.{ItemsReadBack, MembersReadBack}
 use Rattle.doc_json.proofs.owned_value.+push.Given as goal
 
--- what stands there and the items that are left are the list's text
+-- what is written and the remaining items are the array's text
 abbrev pub invariant-push_items-loop-item : goal.invariant-push_items-loop-item
 invariant-push_items-loop-item l =
     let left = items_view (drop l.item-index l.item-items) in
@@ -17,7 +17,7 @@ invariant-push_items-loop-item l =
       order : AreOrdered left → AreOrdered all;
     }
 
--- what stands there and the members that are left are the object's text
+-- what is written and the remaining members are the object's text
 abbrev pub invariant-push_members-loop-name : goal.invariant-push_members-loop-name
 invariant-push_members-loop-name l =
     let left = members_view l.name-iterator in

@@ -8,7 +8,7 @@ use Rattle.doc_json.proofs.{is_object, is_some-option_map, ok_value, found_at, n
 use Rattle.json_values.specs.{ArePlain}
 use Rattle.doc_json.proofs.read.document_of.Goals as goal
 
--- what is read of the members that were found
+-- reading the members that were found
 module _ (d : Data) (ms : Members) (object : as_object d ≡ Some ms) where
   named : (o : Option Data) → o ≡ get_member (codes "_id") ms → id_member d ≡ id_of o
   named o found = ap id_of (found_at (codes "_id") d ms o object found)

@@ -4,7 +4,7 @@ use Rattle.rev_core.specs.{numbered}
 use Rattle.doc_json.specs.{sigs_of}
 use Rattle.doc_json.proofs.revisions.numbered.Given as goal
 
--- the rest of the list gives what all of it gives
+-- the rest of the list gives the result for all of it
 abbrev pub invariant-loop-item : goal.invariant-loop-item
 invariant-loop-item g l = record {
   revs : option_map (λ rest. l.revs.items ++ numbered l.generation rest) (sigs_of (items_of (map g.V.JsonValue.seen (drop l.item-index l.item-items)))) ≡ option_map (numbered l.start) (sigs_of (items_of (map g.V.JsonValue.seen l.item-items)));

@@ -3,7 +3,7 @@ use Rattle.json.specs.Print.{escape, quoted}
 use Rattle.doc_json.specs.{Keeps}
 use Rattle.doc_json.proofs.text.push_escaped.Given as goal
 
--- what stands there and what is left of the text, with its end, are the whole in quotation marks
+-- what is written and the rest of the string, with its end, are the quoted string
 abbrev pub invariant-loop-out : goal.invariant-loop-out
 invariant-loop-out l =
     (l.at ≤ length l.text) × (l.out.items ++ (escape (drop l.at l.text) ++ 34 ∷ []) ≡ l.fn.out.items ++ quoted l.text)

@@ -10,7 +10,7 @@ joined : (o a b c d e f g : List ℕ) {t u v w x y z : List ℕ} → t ≡ o ++ 
 joined o a b c d e f g t u v w x y z =
     z ∙ ap (λ s. s ++ g) (y ∙ ap (λ s. s ++ f) (x ∙ ap (λ s. s ++ e) (w ∙ ap (λ s. s ++ d) (v ∙ ap (λ s. s ++ c) (u ∙ ap (λ s. s ++ b) t))))) ∙ regroup o a b c d e f g
 
--- the pieces, one after another
+-- the pieces in order
 pub returns-clause-text : goal.returns-clause-text
 returns-clause-text c = unfold revs_text in
     let revs = c.args.ancestry.now in

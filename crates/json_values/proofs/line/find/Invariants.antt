@@ -3,6 +3,6 @@ use Rattle.serde_json.specs.Find.{get_member}
 use Rattle.json_values.specs.{line_members}
 use Rattle.json_values.proofs.line.find.Given as goal
 
--- the member is among those that are left
+-- the member is among the remaining ones
 abbrev pub invariant-loop-member : goal.invariant-loop-member
 invariant-loop-member l = get_member l.name (line_members (drop l.member-index l.member-items)) ≡ get_member l.name (line_members l.member-items)

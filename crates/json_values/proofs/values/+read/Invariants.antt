@@ -21,7 +21,7 @@ decreases-read_items l = 4 * l.depth + 3
 abbrev pub decreases-read_members : goal.decreases-read_members
 decreases-read_members l = 4 * l.depth + 3
 
--- the items so far stand before what the rest of the list is read as
+-- the items so far, followed by the rest of the list
 abbrev pub invariant-read_items-items : goal.invariant-read_items-items
 invariant-read_items-items l =
     (turns : ℕ) × (length l.reader.tokens ≤ turns) × (length l.reader.tokens ≤ length l.initial.reader.tokens)
@@ -32,7 +32,7 @@ invariant-read_items-items l =
 abbrev pub decreases-read_items-items : goal.decreases-read_items-items
 decreases-read_items-items l = length l.reader.tokens
 
--- the members that are left go into those so far
+-- the remaining members are inserted into those so far
 abbrev pub invariant-read_members-members : goal.invariant-read_members-members
 invariant-read_members-members l =
     (turns : ℕ) × (length l.reader.tokens ≤ turns) × (length l.reader.tokens ≤ length l.initial.reader.tokens)

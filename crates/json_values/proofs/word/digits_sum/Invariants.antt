@@ -1,7 +1,7 @@
 use Rattle.proof_prelude.proofs.{◌≡◌, ◌+◌, ◌-◌, ◌<◌, ◌≤◌, ◌^◌, length, take, drop, prefix_len, is_ascii_digit, AllDigits, digits_value}
 use Rattle.json_values.proofs.word.digits_sum.Given as goal
 
--- n is what the digits up to i write
+-- n is the value of the digits up to i
 abbrev pub invariant-loop-i : goal.invariant-loop-i
 invariant-loop-i l = record {
   value : digits_value 10 (take l.i l.rest) ≡ l.n;

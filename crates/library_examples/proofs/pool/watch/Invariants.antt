@@ -1,4 +1,4 @@
--- The viewer's seat is one of the board.
+-- The viewer's seat belongs to the board.
 use Rattle.progress_board.specs.{CameWith}
 use Rattle.library_examples.proofs.pool.watch.Given as goal
 

@@ -1,4 +1,4 @@
--- The documents of the rows so far are added to some.
+-- The documents of the rows so far are added.
 use Rattle.proof_prelude.proofs.{◌≡◌, ◌++◌, List, map, take}
 use Rattle.rev_tree.specs.{TreeValue}
 use Rattle.couch_base.specs.{tree_of}

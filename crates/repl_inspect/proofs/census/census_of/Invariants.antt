@@ -1,4 +1,4 @@
--- The census is that of the documents so far, and those above `since` are left.
+-- The counts are those of the documents so far, and the documents above `since` remain.
 use Rattle.proof_prelude.proofs.{◌≡◌, ◌++◌, ◌-◌, List, map, None}
 use Rattle.rev_tree.specs.{TreeValue}
 use Rattle.couch_base.specs.{tree_of, chosen_feed}

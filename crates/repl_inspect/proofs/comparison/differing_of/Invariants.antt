@@ -1,4 +1,4 @@
--- Those of the revisions so far are found.
+-- The differing ones of the revisions so far are found.
 use Rattle.proof_prelude.proofs.{◌≡◌, filter, take}
 use Rattle.repl_inspect.specs.{differs}
 use Rattle.repl_inspect.proofs.comparison.differing_of.Given as goal

@@ -1,4 +1,4 @@
--- Those of the revisions so far are found.
+-- The live ones of the revisions so far are found.
 use Rattle.proof_prelude.proofs.{◌≡◌, not, filter, take}
 use Rattle.rev_tree.specs.{is_deleted}
 use Rattle.repl_inspect.proofs.conflicts.live_of.Given as goal

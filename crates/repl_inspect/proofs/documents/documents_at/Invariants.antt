@@ -1,4 +1,4 @@
--- The leaves so far are made documents.
+-- The leaves so far are converted to documents.
 use Rattle.proof_prelude.proofs.{◌≡◌, map, take}
 use Rattle.couch_base.specs.{tree_of, leaf_document}
 use Rattle.repl_inspect.proofs.documents.documents_at.Given as goal

@@ -1,4 +1,4 @@
--- The rows so far are added to the total of some.
+-- The rows so far are added to the total.
 use Rattle.proof_prelude.proofs.{◌≡◌, ◌++◌, List, take}
 use Rattle.repl_inspect.specs.{ComparisonValue, comparisons, total_of}
 use Rattle.repl_inspect.proofs.feed.add_rows.Given as goal

@@ -1,4 +1,4 @@
--- The total is that of the rows so far, and those above `since` are left.
+-- The total is that of the rows so far, and the rows above `since` remain.
 use Rattle.proof_prelude.proofs.{◌≡◌, ◌++◌, ◌-◌, List, option_copied}
 use Rattle.couch_base.specs.{chosen_feed}
 use Rattle.repl_inspect.specs.{ComparisonValue, comparisons, total_of}

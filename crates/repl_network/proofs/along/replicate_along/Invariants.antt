@@ -4,7 +4,7 @@ use Rattle.repl_network.specs.{peers_of, filters_of, AreTied, IsNet, AllHopped, 
 use Rattle.repl_network.proofs.{IsOnTheWay}
 use Rattle.repl_network.proofs.along.replicate_along.Given as goal
 
--- what the hops that are left make of the peers is what all make of them as they were
+-- the remaining hops, applied to the current peers, have the effect of all hops on the original ones
 abbrev pub invariant-loop-hop : goal.invariant-loop-hop
 invariant-loop-hop g l =
     (l.at ≡ l.hop-index)

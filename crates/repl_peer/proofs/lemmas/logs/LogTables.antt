@@ -1,4 +1,4 @@
--- The log of a replication, as the table of sessions says it.
+-- The log of a replication, from the table of sessions.
 use Rattle.proof_prelude.proofs.{◌≡◌, ℕ, zero, suc, ◌+◌, ◌==◌, ◌||◌, true, false, List, [], ◌∷◌, ◌++◌, map, filter, take, Some, refl, sym, ap, ◌∙◌, subst, list_any, IsDistinct, AllByRecursion, keys_of, cond_both, cond-true, cond-false, take_more, slice_get_within, get_or_from_slice_get, reverse_onto, slice_get}
 use Rattle.rev_tree.specs.{SessionId}
 use Rattle.couch_base.specs.{some_is, none_some, none_append, both_false}
@@ -57,7 +57,7 @@ log_of-next rep es i x log new e keyed once is same so_far entry put =
     ∙ sym (ap (λ l. map entry_of l) (cond-true (same_rep s.rep rep) (s ∷ filter (λ s. same_rep s.rep rep) ss) (filter (λ s. same_rep s.rep rep) ss) same))
     ∙ sym (ap (λ l. log_of l rep) (sessions_of-next es i x is))
 
--- another is passed
+-- a session of another replication is skipped
 pub log_of-passed : (rep : RepId) (es : Entries) (i : ℕ) (x : SessionId × SessionValue) (log : List EntryValue) → slice_get es i ≡ Some x → same_rep x.1.rep rep ≡ false → log ≡ log_of (sessions_of (take i es)) rep → log ≡ log_of (sessions_of (take (i + 1) es)) rep
 log_of-passed rep es i x log is other so_far =
     let ss = sessions_of (take i es) in

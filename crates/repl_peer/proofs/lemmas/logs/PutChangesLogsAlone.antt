@@ -1,4 +1,4 @@
--- Putting an entry changes nothing but the outgoing logs.
+-- Storing an entry changes only the outgoing logs.
 use Rattle.proof_prelude.proofs.{Bool, List, Result, Ok, Err, refl}
 use Rattle.doc_json.specs.Document.{Document}
 use Rattle.couch_base.specs.{IsLater-same}
@@ -26,7 +26,7 @@ logs_origins p logs h = has_from (record p { outgoing = logs }) (stands_same p (
 pub Lawful-logs : (refuses : Document → Bool) (p : PeerValue) (logs : List (RepId × List EntryValue)) → Lawful refuses p → Lawful refuses (record p { outgoing = logs })
 Lawful-logs refuses p logs h = record { sessions = logs_law refuses p logs h.sessions; origins = logs_origins p logs h.origins; locals = h.locals }
 
--- ---- putting an entry
+-- ---- storing an entry
 
 put_later : (p : PeerValue) (rep : RepId) (e : EntryValue) (r : Result (Unit {0}) TargetFault) → IsLaterPeer p (put_by p rep e r)
 put_later p rep e (Ok done) = logs_later p _

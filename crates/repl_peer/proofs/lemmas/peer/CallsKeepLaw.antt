@@ -1,4 +1,4 @@
--- What loading, editing and beginning keep: the peer's law, and all that covers.
+-- Loading, editing and beginning keep the peer's invariant and everything covered.
 use Rattle.proof_prelude.proofs.{◌≡◌, ◌⊎◌, ℕ, ◌<◌, ◌≤◌, ◌^◌, ◌==◌, List, [], ◌∷◌, ◌++◌, Bool, false, ◌&&◌, Option, Some, None, Result, Ok, Err, refl, sym, ap, subst, inl, inr, arith, eqb, nat_lt, IsDistinct, AllByRecursion, and_parts, cond_both, eqb-false, or_parts, IsDistinct-cons, slice_get, eqb-true, ltb-false, ne_eqb}
 use Rattle.rev_core.specs.{RevId}
 use Rattle.rev_tree.specs.{SessionId}
@@ -11,7 +11,7 @@ use Rattle.repl_peer.specs.declared.fault.TargetFault.TheVariants as faults
 use Rattle.repl_log.specs.{same_rep, same_rep-is, same_id}
 use Rattle.repl_peer.proofs.lemmas.peer.LaterPeers.{Keeps-same, IsLaterPeer-same, lawful-later}
 
--- ---- a peer as it begins
+-- ---- a new peer
 
 pub new_law : (refuses : Document → Bool) (uuid seq : ℕ) → LawfulSessions refuses (new_peer_at uuid seq)
 unfolding IsDistinct
@@ -33,7 +33,7 @@ load_law refuses p d l = record {
   distinct = l.distinct;
 }
 
--- what each put of the user's own leaves, an edit leaves
+-- what holds after each put of a user holds after an edit
 pub edit_by_load : (P : PeerValue → Type 0) (p : PeerValue) → ((d : Document) → P (after_load p d)) → P p → (id : Id) (parent : Option RevId) (deleted : Bool) (body : List ℕ) → P (after_edit p id parent deleted body)
 edit_by_load P p puts h id parent deleted body = go (edited p.db id parent deleted body)
   where
@@ -50,7 +50,7 @@ starts_within : (start recorded : ℕ) (done : Unit {0}) → start_answer start 
 starts_within start recorded done h =
     cond_both (nat_lt recorded start) (Err (faults.StartAboveBase recorded)) (Ok tt) (λ (r : Result (Unit {0}) TargetFault). r ≡ Ok done → start ≤ recorded) (λ _ k. cc k) (λ e _. ltb-false recorded start e) h
 
--- the base that is asked for is an earlier session of the same replication
+-- the base is an earlier session of the same replication
 is_based : (sessions : List SessionValue) (rep : RepId) (base : Option SessionId) (start : ℕ) (done : Unit {0}) → base_answer sessions rep base start ≡ Ok done
     → ((base ≡ None) × (start ≡ 0)) ⊎ ((b : SessionValue) × Among b sessions × (base ≡ Some b.id) × (rep ≡ b.rep) × (start ≤ b.recorded))
 is_based sessions rep None start done h = let least = starts_within start 0 done h in inl (refl, omega (arith, least))
@@ -68,7 +68,7 @@ goal_within start goal (Err fault) done h = cc h
 goal_within start goal (Ok x) done h =
     (cond_both (nat_lt goal start) (Err faults.GoalBelowStart) (Ok tt) (λ (r : Result (Unit {0}) TargetFault). r ≡ Ok done → start ≤ goal) (λ _ k. cc k) (λ e _. ltb-false goal start e) h, refl)
 
--- what beginning a session has asked
+-- the checks of beginning a session have passed
 record Begins (p : PeerValue) (id : SessionId) (b : Beginning) (done : Unit {0}) : Type 0 where
   fresh : holds p.sessions id ≡ false
   within : b.start ≤ b.scope.goal

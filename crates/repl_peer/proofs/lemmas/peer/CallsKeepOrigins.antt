@@ -1,4 +1,4 @@
--- Every revision of a peer has an origin, whatever is called.
+-- Every revision of a peer has an origin after every call.
 use Rattle.proof_prelude.proofs.{◌≡◌, ◌⊎◌, ℕ, ◌<◌, ◌^◌, List, [], ◌∷◌, ◌++◌, Bool, true, false, cond, ◌||◌, Option, Some, None, is_some, unwrap_or, Result, Ok, Err, map, length, refl, sym, ap, ◌∙◌, subst, inl, inr, list_any, get, get-empty, eq_by_cmp, bytes_eq, cond_both, cond-true, false≢true, bytes_eq-Decides, slice_get}
 use Rattle.std.specs.FinMap.{find}
 use Rattle.rev_core.specs.{RevId, rev_cmp, is_among}
@@ -13,9 +13,9 @@ use Rattle.repl_peer.proofs.lemmas.session.Changes.{Change, Arrived, after_chang
 use Rattle.repl_peer.proofs.lemmas.session.SettlingKeepsLaw.{any, change_law}
 use Rattle.repl_peer.proofs.lemmas.peer.WritesStand.{stands_later}
 
--- ---- origins that stand say what is so
+-- ---- stored origins are true
 
--- each origin that stands in a tree
+-- each origin in a tree is true
 abbrev pub TellsOrigins : PeerValue → Type 0
 TellsOrigins p = (id : Id) (r : RevId) (o : Origin) → get (tree_of p.db.docs id).origins r ≡ Some o → ComesFrom p id r o
 
@@ -31,7 +31,7 @@ has_from p h id r there = go (get (tree_of p.db.docs id).origins r) refl
     go None is = absurd (false≢true (sym (ap is_some is) ∙ there))
     go (Some o) is = (o, is, h id r o is)
 
--- where a revision comes from is told later too
+-- an origin stays true in a later peer
 comes_later : (p q : PeerValue) → IsLaterPeer p q → (id : Id) (r : RevId) (o : Origin) → ComesFrom p id r o → ComesFrom q id r o
 comes_later p q later id r (Local n) h = record { write = h.write; stored = later.locals n h.write h.stored; of = h.of; brings = h.brings }
 comes_later p q later id r (Feed session seq) h =
@@ -46,25 +46,25 @@ comes_later p q later id r (Feed session seq) h =
       arrived = record { arrival = a.arrival; stored = t.2.arrivals a.arrival a.stored; of = a.of; brings = a.brings };
     }
 
--- no tree changes
+-- the trees stay the same
 pub stands_same : (p q : PeerValue) → IsLaterPeer p q → q.db ≡ p.db → TellsOrigins p → TellsOrigins q
 stands_same p q later same h id r o is = comes_later p q later id r o (h id r o (ap (λ (db : DatabaseValue). get (tree_of db.docs id).origins r) (sym same) ∙ is))
 
--- ---- what a put brings
+-- ---- the revisions of a put
 
 given_origin : (o p : Origin) (revs : List RevId) (r : RevId) → find rev_cmp r (map (λ r. (r, o)) revs) ≡ Some p → o ≡ p
 given_origin o p [] r h = absurd (none_some p h)
 given_origin o p (x ∷ revs) r h =
     cond_both (eq_by_cmp rev_cmp r x) (Some o) (find rev_cmp r (map (λ r. (r, o)) revs)) (λ (u : Option Origin). u ≡ Some p → o ≡ p) (λ _ k. some_is o p k) (λ _ k. given_origin o p revs r k) h
 
--- an origin of the put's own
+-- an origin of the put itself
 record IsNew (db : DatabaseValue) (d : Document) (o p : Origin) (id : Id) (r : RevId) : Type 0 where
   of : d.id ≡ id
   brings : is_among r d.ancestry ≡ true
   changed : is_changed (put_answer db d) ≡ true
   is : o ≡ p
 
--- an origin after a put stood before, or is the put's own
+-- an origin after a put was there before, or is that of the put
 put_origin : (db : DatabaseValue) (d : Document) (o p : Origin) (id : Id) (r : RevId) → get (tree_of (after_put db d o).docs id).origins r ≡ Some p → (get (tree_of db.docs id).origins r ≡ Some p) ⊎ IsNew db d o p id r
 put_origin db d o p id r h =
     cond_both (is_changed (put_answer db d)) (with_tree db d.id m) db (λ (x : DatabaseValue). get (tree_of x.docs id).origins r ≡ Some p → Answer)
@@ -129,7 +129,7 @@ row_listed (row ∷ rows) id h = step (λ k. row_listed rows id k) (bytes_eq row
     step later true e h = (row, inl refl, refl, (bytes_eq-Decides row.id id).0 e)
     step later false e h = let k = later h in (k.0, inr k.1, k.2, k.3)
 
--- what arrives comes from its row, in the session's feed
+-- an arrival comes from its row, in the session's feed
 arrival_stands : (p : PeerValue) (s : SessionValue) (w : WindowValue) (d : Document) → Among s p.sessions → Among w s.windows → has_row w d ≡ true
     → IsLaterPeer p (with_settling p (record { db = after_put p.db d (fed w s.id d); session = with_arrival d s })) → TellsOrigins p → TellsOrigins (with_settling p (record { db = after_put p.db d (fed w s.id d); session = with_arrival d s }))
 arrival_stands p s w d m n has_one later h id r o is =
@@ -151,7 +151,7 @@ change_stands : (refuses : Document → Bool) (Of : Source) (p : PeerValue) (s :
 change_stands refuses Of p s (Arrived window doc) m may later h = arrival_stands p s window doc m may.stored may.row later h
 change_stands refuses Of p s change m may later h = stands_same p (after_change p s change) later refl h
 
--- each change keeps the peer's law: of its sessions, its origins and its local writes
+-- each change keeps the peer's invariant: its sessions, origins and local writes
 lawful_kept : (refuses : Document → Bool) → KeptByChanges refuses any (λ p _. Lawful refuses p)
 lawful_kept refuses p s c m may h =
     let k = change_law refuses any (λ _ _ w. w) p s c m may h.sessions in

@@ -1,4 +1,4 @@
--- What a local edit answers and notes: its signature is short, and it is the next local write.
+-- The result and the local write of an edit, whose signature is short.
 use Rattle.proof_prelude.proofs.{◌≡◌, ◌+◌, ◌∷◌, ◌++◌, [], ℕ, Bool, true, false, List, Option, Some, None, Result, Ok, Err, is_ok, nat_le, nat_lt, ◌^◌, refl, ap, sym, ◌∙◌, cond, subst, arith, false≢true, result_unwrap_or, list_all, option_to_list, cond-true}
 use Rattle.rev_core.specs.{RevId, FallsByOne, next_generation, edit_rev, edit_sig, is_short, ◌>>=◌, refused_if, named}
 use Rattle.rev_core.specs.declared.fault.RevFault.TheVariants as rev_faults
@@ -16,7 +16,7 @@ edit_id-short : (before : Option RevId) (deleted : Bool) (body : List ℕ) (r : 
 edit_id-short before deleted body r e =
     is_short-edit_rev before deleted body r (named_ok base_faults.GenerationFull (edit_rev before deleted body) r e)
 
--- it is one generation above the one that it stands on
+-- the new revision is one generation above its parent
 above : (before : Option RevId) (r : RevId) → r.generation ≡ next_generation before → FallsByOne (r ∷ option_to_list before)
 above None r e = tt
 above (Some p) r e = (e, tt)
@@ -31,12 +31,12 @@ edit_id-falls before deleted body r e =
     let same = chosen (nat_lt (next_generation before) (2 ^ 32)) new r rev_faults.GenerationFull (named_ok base_faults.GenerationFull (edit_rev before deleted body) r e) in
     above before r (sym (ap (λ (x : RevId). x.generation) same))
 
--- what is passed on behind a check
+-- the value that a check passes on
 checked : {A E : Type 0} (b : Bool) (why : E) (x y : A) → (refused_if b why >>= λ _. Ok x) ≡ Ok y → x ≡ y
 checked true why x y e = absurd (false≢true (ap is_ok e))
 checked false why x y e = ap (λ r. result_unwrap_or r x) e
 
--- the new revision is short, and the other is the one that it stands on
+-- the new revision has a short signature, and the other one is its parent
 record IsEdit (before : Option RevId) (e : RevId × Option RevId) : Type 0 where
   pub short : is_short e.0.sig ≡ true
   pub falls : FallsByOne (e.0 ∷ option_to_list before)
@@ -76,7 +76,7 @@ edited_parts db id parent deleted body e h = go (parent_answer (tree_in db.docs 
         subst (λ b. IsEdit b e) (sym (stands (tree_in db.docs id) parent before is)) (made db id before deleted body e k)
     go (Err why) is k = absurd (false≢true (ap is_ok k))
 
--- what an edit answers
+-- the result of an edit
 pub edit_answer-made : (db : DatabaseValue) (id : Id) (parent : Option RevId) (deleted : Bool) (body : List ℕ) (rev : RevId)
     → edit_answer db id parent deleted body ≡ Ok rev → (is_short rev.sig ≡ true) × FallsByOne (rev ∷ option_to_list (stood_on (tree_in db.docs id) parent))
 edit_answer-made db id parent deleted body rev h = go (edited db id parent deleted body) refl h

@@ -1,4 +1,4 @@
--- What a lawful peer's sessions say of themselves is so.
+-- The claims of a lawful peer's sessions are true.
 use Rattle.proof_prelude.proofs.{◌≡◌, ℕ, ◌<◌, ◌≤◌, List, [], ◌∷◌, Bool, true, map, sym, ap, ◌∙◌, subst, inl, inr, arith}
 use Rattle.doc_json.specs.Document.{Document}
 use Rattle.couch_base.specs.{Among, Rises, RowValue, WindowValue, IsWindow, rises_le, Among-mapped, each_member}
@@ -7,17 +7,17 @@ use Rattle.repl_log.specs.{AddUp}
 use Rattle.repl_peer.specs.{PeerValue, SessionValue, Honest, LawfulSession, LawfulSessions}
 use Rattle.repl_peer.proofs.lemmas.session.WindowsFollow.{windows-consecutive, window-above, window-stored, one_window}
 
--- numbers that rise lie between their bounds
+-- rising numbers are between their bounds
 pub rises_member : (lo : ℕ) (ns : List ℕ) (hi n : ℕ) → Rises lo ns hi → Among n ns → (lo < n) × (n ≤ hi)
 rises_member lo [] hi n r m = absurd m
 rises_member lo (k ∷ ns) hi n r (inl e) = (omega (arith, r.0, e), omega (arith, e, rises_le k ns hi r.1))
 rises_member lo (k ∷ ns) hi n r (inr m) = let h = rises_member k ns hi n r.1 m in (omega (arith, r.0, h.0), h.1)
 
--- a row lies in its window
+-- a row is inside its window
 pub row_within : (w : WindowValue) (row : RowValue) → IsWindow w → Among row w.rows → (w.lo < row.seq) × (row.seq ≤ w.hi)
 row_within w row window m = rises_member w.lo (map (λ (r : RowValue). r.seq) w.rows) w.hi row.seq window.rising (Among-mapped (λ (r : RowValue). r.seq) row w.rows m)
 
--- a stored window in which a sequence lies that the low water has reached is done
+-- a window with a sequence at or below the low water is done
 pub reached_done : (refuses : Document → Bool) (p : PeerValue) (s : SessionValue) → LawfulSession refuses p s → (w : WindowValue) → Among w s.windows → (n : ℕ) → w.lo < n → n ≤ w.hi → n ≤ low_water s.front → is_done s.front w.lo w.hi ≡ true
 reached_done refuses p s l w m n above below under =
     let follows = windows-consecutive s.front s.windows l.bounds l.front in
@@ -29,7 +29,7 @@ reached_done refuses p s l w m n above below under =
     let hi : at.1 ≡ w.hi = sym v.3 ∙ ap (λ (x : WindowValue). x.hi) same in
     subst (λ a. is_done s.front a w.hi ≡ true) lo (subst (λ b. is_done s.front at.0 b ≡ true) hi at.4)
 
--- all that a session of the peer has recorded of its windows is covered
+-- everything at or below a session's recorded sequence is covered
 pub honest_is : (refuses : Document → Bool) (p : PeerValue) → LawfulSessions refuses p → (s : SessionValue) → Among s p.sessions → Honest p s s.recorded
 honest_is refuses p l s held w m row n under leaf k =
     let law = l.sessions s held in

@@ -1,4 +1,4 @@
--- What is kept from one moment of a peer to a later one.
+-- What stays true from one state of a peer to a later one.
 use Rattle.proof_prelude.proofs.{◌≡◌, ℕ, List, [], ◌∷◌, Bool, true, false, cond, ◌&&◌, Some, map, refl, sym, ap, ◌∙◌, subst, inl, inr, arith, eqb, ◌==◌, IsDistinct, bytes_eq, IsDistinct-head, IsDistinct-tail, or_cases, or_left, or_right, cond_both, cond-true, both_ways, slice_get, eqb-true, eq-eqb}
 use Rattle.rev_core.specs.{RevId, edges_of, is_among}
 use Rattle.rev_tree.specs.{SessionId}
@@ -33,7 +33,7 @@ IsLaterPeer-later p q r h k = record {
   sessions = λ s m. (let t = h.sessions s m in let u = k.sessions t.0 t.1 in (u.0, u.1, Keeps-later s t.0 u.0 t.2 u.2));
 }
 
--- what is covered stays so
+-- what is covered stays covered
 pub covers-later : (p q : PeerValue) → IsLaterPeer p q → (id : Id) (r : RevId) → covers p id r ≡ true → covers q id r ≡ true
 covers-later p q h id r c =
     elim (or_cases _ _ c) [
@@ -45,12 +45,12 @@ covers-later p q h id r c =
           or_right _ _ (any_from (λ (s : SessionValue). in_ledger s.ledger id r) t.0 q.sessions t.1 (any_from (λ (x : RefusedValue). bytes_eq x.doc.id id && is_among r x.doc.ancestry) x.0 t.0.ledger (t.2.ledger x.0 x.1) x.2))
     ]
 
--- what was rightly refused is so later
+-- what was rightly refused stays rightly refused
 pub refused-later : (refuses : Document → Bool) (a b : DatabaseValue) → IsLater a b → (d : Document) → rightly_refused refuses a d ≡ true → rightly_refused refuses b d ≡ true
 refused-later refuses a b h d e =
     elim (or_cases _ _ e) [ inl x ↦ or_left _ _ x | inr x ↦ or_right _ _ (h.contradicts d.id (edges_of d.ancestry) x) ]
 
--- a session that stays as it is is lawful in a later peer
+-- an unchanged session is lawful in a later peer
 pub lawful-later : (refuses : Document → Bool) (p q : PeerValue) (s : SessionValue) → IsLaterPeer p q → LawfulSession refuses p s → LawfulSession refuses q s
 lawful-later refuses p q s h l = record {
   store = l.store;
@@ -98,7 +98,7 @@ mapped_law refuses p q f is later locals keeps lawful l =
 
 -- ---- a change of one session
 
--- two sessions of one number are one
+-- two sessions with the same number are equal
 pub one_session : (sessions : List SessionValue) (s t : SessionValue) → IsDistinct eqb (session_numbers sessions) → Among s sessions → Among t sessions → s.id.0 ≡ t.id.0 → s ≡ t
 one_session [] s t d m n e = absurd m
 one_session (x ∷ sessions) s t d m n e =
@@ -118,17 +118,17 @@ one_session (x ∷ sessions) s t d m n e =
         let other : eqb x.id.0 y.id.0 ≡ false = each_member (λ n. eqb x.id.0 n ≡ false) y.id.0 (session_numbers sessions) (IsDistinct-head eqb x.id.0 (session_numbers sessions) d) (Among-mapped (λ (s : SessionValue). s.id.0) y sessions m) in
         both_ways _ other (eq-eqb _ _ (sym e))
 
--- the session found by an id is held
+-- the session found by an id is in the list
 pub session_found : (sessions : List SessionValue) (id : SessionId) (s : SessionValue) → session_in sessions id ≡ Some s → Among s sessions × (s.id.0 ≡ id.0)
 session_found sessions id s e = let k = found_member (is_of id) sessions s e in (k.0, eqb-true _ _ k.1)
 
--- a session that is held stands with its change
+-- a changed session is in the list
 pub with_session_holds : (sessions : List SessionValue) (s t : SessionValue) → Among s sessions → t.id ≡ s.id → Among t (with_session sessions t)
 with_session_holds sessions s t m e =
     let same : (s.id.0 == t.id.0) ≡ true = eq-eqb _ _ (sym (ap (λ (i : SessionId). i.0) e)) in
     subst (λ x. Among x (with_session sessions t)) (cond-true (s.id.0 == t.id.0) t s same) (Among-mapped (λ (x : SessionValue). cond (is_of t.id x) t x) s sessions m)
 
--- a session that the peer holds changes, lawfully; the database becomes a later one
+-- one session of the peer changes, lawfully; the database becomes a later one
 pub session_law : (refuses : Document → Bool) (p : PeerValue) (db : DatabaseValue) (s t : SessionValue) → Among s p.sessions → IsLater p.db db → Keeps s t
     → (IsLaterPeer p (record p { db = db; sessions = with_session p.sessions t }) → LawfulSession refuses (record p { db = db; sessions = with_session p.sessions t }) s → LawfulSession refuses (record p { db = db; sessions = with_session p.sessions t }) t)
     → LawfulSessions refuses p → LawfulSessions refuses (record p { db = db; sessions = with_session p.sessions t }) × IsLaterPeer p (record p { db = db; sessions = with_session p.sessions t })

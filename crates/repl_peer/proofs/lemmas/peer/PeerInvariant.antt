@@ -1,4 +1,4 @@
--- What the calls keep of a peer: its law.
+-- The calls keep the peer's invariant.
 use Rattle.proof_prelude.proofs.{◌≡◌, ℕ, ◌==◌, ◌<◌, ◌^◌, Bool, if◌then◌else◌, List, ◌∷◌, Option, Some, None, Result, Ok, Err, refl, sym, ap, ◌∙◌, subst, OnOk, OnErr, on_ok_weaker, on_err_weaker}
 use Rattle.rev_core.specs.{RevId}
 use Rattle.rev_tree.specs.{SessionId}
@@ -11,7 +11,7 @@ use Rattle.repl_peer.proofs.lemmas.peer.CallsKeepLaw.{new_law, load_law, edit_by
 use Rattle.repl_peer.proofs.lemmas.peer.WritesStand.{load_stands, begin_stands}
 use Rattle.repl_peer.proofs.lemmas.peer.CallsKeepOrigins.{new_origins, load_origins, begin_origins, append_lawful, record_lawful, conclude_lawful}
 
--- a change of one session changes the list of them
+-- changing one session changes the list
 found-changed : (p : PeerValue) (change : SessionValue → SessionValue) (o : Option SessionValue) → on_found p change o ≡ record p { sessions = changed change p.sessions o }
 found-changed p change None = refl
 found-changed p change (Some s) = refl
@@ -19,14 +19,14 @@ found-changed p change (Some s) = refl
 pub on_session-changed : (p : PeerValue) (id : SessionId) (change : SessionValue → SessionValue) → on_session p id change ≡ record p { sessions = with_changed p.sessions id change }
 on_session-changed p id change = found-changed p change (session_in p.sessions id)
 
--- a peer as it begins
+-- a new peer
 pub Lawful-new : (refuses : Document → Bool) (uuid seq : ℕ) (p : PeerValue) → p ≡ new_peer_at uuid seq → Lawful refuses p
 Lawful-new refuses uuid seq p new = subst (Lawful refuses) (sym new) (record { sessions = new_law refuses uuid seq; origins = new_origins uuid seq; locals = λ a m. absurd m })
 
 module _ (refuses : Document → Bool) (p : PeerValue) (lawful : Lawful refuses p) where
-  -- ---- what a call leaves, by its result
+  -- ---- the effect of a call, by its result
 
-  -- a call that leaves the peer where it is refused
+  -- a call that changes nothing on error
   either_way : {T E : Type 0} (r : Result T E) (q new : PeerValue) → OnOk r (new ≡ q) → OnErr r (new ≡ p) → Lawful refuses q → Lawful refuses new
   either_way (Ok x) q new made kept there = subst (Lawful refuses) (sym made) there
   either_way (Err e) q new made kept there = subst (Lawful refuses) (sym kept) lawful

@@ -1,4 +1,4 @@
--- What is refused changes nothing.
+-- A failed call changes nothing.
 use Rattle.proof_prelude.proofs.{◌≡◌, Bool, cond, List, [], ◌∷◌, Option, Some, None, Result, Ok, Err, is_ok, map, refl, sym, ap, ◌∙◌, inl, inr, cond_both, false≢true, eqb-true}
 use Rattle.rev_tree.specs.{SessionId}
 use Rattle.doc_json.specs.Document.{Document}
@@ -10,7 +10,7 @@ map-same : {X : Type 0} (f : X → X) (xs : List X) → ((x : X) → Among x xs 
 map-same f [] h = refl
 map-same f (x ∷ xs) h = λ i. h x (inl refl) i ∷ map-same f xs (λ y m. h y (inr m)) i
 
--- a session that stands for itself changes nothing
+-- replacing a session by itself changes nothing
 with_session-same : (refuses : Document → Bool) (p : PeerValue) (s : SessionValue) → LawfulSessions refuses p → Among s p.sessions → with_session p.sessions s ≡ p.sessions
 with_session-same refuses p s l m =
     map-same (λ (x : SessionValue). cond (is_of s.id x) s x) p.sessions

@@ -1,4 +1,4 @@
--- A peer that is put back to an earlier copy is lawful.
+-- A restored peer is lawful.
 use Rattle.proof_prelude.proofs.{◌≡◌, ℕ, ◌≤◌, Bool, List, [], ◌∷◌, length, false, refl, sym, ap, ◌∙◌, subst, eqb, arith, IsDistinct, get, false≢true, slice_get}
 use Rattle.rev_core.specs.{RevId, FallsByOne}
 use Rattle.rev_tree.specs.{has, Origin}
@@ -11,7 +11,7 @@ pub none_held : (sessions : List SessionValue) → is_target sessions ≡ false 
 none_held [] h = refl
 none_held (s ∷ sessions) h = absurd (false≢true (sym h))
 
--- origins are said of the trees, the local writes and the sessions alone
+-- origins depend only on the trees, the local writes and the sessions
 comes_same : (p q : PeerValue) → q.locals ≡ p.locals → q.sessions ≡ p.sessions → (id : Id) (r : RevId) (o : Origin) → ComesFrom p id r o → ComesFrom q id r o
 comes_same p q locals sessions id r (Local n) h = record { write = h.write; stored = ap (λ (l : List WrittenValue). slice_get l n) locals ∙ h.stored; of = h.of; brings = h.brings }
 comes_same p q locals sessions id r (Feed session seq) h = record { by = h.by; held = subst (Among h.by) (sym sessions) h.held; named = h.named; listed = h.listed; arrived = h.arrived }
@@ -21,14 +21,14 @@ origins_same p q docs locals sessions h id r there =
     let k = h id r (ap (λ (ds : List DocumentValue). has (tree_of ds id) r) (sym docs) ∙ there) in
     (k.0, ap (λ (ds : List DocumentValue). get (tree_of ds id).origins r) docs ∙ k.1, comes_same p q locals sessions id r k.0 k.2)
 
--- local writes stand in the trees alone
+-- that local writes are in the trees depends only on these
 pub locals_same : (old new : List DocumentValue) (before after : List WrittenValue) → new ≡ old → after ≡ before
     → ((a : WrittenValue) → Among a before → FallsByOne a.ancestry → Follows (tree_of old a.id).parents a.ancestry)
     → (a : WrittenValue) → Among a after → FallsByOne a.ancestry → Follows (tree_of new a.id).parents a.ancestry
 locals_same old new before after docs locals stand a m falls =
     subst (λ (ds : List DocumentValue). Follows (tree_of ds a.id).parents a.ancestry) (sym docs) (stand a (subst (Among a) locals m) falls)
 
--- a copy of a lawful peer without sessions is one
+-- a copy of a lawful peer without sessions is a backup
 pub IsBackup-copied : (p : PeerValue) (b : BackupValue) → p.sessions ≡ [] → b.db ≡ p.db → b.locals ≡ p.locals → HasOrigins p → ((a : WrittenValue) → Among a p.locals → StandsIn p.db a) → IsBackup b
 IsBackup-copied p b none db locals h stand = record { origins = origins_same p (peer_of b) (λ i. (db i).docs) locals (sym none) h; locals = locals_same p.db.docs b.db.docs p.locals b.locals (λ i. (db i).docs) locals stand }
 
@@ -37,7 +37,7 @@ unfolding IsDistinct
 distinct_none [] e = tt
 distinct_none (s ∷ sessions) e = cc
 
--- and what is put back from one is lawful
+-- a peer restored from a backup is lawful
 pub Lawful-restored : (refuses : Document → Bool) (b : BackupValue) (q : PeerValue) → q.sessions ≡ [] → q.db.docs ≡ b.db.docs → q.locals ≡ b.locals → IsBackup b → Lawful refuses q
 Lawful-restored refuses b q none docs locals h =
     record {

@@ -1,4 +1,4 @@
--- A lawful peer may be trusted.
+-- A lawful peer is trusted.
 use Rattle.proof_prelude.proofs.{◌≡◌, Bool, true, ◌&&◌, inl, inr, bytes_eq, or_cases, and_parts, bytes_eq-Decides}
 use Rattle.rev_core.specs.{RevId, is_among}
 use Rattle.doc_json.specs.Document.{Document}

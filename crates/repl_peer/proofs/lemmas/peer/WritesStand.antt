@@ -1,4 +1,4 @@
--- What is written stands in its document's tree, and stays there: an edge that is there is never changed.
+-- A write is in its document's tree and stays there, since edges never change.
 use Rattle.proof_prelude.proofs.{◌≡◌, ℕ, zero, suc, ◌+◌, ◌<◌, length, slice_get, List, [], ◌∷◌, ◌++◌, Bool, true, false, cond, Option, Some, None, is_some, Result, Ok, Err, unwrap_or, refl, sym, ap, ◌∙◌, subst, inl, inr, arith, nat_lt, eq_by_cmp, option_or, bytes_eq, FinMap, get, false≢true, cond-true, same_Some, bytes_eq-Decides}
 use Rattle.std.specs.FinMap.{find}
 use Rattle.rev_core.specs.{RevId, rev_cmp, rev_tie_is, rev_tie_self, FallsByOne, edges_of, is_among}
@@ -12,7 +12,7 @@ use Rattle.repl_peer.specs.{PeerValue, SessionValue, WrittenValue, written_of, c
 one_edge : (m : FinMap rev_cmp RevId) (c x : RevId) → is_some (first_contradiction m ((c, x) ∷ [])) ≡ is_some (contradiction_at c x (get m c))
 one_edge m c x = elim (contradiction_at c x (get m c)) as (λ o. is_some (option_or o None) ≡ is_some o) [ None ↦ refl | Some y ↦ refl ]
 
--- what is known of a child is told by what contradicts it
+-- the parent of a child is determined by what contradicts it
 pub edge_later : (m w : FinMap rev_cmp RevId) → ((es : List (RevId × RevId)) → is_some (first_contradiction m es) ≡ true → is_some (first_contradiction w es) ≡ true) → (c p : RevId) → get m c ≡ Some p → get w c ≡ Some p
 edge_later m w stays c p h = go (get w c) refl
   where
@@ -33,14 +33,14 @@ edge_later m w stays c p h = go (get w c) refl
           absurd (false≢true (sym (ap (λ o. is_some (contradiction_at c k o)) e ∙ ap (λ b. is_some (cond b None (Some fault))) (rev_tie_self k)) ∙ told k other))
     ] refl
 
--- ---- revisions of which each is the next one's child
+-- ---- revisions of which each is the child of the next
 
 follows_later : (m w : FinMap rev_cmp RevId) → ((c p : RevId) → get m c ≡ Some p → get w c ≡ Some p) → (revs : List RevId) → Follows m revs → Follows w revs
 follows_later m w keeps [] f = tt
 follows_later m w keeps (r ∷ []) f = tt
 follows_later m w keeps (r ∷ (s ∷ rest)) f = (keeps r s f.0, follows_later m w keeps (s ∷ rest) f.1)
 
--- a write stands in every later database
+-- a write is in every later database
 pub stands_later : (a b : DatabaseValue) → IsLater a b → (x : WrittenValue) → StandsIn a x → StandsIn b x
 stands_later a b later x h falls =
     follows_later (tree_of a.docs x.id).parents (tree_of b.docs x.id).parents
@@ -62,7 +62,7 @@ given_edge m es none c p h = go (get m c) refl
     go None e = get-joined m es c ∙ ap (λ o. option_or o (find rev_cmp c es)) e ∙ h
     go (Some k) e = get-joined_known m es c p (e ∙ ap Some (no_contradiction m es c p k none h e))
 
--- a merge of an ancestry that contradicts nothing
+-- merging an ancestry that contradicts nothing
 follows_merged : (m : FinMap rev_cmp RevId) (revs : List RevId) → first_contradiction m (edges_of revs) ≡ None → FallsByOne revs → Follows (joined m (edges_of revs)) revs
 follows_merged m revs none falls = follows_found (joined m (edges_of revs)) revs falls (given_edge m (edges_of revs) none)
 
@@ -73,7 +73,7 @@ pub changed_tree : (db : DatabaseValue) (id : Id) (t : TreeValue) → tree_of (w
 changed_tree db id t =
     ap (λ o. unwrap_or o no_revisions) (tree_in-with_tree db id t id ∙ cond-true (bytes_eq id id) (Some t) (tree_in db.docs id) ((bytes_eq-Decides id id).1 refl))
 
--- what isn't refused leaves the merged tree
+-- a put that does not fail gives the merged tree
 put_tree : (db : DatabaseValue) (d : Document) (o : Origin) → contradiction_of db d ≡ None → is_full (put_answer db d) ≡ false → merged (tree_of db.docs d.id) d.ancestry (content_of d.deleted d.body) o ≡ tree_of (after_put db d o).docs d.id
 put_tree db d o none room = go (contradiction_of db d) (is_same (tree_of db.docs d.id) d.ancestry) (nat_lt db.update_seq most) none refl room
   where
@@ -87,14 +87,14 @@ put_tree db d o none room = go (contradiction_of db d) (is_same (tree_of db.docs
     go None false true e s f = sym (changed_tree db d.id new)
     go None false false e s f = absurd (false≢true (sym f))
 
--- so it holds its ancestry, and stands
+-- the merged tree has the ancestry with its edges
 pub put_holds : (db : DatabaseValue) (d : Document) (o : Origin) → contradiction_of db d ≡ None → is_full (put_answer db d) ≡ false → (r : RevId) → is_among r d.ancestry ≡ true → has (tree_of (after_put db d o).docs d.id) r ≡ true
 put_holds db d o none room r given = ap (λ t. has t r) (sym (put_tree db d o none room)) ∙ has-merged_given (tree_of db.docs d.id) d.ancestry (content_of d.deleted d.body) o r given
 
 pub put_stands : (db : DatabaseValue) (d : Document) (o : Origin) → contradiction_of db d ≡ None → is_full (put_answer db d) ≡ false → StandsIn (after_put db d o) (written_of d)
 put_stands db d o none room falls = subst (λ (t : TreeValue). Follows t.parents d.ancestry) (put_tree db d o none room) (follows_merged (tree_of db.docs d.id).parents d.ancestry none falls)
 
--- and so does what changes the database
+-- so does a put that changes the database
 changed_stands : (db : DatabaseValue) (d : Document) (o : Origin) → is_changed (put_answer db d) ≡ true → StandsIn (after_put db d o) (written_of d)
 changed_stands db d o change = let k = go (contradiction_of db d) (is_same (tree_of db.docs d.id) d.ancestry) (nat_lt db.update_seq most) change in put_stands db d o k.0 k.1
   where
@@ -106,7 +106,7 @@ changed_stands db d o change = let k = go (contradiction_of db d) (is_same (tree
 
 -- ---- the local writes of a peer
 
--- each of them stands
+-- each local write is in its document's tree
 abbrev pub LocalsStand : PeerValue → Type 0
 LocalsStand p = (a : WrittenValue) → Among a p.locals → StandsIn p.db a
 
@@ -141,20 +141,20 @@ follows_at m (x ∷ (s ∷ rest)) (suc i) r f e h =
     let more : suc (i + 1) ≡ suc i + 1 = omega arith in
     follows_at m (s ∷ rest) i r f.1 e (omega arith) ∙ ap (slice_get (x ∷ (s ∷ rest))) more
 
--- before the end there is one
+-- before the end there is a next one
 pub some_at : (revs : List RevId) (n : ℕ) → n < length revs → (r : RevId) × (slice_get revs n ≡ Some r)
 some_at [] n h = absurd (omega arith)
 some_at (x ∷ revs) zero h = (x, refl)
 some_at (x ∷ revs) (suc n) h = some_at revs n (omega arith)
 
--- the tree's parent of one of the revisions of a write is the next one
+-- the tree's parent of a write's revision is the next one
 pub next_stands : (db : DatabaseValue) (v w : WrittenValue) (n i k : ℕ) (r : RevId) → v ≡ w → FallsByOne v.ancestry → length v.ancestry ≡ n → StandsIn db w → slice_get w.ancestry i ≡ Some r → i < k → k < n → get (tree_of db.docs v.id).parents r ≡ slice_get w.ancestry (i + 1)
 next_stands db v w n i k r same falls size stands at before within =
     let long : length w.ancestry ≡ n = subst (λ (x : WrittenValue). length x.ancestry ≡ n) same size in
     ap (λ (x : WrittenValue). get (tree_of db.docs x.id).parents r) same
     ∙ follows_at (tree_of db.docs w.id).parents w.ancestry i r (stands (subst (λ (x : WrittenValue). FallsByOne x.ancestry) same falls)) at (omega (arith, long, before, within))
 
--- and there is one
+-- the next revision exists
 pub next_there : (v w : WrittenValue) (n i k : ℕ) → v ≡ w → length v.ancestry ≡ n → i < k → k < n → (r : RevId) × (slice_get w.ancestry (i + 1) ≡ Some r)
 next_there v w n i k same size before within =
     let long : length w.ancestry ≡ n = subst (λ (x : WrittenValue). length x.ancestry ≡ n) same size in

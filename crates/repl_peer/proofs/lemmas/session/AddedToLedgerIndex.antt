@@ -27,7 +27,7 @@ among_next before known new revs i rev r d within at is h =
     ∙ ap (λ x. is_among r before || (is_among r (take i revs) || eq_by_cmp rev_cmp r x)) at
     ∙ ap (λ b. is_among r before || b) (sym (list_any_more (eq_by_cmp rev_cmp r) revs i d within))
 
--- whether a document's refused revisions have one
+-- whether a document's refused revisions contain this one
 abbrev pub has_rev : {S : Type 0} → Option (HashSet RevId S) → RevId → Bool
 has_rev o r = option_map_or (λ revs. is_among r revs.keys) o false
 

@@ -1,4 +1,4 @@
--- What the index of replications has after a session was added.
+-- The index of replications after adding a session.
 use Rattle.proof_prelude.proofs.{◌≡◌, Bool, true, false, cond, List, [], ◌∷◌, ◌++◌, Option, Some, None, refl, sym, ap, ◌∙◌, IsEquivalence, option_map_or, lookup, set_value, lookup-set_value}
 use Rattle.rev_tree.specs.{SessionId}
 use Rattle.repl_log.specs.declared.replication.RepId.{RepId}
@@ -34,7 +34,7 @@ module _ {V : Type 0} (items : V → List SessionId) (es : List (RepId × V)) (r
       go true e = put ∙ ap (λ (r : RepId). there (at r) ++ id ∷ []) (same_rep-is rep asked e)
       go false e = refl
 
-  -- of a replication that is there
+  -- an existing replication
   pub added_known : (v w : V) (id : SessionId) → at rep ≡ Some v → items w ≡ items v ++ id ∷ []
       → there (lookup (same_rep asked) (set_value (same_rep rep) es w)) ≡ cond (same_rep rep asked) (there (at asked) ++ id ∷ []) (there (at asked))
   added_known v w id is put = ap there (set_at v w is) ∙ more w id (put ∙ ap (λ o. there o ++ id ∷ []) (sym is))
@@ -46,6 +46,6 @@ module _ {V : Type 0} (items : V → List SessionId) (es : List (RepId × V)) (r
       go true e = put ∙ ap there (sym is) ∙ ap (λ (r : RepId). there (at r)) (same_rep-is rep asked e)
       go false e = refl
 
-  -- of a new one
+  -- a new replication
   pub added_new : (w : V) (id : SessionId) → at rep ≡ None → items w ≡ id ∷ [] → there (cond (same_rep rep asked) (Some w) (at asked)) ≡ cond (same_rep rep asked) (there (at asked) ++ id ∷ []) (there (at asked))
   added_new w id is put = more w id (put ∙ ap (λ o. there o ++ id ∷ []) (sym is))

@@ -1,4 +1,4 @@
--- A peer's sessions change by small changes: what each of them keeps, the calls keep.
+-- A peer's sessions change in small steps: what each step keeps, the calls keep.
 use Rattle.proof_prelude.proofs.{◌≡◌, ◌⊎◌, ℕ, zero, suc, ◌≤◌, ◌==◌, nat_lt, List, [], ◌∷◌, Bool, true, false, cond, ◌&&◌, ◌||◌, Option, Some, None, is_some, Result, Ok, Err, take, length, refl, sym, ap, ◌∙◌, subst, inl, inr, list_all, option_map, and_parts, cond_both, cond-true, eqb-true, eq-eqb, ltb-false}
 use Rattle.rev_tree.specs.{Contradiction, SessionId}
 use Rattle.doc_json.specs.Document.{Document}
@@ -12,8 +12,7 @@ use Rattle.repl_peer.proofs.lemmas.session.SettlingChecks.{passed}
 
 -- ---- changes
 
--- a change of a session: nothing, a window more, a document that is refused or arrives, a window that is marked, and a
--- record
+-- a change of a session: none, one more window, a document that is refused or arrives, a marked window, or a record
 pub data Change : Type 0 where
   Kept : Change
   Stored : (window : WindowValue) → Change
@@ -37,19 +36,19 @@ written db s change = db
 abbrev pub after_change : PeerValue → SessionValue → Change → PeerValue
 after_change p s c = with_settling p (record { db = written p.db s c; session = changed s c })
 
--- what is known of the messages of a call: of a document that is settled, and of a window that is appended to a session
+-- what is known about the arguments of a call: a settled document, and an appended window
 pub record Source : Type 1 where
   pub doc : Document → Type 0
   pub window : SessionValue → WindowValue → Type 0
 
--- a window follows the stored ones, within the goal
+-- a window follows the stored ones and is at or below the goal
 pub record Follows (Of : Source) (s : SessionValue) (w : WindowValue) : Type 0 where
   pub from : Of.window s w
   pub at : w.lo ≡ end_of s.front
   pub within : w.hi ≤ s.goal
   pub life : w.life ≡ s.life
 
--- a document arrives that has a row in a stored window, contradicts nothing and finds a sequence
+-- a document arrives: it has a row in a stored window, contradicts nothing, and gets a sequence
 pub record Arrives (Of : Source) (p : PeerValue) (s : SessionValue) (w : WindowValue) (d : Document) : Type 0 where
   pub from : Of.doc d
   pub stored : Among w s.windows
@@ -57,7 +56,7 @@ pub record Arrives (Of : Source) (p : PeerValue) (s : SessionValue) (w : WindowV
   pub clear : contradiction_of p.db d ≡ None
   pub room : is_full (put_answer p.db d) ≡ false
 
--- where a change of a held session may be
+-- when a change of a session may happen
 abbrev pub May : (Document → Bool) → Source → PeerValue → SessionValue → Change → Type 0
 May refuses Of p s (Stored window) = Follows Of s window
 May refuses Of p s (Refused doc reason) = rightly_refused refuses p.db doc ≡ true
@@ -65,14 +64,14 @@ May refuses Of p s (Arrived window doc) = Arrives Of p s window doc
 May refuses Of p s (Marked window parcel) = Among window s.windows × CoversWindow p window
 May refuses Of p s change = Unit {0}
 
--- what each change keeps, of a peer and the session that changes
+-- a property of a peer and one of its sessions that each change keeps
 abbrev pub KeptByChanges : (Document → Bool) → Source → (PeerValue → SessionValue → Type 0) → Type 0
 KeptByChanges refuses Of P =
     (p : PeerValue) (s : SessionValue) (c : Change) → Among s p.sessions → May refuses Of p s c → P p s → P (after_change p s c) (changed s c)
 
--- ---- refusals
+-- ---- errors
 
--- what is refused is rightly refused
+-- a refused document is rightly refused
 refused_rightly : (refuses : Document → Bool) (db : DatabaseValue) (d : Document) (reason : Reason) → refusal_of refuses db d ≡ Some reason → rightly_refused refuses db d ≡ true
 refused_rightly refuses db d reason h = go (refuses d) (contradiction_of db d) h
   where
@@ -81,7 +80,7 @@ refused_rightly refuses db d reason h = go (refuses d) (contradiction_of db d) h
     go false (Some c) h = refl
     go false None h = absurd (none_some reason h)
 
--- and what isn't refused contradicts nothing
+-- a document that is not refused contradicts nothing
 none_refused : (refuses : Document → Bool) (db : DatabaseValue) (d : Document) → refusal_of refuses db d ≡ None → contradiction_of db d ≡ None
 none_refused refuses db d h = go (refuses d) (contradiction_of db d) h
   where
@@ -93,7 +92,7 @@ none_refused refuses db d h = go (refuses d) (contradiction_of db d) h
 window_covered : (p : PeerValue) (w : WindowValue) → covers_window p w ≡ true → CoversWindow p w
 window_covered p w h row m leaf n = all_member (covers p row.id) leaf row.leaves (all_member (knows_row (covers p)) row w.rows h m) n
 
--- ---- where a window is taken
+-- ---- accepting a window
 
 takes : (w : WindowValue) (s : SessionValue) (done : Unit {0}) → append_in w s ≡ Ok done → (w.lo ≡ end_of s.front) × (w.hi ≤ s.goal) × (w.life ≡ s.life)
 takes w s done h =
@@ -111,7 +110,7 @@ takes w s done h =
 
 -- ---- two changes of one session
 
--- the later change stands
+-- the later change remains
 pub with_session-twice : (sessions : List SessionValue) (s t : SessionValue) → t.id ≡ s.id → with_session (with_session sessions s) t ≡ with_session sessions t
 with_session-twice [] s t e = refl
 with_session-twice (x ∷ sessions) s t e =
@@ -125,9 +124,9 @@ with_session-twice (x ∷ sessions) s t e =
 with_settling-twice : (p : PeerValue) (y z : Settling) → z.session.id ≡ y.session.id → with_settling (with_settling p y) z ≡ with_settling p z
 with_settling-twice p y z e = ap (λ ss. record p { db = z.db; sessions = ss }) (with_session-twice p.sessions y.session z.session e)
 
--- ---- what is asked before the documents
+-- ---- the checks before the documents
 
--- the session is held, and stores the parcel's window, in which each document has a row
+-- the peer has the session and the parcel's window, in which each document has a row
 pub record Settleable (p : PeerValue) (id : SessionId) (parcel : ParcelValue) (at : SessionValue × WindowValue) : Type 0 where
   pub held : Among at.0 p.sessions
   pub number : at.0.id.0 ≡ id.0
@@ -152,9 +151,9 @@ settle_told p id parcel at h = in_peer (session_in p.sessions id) refl h
     in_peer None e h = cc h
     in_peer (Some s) e h = let held = session_found p.sessions id s e in in_window s held.0 held.1 h
 
--- ---- where settling ends
+-- ---- the end of settling
 
--- settling leaves the peer as it is, or ends after all documents, or after the first n
+-- settling leaves the peer unchanged, or ends after all documents or after the first n
 abbrev pub LeavesAfter : (Document → Bool) → PeerValue → SessionId → ParcelValue → PeerValue → Type 0
 LeavesAfter refuses p id parcel q =
     (q ≡ p) ⊎ ((at : SessionValue × WindowValue) × Settleable p id parcel at × ((q ≡ after_all refuses p at.0 at.1 parcel) ⊎ ((n : ℕ) × (q ≡ after_documents refuses p at.0 at.1 (take n parcel.docs)))))
@@ -172,7 +171,7 @@ settle_ends refuses p id parcel result q gives = go (settle_check p id parcel) r
     go (Err fault) e h = inl h.1
     go (Ok at) e h = inr (at, settle_told p id parcel at e, at_window at.0 at.1 result h)
 
--- settling that finds memory
+-- settling without a failed allocation
 pub after_settle_ends : (refuses : Document → Bool) (p : PeerValue) (id : SessionId) (parcel : ParcelValue) → LeavesAfter refuses p id parcel (after_settle refuses p id parcel)
 after_settle_ends refuses p id parcel = go (settle_check p id parcel) refl
   where
@@ -200,7 +199,7 @@ among_take x (suc n) [] m = absurd m
 among_take x (suc n) (y ∷ xs) (inl e) = inl e
 among_take x (suc n) (y ∷ xs) (inr m) = inr (among_take x n xs m)
 
--- what documents leave of a held session
+-- the effect of documents on a session
 pub record Walked (P : PeerValue → SessionValue → Type 0) (p : PeerValue) (s : SessionValue) (z : Settling) : Type 0 where
   pub kept : P (with_settling p z) z.session
   pub held : Among z.session (with_session p.sessions z.session)
@@ -247,7 +246,7 @@ module _ (refuses : Document → Bool) (Of : Source) (P : PeerValue → SessionV
       (λ covered. (with_done w parcel s, keeps p s (Marked w parcel) m (n, window_covered p w covered) h))
       (λ _. (s, h))
 
-  -- wherever settling ends
+  -- at each possible end of settling
   pub ends_walked : (p : PeerValue) (id : SessionId) (parcel : ParcelValue) (q : PeerValue) → LeavesAfter refuses p id parcel q → ((d : Document) → Among d parcel.docs → Of.doc d) → ((at : SessionValue × WindowValue) → Settleable p id parcel at → P p at.0)
       → (q ≡ p) ⊎ ((at : SessionValue × WindowValue) × Settleable p id parcel at × ((t : SessionValue) × P q t))
   ends_walked p id parcel q (inl same) of h = inl same

@@ -1,4 +1,4 @@
--- The first unknown leaf of some rows.
+-- The first unknown leaf of rows.
 use Rattle.proof_prelude.proofs.{◌≡◌, ℕ, ◌+◌, ◌<◌, Bool, true, false, cond, not, ◌&&◌, List, [], ◌∷◌, ◌++◌, length, drop, get_or, Option, Some, None, is_some, refl, sym, ap, ◌∙◌, list_all, option_or, option_map, drop_more, find}
 use Rattle.rev_core.specs.{RevId}
 use Rattle.couch_base.specs.{Among, Id, RowValue, all_member}
@@ -25,7 +25,7 @@ leaf_known test f (r ∷ leaves) = elim (test r) as (λ b. not (is_some (option_
   | false ↦ refl
 ]
 
--- each leaf is known where the first that isn't is not found
+-- each leaf is known if there is no first unknown one
 pub rows_known : (known : Id → RevId → Bool) (rows : List RowValue) → not (is_some (first_unknown known rows)) ≡ list_all (knows_row known) rows
 rows_known known [] = refl
 rows_known known (row ∷ rows) =

@@ -1,4 +1,4 @@
--- Rows, one after another.
+-- Rows, one at a time.
 use Rattle.proof_prelude.proofs.{◌≡◌, ℕ, ◌+◌, ◌<◌, Bool, true, false, ◌&&◌, ◌||◌, List, [], ◌∷◌, length, map, take, drop, get_or, Option, Some, None, slice_get, IfNone, sym, ap, ◌∙◌, zero, suc, cond-true, cond-false, drop_more, list_any-append, list_any, list_all, bytes_eq, bytes_eq-Decides, take-append-drop}
 use Rattle.couch_base.specs.{EachOnce, Id, RowValue, none_some, some_is, both_false}
 use Rattle.repl_peer.specs.{seq_in}
@@ -8,7 +8,7 @@ use Rattle.repl_peer.specs.{seq_in}
 pub all_later : {X : Type 0} (test : X → Bool) (xs : List X) (i : ℕ) (x : X) → i < length xs → x ≡ get_or xs i x → test x ≡ true → list_all test (drop i xs) ≡ list_all test (drop (i + 1) xs)
 all_later test xs i x h is so = ap (list_all test) (drop_more xs i x h ∙ ap (λ y. y ∷ drop (i + 1) xs) (sym is)) ∙ ap (λ b. b && list_all test (drop (i + 1) xs)) so
 
--- ---- places
+-- ---- indices
 
 pub none_both : {X : Type 0} (test : X → Bool) (xs : List X) (n : ℕ) → list_any test (take n xs) ≡ false → list_any test (drop n xs) ≡ false → list_any test xs ≡ false
 none_both test xs n front back =

@@ -1,4 +1,4 @@
--- The index of the sessions by their replications.
+-- The index of sessions by replication.
 use Rattle.proof_prelude.proofs.{◌≡◌, ℕ, ◌-◌, ◌<◌, ◌≤◌, true, false, cond, List, [], ◌∷◌, ◌++◌, map, filter, reverse, length, Option, Some, None, refl, sym, ap, ◌∙◌, subst, inl, inr, arith, get_or, AllByRecursion, IsDistinct, option_map, keys_of, lookup, set_value, cond-true, cond-false, eqb-false, reverse_onto, length-reverse, get_or-reverse, slice_get_within, get_or_from_slice_get, slice_get-map, slice_get-get_or, slice_get, eq-eqb, ne_eqb}
 use Rattle.rev_tree.specs.{SessionId}
 use Rattle.couch_base.specs.{Among, none_some, some_is, Among-push}
@@ -18,7 +18,7 @@ ids_of-cons s sessions rep =
       | false ↦ refl
     ]
 
--- a new session is the last of its replication's
+-- a new session is the last of its replication
 ids_of-new : (s : SessionValue) (sessions : List SessionValue) (rep : RepId) → reverse (ids_of (s ∷ sessions) rep) ≡ cond (same_rep s.rep rep) (reverse (ids_of sessions rep) ++ s.id ∷ []) (reverse (ids_of sessions rep))
 ids_of-new s sessions rep =
     ap reverse (ids_of-cons s sessions rep)
@@ -35,7 +35,7 @@ AreListed-new old new s sessions law added rep =
 pub AreListed-same : (old new : RepIndex) (sessions : List SessionValue) → AreListed old sessions → ((asked : RepId) → listed new asked ≡ listed old asked) → AreListed new sessions
 AreListed-same old new sessions law same rep = same rep ∙ law rep
 
--- a session that changes keeps its id and its replication
+-- a changed session keeps its id and its replication
 same_ids : (sessions : List SessionValue) (s t : SessionValue) (rep : RepId) → t.id ≡ s.id → t.rep ≡ s.rep → ids_of (with_session sessions t) rep ≡ ids_of (with_session sessions s) rep
 same_ids [] s t rep same of = refl
 same_ids (x ∷ sessions) s t rep same of =
@@ -68,7 +68,7 @@ mapped : {X Y : Type 0} (f : X → Y) (o : Option X) (y : Y) → option_map f o 
 mapped f None y is = absurd (none_some y is)
 mapped f (Some x) y is = (x, refl, some_is (f x) y is)
 
--- the key of a session is one of the table's
+-- the key of a session is a key of the table
 other_key : (k : SessionId) (es : Entries) (s : SessionValue) → IsKeyed id_of es → AllByRecursion (λ j. at_session k j ≡ false) (keys_of es) → Among s (sessions_of es) → at_session s.id k ≡ false
 other_key k [] s keyed none m = absurd m
 other_key k (e ∷ es) s keyed none m =
@@ -90,7 +90,7 @@ held-lookup (e ∷ es) s keyed once m =
           cond-true (at_session s.id e.0) (Some e.1) (lookup (at_session s.id) es) (eq-eqb s.id.0 e.0.0 (ap (λ (x : SessionValue). x.id.0) here ∙ ap (λ (j : SessionId). j.0) keyed.0)) ∙ ap Some (sym here)
     ]
 
--- the entry at a place is that of a session that is found by its id
+-- the entry at an index is that of a session that is found by its id
 pub record Stands (es : Entries) (x : EntryValue) : Type 0 where
   pub session : SessionValue
   pub entry : entry_of session ≡ x
@@ -107,7 +107,7 @@ stands-at es rep k x keyed once is =
       found = ap (λ (e : EntryValue). lookup (at_session e.session) es) (sym at.2) ∙ held-lookup es at.0 keyed once held;
     }
 
--- the id that stands so far from the end is that of the entry that stands so far from the front
+-- the id at an index from the end is that of the entry at the same index from the front
 pub id-at : (by_rep : RepIndex) (sessions : List SessionValue) (rep : RepId) (left : ℕ) (id : SessionId) → AreListed by_rep sessions → slice_get (listed by_rep rep) left ≡ Some id
     → (x : EntryValue) × (slice_get (log_of sessions rep) (length (listed by_rep rep) - 1 - left) ≡ Some x) × (x.session ≡ id)
 id-at by_rep sessions rep left id law is =
@@ -121,7 +121,7 @@ id-at by_rep sessions rep left id law is =
     let found = mapped (λ (e : EntryValue). e.session) (slice_get (log_of sessions rep) place) id (sym (slice_get-map (λ (e : EntryValue). e.session) (log_of sessions rep) place) ∙ at) in
     (found.0, ap (λ n. slice_get (log_of sessions rep) (n - 1 - left)) long ∙ found.1, found.2)
 
--- the session that is read next, from the end of those of its replication, is that of the entry that is looked at
+-- the next session from the end, of those of its replication, is that of the current entry
 pub next-at : (by_rep : RepIndex) (sessions : List SessionValue) (rep : RepId) (left : ℕ) (d : SessionId) → AreListed by_rep sessions → 0 < left → left ≤ length (listed by_rep rep)
     → (x : EntryValue) × (slice_get (log_of sessions rep) (length (listed by_rep rep) - left) ≡ Some x) × (x.session ≡ get_or (listed by_rep rep) (left - 1) d)
 next-at by_rep sessions rep left d law some within =
@@ -132,13 +132,13 @@ next-at by_rep sessions rep left d law some within =
 
 -- ---- a write at a session
 
--- a session that keeps its id and its replication stands in the place of the one that it was
+-- a session that keeps its id and its replication replaces the old one
 pub listed-set : (ledgered : LedgerIndex) (by_rep : RepIndex) (es : Entries) (stored : IsTableOf ledgered es) (id : SessionId) (s t : SessionValue) → AreListed by_rep (sessions_of es)
     → lookup (at_session id) es ≡ Some s → t.id ≡ s.id → t.rep ≡ s.rep → AreListed by_rep (sessions_of (set_value (at_session id) es t))
 listed-set ledgered by_rep es stored id s t law is same of =
     AreListed-set by_rep es id s t law same of (with_session-same ledgered es stored id s s is) (sessions_of-set ledgered es stored id s t is same)
 
--- and the table with it is right, where its ledger stays too
+-- the table stays valid, if the ledger stays too
 pub table-set : (ledgered : LedgerIndex) (by_rep : RepIndex) (es new : Entries) (law : IsTableOf ledgered es × AreListed by_rep (sessions_of es)) (id : SessionId) (s t : SessionValue)
     → lookup (at_session id) es ≡ Some s → new ≡ set_value (at_session id) es t → IsSame s t → IsTableOf ledgered new × AreListed by_rep (sessions_of new)
 table-set ledgered by_rep es new law id s t is set same =

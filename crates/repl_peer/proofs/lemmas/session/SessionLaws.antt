@@ -1,10 +1,10 @@
--- A session's own law: what appending, recording and marking keep of it.
+-- The invariant of a session: appending, recording and marking keep it.
 use Rattle.proof_prelude.proofs.{◌≡◌, ℕ, ◌≤◌, List, [], ◌∷◌, ◌++◌, sym, ap, ◌∙◌, subst, map_push}
 use Rattle.couch_base.specs.{WindowValue}
 use Rattle.range_front.specs.{FrontValue, IsFront, bounds, end_of, low_water, appended, finished, start-le-low_water, bounds-appended, bounds-finished}
 use Rattle.repl_peer.specs.{window_bounds}
 
--- a window more
+-- one more window
 pub bounds_grown : (f g : FrontValue) (ws vs us : List WindowValue) (w : WindowValue) (hi : ℕ) → window_bounds ws ≡ bounds f → vs ≡ ws → us ≡ vs ++ w ∷ [] → w.lo ≡ end_of f → hi ≡ w.hi → g ≡ appended f hi
     → window_bounds us ≡ bounds g
 bounds_grown f g ws vs us w hi same kept pushed at high is =
@@ -16,10 +16,10 @@ bounds_grown f g ws vs us w hi same kept pushed at high is =
     ∙ ap (λ n. bounds (appended f n)) (sym high)
     ∙ ap bounds (sym is)
 
--- a window that is done
+-- a done window
 pub bounds_done : (f g : FrontValue) (ws : List WindowValue) (lo hi : ℕ) → window_bounds ws ≡ bounds f → g ≡ finished f lo hi → window_bounds ws ≡ bounds g
 bounds_done f g ws lo hi same is = same ∙ sym (bounds-finished f lo hi) ∙ ap bounds (sym is)
 
--- what is recorded isn't below the start
+-- the recorded sequence is not below the start
 pub start_recorded : (f : FrontValue) (n : ℕ) → IsFront f → n ≡ low_water f → f.start ≤ n
 start_recorded f n front is = subst (λ k. f.start ≤ k) (sym is) (start-le-low_water f front)

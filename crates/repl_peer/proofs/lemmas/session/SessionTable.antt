@@ -1,4 +1,4 @@
--- The table of sessions: its look-ups and its writes, as contracts see them.
+-- The table of sessions: its lookups and writes, as contracts see them.
 use Rattle.proof_prelude.proofs.{◌≡◌, ℕ, nat_lt, ◌==◌, ◌&&◌, ◌||◌, true, false, cond, if◌then◌else◌, Bool, List, [], ◌∷◌, ◌++◌, map, Option, Some, None, is_some, Result, Ok, Err, OnOk, OnErr, refl, sym, ap, ◌∙◌, subst, IsDistinct, option_map, keys_of, lookup, set_value, keys-set_value, set_value_same}
 use Rattle.rev_core.specs.{RevId}
 use Rattle.rev_tree.specs.{SessionId}
@@ -25,7 +25,7 @@ mapped_itself : (o : Option SessionValue) → option_map itself o ≡ o
 mapped_itself None = refl
 mapped_itself (Some s) = refl
 
--- what a table has at an id, where it is of the replication
+-- the session at an id, if it is of the replication
 abbrev based_on : RepId → Option SessionValue → Option SessionValue
 based_on rep None = None
 based_on rep (Some s) = if same_rep s.rep rep then Some s else None
@@ -50,9 +50,9 @@ concluded_same at s t made =
     (elim (low_water s.front == s.goal) as (λ b. IsSame s (cond b (recorded_at at s) s)) [ true ↦ record { id = refl; rep = refl; ledger = refl } | false ↦ record { id = refl; rep = refl; ledger = refl } ])
 
 module _ (ledgered : LedgerIndex) (es : Entries) (stored : IsTableOf ledgered es) (id : SessionId) where
-  -- ---- look-ups
+  -- ---- lookups
 
-  -- the session of an id is what the table has there
+  -- the session with an id is the one that the table has there
   pub session_in-lookup : session_in (sessions_of es) id ≡ lookup (at_session id) es
   session_in-lookup = find-lookup itself id_of id es stored.keyed stored.once ∙ mapped_itself (lookup (at_session id) es)
 
@@ -65,7 +65,7 @@ module _ (ledgered : LedgerIndex) (es : Entries) (stored : IsTableOf ledgered es
   pub absent-not_held : holds (sessions_of es) id ≡ false → lookup (at_session id) es ≡ None
   absent-not_held none = none_of (lookup (at_session id) es) (sym holds-lookup ∙ none)
 
-  -- a base is the session of its id, where that is of the replication
+  -- a base is the session with its id, if that is of the replication
   chosen-based : (rep : RepId) (o : Option SessionValue) → lookup (at_session id) es ≡ o → base_in (sessions_of es) rep id ≡ based_on rep o
   chosen-based rep None is =
       find-chosen itself id_of (λ s. same_rep s.rep rep) (λ s. is_of id s && same_rep s.rep rep) id (λ s. refl) es stored.keyed stored.once ∙ (rw is refl)
@@ -93,7 +93,7 @@ module _ (ledgered : LedgerIndex) (es : Entries) (stored : IsTableOf ledgered es
     index = λ doc r. stored.index doc r ∙ ap (λ l. in_ledger l doc r || in_ledgers (sessions_of es) doc r) (sym none) ∙ ap (λ ss. in_ledgers ss doc r) (sym (ap sessions_of is ∙ sessions_of-new s));
   }
 
-  -- ---- a write at the session of the id
+  -- ---- a write at the id of the session
 
   module _ (s t : SessionValue) (is : lookup (at_session id) es ≡ Some s) where
     found : session_in (sessions_of es) id ≡ Some s
@@ -107,7 +107,7 @@ module _ (ledgered : LedgerIndex) (es : Entries) (stored : IsTableOf ledgered es
         newest_first-set itself id_of id x es stored.keyed stored.once
         ∙ ap (λ (j : SessionId). map (λ (y : SessionValue). cond (is_of j y) x y) (sessions_of es)) (sym (same ∙ own))
 
-    -- the session itself is there already
+    -- writing back the session changes nothing
     pub with_session-same : with_session (sessions_of es) s ≡ sessions_of es
     with_session-same = sym (put_back s refl) ∙ ap sessions_of (set_value_same (at_session id) es s is)
 
@@ -144,7 +144,7 @@ module _ (ledgered : LedgerIndex) (es : Entries) (stored : IsTableOf ledgered es
   pub sessions_of-absent : (change : SessionValue → SessionValue) → lookup (at_session id) es ≡ None → sessions_of es ≡ with_changed (sessions_of es) id change
   sessions_of-absent change is = ap (changed change (sessions_of es)) (sym (session_in-at None is))
 
--- ---- beginning, by what a base has recorded
+-- ---- beginning, by the recorded sequence of the base
 
 abbrev started : ℕ → Result ℕ TargetFault → Result (Unit {0}) TargetFault
 started start (Ok recorded) = start_answer start recorded
@@ -169,7 +169,7 @@ pub begin_in-exists : (sessions : List SessionValue) (id : SessionId) (b : Begin
 begin_in-exists sessions id b there =
     ap (λ c. cond c (Err faults.SessionExists) (goal_answer b.start b.scope.goal (base_answer sessions b.scope.rep b.scope.base b.start))) (sym there)
 
--- what a base and a goal answer, by the two tests
+-- the result for a base and a goal, by the two tests
 abbrev started_at : ℕ → Bool → Bool → Result (Unit {0}) TargetFault
 started_at recorded above below = if above then Err (faults.StartAboveBase recorded) else (if below then Err faults.GoalBelowStart else Ok tt)
 

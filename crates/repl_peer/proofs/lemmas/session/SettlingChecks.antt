@@ -1,4 +1,4 @@
--- The check of a parcel against the stored windows.
+-- The check of a parcel against the windows.
 use Rattle.proof_prelude.proofs.{◌≡◌, ℕ, ◌+◌, ◌-◌, ◌≤◌, ◌^◌, ◌==◌, Bool, true, false, ◌&&◌, min, nat_le, List, [], ◌∷◌, inl, inr, length, get_or, Option, Some, None, Result, Ok, Err, is_ok, if◌then◌else◌, zero, suc, slice_get, refl, sym, ap, ◌∙◌, subst, arith, and_parts, lt-leb, cases_lt, and_from, or_left, or_right, false≢true, get_or_from_slice_get, list_all, list_any, eqb-true, leb-true, le-leb, eq-eqb, find}
 use Rattle.couch_base.specs.{most, WindowValue, found_member, none_some, some_is, ParcelValue}
 use Rattle.range_front.specs.{FrontValue, bounds, is_window, is_done, finish_answer, is_window-bounds, finish_answer-ok}
@@ -6,7 +6,7 @@ use Rattle.rev_tree.specs.{SessionId}
 use Rattle.repl_peer.specs.{PeerValue, SessionValue, session_in, found_answer, settle_at, settle_check, window_in, has_row, has_room, leaf_count, asked_count, IsWindowAt, Passes, window_bounds, TargetFault}
 use Rattle.repl_peer.specs.declared.fault.TargetFault.TheVariants as faults
 
--- the window that was found, as the session has it
+-- the window that was found is the session's
 pub record Found (ws : List WindowValue) (lo hi place : ℕ) (w : WindowValue) : Type 0 where
   pub at : slice_get ws place ≡ Some w
   pub first : find (λ w. (w.lo == lo) && (w.hi == hi)) ws ≡ Some w
@@ -27,7 +27,7 @@ found ws read lo hi low high place w same a b h is =
       hi_is = ap (λ (x : WindowValue). x.hi) (sym here) ∙ eqb-true _ _ parts.1;
     }
 
--- ---- its answers
+-- ---- the results of the check
 
 pub foreign : (s : SessionValue) (parcel : ParcelValue) (w : WindowValue) → list_all (has_row w) parcel.docs ≡ false → settle_at s parcel (Some w) ≡ Err faults.ForeignParcel
 foreign s parcel w rows = rw rows
@@ -43,7 +43,7 @@ passes_all s parcel w rows done room = rw (rows, done, room)
 
 -- ---- counts
 
--- a count that was cut at the greatest number passes where the whole one does
+-- a count that was capped at the maximum is in range exactly if the exact one is
 pub cut_fits : (count more : ℕ) → nat_le (count + min more (2 ^ 64 - 1)) most ≡ nat_le (count + more) most
 cut_fits count more =
     elim (cases_lt most (count + more)) [
@@ -51,11 +51,11 @@ cut_fits count more =
       | inr under ↦ le-leb _ _ (omega (arith, under)) ∙ sym (le-leb _ _ under)
     ]
 
--- and it's whole where it does
+-- a capped count that is in range is exact
 pub uncut : (count more : ℕ) → nat_le (count + min more (2 ^ 64 - 1)) most ≡ true → min more (2 ^ 64 - 1) ≡ more
 uncut count more h = let under = leb-true _ _ h in omega (arith, under)
 
--- ---- what a passed check says
+-- ---- the facts of a passed check
 
 pub record Passed (s : SessionValue) (parcel : ParcelValue) (w : WindowValue) : Type 0 where
   pub rows : list_all (has_row w) parcel.docs ≡ true
@@ -81,9 +81,9 @@ pub passed : (s : SessionValue) (parcel : ParcelValue) (o : Option WindowValue) 
 passed s parcel None at h = cc h
 passed s parcel (Some w) at h = let t = tested s parcel w at _ _ _ refl refl refl h in (w, refl, t.0, t.1)
 
--- ---- what is refused before the documents
+-- ---- errors before the documents
 
--- by one of four faults
+-- one of four errors
 pub check_refused : (P : TargetFault → Type 0) (p : PeerValue) (id : SessionId) (parcel : ParcelValue) (fault : TargetFault)
     → P faults.NoSuchSession → P faults.ForeignParcel → P faults.AlreadyDone → P faults.CountFull → settle_check p id parcel ≡ Err fault → P fault
 check_refused P p id parcel fault absent foreign done full h = in_peer (session_in p.sessions id) h
@@ -114,7 +114,7 @@ bound_there (x ∷ ws) zero w at =
     or_left _ _ (and_from _ _ (eq-eqb x.lo w.lo (ap (λ (v : WindowValue). v.lo) same)) (eq-eqb x.hi w.hi (ap (λ (v : WindowValue). v.hi) same)))
 bound_there (x ∷ ws) (suc i) w at = or_right _ _ (bound_there ws i w at)
 
--- the front takes the mark of a stored window that isn't done
+-- the front can mark a stored window that is not done
 pub can_finish : (f : FrontValue) (ws : List WindowValue) (i : ℕ) (w : WindowValue) → window_bounds ws ≡ bounds f → slice_get ws i ≡ Some w → is_done f w.lo w.hi ≡ false → finish_answer f w.lo w.hi ≡ Ok tt
 can_finish f ws i w same at remains =
     let there : is_window f w.lo w.hi ≡ true = is_window-bounds f w.lo w.hi ∙ ap (list_any (λ (b : ℕ × ℕ). (b.0 == w.lo) && (b.1 == w.hi))) (sym same) ∙ bound_there ws i w at in
@@ -125,7 +125,7 @@ passed_by s parcel place leaves asked p =
     let k = passed s parcel (window_in s parcel.asked.lo parcel.asked.hi) (s, p.window) p.answer in
     subst (Passed s parcel) (ap (λ (at : SessionValue × WindowValue). at.1) (sym k.2)) k.3
 
--- the counts that have room
+-- the counts are in range
 pub record Room (s : SessionValue) (w : WindowValue) (parcel : ParcelValue) : Type 0 where
   pub read : s.counts.read + length parcel.docs ≤ most
   pub checked : s.counts.checked + leaf_count w ≤ most

@@ -1,4 +1,4 @@
--- The documents of a parcel, one after another.
+-- The documents of a parcel, one at a time.
 use Rattle.proof_prelude.proofs.{◌≡◌, ℕ, ◌+◌, ◌-◌, ◌<◌, ◌≤◌, Bool, true, false, ◌&&◌, ◌||◌, List, [], ◌∷◌, ◌++◌, length, take, drop, Option, Some, None, Result, Ok, Err, IfErr, slice_get, zero, suc, refl, sym, ap, ◌∙◌, subst, arith, or-false, or_assoc, cond-true, cond-false, cond_both, list_any-append, get_or, length-drop, drop_more, take_more, bytes_eq, take_all, nat_lt, option_map, set, same_Some, IfSome, ◌⊎◌, inl, inr, OnOk, OnErr, IsTrue, false≢true, drop_all, slice_get_within, get_or_from_slice_get, map, map-append, append_assoc, append-nil, length-append, take-map, take-take}
 use Rattle.rev_core.specs.{is_among, RevId}
 use Rattle.rev_tree.specs.Tree.{answer_of, is_same}
@@ -13,9 +13,9 @@ use Rattle.repl_peer.specs.session.Settling.{cause_by_database}
 use Rattle.repl_peer.specs.declared.fault.Cause.TheVariants as causes
 use Rattle.repl_peer.specs.declared.fault.Reason.TheVariants as reasons
 
--- ---- what is made of documents
+-- ---- prepared trees
 
--- what stands where one was put in another's place
+-- the elements of a list after one was replaced
 set_at : {X : Type 0} (xs : List X) (i : ℕ) (x : X) (j : ℕ) (y : X) → slice_get (set xs i x) j ≡ Some y → (slice_get xs j ≡ Some y) ⊎ ((j ≡ i) × (x ≡ y))
 set_at [] i x j y at = inl at
 set_at (z ∷ xs) zero x zero y at = inr (refl, same_Some x y at)
@@ -34,7 +34,7 @@ made_set docs made i d m all at so j e n doc here =
 
 -- ---- one document
 
--- an index that has the ledger has what a refused document brings
+-- the index of the ledger with one more refused document
 indexes_refused : (d : Document) (reason : Reason) (base old new : LedgerIndex) (s t : SessionValue) → IsIndexedWith d old new
     → t ≡ with_refused d reason s → IndexesMore base s.ledger old → IndexesMore base t.ledger new
 indexes_refused d reason base old new s t noted e h id r =
@@ -52,7 +52,7 @@ indexes_same base old new s t same e h id r = same id r ∙ h id r ∙ ap (λ (l
 abbrev told_as : Contradiction → Reason
 told_as c = reasons.Contradicting c.child c.known c.given
 
--- what is put contradicts nothing
+-- a stored document contradicts nothing
 free_by : (c : Option Contradiction) (same room : Bool) (next : ℕ) (answer : Put) → put_told (answer_of c same) room next ≡ Ok answer → c ≡ None
 free_by None same room next answer h = refl
 free_by (Some c) same room next answer h = cc
@@ -62,18 +62,18 @@ accepted_by refuses d db answer accepted ok =
     cond-false (refuses d) (Some reasons.Filtered) (option_map told_as (contradiction_of db d)) accepted
     ∙ ap (option_map told_as) (free_by (contradiction_of db d) (is_same (tree_of db.docs d.id) d.ancestry) (nat_lt db.update_seq most) (db.update_seq + 1) answer ok)
 
--- an index after a document is refused, or finds no memory
+-- the index after a document is refused, or an allocation fails
 pub indexes_by : {A E : Type 0} (r : Result A E) (d : Document) (reason : Reason) (base old new : LedgerIndex) (s t : SessionValue)
     → OnOk r (t ≡ with_refused d reason s) → OnOk r (IsIndexedWith d old new) → OnErr r (t ≡ s) → OnErr r (IsSameIndex old new)
     → IndexesMore base s.ledger old → IndexesMore base t.ledger new
 indexes_by (Ok a) d reason base old new s t e noted kept same h = indexes_refused d reason base old new s t noted e h
 indexes_by (Err f) d reason base old new s t e noted kept same h = indexes_same base old new s t same (ap (λ (x : SessionValue). x.ledger) kept) h
 
--- why a document that is put, or finds no memory for it, doesn't stop for want of a sequence
+-- a document that is stored, or for which an allocation fails, does not stop for lack of a sequence
 goes_by : (refuses : Document → Bool) (db : DatabaseValue) (d : Document) (answer : Put) → refuses d ≡ false → put_answer db d ≡ Ok answer → stops_in refuses db d ≡ false
 goes_by refuses db d answer accepted ok = ap (stops_as db d) (accepted_by refuses d db answer accepted ok) ∙ ap is_full ok
 
--- a document that is put arrives
+-- a stored document arrives
 arrives : (refuses : Document → Bool) (w : WindowValue) (db : DatabaseValue) (s : SessionValue) (d : Document) (answer : Put) → refuses d ≡ false → put_answer db d ≡ Ok answer
     → settle_one refuses w (settling_at db s) d ≡ settling_at (after_put db d (fed w s.id d)) (with_arrival d s)
 arrives refuses w db s d answer accepted ok =
@@ -88,7 +88,7 @@ arrives_by refuses o d db db' s t answer accepted ok put arrived = record {
   step = λ w is. (λ i. settling_at ((put ∙ ap (after_put db d) is) i) (arrived i)) ∙ sym (arrives refuses w db s d answer accepted ok);
 }
 
--- what a put of a document that contradicts nothing refuses
+-- the error of a put of a document that contradicts nothing
 full_by : (c : Option Contradiction) (same room : Bool) (next : ℕ) (fault : BaseFault) → put_told (answer_of c same) room next ≡ Err fault
     → ((child known given : RevId) → fault ≡ base_faults.Contradiction child known given → ⊥) → (c ≡ None) × (fault ≡ base_faults.SeqFull)
 full_by (Some c) same room next fault h other = absurd (other c.child c.known c.given (cc))
@@ -138,7 +138,7 @@ goes_on refuses w z d ds goes = cond-false (stops_at refuses z d) 0 (settled_bef
 halts : (refuses : Document → Bool) (w : WindowValue) (z : Settling) (d : Document) (ds : List Document) → stops_at refuses z d ≡ true → settled_before refuses w z (d ∷ ds) ≡ 0
 halts refuses w z d ds stops = cond-true (stops_at refuses z d) 0 (settled_before refuses w (settle_one refuses w z d) ds + 1) stops
 
--- what is settled before the first that stops is the first n of them, and what is settled after these
+-- what is settled before the first document that stops is a prefix, followed by what is settled after it
 settled_split : (refuses : Document → Bool) (w : WindowValue) (z : Settling) (ds : List Document) (n : ℕ) → n ≤ settled_before refuses w z ds
     → settled_before refuses w z ds ≡ n + settled_before refuses w (settle_docs refuses w z (take n ds)) (drop n ds)
 settled_split refuses w z ds zero h = omega arith
@@ -194,23 +194,23 @@ reached_all refuses w z after ds n h =
       settling = h.settling ∙ ap (settle_docs refuses w z) (take_all n ds (omega (arith, none)));
     }
 
--- the documents from a place on
+-- the documents from an index on
 cut_at : (ds : List Document) (n : ℕ) (d : Document) → slice_get ds n ≡ Some d → drop n ds ≡ d ∷ drop (n + 1) ds
 cut_at ds n d at = drop_more ds n d (slice_get_within ds n d at) ∙ ap (λ (x : Document). x ∷ drop (n + 1) ds) (get_or_from_slice_get ds n d d at)
 
--- the one at the place is settled too
+-- the document at the index is settled too
 pub reached_at : (refuses : Document → Bool) (w : WindowValue) (z mid after : Settling) (ds : List Document) (n : ℕ) (d : Document)
     → Reached refuses w z ds n (drop n ds) mid → slice_get ds n ≡ Some d → stops_at refuses mid d ≡ false → after ≡ settle_one refuses w mid d
     → Reached refuses w z ds (n + 1) (drop (n + 1) ds) after
 reached_at refuses w z mid after ds n d h at goes step =
     reached_next refuses w z mid after ds n d (drop (n + 1) ds) (subst (λ (l : List Document). Reached refuses w z ds n l mid) (cut_at ds n d at) h) goes step
 
--- none is left
+-- no document is left
 pub reached_end : (refuses : Document → Bool) (w : WindowValue) (z after : Settling) (ds : List Document) (n : ℕ) → Reached refuses w z ds n (drop n ds) after → length ds ≤ n → ReachedAll refuses w z ds after
 reached_end refuses w z after ds n h end =
     reached_all refuses w z after ds n (subst (λ (l : List Document). Reached refuses w z ds n l after) (drop_all n ds end) h)
 
--- all are settled, as the first of them
+-- all are settled, as the longest prefix
 pub reached_whole : (refuses : Document → Bool) (w : WindowValue) (z after : Settling) (ds : List Document) → ReachedAll refuses w z ds after → Reached refuses w z ds (length ds) [] after
 reached_whole refuses w z after ds h = record {
   within = omega (arith, h.all);
@@ -218,13 +218,13 @@ reached_whole refuses w z after ds h = record {
   settling = h.settling ∙ sym (ap (settle_docs refuses w z) (take_all (length ds) ds (omega arith)));
 }
 
--- a document that stops leaves what was settled
+-- a document that stops leaves the settled ones
 pub reached_kept : (refuses : Document → Bool) (w : WindowValue) (z : Settling) (db db' : DatabaseValue) (s t : SessionValue) (ds : List Document) (n : ℕ)
     → db' ≡ db → t ≡ s → Reached refuses w z ds n (drop n ds) (settling_at db s) → Reached refuses w z ds n (drop n ds) (settling_at db' t)
 reached_kept refuses w z db db' s t ds n base same h =
     subst (Reached refuses w z ds n (drop n ds)) (λ i. settling_at (sym base i) (sym same i)) h
 
--- ---- documents that are put ahead
+-- ---- documents that are settled in bulk
 
 arrived_end : (front : List Document) (d : Document) (s : SessionValue) → with_arrivals (front ++ d ∷ []) s ≡ with_arrival d (with_arrivals front s)
 arrived_end front d s =
@@ -240,12 +240,12 @@ arrived_none s =
     let written : s.counts.written + 0 ≡ s.counts.written = omega arith in
     λ i. record s { arrivals = append-nil s.arrivals i; counts = record s.counts { read = read i; written = written i } }
 
--- none is put yet
+-- no document is stored yet
 pub ahead_none : (refuses : Document → Bool) (w : WindowValue) (db : DatabaseValue) (s : SessionValue) (ds : List Document) → Reached refuses w (settling_at db s) ds 0 ds (settling_at db (with_arrivals [] s))
 ahead_none refuses w db s ds =
     subst (λ (t : SessionValue). Reached refuses w (settling_at db s) ds 0 ds (settling_at db t)) (sym (arrived_none s)) (reached_none refuses w (settling_at db s) ds)
 
--- the one at the place is put too
+-- the document at the index is stored too
 pub ahead_next : (refuses : Document → Bool) (w : WindowValue) (z : Settling) (s : SessionValue) (ds : List Document) (n : ℕ) (db after : DatabaseValue) (d : Document) (answer : Put)
     → Reached refuses w z ds n (drop n ds) (settling_at db (with_arrivals (take n ds) s)) → slice_get ds n ≡ Some d → refuses d ≡ false → put_answer db d ≡ Ok answer → after ≡ after_put db d (fed w s.id d)
     → Reached refuses w z ds (n + 1) (drop (n + 1) ds) (settling_at after (with_arrivals (take (n + 1) ds) s))
@@ -256,12 +256,12 @@ ahead_next refuses w z s ds n db after d answer h at accepted ok put =
     reached_at refuses w z (settling_at db t) (settling_at after (with_arrivals (take (n + 1) ds) s)) ds n d h at (goes_by refuses db d answer accepted ok)
     ((λ i. settling_at (put i) (arrived i)) ∙ sym (arrives refuses w db t d answer accepted ok))
 
--- the first of what documents enter
+-- a prefix of the arrivals
 pub first_arrivals : (ds : List Document) (all : List WrittenValue) (n : ℕ) → AreArrivalsOf ds all → n ≤ length all → take n all ≡ map written_of (take n ds)
 first_arrivals ds all n are within =
     ap (take n) are ∙ take-map written_of n (take (length all) ds) ∙ ap (map written_of) (take-take n (length all) ds within)
 
--- ---- what documents leave in the session
+-- ---- the effect of documents on the session
 
 -- the counts of leaves stay, and those of documents grow
 pub record Grows (s t : SessionValue) : Type 0 where
@@ -307,7 +307,7 @@ grows refuses w z (d ∷ ds) =
 
 -- ---- why documents stop
 
--- why the next of them stops
+-- why the next document stops
 halts_at : (refuses : Document → Bool) (w : WindowValue) (z mid : Settling) (ds : List Document) (n : ℕ) (d : Document) (rest : List Document) → Reached refuses w z ds n (d ∷ rest) mid → (b : Bool) → stops_at refuses mid d ≡ b → Halts refuses w z ds n (cause_at b)
 halts_at refuses w z mid ds n d rest h true stops = reached_full refuses w z mid ds n d rest h stops
 halts_at refuses w z mid ds n d rest h false goes =
@@ -325,17 +325,17 @@ pub halts_first : (refuses : Document → Bool) (w : WindowValue) (z : Settling)
     → slice_get ds 0 ≡ Some d → cause ≡ cause_at (stops_in refuses z.db d) → Halts refuses w z ds 0 cause
 halts_first refuses w z ds d cause at why = halts_by refuses w z z ds 0 d cause (reached_none refuses w z ds) at why
 
--- why documents stop that stood before what was made ready for them
+-- why documents stop after the prepared ones
 pub halts_stop : (refuses : Document → Bool) (w : WindowValue) (z z' mid : Settling) (ds : List Document) (n : ℕ) (cause : Cause) → z ≡ z' → Reached refuses w z ds n (drop n ds) mid
     → (d : Document) × (slice_get ds n ≡ Some d) × (cause ≡ cause_at (stops_in refuses mid.db d)) → Halts refuses w z' ds n cause
 halts_stop refuses w z z' mid ds n cause same h why = subst (λ (y : Settling). Halts refuses w y ds n cause) same (halts_by refuses w z mid ds n why.0 cause h why.1 why.2)
 
--- there are none
+-- there are no documents
 pub halts_none : (refuses : Document → Bool) (w : WindowValue) (z : Settling) (ds : List Document) → slice_get ds 0 ≡ None → Halts refuses w z ds 0 causes.Memory
 halts_none refuses w z [] none = λ within. absurd (omega (arith, within))
 halts_none refuses w z (d ∷ ds) none = absurd (none_some d (sym none))
 
--- none of them is left
+-- no document is left
 pub halts_end : (refuses : Document → Bool) (w : WindowValue) (z mid : Settling) (ds : List Document) (n : ℕ) → Reached refuses w z ds n [] mid → Halts refuses w z ds n causes.Memory
 halts_end refuses w z mid ds n h = λ within. let none : 0 ≡ length ds - n = ap length h.rest ∙ length-drop n ds in absurd (omega (arith, none, within))
 
@@ -357,7 +357,7 @@ keeps_reached refuses w z after docs others n index index' h indexed =
     let grown = grown_by refuses w z after docs others n h in
     record { id = grown.id; rep = grown.rep; ledger = grown.ledger; indexed = indexed }
 
--- and where the window is marked
+-- what is kept when the window is marked
 pub keeps_marked : (s mid t : SessionValue) (index index' : LedgerIndex) → KeepsIndexed s index mid index' → t.id ≡ mid.id → t.rep ≡ mid.rep → t.ledger ≡ mid.ledger → KeepsIndexed s index t index'
 keeps_marked s mid t index index' h id rep ledger = record {
   id = id ∙ h.id;

@@ -1,4 +1,4 @@
--- What settling keeps, in full or as far as it came: the peer's law, and all that covers.
+-- Settling, complete or partial, keeps the peer's invariant and everything covered.
 use Rattle.proof_prelude.proofs.{◌≡◌, ℕ, ◌<◌, ◌^◌, List, [], ◌∷◌, ◌++◌, Bool, true, refl, sym, ap, ◌∙◌, subst, inl, inr, arith, list_all, map_push, length-append}
 use Rattle.rev_core.specs.{is_among}
 use Rattle.rev_tree.specs.{has, SessionId}
@@ -13,7 +13,7 @@ use Rattle.repl_peer.proofs.lemmas.session.Changes.{Change, Kept, Stored, Refuse
 
 -- ---- what each change of a session keeps
 
--- windows are of the kind that is appended
+-- appended windows satisfy their invariant
 abbrev pub AreWindows : Source → Type 0
 AreWindows Of = (s : SessionValue) (w : WindowValue) → Of.window s w → IsWindow w × (w.hi < 2 ^ 64)
 
@@ -31,7 +31,7 @@ written_later : (db : DatabaseValue) (s : SessionValue) (c : Change) → IsLater
 written_later db s (Arrived window doc) = IsLater-after_put db doc (fed window s.id doc)
 written_later db s change = IsLater-same db
 
--- what a change leaves of the session, in the peer that it leaves
+-- the effect of a change on the session, in the resulting peer
 change_lawful : (refuses : Document → Bool) (Of : Source) → AreWindows Of → (p : PeerValue) (s : SessionValue) (c : Change) → May refuses Of p s c → IsLaterPeer p (after_change p s c) → LawfulSession refuses (after_change p s c) s → LawfulSession refuses (after_change p s c) (changed s c)
 change_lawful refuses Of are p s Kept may later l = l
 change_lawful refuses Of are p s (Stored w) may later l =
@@ -116,9 +116,9 @@ change_lawful refuses Of are p s (Recorded at) may later l = record {
   counts = l.counts;
 }
 
--- ---- so the calls
+-- ---- the calls
 
--- a peer is lawful, and a later one
+-- a peer is lawful and later
 abbrev pub StaysLawful : (Document → Bool) → PeerValue → PeerValue → Type 0
 StaysLawful refuses p q = LawfulSessions refuses q × IsLaterPeer p q
 

@@ -1,4 +1,4 @@
--- What settling a parcel answers and leaves.
+-- The result and the effect of settling a parcel.
 use Rattle.proof_prelude.proofs.{◌≡◌, ℕ, ◌-◌, Bool, List, [], length, Result, Ok, Err, sym, ap, ◌∙◌, subst, arith}
 use Rattle.std.specs.Global.{Vec}
 use Rattle.rev_core.specs.{RevId}

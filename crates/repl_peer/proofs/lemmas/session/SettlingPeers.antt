@@ -1,4 +1,4 @@
--- What settling over the parts of a peer gives of the peer.
+-- Settling on the parts of a peer is settling the peer.
 use Rattle.proof_prelude.proofs.{◌≡◌, Bool, true, false, not, is_some, if◌then◌else◌, ◌||◌, List, [], ◌∷◌, Option, Some, None, Result, Ok, Err, refl, sym, ap, ◌∙◌, subst, inl, inr, list_all, cond_both, cond-true, cond-false, or_cases, or_left, or_right}
 use Rattle.rev_core.specs.{RevId}
 use Rattle.rev_tree.specs.{has, SessionId, same_tests}
@@ -12,9 +12,9 @@ use Rattle.repl_peer.proofs.lemmas.session.Changes.{with_session-twice}
 use Rattle.repl_peer.proofs.lemmas.session.FirstUnknownLeaf.{rows_known}
 use Rattle.repl_peer.proofs.lemmas.session.SettlingChecks.{passed}
 
--- ---- one session in the place of another
+-- ---- replacing one session
 
--- sessions of one id and one ledger cover the same
+-- sessions with equal ids and ledgers cover the same
 pub same_ledgers : (sessions : List SessionValue) (s t : SessionValue) (id : Id) (r : RevId) → t.id ≡ s.id → t.ledger ≡ s.ledger → in_ledgers (with_session sessions t) id r ≡ in_ledgers (with_session sessions s) id r
 same_ledgers [] s t id r same ledger = refl
 same_ledgers (x ∷ sessions) s t id r same ledger =
@@ -61,11 +61,11 @@ module _ (refuses : Document → Bool) (known : Id → RevId → Bool) (p : Peer
   settles_at (Err (faults.Stopped n rest cause)) after agrees h = (record { within = h.0.within; rest = h.0.rest; peer = ap (with_settling p) h.0.settling }, h.1)
   settles_at (Err fault) after agrees h = absurd h
 
--- the session of the check is the one that is asked
+-- the session of the check is the requested one
 own_session : (s : SessionValue) (parcel : ParcelValue) (o : Option WindowValue) (at : SessionValue × WindowValue) → settle_at s parcel o ≡ Ok at → at.0 ≡ s
 own_session s parcel o at h = ap (λ (x : SessionValue × WindowValue). x.0) (passed s parcel o at h).2
 
--- where the peer holds the session of the id, settling over its parts is settling the peer
+-- if the peer has the session, settling on its parts is settling the peer
 pub settle_gives : (refuses : Document → Bool) (known : Id → RevId → Bool) (p : PeerValue) (id : SessionId) (s : SessionValue) (parcel : ParcelValue) (result : Result Settled TargetFault) (after : Settling)
     → session_in p.sessions id ≡ Some s → with_session p.sessions s ≡ p.sessions → Agrees known (with_settling p after)
     → PartsGive refuses known (settling_of p s) parcel result after → SettleGives refuses p id parcel result (with_settling p after)
@@ -89,7 +89,7 @@ refused id r x = in_ledger x.ledger id r
 abbrev put_in : SessionValue → SessionValue → SessionValue
 put_in t x = if is_of t.id x then t else x
 
--- the ledgers after a session that stands among the others has refused more
+-- the ledgers after a session has refused more
 pub ledgers_after : (sessions : List SessionValue) (s t : SessionValue) (id : Id) (r : RevId) → with_session sessions s ≡ sessions → Among s sessions → t.id ≡ s.id
     → (in_ledger s.ledger id r ≡ true → in_ledger t.ledger id r ≡ true) → in_ledgers (with_session sessions t) id r ≡ (in_ledgers sessions id r || in_ledger t.ledger id r)
 ledgers_after sessions s t id r stands held same more = same_tests _ _ forth back
@@ -118,13 +118,13 @@ ledgers_after sessions s t id r stands held same more = same_tests _ _ forth bac
           | inr new ↦ any_from (refused id r) t (with_session sessions t) (with_session_holds sessions s t held same) new
         ]
 
--- where the peer doesn't hold it, nothing changes
+-- if the peer does not have the session, nothing changes
 pub settle_absent : (refuses : Document → Bool) (p q : PeerValue) (id : SessionId) (parcel : ParcelValue) → session_in p.sessions id ≡ None → q ≡ p → SettleGives refuses p id parcel (Err faults.NoSuchSession) q
 settle_absent refuses p q id parcel none same =
     subst (λ (r : Result (SessionValue × WindowValue) TargetFault). Settles refuses p parcel r (Err faults.NoSuchSession) q)
     (sym (ap (found_answer (λ (s : SessionValue). settle_at s parcel (window_in s parcel.asked.lo parcel.asked.hi))) none)) (refl, same)
 
--- an index of all ledgers has that of each
+-- an index of all ledgers includes each of them
 pub indexed_own : (sessions : List SessionValue) (ledgered : LedgerIndex) (s : SessionValue) → Indexes ledgered sessions → Among s sessions → (id : Id) (r : RevId) → is_ledgered ledgered id r ≡ (is_ledgered ledgered id r || in_ledger s.ledger id r)
 indexed_own sessions ledgered s index held id r =
     sym (or_held (in_ledger s.ledger id r) (is_ledgered ledgered id r) (λ h. index id r ∙ any_from (λ (x : SessionValue). in_ledger x.ledger id r) s sessions held h))

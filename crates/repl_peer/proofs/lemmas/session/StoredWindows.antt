@@ -1,4 +1,4 @@
--- Stored windows: which of them are kept whole, and what thinning keeps.
+-- Stored windows: which of them are complete, and what dropping leaves keeps.
 use Rattle.proof_prelude.proofs.{◌≡◌, ℕ, ◌<◌, Bool, true, false, List, [], ◌∷◌, ◌++◌, length, set, get_or, Some, Ok, is_ok, inl, inr, zero, suc, slice_get, ◌≤◌, refl, sym, ap, ◌∙◌, subst, arith, false≢true, or_left, or_right, and_from, length-map, get_or-map, slice_get-map, slice_get_within, option_map, IsPartitionPoint, eq-eqb}
 use Rattle.couch_base.specs.{Among-push, none_some, some_is, WindowValue}
 use Rattle.range_front.specs.{FrontValue, is_window, is_done, appended, finished, finish_answer, is_done-appended, is_done-finished, finish_answer-no_window, finish_answer-done}
@@ -7,7 +7,7 @@ use Rattle.repl_peer.proofs.lemmas.Members.{Among-at}
 use Rattle.repl_peer.proofs.lemmas.session.WindowsFound.{rises}
 use Rattle.repl_peer.proofs.lemmas.session.SettlingChecks.{Found, found}
 
--- ---- the window at a place
+-- ---- the window at an index
 
 pub record StoredAt (vs : List StoredWindowValue) (place : ℕ) (w : WindowValue) (v : StoredWindowValue) : Type 0 where
   pub at : slice_get vs place ≡ Some v
@@ -23,7 +23,7 @@ at_place [] place v h is = absurd (omega (arith, h))
 at_place (x ∷ vs) zero v h is = ap (λ y. Some y) (sym is)
 at_place (x ∷ vs) (suc place) v h is = at_place vs place v (omega (arith, h)) is
 
--- the same as a window
+-- the same window, with its stored form
 pub window_at_place : (vs : List StoredWindowValue) (place : ℕ) (v : StoredWindowValue) → slice_get vs place ≡ Some v → slice_get (windows_of vs) place ≡ Some v.window
 window_at_place vs place v at = slice_get-map (λ (x : StoredWindowValue). x.window) vs place ∙ ap (option_map (λ (x : StoredWindowValue). x.window)) at
 
@@ -39,13 +39,13 @@ told : (b : Bool) → (b ≡ false → false ≡ true) → b ≡ true
 told true so = refl
 told false so = so refl
 
--- a window that isn't done is kept whole
+-- a window that is not done is complete
 pub whole_at : (f : FrontValue) (vs : List StoredWindowValue) (place : ℕ) (w : WindowValue) (v : StoredWindowValue) → IsThinnedWhereDone f vs → slice_get (windows_of vs) place ≡ Some w → v ≡ get_or vs place v → is_done f w.lo w.hi ≡ false → v.whole ≡ true
 whole_at f vs place w v thinned at is remains =
     let here = stored_at vs place w v at is in
     told v.whole (λ e. sym remains ∙ subst (λ (x : WindowValue). is_done f x.lo x.hi ≡ true) here.window (thinned v (Among-at vs place v here.at) e))
 
--- ---- the window of some bounds
+-- ---- the window with given bounds
 
 pub found_stored : (vs read : List StoredWindowValue) (lo hi low high place : ℕ) (v : StoredWindowValue) → read ≡ vs → lo ≡ low → hi ≡ high → IsWindowAt (windows_of read) lo hi place → v ≡ get_or vs place v → Found (windows_of vs) low high place v.window
 found_stored vs read lo hi low high place v same a b h is = found (windows_of vs) (windows_of read) lo hi low high place v.window (ap windows_of same) a b h (window_read vs place v is)
@@ -70,7 +70,7 @@ point_stored vs lo place bound point =
       (λ k d low h. let far = h in subst (λ (w : WindowValue). lo ≤ w.lo) (sym (get_or-map of vs k (whole d) d (omega (arith, same, far)))) (point.1 k (whole d) low (omega (arith, same, far)))),
     )
 
--- ---- a window comes
+-- ---- a new window
 
 pub thinned_grown : (f : FrontValue) (vs : List StoredWindowValue) (w : WindowValue) (hi : ℕ) → IsThinnedWhereDone f vs → IsThinnedWhereDone (appended f hi) (vs ++ record { window = w; whole = true } ∷ [])
 thinned_grown f vs w hi thinned v m e =
@@ -79,7 +79,7 @@ thinned_grown f vs w hi thinned v m e =
       | inr same ↦ absurd (false≢true (sym e ∙ ap (λ (x : StoredWindowValue). x.whole) same))
     ]
 
--- ---- the leaves of a window go
+-- ---- dropping the leaves of a window
 
 pub windows_kept : (vs : List StoredWindowValue) (place : ℕ) (v n : StoredWindowValue) → slice_get vs place ≡ Some v → n.window ≡ v.window → windows_of (set vs place n) ≡ windows_of vs
 windows_kept [] place v n at same = absurd (none_some v at)
@@ -97,7 +97,7 @@ is_thinner (y ∷ vs) (suc place) v n at same x (inr m) e =
       | inr here ↦ inr here
     ]
 
--- a window that is marked is one of the front
+-- a marked window is one of the front
 marks_window : (f : FrontValue) (lo hi : ℕ) (b : Bool) → is_window f lo hi ≡ b → finish_answer f lo hi ≡ Ok tt → b ≡ true
 marks_window f lo hi true is ok = refl
 marks_window f lo hi false is ok = absurd (false≢true (ap is_ok (sym (finish_answer-no_window f lo hi is) ∙ ok)))
@@ -106,7 +106,7 @@ pub remains_of : (f : FrontValue) (lo hi : ℕ) (b : Bool) → is_done f lo hi �
 remains_of f lo hi false is ok = refl
 remains_of f lo hi true is ok = absurd (false≢true (ap is_ok (sym (finish_answer-done f lo hi is) ∙ ok)))
 
--- once it's marked, it may be kept without leaves
+-- a marked window may be stored without leaves
 pub thinned_marked : (f : FrontValue) (old new : List StoredWindowValue) (place : ℕ) (w : WindowValue) → IsThinnedWhereDone f old → slice_get (windows_of old) place ≡ Some w → finish_answer f w.lo w.hi ≡ Ok tt → IsThinner place old new
     → IsThinnedWhereDone (finished f w.lo w.hi) new
 thinned_marked f old new place w thinned at ok thinner v m e =

@@ -1,4 +1,4 @@
--- The stored windows of a session lie one behind the other.
+-- The windows of a session are adjacent.
 use Rattle.proof_prelude.proofs.{◌≡◌, ℕ, ◌<◌, ◌≤◌, List, [], ◌∷◌, true, sym, ap, ◌∙◌, subst, inl, inr, arith, eqb, ◌&&◌, and_parts, eqb-true}
 use Rattle.couch_base.specs.{Among, WindowValue, Among-map, any_member}
 use Rattle.range_front.specs.{FrontValue, FrontWindow, Rises, IsFront, bounds, is_window, bounds_from, is_window-bounds}
@@ -18,7 +18,7 @@ consecutive_from lo (f ∷ fs) (w ∷ ws) e r =
 pub windows-consecutive : (f : FrontValue) (ws : List WindowValue) → window_bounds ws ≡ bounds f → IsFront f → Consecutive f.start ws
 windows-consecutive f ws e front = consecutive_from f.start f.windows ws e front.rises
 
--- a window lies at or above where they begin, and isn't empty
+-- a window is at or above the beginning of the first, and is not empty
 pub window-above : (lo : ℕ) (ws : List WindowValue) (x : WindowValue) → Consecutive lo ws → Among x ws → (lo ≤ x.lo) × (x.lo < x.hi)
 window-above lo [] x c m = absurd m
 window-above lo (w ∷ ws) x c (inl e) =
@@ -27,7 +27,7 @@ window-above lo (w ∷ ws) x c (inl e) =
     (omega (arith, from, c.0), omega (arith, from, to, c.0, c.1))
 window-above lo (w ∷ ws) x c (inr m) = let k = window-above w.hi ws x c.2 m in (omega (arith, k.0, c.1), k.1)
 
--- two windows in which one sequence lies are one
+-- two windows that contain the same sequence are equal
 pub one_window : (lo : ℕ) (ws : List WindowValue) (x y : WindowValue) (q : ℕ) → Consecutive lo ws → Among x ws → Among y ws → x.lo < q → q ≤ x.hi → y.lo < q → q ≤ y.hi → x ≡ y
 one_window lo [] x y q c m n a b d e = absurd m
 one_window lo (w ∷ ws) x y q c (inl i) (inl j) a b d e = i ∙ sym j

@@ -1,4 +1,4 @@
--- Stored windows, which stand one behind the other.
+-- Finding one of adjacent windows.
 use Rattle.proof_prelude.proofs.{◌≡◌, ℕ, ◌<◌, ◌≤◌, ◌==◌, Bool, false, ◌&&◌, List, [], ◌∷◌, length, get_or, Some, None, slice_get, zero, suc, refl, ap, ◌∙◌, subst, arith, cond-true, cond-false, and_left, and_from, slice_get_within, get_or_from_slice_get, IsPartitionPoint, eq-eqb, ne_eqb, find}
 use Rattle.couch_base.specs.{none_some, some_is, WindowValue}
 use Rattle.repl_peer.specs.{Consecutive, IsWindowAt}
@@ -18,7 +18,7 @@ none_above start (w ∷ ws) law lo hi below =
     cond-false (is_at lo hi w) (Some w) (find (is_at lo hi) ws) (other lo hi w (λ e. omega (arith, at, e, below)))
     ∙ none_above w.hi ws law.2 lo hi (omega (arith, more, below))
 
--- the windows before a place begin below a bound
+-- the windows before an index begin below a bound
 abbrev pub AllBelow : ℕ → List WindowValue → ℕ → Type 0
 AllBelow lo ws k = (i : ℕ) (w : WindowValue) → i < k → slice_get ws i ≡ Some w → w.lo < lo
 

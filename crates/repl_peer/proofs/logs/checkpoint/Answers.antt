@@ -3,7 +3,7 @@ use Rattle.repl_log.specs.{EntryValue, common, log_in-found, log_in-absent}
 use Rattle.repl_peer.specs.{log_of}
 use Rattle.repl_peer.proofs.logs.checkpoint.Goals as goal
 
--- no session is shared with a log that holds none
+-- an empty log shares no session
 common-nothing : (target : List EntryValue) → common [] target ≡ None
 common-nothing [] = refl
 common-nothing (t ∷ target) = common-nothing target

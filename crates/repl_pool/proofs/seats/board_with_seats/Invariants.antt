@@ -1,4 +1,5 @@
--- The seats that are left are as the board was made with them, and those that were taken came with it and have nothing.
+-- The remaining seats are as the board was created with them; those that were taken belong to it and have counted
+-- nothing.
 use Rattle.proof_prelude.proofs.{◌≡◌, ◌+◌, ◌≤◌, All, vec_len, vec_capacity, vec_items}
 use Rattle.progress_board.specs.{AreNew, CameWith}
 use Rattle.pool_workers.specs.{HasNothing}

@@ -8,7 +8,7 @@ use Rattle.repl_target.specs.declared.auditing.found.Audit.TheVariants.{Clean}
 use Rattle.repl_target.proofs.{clean_from, tied_none}
 use Rattle.repl_target.proofs.auditing.audit.Goals as goal
 
--- where no leaf is named, all are covered
+-- if no leaf is named, all are covered
 clean_is : (source target : PeerValue) (chosen : Choice) → audit_answer source target chosen ≡ None → IsAudited source target chosen
 clean_is source target chosen none s n is =
     none_unknown (covers target) (chosen_feed chosen source.db 0 n) (sym (ap (hole_at source target chosen) is) ∙ none)

@@ -1,4 +1,4 @@
--- A session that began, in any later target that has grown by what the source answers.
+-- A session that has begun, in a later target that has grown by messages of the source.
 use Rattle.proof_prelude.proofs.{◌≡◌, ◌≤◌, Bool, false, ◌∷◌, Result, Ok, Err, is_ok, refl, sym, ap, ◌∙◌, subst, inl, inr, arith, cond_both, false≢true, both_ways, eq-eqb}
 use Rattle.rev_tree.specs.{SessionId}
 use Rattle.doc_json.specs.Document.{Document}
@@ -11,7 +11,7 @@ use Rattle.repl_target.proofs.lemmas.ties.TiedPages.{chosen_member}
 use Rattle.repl_target.proofs.lemmas.replication.CallLaws.{grown_law, grown_stores}
 use Rattle.repl_target.proofs.lemmas.ties.TiedPeersCover.{windows_cover}
 
--- the session as it is later: what it began with is kept, and its windows are tied to the source's database
+-- the session in a later target: its scope is kept, and its windows are tied to the source's database
 pub record Later (source target : PeerValue) (plan : Plan) (now : PeerValue) : Type 0 where
   pub session : SessionValue
   pub held : Among session now.sessions
@@ -20,7 +20,7 @@ pub record Later (source target : PeerValue) (plan : Plan) (now : PeerValue) : T
   pub start : session.front.start ≡ start_between source target plan.chosen
   pub tied : (w : WindowValue) → Among w session.windows → IsTiedWindow source.db plan.chosen w
 
--- no session of the target has the id of one that begins
+-- no session of the target has the id of the new one
 pub fresh_of : (source target : PeerValue) (plan : Plan) → begins_answer source target plan ≡ Ok tt → holds target.sessions plan.session ≡ false
 fresh_of source target plan h =
     let answer = goal_answer (start_between source target plan.chosen) source.db.update_seq (base_answer target.sessions (rep_between source target plan.chosen) (base_at (checkpoint_of source target plan.chosen)) (start_between source target plan.chosen)) in
@@ -50,7 +50,7 @@ later_session refuses source target plan now law l ok grown =
       tied = λ w n. stored k.0 k.1 k.2.id w n;
     }
 
--- where it is recorded at the goal, all of the source's feed above its start is covered
+-- if the session is recorded at its goal, the source's feed above its start is covered
 pub later_covers : (refuses : Document → Bool) (source target : PeerValue) (plan : Plan) (now : PeerValue) → LawfulSessions refuses now → (t : Later source target plan now) → source.db.update_seq ≤ t.session.recorded → CoversFrom source now plan.chosen (start_between source target plan.chosen)
 later_covers refuses source target plan now l t reached row m leaf k =
     let d = chosen_member plan.chosen source.db (start_between source target plan.chosen) source.db.update_seq row m in

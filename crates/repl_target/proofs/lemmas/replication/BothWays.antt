@@ -1,4 +1,4 @@
--- Two replications, one each way: both databases end with the same documents.
+-- Two replications, one in each direction: both databases end with the same documents.
 use Rattle.proof_prelude.proofs.{◌≡◌, ◌&&◌, true, List, [], Option, Some, unwrap_or, Bool, Result, Ok, Err, sym, ap, ◌∙◌, subst, inl, inr, bytes_eq, cond_both, and_parts, or_cases, bytes_eq-Decides}
 use Rattle.rev_core.specs.{RevId, is_among}
 use Rattle.rev_tree.specs.{TreeValue, has, is_leaf, ancestors, merged, no_revisions, Agree, IsWhole, IsGrownBy, IsGrownBy-same, IsGrownBy-merged, leaves_known, Agree-grown, IsWhole-there, IsWhole-back, same_by_leaves, same_leaves, given, Origin}
@@ -12,7 +12,7 @@ use Rattle.repl_target.proofs.lemmas.replication.EmptyTargetCopied.{leaf_covered
 use Rattle.repl_target.proofs.lemmas.replication.ReplicationAsCalls.{replicates_left, replicates_puts}
 use Rattle.repl_target.proofs.lemmas.replication.OthersStayTied.{turned_tied}
 
--- ---- a target's documents come from what it was, and from the source
+-- ---- a target's documents come from itself and from the source
 
 module _ (old source : DatabaseValue) (law : LawfulDatabase source) where
   abbrev grown : DatabaseValue → Id → RevId → Origin → TreeValue
@@ -46,7 +46,7 @@ left_grown refuses source target plan now law (inr left) =
 
 -- ---- one replication
 
--- what one by one thread leaves
+-- the effect of a replication by one thread
 pub replicates_leaves : (refuses : Document → Bool) (source target : PeerValue) (plan : Plan) (result : Result Report TargetFault) (source' target' : PeerValue) → Replicates refuses source target plan result source' target' → source' ≡ record source { outgoing = source'.outgoing }
     → ((chosen : Choice) (backups : List BackupValue) → IsTiedWith backups source target chosen → IsTiedWith backups source' target' chosen) → KeepsOthersTied source target source' target' → Leaves refuses source target plan source' target'
 replicates_leaves refuses source target plan result source' target' h log tied others = record {
@@ -57,9 +57,9 @@ replicates_leaves refuses source target plan result source' target' h log tied o
   others = others;
 }
 
--- ---- one replication each way
+-- ---- one replication in each direction
 
--- where nothing was refused, what is covered stands in its tree
+-- if nothing was refused, what is covered is in its tree
 pub covered_stands : (p : PeerValue) (id : Id) → HasRefusedNone p id → (r : RevId) → covers p id r ≡ true → has (tree_of p.db.docs id) r ≡ true
 covered_stands p id none r h =
     elim (or_cases _ _ h) [
@@ -124,6 +124,6 @@ module _ (refuses_a refuses_b : Document → Bool) (a b a' b' a'' b'' : PeerValu
       knows_back : (leaf : RevId) → is_leaf (tree b' id) leaf ≡ true → has (tree a'' id) leaf ≡ true
       knows_back leaf top = covered_stands a'' id none_a leaf (leaf_covered back.chosen b'.db a'' law_b' (second_whole tied_then) id chosen_back leaf top)
 
-      -- and each that a has now
+      -- b has each leaf that a has now
       knows_there : (leaf : RevId) → is_leaf (tree a'' id) leaf ≡ true → has (tree b' id) leaf ≡ true
       knows_there = leaves_known (tree a id) (tree b' id) (tree a'' id) (grown_back id) brought

@@ -1,4 +1,4 @@
--- What calls keep: the law, what covers, and the windows that are stored.
+-- What calls keep: the invariant, coverage, and the stored windows.
 use Rattle.proof_prelude.proofs.{◌≡◌, ℕ, ◌<◌, ◌^◌, Bool, cond, List, Result, Ok, Err, refl, sym, ap, ◌∙◌, subst, inl, inr, arith, cond_both}
 use Rattle.rev_tree.specs.{SessionId}
 use Rattle.doc_json.specs.Document.{Document}
@@ -22,9 +22,9 @@ page_window db c w law p =
       subst (IsTiedWindow db c) (sym p.is) (IsTiedWindow-page db p.since p.goal p.limit c law (omega (arith, p.above)) p.within),
     )
 
--- ---- the law
+-- ---- the invariant
 
--- what calls leave of a lawful peer
+-- the effect of calls on a lawful peer
 pub run_windows : (source : DatabaseValue) (chosen : Choice) (run : SessionId) → LawfulDatabase source → AreWindows (of_run source chosen run)
 run_windows source chosen run law s w from = let k = page_window source chosen w law from.1 in (k.0, k.1)
 
@@ -32,9 +32,9 @@ pub grown_law : (refuses : Document → Bool) (source : DatabaseValue) (chosen :
 grown_law refuses source chosen run given now law grown l =
     run_keeps refuses source chosen run (StaysLawful refuses given) (law_kept refuses (of_run source chosen run) (run_windows source chosen run law) given) given now grown (stays_same refuses given l)
 
--- ---- what holds of each session
+-- ---- properties of each session
 
--- a session with the same windows, and what it began with
+-- a session with the same windows and scope
 pub record Stays (s t : SessionValue) : Type 0 where
   pub id : t.id ≡ s.id
   pub rep : t.rep ≡ s.rep
@@ -42,9 +42,9 @@ pub record Stays (s t : SessionValue) : Type 0 where
   pub start : t.front.start ≡ s.front.start
   pub windows : t.windows ≡ s.windows
 
--- something that is said of a session by what it began with and its windows
+-- a property of a session that depends on its scope and its windows
 module _ (S : SessionValue → Type 0) (stays : (s t : SessionValue) → Stays s t → S s → S t) where
-  -- a window that a call stores, or a session that it begins, keeps it so
+  -- a window that a call stores, or a session that it begins, satisfies the property
   abbrev pub Brings : PeerValue → Call → Type 0
   Brings p (Append session window) = (s : SessionValue) → Among s p.sessions → s.id ≡ session → window.life ≡ s.life → S s → S (with_window window s (Ok tt))
   Brings p (Begin session beginning at) = begin_answer p session beginning ≡ Ok tt → S (new_session session beginning at)
@@ -59,7 +59,7 @@ module _ (S : SessionValue → Type 0) (stays : (s t : SessionValue) → Stays s
       let at : S (cond (is_of t.id k.0) t k.0) = cond_both (is_of t.id k.0) t k.0 S (λ _. here) (λ _. h k.0 k.1) in
       subst S (sym k.2) at
 
-  -- what a change leaves of its session
+  -- the effect of a change on its session
   pub each-changed : (refuses : Document → Bool) (Of : Source) (p : PeerValue) (s : SessionValue) (c : Change) → May refuses Of p s c → ((w : WindowValue) → Of.window s w → w.life ≡ s.life → S s → S (with_window w s (Ok tt))) → S s → S (changed s c)
   each-changed refuses Of p s (Stored window) may more h = more window may.from may.life h
   each-changed refuses Of p s change may more h = stays s (changed s change) (record { id = refl; rep = refl; life = refl; start = refl; windows = refl }) h
@@ -71,11 +71,11 @@ module _ (S : SessionValue → Type 0) (stays : (s t : SessionValue) → Stays s
   each-begun p s (Err fault) new h = h
   each-begun p s (Ok done) new h = λ t m. elim m [ inl e ↦ subst S (sym e) (new refl) | inr o ↦ h t o ]
 
-  -- windows that keep it so
+  -- windows that keep the property
   abbrev growing : Source
   growing = record { doc = λ _. Unit {0}; window = λ s w. w.life ≡ s.life → S s → S (with_window w s (Ok tt)) }
 
-  -- a settling, however it ends
+  -- settling keeps the property, however it ends
   pub settling_keeps : (refuses : Document → Bool) (p : PeerValue) (id : SessionId) (parcel : ParcelValue) (result : Result Settled TargetFault) (q : PeerValue) → SettleGives refuses p id parcel result q → Each p.sessions → Each q.sessions
   settling_keeps refuses p id parcel result q gives h = ends_keep refuses growing (λ q. Each q.sessions) (each-kept refuses growing (λ _ _ k. k)) p id parcel q (settle_ends refuses p id parcel result q gives) (λ _ _. tt) h
 
@@ -89,16 +89,16 @@ module _ (S : SessionValue → Type 0) (stays : (s t : SessionValue) → Stays s
   call_keeps refuses p (Record session at) b h = record_keep refuses growing (λ q. Each q.sessions) (each-kept refuses growing (λ _ _ k. k)) p session at h
   call_keeps refuses p (Conclude session at) b h = conclude_keep refuses growing (λ q. Each q.sessions) (each-kept refuses growing (λ _ _ k. k)) p session at h
 
--- ---- the windows that are stored
+-- ---- the stored windows
 
--- the windows of the sessions that are looked at
+-- the windows of the sessions for which Q holds
 abbrev Stores : (SessionId → RepId → Type 0) → (WindowValue → Type 0) → SessionValue → Type 0
 Stores Q P s = Q s.id s.rep → (w : WindowValue) → Among w s.windows → P w
 
 stores-stays : (Q : SessionId → RepId → Type 0) (P : WindowValue → Type 0) (s t : SessionValue) → Stays s t → Stores Q P s → Stores Q P t
 stores-stays Q P s t k h = λ q w m. h (subst (λ (i : SessionId). Q i s.rep) k.id (subst (Q t.id) k.rep q)) w (subst (Among w) k.windows m)
 
--- a window more of which it holds
+-- one more window with the property
 stores-more : (Q : SessionId → RepId → Type 0) (P : WindowValue → Type 0) (w : WindowValue) (s : SessionValue) → P w → Stores Q P s → Stores Q P (with_window w s (Ok tt))
 stores-more Q P w s is h = λ q v n. elim (Among-push v s.windows w n) [ inl old ↦ h q v old | inr e ↦ subst P (sym e) is ]
 
@@ -109,9 +109,9 @@ grown_stores Q refuses source chosen run given now law grown h =
     run_keeps refuses source chosen run (λ (q : PeerValue). EachStored Q P q.sessions)
     (each-kept (Stores Q P) (stores-stays Q P) refuses (of_run source chosen run) (λ s w from _ k. stores-more Q P w s (page_window source chosen w law from.1).2 k)) given now grown h
 
--- ---- the session that runs
+-- ---- the session of the run
 
--- the run's session is of replications from a database, and of a choice
+-- the run's session is of a replication from a database, for a selection
 abbrev pub IsRunOf : SessionId → ℕ → Choice → SessionValue → Type 0
 IsRunOf run source chosen s = s.id ≡ run → (s.rep.source ≡ source) × (s.rep.chosen ≡ chosen)
 

@@ -1,4 +1,4 @@
--- Replicated into a peer that was empty, without a failure, each document is as it is at the source.
+-- After a replication into an empty peer without failures, each document is as it is at the source.
 use Rattle.proof_prelude.proofs.{◌≡◌, Bool, true, List, [], ◌∷◌, map, Option, Some, None, is_some, unwrap_or, Result, Ok, Err, IfOk, refl, sym, ap, ◌∙◌, subst, inl, inr, bytes_eq, and_parts, cond_both, false≢true, or_cases, nil_from_length, bytes_eq-Decides, get-empty}
 use Rattle.rev_core.specs.{RevId, rev_cmp}
 use Rattle.rev_tree.specs.{TreeValue, has, is_leaf, leaves, ancestors, merged, no_revisions, is_among-leaves, Origin, SessionId, same_leaves, IsPart, nothing_is_part, given, part_merged, whole_part}
@@ -20,7 +20,7 @@ use Rattle.repl_target.proofs.lemmas.replication.RunsConcluded.{Started, Conclud
 abbrev pub IsPartOf : DatabaseValue → DatabaseValue → Type 0
 IsPartOf source db = (id : Id) → IsPart (tree_of source.docs id) (tree_of db.docs id)
 
--- the tree of a document with such a leaf
+-- the tree of a document with one more leaf
 abbrev grown : DatabaseValue → DatabaseValue → Id → RevId → Origin → TreeValue
 grown source db id leaf o = merged (tree_of db.docs id) (ancestors (tree_of source.docs id) leaf) (given (tree_of source.docs id) leaf) o
 
@@ -41,7 +41,7 @@ put_part source db d o law from part =
 
 -- ---- the calls of a replication
 
--- a peer that holds a part of the source, and one session alone
+-- a peer that has a part of the source, and exactly one session
 record Copying (source : DatabaseValue) (id : SessionId) (p : PeerValue) : Type 0 where
   part : IsPartOf source p.db
   only : (x : SessionValue) → Among x p.sessions → x.id ≡ id
@@ -76,7 +76,7 @@ document_there (d ∷ ds) id t h =
     (λ same k. (d, inl refl, (bytes_eq-Decides d.id id).0 same, some_is d.tree t k))
     (λ _ k. let later = document_there ds id t k in (later.0, inr later.1, later.2, later.3)) h
 
--- each leaf of a chosen document is covered, where the feed is
+-- each leaf of a selected document is covered, if the feed is
 pub leaf_covered : (c : Choice) (source : DatabaseValue) (p : PeerValue) → LawfulDatabase source → CoversFeedOf c source p source.update_seq → (id : Id) → is_chosen c id ≡ true → (leaf : RevId) → is_leaf (tree_of source.docs id) leaf ≡ true → covers p id leaf ≡ true
 leaf_covered c source p law feed id chosen leaf top = go (tree_in source.docs id) refl top
   where
@@ -89,7 +89,7 @@ leaf_covered c source p law feed id chosen leaf top = go (tree_in source.docs id
         let among : Among leaf (leaves d.0.tree) = among_from leaf (leaves d.0.tree) (is_among-leaves d.0.tree leaf ∙ ap (λ x. is_leaf x leaf) d.3 ∙ h) in
         ap (λ i. covers p i leaf) (sym d.2) ∙ feed (row_of d.0) row leaf among
 
--- a leaf that is covered, where nothing is in a ledger
+-- a covered leaf is in its tree, if the ledger is empty
 covered_there : (refuses : Document → Bool) (p : PeerValue) (id : SessionId) (s : SessionValue) → LawfulSessions refuses p → ((x : SessionValue) → Among x p.sessions → x.id ≡ id) → session_in p.sessions id ≡ Some s → s.counts.failures ≡ 0
     → (doc : Id) (r : RevId) → covers p doc r ≡ true → has (tree_of p.db.docs doc) r ≡ true
 covered_there refuses p id s law only held none doc r h =
@@ -103,7 +103,7 @@ covered_there refuses p id s law only held none doc r h =
           absurd (false≢true (ap (λ l. in_ledger l doc r) (sym (ap (λ (y : SessionValue). y.ledger) same ∙ empty)) ∙ x.2))
     ]
 
--- a run into an empty target, by one thread or by many
+-- a run into an empty target, on one thread or several
 pub copied : (refuses : Document → Bool) (source target : PeerValue) (plan : Plan) (p : PeerValue) (report : Report) (now : PeerValue)
     → LawfulDatabase source.db → begins_answer source target plan ≡ Ok tt → Concludes refuses source target plan p report now → IsEmpty target → report.counts.failures ≡ 0 → SameDocuments plan.chosen source.db now.db
 copied refuses source target plan p report now law ok ends empty none = same

@@ -1,4 +1,4 @@
--- Documents as a source hands them over, and what the calls of a run keep.
+-- Documents as a source sends them, and what the calls of a run keep.
 use Rattle.proof_prelude.proofs.{◌≡◌, Bool, true, List, [], ◌∷◌, ◌++◌, map, Option, Some, None, unwrap_or, refl, sym, ◌∙◌, subst, inl, inr, AllByRecursion, list_any}
 use Rattle.rev_core.specs.{RevId, is_among}
 use Rattle.rev_tree.specs.{TreeValue, IsTree, is_leaf, leaves, leaves_above, ancestors, no_revisions, is_among-leaves, Origin, SessionId}
@@ -16,14 +16,14 @@ tree_lawful db law id = go (tree_in db.docs id) refl
     go None e = IsTree-no_revisions
     go (Some t) e = (IsDocumentTree-tree_in db law id t e).tree
 
--- a document as the source hands it over: a leaf with all of its ancestors and its content
+-- a document as the source sends it: a leaf with all of its ancestors and its content
 pub record IsLeafOf (source : DatabaseValue) (d : Document) : Type 0 where
   pub id : Id
   pub leaf : RevId
   pub top : is_leaf (tree_of source.docs id) leaf ≡ true
   pub is : d ≡ leaf_document id (tree_of source.docs id) leaf
 
--- ---- what is fetched
+-- ---- fetched documents
 
 tops : (source : DatabaseValue) (id : Id) (xs : List RevId) → ((x : RevId) → Among x xs → is_leaf (tree_of source.docs id) x ≡ true) → AllByRecursion (IsLeafOf source) (map (leaf_document id (tree_of source.docs id)) xs)
 tops source id [] h = tt
@@ -48,7 +48,7 @@ handed source parcel is d m =
 
 -- ---- what the calls of a run keep
 
--- what is known of its messages
+-- what is known about the messages of a run
 abbrev pub of_run : DatabaseValue → Choice → SessionId → Source
 of_run source chosen run = record { doc = IsLeafOf source; window = λ s w. (s.id ≡ run) × IsPageOf source chosen w }
 
@@ -68,7 +68,7 @@ module _ (refuses : Document → Bool) (source : DatabaseValue) (chosen : Choice
   pub run_keeps : (given now : PeerValue) → IsGrown refuses source chosen run given now → P given → P now
   run_keeps given now grown h = subst P (sym grown.2) (calls_keep grown.0 given grown.1 h)
 
--- what holds of a database whenever a document of the source is put into it
+-- a property of a database that each put of a document of the source keeps
 pub database_kept : (refuses : Document → Bool) (source : DatabaseValue) (chosen : Choice) (run : SessionId) (D : DatabaseValue → Type 0) → ((db : DatabaseValue) (d : Document) (o : Origin) → IsLeafOf source d → D db → D (after_put db d o))
     → KeptByChanges refuses (of_run source chosen run) (λ p _. D p.db)
 database_kept refuses source chosen run D puts p s (Arrived window doc) m may h = puts p.db doc (fed window s.id doc) may.from h

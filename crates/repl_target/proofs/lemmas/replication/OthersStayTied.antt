@@ -1,4 +1,4 @@
--- A replication leaves its two peers tied to every other one as they were.
+-- A replication leaves its two peers tied to every third one.
 use Rattle.proof_prelude.proofs.{◌≡◌, ◌≢◌, ℕ, Bool, List, Result, Ok, Err, refl, sym, ap, ◌∙◌, subst, inl, inr}
 use Rattle.doc_json.specs.Document.{Document}
 use Rattle.doc_json.specs.{Choice}
@@ -11,7 +11,7 @@ use Rattle.repl_target.proofs.lemmas.replication.FetchedDocuments.{run_keeps}
 use Rattle.repl_target.proofs.lemmas.replication.ReplicationAsCalls.{begun_law, begun_runs, left_law}
 use Rattle.repl_target.proofs.lemmas.ties.TiedPeersStay.{session-later, entry-later, backups-later, backups-source, tied_source, tied_call, tied_grown, log_with}
 
--- ---- the target as a source: its own log stays
+-- ---- the target as a source: its own log is unchanged
 
 begun_log : (p : PeerValue) (s : SessionValue) (r : Result (Unit {0}) TargetFault) → (begun p s r).outgoing ≡ p.outgoing
 begun_log p s (Ok done) = refl
@@ -23,7 +23,7 @@ left_log refuses source target plan now (inr left) =
     run_keeps refuses source.db plan.chosen plan.session (λ (p : PeerValue). p.outgoing ≡ target.outgoing) (λ p s c m may h. h) (after_begins source target plan) now left.1
     (begun_log target (new_session plan.session (beginning_between source target plan.chosen) plan.at) (begins_answer source target plan))
 
--- it stays tied to each peer that it was a source of
+-- the target stays tied to each peer of which it was a source
 onward_tied : (refuses : Document → Bool) (source target : PeerValue) (plan : Plan) (target' : PeerValue) → LawfulDatabase source.db → LawfulSessions refuses target → IsLeft refuses source target plan target'
     → (other : PeerValue) (c : Choice) (backups : List BackupValue) → IsTiedWith backups target other c → IsTiedWith backups target' other c
 onward_tied refuses source target plan target' law l left other c backups h =
@@ -33,7 +33,7 @@ onward_tied refuses source target plan target' law l left other c backups h =
       copies = backups-source backups target target' other c later.db.uuid h.copies;
     }
 
--- ---- the source as a target: but for its log it is as it was
+-- ---- the source as a target: only its log changes
 
 pub target_tied : (source target new : PeerValue) (c : Choice) → new ≡ record target { outgoing = new.outgoing } → IsTiedPair source target c → IsTiedPair source new c
 target_tied source target new c is h =
@@ -52,9 +52,9 @@ inward_tied source source' is other c backups h = record {
       (backups-later backups other source (record source { outgoing = source'.outgoing }) c (logs_later source source'.outgoing) h.copies);
 }
 
--- ---- the target as another source's
+-- ---- the target as a target of another source
 
--- a run stores windows for its own session alone, and that isn't one of the other source's replications
+-- a run stores windows only for its own session, which is not of the other source's replication
 third_begun : (refuses : Document → Bool) (third source target : PeerValue) (plan : Plan) (other : Choice) → third.db.uuid ≢ source.db.uuid → IsTiedPair third target other → IsTiedPair third (after_begins source target plan) other
 third_begun refuses third source target plan other apart h =
     let b = beginning_between source target plan.chosen in
@@ -70,7 +70,7 @@ beside_pair refuses third source target plan now other apart law l (inr left) h 
     tied_grown refuses source.db plan.chosen plan.session third other law (λ _ _ same _. absurd (apart (sym same))) (after_begins source target plan) now (begun_law refuses source target plan l).0 (begun_runs source target plan left.0) left.1
     (third_begun refuses third source target plan other apart h)
 
--- ---- the source as another target's: its log of the other replication stays
+-- ---- the source as a source of another target: its log of that replication is unchanged
 
 outward_pair : (source target third : PeerValue) (chosen : Choice) (source' : PeerValue) (other : Choice) → third.db.uuid ≢ target.db.uuid → IsPut source target chosen source' → IsTiedPair source third other → IsTiedPair source' third other
 outward_pair source target third chosen source' other apart (inl same) h = subst (λ (p : PeerValue). IsTiedPair p third other) (sym same) h
@@ -89,7 +89,7 @@ outward_pair source target third chosen source' other apart (inr put) h = subst 
       ];
     }
 
--- ---- every other peer
+-- ---- every third peer
 
 pub others_tied : (refuses : Document → Bool) (source target : PeerValue) (plan : Plan) (source' target' : PeerValue) → LawfulDatabase source.db → LawfulSessions refuses target → source' ≡ record source { outgoing = source'.outgoing } → IsPut source target' plan.chosen source' → IsLeft refuses source target plan target'
     → KeepsOthersTied source target source' target'
@@ -108,15 +108,15 @@ others_tied refuses source target plan source' target' law l log put left =
       };
     }
 
--- where nothing has changed
+-- if nothing has changed
 pub others_same : (source target : PeerValue) → KeepsOthersTied source target source target
 others_same source target = record { onward = λ _ _ _ h. h; inward = λ _ _ _ h. h; beside = λ _ _ _ _ h. h; outward = λ _ _ _ _ h. h }
 
--- so two peers stay tied the other way too
+-- two peers stay tied in the other direction too
 pub turned_tied : (source target source' target' : PeerValue) → KeepsOthersTied source target source' target' → (c : Choice) (backups : List BackupValue) → IsTiedWith backups target source c → IsTiedWith backups target' source' c
 turned_tied source target source' target' others c backups h = others.inward target' c backups (others.onward source c backups h)
 
--- ---- one replication each way
+-- ---- one replication in each direction
 
 pub source_stays : (source target source' target' : PeerValue) → KeepsOthersTied source target source' target' → StaysTied source source' target.db.uuid
 source_stays source target source' target' others = record { as_source = others.outward; as_target = λ other c backups _ h. others.inward other c backups h }

@@ -1,4 +1,4 @@
--- How many documents a session has read, after each call.
+-- The number of documents that a session has read, after each call.
 use Rattle.proof_prelude.proofs.{◌≡◌, ℕ, ◌+◌, ◌≤◌, ◌==◌, Bool, true, false, cond, List, [], ◌∷◌, Option, Some, None, Result, Ok, Err, take, length, refl, sym, ap, ◌∙◌, arith, cond_both, cond-true, cond-false, take-length, find, eq-eqb}
 use Rattle.rev_tree.specs.{SessionId}
 use Rattle.doc_json.specs.Document.{Document}
@@ -10,7 +10,7 @@ use Rattle.repl_peer.proofs.{session_found, settle_told, grows, check_refused}
 use Rattle.repl_target.proofs.lemmas.replication.RunsConcluded.{found-is}
 use Rattle.repl_target.proofs.lemmas.ties.SettlingTakes.{read-docs}
 
--- ---- one session in the place of another
+-- ---- replacing one session
 
 swapped : SessionValue → Option SessionValue → Option SessionValue
 swapped t None = None
@@ -39,7 +39,7 @@ pub swap_some : (id : SessionId) (s t : SessionValue) (xs : List SessionValue) �
 unfolding swapped
 swap_some id s t xs e is = swap id t e xs ∙ ap (swapped t) is
 
--- a change that leaves id and count
+-- a change that keeps id and count
 changed_reads : (p : PeerValue) (id : SessionId) (change : SessionValue → SessionValue) → ((s : SessionValue) → ((change s).id ≡ s.id) × ((change s).counts.read ≡ s.counts.read)) → read_in (on_session p id change).sessions id ≡ read_in p.sessions id
 changed_reads p id change keeps = go (session_in p.sessions id) refl
   where
@@ -62,7 +62,7 @@ append_reads p id w = changed_reads p id (λ s. with_window w s (append_in w s))
 pub record_reads : (p : PeerValue) (id : SessionId) (at : ℕ) → read_in (after_record p id at).sessions id ≡ read_in p.sessions id
 record_reads p id at = changed_reads p id (recorded_at at) (λ s. (refl, refl))
 
--- a session that began has read nothing
+-- a session that has begun has read nothing
 pub begun_reads : (source target : PeerValue) (plan : Plan) → begins_answer source target plan ≡ Ok tt → read_in (after_begins source target plan).sessions plan.session ≡ 0
 begun_reads source target plan ok =
     let new = new_session plan.session (beginning_between source target plan.chosen) plan.at in
@@ -70,7 +70,7 @@ begun_reads source target plan ok =
 
 -- ---- settling
 
--- what is refused before the documents takes none
+-- an error before the documents adds nothing
 refused_none : (p : PeerValue) (id : SessionId) (parcel : ParcelValue) (fault : TargetFault) (n : ℕ) → settle_check p id parcel ≡ Err fault → taken (Err fault) n ≡ 0
 refused_none p id parcel fault n h = check_refused (λ why. taken (Err why) n ≡ 0) p id parcel fault refl refl refl refl h
 
@@ -88,7 +88,7 @@ module _ (refuses : Document → Bool) (p : PeerValue) (id : SessionId) (l : Law
       let at : read_in q.sessions id ≡ read_in (with_settling p z).sessions id = ap (λ (x : PeerValue). read_in x.sessions id) e in
       omega (arith, now, read, was, at)
 
-  -- all of them, and the mark
+  -- all documents, and the mark
   all_read : (s : SessionValue) (w : WindowValue) (parcel : ParcelValue) → session_in p.sessions id ≡ Some s → settled_before refuses w (settling_of p s) parcel.docs ≡ length parcel.docs
       → (q : PeerValue) → q ≡ after_all refuses p s w parcel → read_in q.sessions id ≡ read_in p.sessions id + length parcel.docs
   all_read s w parcel is all q e =

@@ -1,4 +1,4 @@
--- A replication by one thread is calls on the target whose messages are what the source answers.
+-- A replication by one thread is a list of calls on the target whose messages come from the source.
 use Rattle.proof_prelude.proofs.{◌≡◌, ℕ, min, zero, suc, ◌⊎◌, ◌==◌, ◌≤◌, Bool, true, cond, List, [], ◌∷◌, ◌++◌, Option, Some, None, Result, Ok, Err, is_ok, IfOk, OnOk, take, length, refl, sym, ap, ◌∙◌, subst, inl, inr, arith, cond_both, false≢true, and_parts, cond-true, cond-false, both_ways, min-eq_left, AllocError, eq-eqb, ne_eqb, leb-true, ltb-true}
 use Rattle.rev_tree.specs.{SessionId}
 use Rattle.doc_json.specs.Document.{Document}
@@ -17,7 +17,7 @@ use Rattle.repl_target.proofs.lemmas.ties.TiedPeersStay.{backups-later, backups-
 
 -- ---- a settling is one of two calls
 
--- what settling leaves, by how it ended
+-- the effect of settling, by how it ended
 abbrev pub settle_left : (Document → Bool) → PeerValue → SessionId → ParcelValue → Option ℕ → PeerValue
 settle_left refuses p id parcel None = after_settle refuses p id parcel
 settle_left refuses p id parcel (Some n) = after_stop refuses p id parcel n
@@ -79,12 +79,12 @@ grown-later refuses source chosen run p q r h k =
 pub grown-one : (refuses : Document → Bool) (source : DatabaseValue) (chosen : Choice) (run : SessionId) (p q : PeerValue) (c : Call) → IsFrom source chosen run c → q ≡ after_call refuses p c → IsGrown refuses source chosen run p q
 grown-one refuses source chosen run p q c from is = (c ∷ [], (from, tt), is)
 
--- a settling that found no memory stopped within what is settled where some is found, or changed nothing
+-- settling that ran out of memory stopped within what could be settled, or changed nothing
 pub settle_stops : (refuses : Document → Bool) (p : PeerValue) (id : SessionId) (parcel : ParcelValue) (result : Result Settled TargetFault) (q : PeerValue) → SettleGives refuses p id parcel result q → (n : ℕ) → stopped_at result ≡ Some n
     → (q ≡ p) ⊎ (n ≤ most_settled refuses p id parcel) × (q ≡ after_some refuses p id parcel n)
 settle_stops refuses p id parcel result q gives n is = go (settle_check p id parcel) gives
   where
-    -- so many as were settled
+    -- the number of settled documents
     so_many : (s : SessionValue) (w : WindowValue) (m : ℕ) → m ≡ n → m ≤ settled_before refuses w (settling_of p s) parcel.docs → q ≡ after_documents refuses p s w (take m parcel.docs)
         → (n ≤ settled_before refuses w (settling_of p s) parcel.docs) × (q ≡ after_documents refuses p s w (take (min n (settled_before refuses w (settling_of p s) parcel.docs)) parcel.docs))
     so_many s w m same low peer =
@@ -105,7 +105,7 @@ settle_stops refuses p id parcel result q gives n is = go (settle_check p id par
     go (Err fault) h = inl h.1
     go (Ok at) h = inr (within at.0 at.1 result h is)
 
--- a settling of what the source answers, for the run's session
+-- settling of messages of the source, for the run's session
 pub settled_grown : (refuses : Document → Bool) (source : DatabaseValue) (chosen : Choice) (run : SessionId) (p q : PeerValue) (parcel : ParcelValue) (result : Result Settled TargetFault) → parcel ≡ open_revs source parcel.asked → SettleGives refuses p run parcel result q
     → IsGrown refuses source chosen run p q
 settled_grown refuses source chosen run p q parcel result from gives = go (stopped_at result) refl
@@ -190,7 +190,7 @@ module _ (refuses : Document → Bool) (source target : PeerValue) (plan : Plan)
   ended_grown target' is =
       grown-later refuses source.db plan.chosen plan.session (after_begins source target plan) read target' read_grown (closed_grown refuses source.db plan (planned_batch source target plan planned) read target' is)
 
--- what a replication by one thread leaves of its target
+-- the effect of a replication by one thread on its target
 pub replicates_left : (refuses : Document → Bool) (source target : PeerValue) (plan : Plan) (result : Result Report TargetFault) (source' target' : PeerValue) → Replicates refuses source target plan result source' target' → IsLeft refuses source target plan target'
 replicates_left refuses source target plan result source' target' (cut planned begun reads) =
     inr (begun, until_grown refuses source.db plan (planned_batch source target plan planned) (first_reading source target plan) _ target' reads)
@@ -198,7 +198,7 @@ replicates_left refuses source target plan result source' target' (ended read pl
     inr (begun, ended_grown refuses source target plan read planned reads target' closes.at_target)
 replicates_left refuses source target plan result source' target' other = inl refl
 
--- the law and what covers, from a target to where it is left
+-- the invariant and coverage, from a target to its state after the replication
 pub begun_law : (refuses : Document → Bool) (source target : PeerValue) (plan : Plan) → LawfulSessions refuses target → LawfulSessions refuses (after_begins source target plan) × IsLaterPeer target (after_begins source target plan)
 begun_law refuses source target plan l =
     let b = beginning_between source target plan.chosen in (
@@ -214,7 +214,7 @@ left_law refuses source target plan now law l (inr grown) =
     let k = grown_law refuses source.db plan.chosen plan.session p now law grown.1 b.0 in
     (k.0, IsLaterPeer-later target p now b.1 k.1)
 
--- the session that began alone has its id
+-- only the session that has begun has its id
 pub begun_runs : (source target : PeerValue) (plan : Plan) → begins_answer source target plan ≡ Ok tt → (s : SessionValue) → Among s (after_begins source target plan).sessions → IsRunOf plan.session source.db.uuid plan.chosen s
 begun_runs source target plan ok s m own =
     let b = beginning_between source target plan.chosen in
@@ -225,7 +225,7 @@ begun_runs source target plan ok s m own =
       | inr o ↦ absurd (both_ways _ (fresh_of source target plan ok) (any_from (is_of plan.session) s target.sessions o (eq-eqb s.id.0 plan.session.0 (ap (λ (i : SessionId). i.0) own))))
     ]
 
--- two peers stay tied, whichever choice is looked at
+-- two peers stay tied, for every selection
 pub left_tied : (refuses : Document → Bool) (source target : PeerValue) (plan : Plan) (now : PeerValue) (other : Choice) → LawfulDatabase source.db → LawfulSessions refuses target → IsLeft refuses source target plan now → IsTiedPair source target other → IsTiedPair source now other
 left_tied refuses source target plan now other law l (inl same) h = subst (λ (p : PeerValue). IsTiedPair source p other) (sym same) h
 left_tied refuses source target plan now other law l (inr grown) h =
@@ -244,7 +244,7 @@ pub replicates_puts : (refuses : Document → Bool) (source target : PeerValue) 
 replicates_puts refuses source target plan result source' target' (ended read planned begun reads closes) = puts_over source target' plan closes.entry closes.put source' closes.told closes.at_source
 replicates_puts refuses source target plan result source' target' other = inl refl
 
--- both peers stay tied, with each copy of the source, whichever choice is looked at
+-- both peers stay tied, with each backup of the source, for every selection
 pub both_tied : (refuses : Document → Bool) (source target : PeerValue) (plan : Plan) (source' now : PeerValue) → LawfulDatabase source.db → LawfulSessions refuses target → IsLeft refuses source target plan now → IsPut source now plan.chosen source' → source'.db ≡ source.db
     → (other : Choice) (backups : List BackupValue) → IsTiedWith backups source target other → IsTiedWith backups source' now other
 both_tied refuses source target plan source' now law l left puts same other backups h =
@@ -258,15 +258,15 @@ both_tied refuses source target plan source' now law l left puts same other back
       copies = backups-source backups source source' now other (ap (λ (d : DatabaseValue). d.uuid) same) (backups-later backups source target now other k.1 h.copies);
     }
 
--- a replication keeps tied peers tied, whichever choice is looked at, and whatever it answers
+-- a replication keeps tied peers tied, for every selection and whatever its result
 pub replicates_tied : (refuses : Document → Bool) (source target : PeerValue) (plan : Plan) (result : Result Report TargetFault) (source' target' : PeerValue) → LawfulDatabase source.db → LawfulSessions refuses target
     → Replicates refuses source target plan result source' target' → source'.db ≡ source.db → (other : Choice) (backups : List BackupValue) → IsTiedWith backups source target other → IsTiedWith backups source' target' other
 replicates_tied refuses source target plan result source' target' law l h same =
     both_tied refuses source target plan source' target' law l (replicates_left refuses source target plan result source' target' h) (replicates_puts refuses source target plan result source' target' h) same
 
--- ---- at its end
+-- ---- at the end
 
--- all of the source's feed is covered where the session is reported, what is under the start too
+-- if the session is reported, the source's complete feed is covered, including the part below the start
 pub reported_whole : (refuses : Document → Bool) (source target : PeerValue) (plan : Plan) (target' : PeerValue) (report : Report) → LawfulDatabase source.db → LawfulSessions refuses target → LawfulSessions refuses target'
     → begins_answer source target plan ≡ Ok tt → IsGrown refuses source.db plan.chosen plan.session (after_begins source target plan) target' → IsTiedPair source target plan.chosen → IsReported source target target' plan report → CoversFeed source target' plan.chosen source.db.update_seq
 reported_whole refuses source target plan target' report law l l' begun grown tied reported =
@@ -286,12 +286,12 @@ replicates_whole refuses source target plan (Ok report) source' target' law l l'
     reported_whole refuses source target plan target' report law l l' begun grown tied
 replicates_whole refuses source target plan result source' target' law l l' other tied = tt
 
--- so an audit of what comes back is clean, whichever choice is looked at
+-- an audit of the result is clean, for every selection
 pub tied_clean : (refuses : Document → Bool) (source target source' target' : PeerValue) → LawfulSessions refuses target' → ((chosen : Choice) (backups : List BackupValue) → IsTiedWith backups source target chosen → IsTiedWith backups source' target' chosen)
     → (chosen : Choice) → IsTiedPair source target chosen → audit_answer source' target' chosen ≡ None
 tied_clean refuses source target source' target' l' tied chosen h = tied_none refuses source' target' chosen l' (tied chosen [] (record { pair = h; copies = λ b m. absurd m })).pair
 
--- what is told at Ok, and what follows from it where two peers are tied
+-- what holds on success, and what follows if the two peers are tied
 pub both_told : (result : Result Report TargetFault) (told : Report → Type 0) (tied whole : Type 0) → IfOk result told → (tied → IfOk result (λ report. told report → whole)) → OnOk result (tied → whole)
 both_told (Ok report) told tied whole is h = λ t. h t is
 both_told (Err why) told tied whole is h = tt

@@ -1,4 +1,4 @@
--- What a replication that ends says: its session is reported, and all of the source's feed from its start is covered.
+-- A completed replication: its session is reported, and the source's feed from its start is covered.
 use Rattle.proof_prelude.proofs.{◌≡◌, ◌⊎◌, ℕ, suc, ◌+◌, ◌==◌, Bool, true, cond, List, [], ◌∷◌, Option, Some, None, Result, Ok, Err, is_ok, OnOk, IfOk, refl, sym, ap, ◌∙◌, subst, inl, inr, arith, eqb, IsDistinct, cond_both, cond-true, false≢true, AllocError, find, eqb-true, eq-eqb}
 use Rattle.rev_tree.specs.{SessionId}
 use Rattle.doc_json.specs.Document.{Document}
@@ -23,7 +23,7 @@ not_missed p (y ∷ ys) x m h none =
     (λ no k. elim m [ inl here ↦ false≢true (sym no ∙ ap p (sym here) ∙ h) | inr there ↦ not_missed p ys x there h k ])
     none
 
--- the session of an id is found
+-- the session with an id is found
 pub found-is : (sessions : List SessionValue) (id : SessionId) (s : SessionValue) → IsDistinct eqb (session_numbers sessions) → Among s sessions → s.id ≡ id → session_in sessions id ≡ Some s
 found-is sessions id s distinct held same = go (session_in sessions id) refl
   where
@@ -34,7 +34,7 @@ found-is sessions id s distinct held same = go (session_in sessions id) refl
     go None e = absurd (not_missed (is_of id) sessions s held (eq-eqb s.id.0 id.0 number) e)
     go (Some t) e = let f = session_found sessions id t e in ap Some (one_session sessions t s distinct f.0 held (f.1 ∙ sym number))
 
--- ---- a session that concluded
+-- ---- a concluded session
 
 pub record Closed (p : PeerValue) (id : SessionId) (at : ℕ) (report : Report) (now : PeerValue) : Type 0 where
   pub session : SessionValue
@@ -67,7 +67,7 @@ closes_in p id at report now answer after = go (session_in p.sessions id) refl a
         (λ _ k. absurd (false≢true (ap is_ok k)))
         h
 
--- a target that has grown by what the source answers, and whose session is concluded
+-- a target that has grown by messages of the source, and whose session is concluded
 module _ (refuses : Document → Bool) (source target : PeerValue) (plan : Plan) (p : PeerValue) (report : Report) (now : PeerValue) where
   pub record Concludes : Type 0 where
     pub grown : IsGrown refuses source.db plan.chosen plan.session (after_begins source target plan) now
@@ -106,9 +106,9 @@ module _ (refuses : Document → Bool) (source target : PeerValue) (plan : Plan)
         covered = later_covers refuses source target plan now l' t (omega (arith, recorded));
       }
 
--- ---- what the code asks
+-- ---- the conditions of the code
 
--- a session of an id is found
+-- a session with an id is found
 held-found : (sessions : List SessionValue) (id : SessionId) (s : SessionValue) → Among s sessions → s.id.0 ≡ id.0 → (t : SessionValue) × (session_in sessions id ≡ Some t)
 held-found sessions id s held number = go (session_in sessions id) refl
   where
@@ -116,7 +116,7 @@ held-found sessions id s held number = go (session_in sessions id) refl
     go None e = absurd (not_missed (is_of id) sessions s held (eq-eqb s.id.0 id.0 number) e)
     go (Some t) e = (t, refl)
 
--- a change of a session leaves it to be found
+-- a changed session is still found
 changed-found : (p : PeerValue) (id : SessionId) (change : SessionValue → SessionValue) → ((x : SessionValue) → (change x).id ≡ x.id) → (s : SessionValue) → session_in p.sessions id ≡ Some s
     → (t : SessionValue) × (session_in (on_session p id change).sessions id ≡ Some t)
 changed-found p id change same s is =
@@ -176,7 +176,7 @@ pub ended_all : (refuses : Document → Bool) (source target : PeerValue) (plan 
 ended_all refuses source target plan from read result source' target' s reads closes =
     ended read s.planned s.begun (subst (λ f. ReadsAll refuses source.db plan f read) s.is reads) closes
 
--- where all is read
+-- if all is read
 module _ (refuses : Document → Bool) (source target : PeerValue) (plan : Plan) (from : Reading) (read : PeerValue) (s : Started source target plan from) (law : LawfulDatabase source.db) (lawful : LawfulSessions refuses from.target) (reads : ReadsAll refuses source.db plan from read) where
   begun-lawful : LawfulSessions refuses (after_begins source target plan)
   begun-lawful = subst (λ (f : Reading). LawfulSessions refuses f.target) s.is lawful
@@ -189,7 +189,7 @@ module _ (refuses : Document → Bool) (source target : PeerValue) (plan : Plan)
       let t = later_session refuses source target plan read law begun-lawful s.begun grown in
       held-found read.sessions plan.session t.session t.held (ap (λ (i : SessionId). i.0) t.id)
 
-  -- the answer of a replication, behind an entry that is put at the source
+  -- the result of a replication, after an entry is stored at the source
   told : (answer : Result Report TargetFault) (put : Result (Unit {0}) AllocError) (report : Report) → told_by answer put ≡ Ok report → answer ≡ Ok report
   told answer (Ok done) report h = h
   told answer (Err why) report h = absurd (false≢true (ap is_ok h))

@@ -1,4 +1,4 @@
--- What a settling takes: each document, in the counts too; so a parcel of a session's own window covers it.
+-- Settling accounts for each document, also in the counts, so a parcel of a session's own window covers it.
 use Rattle.proof_prelude.proofs.{◌≡◌, ◌⊎◌, ℕ, zero, suc, ◌+◌, ◌≤◌, ◌&&◌, Bool, true, false, cond, not, List, [], ◌∷◌, Option, Some, None, Result, Ok, Err, take, length, refl, sym, ap, ◌∙◌, subst, inl, inr, arith, list_all, option_map, option_or, bytes_eq, and_from, cond_both, both_ways, or_left, or_right, cases_Bool, bytes_eq-Decides, find}
 use Rattle.rev_core.specs.{RevId, is_among}
 use Rattle.rev_tree.specs.{has, SessionId}
@@ -10,7 +10,7 @@ use Rattle.repl_peer.proofs.{covers-later, one_session, check_refused, Walked, s
 use Rattle.repl_target.specs.{IsTiedParcel}
 use Rattle.repl_target.proofs.lemmas.ties.TiedMessages.{brought}
 
--- ---- each document is taken
+-- ---- each document is accounted for
 
 -- a document has arrived, or is in the ledger
 pub IsTaken : SessionValue → Document → Type 0
@@ -33,7 +33,7 @@ taken-one w z d (Some reason) go = inr (reason, Among-last _ z.session.ledger)
 taken-one w z d None go =
     cond_both (is_full (put_answer z.db d)) z _ (λ (y : Settling). IsTaken y.session d) (λ full. absurd (both_ways _ go full)) (λ _. inl (Among-last _ z.session.arrivals))
 
--- where the first document goes, the others are settled behind it
+-- if the first document is settled, the others are settled after it
 goes : (refuses : Document → Bool) (w : WindowValue) (z : Settling) (d : Document) (docs : List Document) (n : ℕ) → suc n ≤ settled_before refuses w z (d ∷ docs) → (stops_at refuses z d ≡ false) × (n ≤ settled_before refuses w (settle_one refuses w z d) docs)
 goes refuses w z d docs n h =
     cond_both (stops_at refuses z d) 0 (settled_before refuses w (settle_one refuses w z d) docs + 1) (λ m. suc n ≤ m → (stops_at refuses z d ≡ false) × (n ≤ settled_before refuses w (settle_one refuses w z d) docs))
@@ -56,7 +56,7 @@ read-one : (w : WindowValue) (z : Settling) (d : Document) (o : Option Reason) �
 read-one w z d (Some reason) go = refl
 read-one w z d None go = cond_both (is_full (put_answer z.db d)) z _ (λ (y : Settling). y.session.counts.read ≡ z.session.counts.read + 1) (λ full. absurd (both_ways _ go full)) (λ _. refl)
 
--- the first n documents that are settled count as read
+-- the first n settled documents count as read
 pub read-docs : (refuses : Document → Bool) (w : WindowValue) (n : ℕ) (z : Settling) (docs : List Document) → n ≤ settled_before refuses w z docs → (settle_docs refuses w z (take n docs)).session.counts.read ≡ z.session.counts.read + n
 read-docs refuses w zero z docs h = omega arith
 read-docs refuses w (suc n) z [] h = absurd (omega (arith, h))
@@ -66,7 +66,7 @@ read-docs refuses w (suc n) z (d ∷ docs) h =
     let here = read-one w z d (refusal_of refuses z.db d) g.0 in
     omega (arith, later, here)
 
--- ---- a parcel of its own window covers it
+-- ---- a parcel of the own window covers it
 
 none_missed : {X : Type 0} (p : X → Bool) (xs : List X) → ((x : X) → Among x xs → p x ≡ true) → find (λ x. not (p x)) xs ≡ None
 none_missed p [] h = refl
@@ -78,7 +78,7 @@ all_known known (row ∷ rows) h =
     let here : unknown_in known row ≡ None = ap (option_map (λ rev. record { seq = row.seq; id = row.id; rev = rev })) (none_missed (known row.id) row.leaves (λ l m. h row (inl refl) l m)) in
     ap (λ o. option_or o (first_unknown known rows)) here ∙ all_known known rows (λ r m. h r (inr m))
 
--- what is refused before the documents is no leaf
+-- an error before the documents is not `Uncovered`
 checked : (p : PeerValue) (id : SessionId) (parcel : ParcelValue) (fault : TargetFault) → settle_check p id parcel ≡ Err fault → is_uncovered (Err fault) ≡ false
 checked p id parcel fault h = check_refused (λ why. is_uncovered (Err why) ≡ false) p id parcel fault refl refl refl refl h
 
@@ -109,7 +109,7 @@ leaf_covered refuses p s w parcel l m own rows tied law all row n leaf k =
               or_right _ _ (any_from (λ (t : SessionValue). in_ledger t.ledger row.id leaf) z.session (with_session p.sessions z.session) h.held found)
         ]
 
--- so settling a parcel of its own window never tells a leaf that isn't covered
+-- settling a parcel of the own window never returns `Uncovered`
 pub own_covered : (refuses : Document → Bool) (p : PeerValue) (s : SessionValue) (w : WindowValue) (parcel : ParcelValue) → LawfulSessions refuses p → Among s p.sessions → Among w s.windows → IsTiedParcel p.db w parcel → IsParcel parcel
     → (result : Result Settled TargetFault) (q : PeerValue) → SettleGives refuses p s.id parcel result q → is_uncovered result ≡ false
 own_covered refuses p s w parcel l m n tied law (Ok settled) q gives = refl

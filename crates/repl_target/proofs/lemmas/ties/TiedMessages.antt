@@ -1,4 +1,4 @@
--- What is asked and what is fetched for a tied window is tied.
+-- Requests and parcels for a tied window are tied.
 use Rattle.proof_prelude.proofs.{◌≡◌, ◌⊎◌, Bool, true, false, not, ◌||◌, List, [], ◌∷◌, ◌++◌, map, filter, refl, sym, ap, ◌∙◌, subst, inl, inr, list_any, list_all, and_parts, cond_both, both_ways, or_cases, false≢true, not_from_true, not_from_false, bytes_eq-Decides}
 use Rattle.rev_core.specs.{RevId, is_among}
 use Rattle.rev_tree.specs.{has, missing}
@@ -8,7 +8,7 @@ use Rattle.couch_base.specs.{Among, Id, DocumentValue, DatabaseValue, tree_of, R
 use Rattle.repl_target.specs.{IsTiedWindow, Asks, Names, IsTiedAsked, IsTiedParcel}
 use Rattle.repl_peer.proofs.{Among-filter, Among-filtered}
 
--- ---- asking
+-- ---- requesting
 
 want-cases : (id : Id) (revs : List RevId) (others : List WantedValue) (q : Id) (r : RevId) → Asks (want_first id revs others) q r → ((id ≡ q) × Among r revs) ⊎ Asks others q r
 want-cases id [] others q r a = inr a
@@ -82,7 +82,7 @@ gone-none ds (w ∷ ws) h =
     let e : missing (tree_of ds w.id) w.revs ≡ [] = filter-none (λ r. not (has (tree_of ds w.id) r)) w.revs (λ r m. not_from_true _ (h w.id r (w, inl refl, refl, m))) in
     ap (λ (rs : List RevId). map (λ r. (w.id, r)) rs ++ gone_of ds ws) e ∙ gone-none ds ws (λ id r a. h id r (a.0, inr a.1, a.2, a.3))
 
--- the leaves that a tied window names are in their trees, so nothing is gone
+-- the leaves of a tied window are in their trees, so nothing is gone
 pub IsTiedParcel-open_revs : (source target : DatabaseValue) (c : Choice) (w : WindowValue) (a : AskedValue) → IsTiedWindow source c w → IsTiedAsked target w a → IsTiedParcel target w (open_revs source a)
 unfolding AllThere
 IsTiedParcel-open_revs source target c w a tied h =
@@ -91,7 +91,7 @@ IsTiedParcel-open_revs source target c w a tied h =
       gone = gone-none source.docs a.docs (λ id r k. (let n = h.named id r k in subst (λ (z : Id). has (tree_of source.docs z) r ≡ true) n.2 (tied.leaves n.0 n.1 r n.3)));
     }
 
--- where nothing is gone, each asked revision is in the ancestry of a fetched document of its id
+-- if nothing is gone, each requested revision is in the ancestry of a fetched document of its id
 pub brought : (p : ParcelValue) → IsParcel p → p.gone ≡ [] → (id : Id) (r : RevId) → Asks p.asked.docs id r → (d : Document) × Among d p.docs × (d.id ≡ id) × (is_among r d.ancestry ≡ true)
 brought p parcel none id r a =
     let answered : is_answered p.docs p.gone a.0 ≡ true = all_member (is_answered p.docs p.gone) a.0 p.asked.docs parcel.answered a.1 in

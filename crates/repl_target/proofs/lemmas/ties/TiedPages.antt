@@ -1,4 +1,4 @@
--- A page is tied to its database, and what is tied stays so.
+-- A page is tied to its database, and stays tied.
 use Rattle.proof_prelude.proofs.{◌≡◌, ℕ, zero, suc, ◌<◌, ◌≤◌, nat_lt, nat_le, ◌==◌, true, false, ◌&&◌, List, [], ◌∷◌, map, filter, length, take, Some, sym, ap, ◌∙◌, subst, inl, inr, arith, unwrap_or, list_any, AllByRecursion, bytes_eq, and_parts, and_from, cond_both, cond-false, cond-true, or_parts, bytes_eq-Decides, lt-ltb, ltb-true, le-leb, leb-true}
 use Rattle.rev_core.specs.{RevId}
 use Rattle.rev_tree.specs.{has, leaves, is_leaf, no_revisions, is_among-leaves}
@@ -15,7 +15,7 @@ apart_from id (x ∷ ds) d h m =
     let parts = or_parts (bytes_eq id x.id) (list_any (bytes_eq id) (map (λ (x : DocumentValue). x.id) ds)) h in
     elim m [ inl e ↦ ap (λ (y : DocumentValue). bytes_eq id y.id) e ∙ parts.0 | inr n ↦ apart_from id ds d parts.1 n ]
 
--- the tree of a document that is there
+-- the tree of an existing document
 pub tree_of-member : (ds : List DocumentValue) (d : DocumentValue) → EachOnce bytes_eq (map (λ (x : DocumentValue). x.id) ds) → Among d ds → tree_of ds d.id ≡ d.tree
 tree_of-member [] d h m = absurd m
 tree_of-member (x ∷ ds) d h (inl e) =
@@ -34,7 +34,7 @@ feed_member db a b r m =
 pub in_feed : (db : DatabaseValue) (a b : ℕ) (d : DocumentValue) → Among d db.docs → a < d.seq → d.seq ≤ b → Among (row_of d) (feed db a b)
 in_feed db a b d m lo hi = Among-mapped row_of d _ (Among-filtered (λ (d : DocumentValue). nat_lt a d.seq && nat_le d.seq b) d db.docs m (and_from _ _ (lt-ltb a d.seq lo) (le-leb d.seq b hi)))
 
--- a row of the chosen feed is that of a chosen document
+-- a row of the selected feed is that of a selected document
 pub chosen_member : (c : Choice) (db : DatabaseValue) (a b : ℕ) (r : RowValue) → Among r (chosen_feed c db a b) → (d : DocumentValue) × Among d db.docs × (r ≡ row_of d) × (a < d.seq) × (d.seq ≤ b) × (is_chosen c d.id ≡ true)
 chosen_member c db a b r m =
     let k = Among-filter (λ (r : RowValue). is_chosen c r.id) r (feed db a b) m in
@@ -90,7 +90,7 @@ IsTiedWindow-page db since goal limit c law order reach =
           leaf_stands db since goal law r (Among-filter (λ (r : RowValue). is_chosen c r.id) r (feed db since goal) (subst (Among r) (sym split) (Among-left r w.rows (chosen_feed c db w.hi goal) m))).0 l k;
     }
 
--- and stays so
+-- a tied window stays tied to a later database
 pub IsTiedWindow-later : (a b : DatabaseValue) (c : Choice) (w : WindowValue) → IsLater a b → IsTiedWindow a c w → IsTiedWindow b c w
 IsTiedWindow-later a b c w later h =
     record {

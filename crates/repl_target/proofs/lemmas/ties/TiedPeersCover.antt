@@ -20,7 +20,7 @@ use Rattle.repl_target.proofs.lemmas.ties.SettlingTakes.{all_known}
 abbrev pub IsCovered : PeerValue → DocumentValue → Type 0
 IsCovered p d = (l : RevId) → Among l (leaves d.tree) → covers p d.id l ≡ true
 
--- what a session has recorded by its own windows, where these are tied to the database
+-- what a session has recorded, if its windows are tied to the database
 pub windows_cover : (refuses : Document → Bool) (db : DatabaseValue) (c : Choice) (p : PeerValue) (s : SessionValue) → LawfulSession refuses p s → ((w : WindowValue) → Among w s.windows → IsTiedWindow db c w) → (d : DocumentValue) → Among d db.docs → is_chosen c d.id ≡ true → s.front.start < d.seq → d.seq ≤ s.recorded → IsCovered p d
 windows_cover refuses db c p s law tied d n chosen above below =
     let f = reached s.front d.seq law.front above (omega (arith, below, law.recorded)) in
@@ -30,7 +30,7 @@ windows_cover refuses db c p s law tied d n chosen above below =
     let done : is_done s.front w.0.lo w.0.hi ≡ true = subst (λ a. is_done s.front a w.0.hi ≡ true) (sym w.2) (subst (λ b. is_done s.front f.0 b ≡ true) (sym w.3) f.4) in
     λ l k. law.done w.0 w.1 done (row_of d) ((tied w.0 w.1).rows d n chosen lo hi) l k
 
--- ---- what a database has reached
+-- ---- the sequences that a database has reached
 
 pub covers_lower : (c : Choice) (db : DatabaseValue) (p : PeerValue) (n m : ℕ) → n ≤ m → CoversFeedOf c db p m → CoversFeedOf c db p n
 covers_lower c db p n m less h row rm leaf k =
@@ -40,11 +40,11 @@ covers_lower c db p n m less h row rm leaf k =
 pub reached-lower : (c : Choice) (db : DatabaseValue) (p : PeerValue) (n m : ℕ) → n ≤ m → IsReached c db p m → IsReached c db p n
 reached-lower c db p n m less h = record { within = omega (arith, less, h.within); covered = covers_lower c db p n m less h.covered }
 
--- nothing is below the first sequence
+-- sequence 0 is always reached
 pub reached-none : (c : Choice) (db : DatabaseValue) (p : PeerValue) → IsReached c db p 0
 reached-none c db p = record { within = omega arith; covered = λ row m leaf k. (let d = chosen_member c db 0 0 row m in absurd (omega (arith, d.3, d.4))) }
 
--- what a session of the database's life has recorded
+-- the recorded sequence of a session of the database's life
 recorded_within : (refuses : Document → Bool) (c : Choice) (db : DatabaseValue) (p : PeerValue) (s : SessionValue) → LawfulSession refuses p s → ((w : WindowValue) → Among w s.windows → IsTiedWindow db c w) → s.front.start ≤ db.update_seq → s.recorded ≤ db.update_seq
 recorded_within refuses c db p s law tied start =
     elim (low_water-is_end s.front) [
@@ -81,7 +81,7 @@ entry_session target rep t m =
     let f = Among-filter (λ (s : SessionValue). same_rep s.rep rep) g.0 target.sessions g.1 in
     (g.0, f.0, same_rep-is g.0.rep rep f.1, g.2)
 
--- an entry that names a session of the target's log
+-- an entry for a session of the target's log
 pub entry_reached : (refuses : Document → Bool) (db : DatabaseValue) (target : PeerValue) (rep : RepId) (e t : EntryValue) → LawfulSessions refuses target → IsTiedEntry db target rep e → Among t (target_log target rep) → t.session.0 ≡ e.session.0 → IsReached rep.chosen db target e.recorded
 entry_reached refuses db target rep e t law h tm same =
     let s = entry_session target rep t tm in
@@ -94,7 +94,7 @@ honest_is refuses source target chosen law tied e em t tm same =
     let r = entry_reached refuses source.db target (rep_between source target chosen) e t law (tied.log e em) tm (ap (λ (i : SessionId). i.0) same) in
     covers_lower chosen source.db target (min e.recorded t.recorded) e.recorded (omega arith) r.covered
 
--- where the entries of a log are tied to the database, it has reached what that log and the target's agree on
+-- if the entries of a log are tied to the database, it has reached the common checkpoint of that log and the target's
 pub agreed_reached : (refuses : Document → Bool) (db : DatabaseValue) (target : PeerValue) (rep : RepId) (log : List EntryValue) → LawfulSessions refuses target → AreTiedEntries db target rep log → (session : SessionId) (n : ℕ) → common log (target_log target rep) ≡ Some (session, n) → IsReached rep.chosen db target n
 agreed_reached refuses db target rep log law tied session n e =
     let c = common-IsCommon log (target_log target rep) (session, n) e in
@@ -112,7 +112,7 @@ common_reached refuses db target rep log law tied = go (common log (target_log t
     go None e = reached-none rep.chosen db target
     go (Some c) e = agreed_reached refuses db target rep log law tied c.0 c.1 e
 
--- and an audit finds no hole
+-- and an audit finds no uncovered leaf
 pub audited_is : (refuses : Document → Bool) (source target : PeerValue) (chosen : Choice) → LawfulSessions refuses target → IsTiedPair source target chosen → IsAudited source target chosen
 audited_is refuses source target chosen law tied session n e =
     (agreed_reached refuses source.db target (rep_between source target chosen) (source_log source (rep_between source target chosen)) law tied.log session n e).covered
@@ -121,7 +121,7 @@ pub start_reached : (refuses : Document → Bool) (source target : PeerValue) (c
 start_reached refuses source target chosen law tied =
     common_reached refuses source.db target (rep_between source target chosen) (source_log source (rep_between source target chosen)) law tied.log
 
--- none of the source's feed up to the common checkpoint is a hole
+-- no leaf of the source's feed up to the common checkpoint is uncovered
 pub tied_none : (refuses : Document → Bool) (source target : PeerValue) (chosen : Choice) → LawfulSessions refuses target → IsTiedPair source target chosen → audit_answer source target chosen ≡ None
 tied_none refuses source target chosen law tied = go (checkpoint_of source target chosen) refl
   where
@@ -133,9 +133,9 @@ pub clean_from : (a : Audit) → hole_of a ≡ None → a ≡ Clean
 clean_from Clean e = refl
 clean_from (Hole seq id rev) e = cc
 
--- ---- where a replication starts
+-- ---- the start of a replication
 
--- a start is what a session has recorded, so it is no greater than the end of a front
+-- a start is a recorded sequence, so it does not exceed the end of a front
 pub start_small : (refuses : Document → Bool) (source target : PeerValue) (chosen : Choice) → LawfulSessions refuses target → start_between source target chosen < 2 ^ 64
 start_small refuses source target chosen law = go (checkpoint_of source target chosen) refl
   where

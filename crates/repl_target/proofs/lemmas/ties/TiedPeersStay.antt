@@ -1,4 +1,4 @@
--- Two tied peers stay tied, with the copies of the source.
+-- Two tied peers stay tied, with the backups of the source.
 use Rattle.proof_prelude.proofs.{◌≡◌, ℕ, ◌≤◌, Bool, true, false, cond, ◌⊎◌, List, [], ◌∷◌, Option, Some, None, Result, Ok, Err, refl, sym, ap, ◌∙◌, subst, inl, inr, arith, ◌==◌, cond_both, eqb-true}
 use Rattle.rev_tree.specs.{SessionId}
 use Rattle.doc_json.specs.Document.{Document}
@@ -48,7 +48,7 @@ backups-later backups source p q c later h =
 
 -- ---- a call at the target
 
--- what is asked of a session of the replication
+-- the condition on a session of the replication
 abbrev pub TiedAt : DatabaseValue → PeerValue → RepId → SessionValue → Type 0
 TiedAt db p rep s = s.rep ≡ rep → IsTiedSession rep.chosen db p s
 
@@ -61,7 +61,7 @@ tied-stays db p rep s t k h = λ r.
       start = λ e. subst (IsReached rep.chosen db p) (sym k.start) (was.start (sym k.life ∙ e));
     }
 
--- a window more
+-- one more window
 pub tied-more : (db : DatabaseValue) (p : PeerValue) (rep : RepId) (w : WindowValue) (s : SessionValue) → (s.rep ≡ rep → s.life ≡ db.life → IsTiedWindow db rep.chosen w) → TiedAt db p rep s → TiedAt db p rep (with_window w s (Ok tt))
 tied-more db p rep w s tied h = λ r.
     let was = h r in
@@ -71,11 +71,11 @@ tied-more db p rep w s tied h = λ r.
       start = was.start;
     }
 
--- a session that begins
+-- a new session
 pub tied-new : (db : DatabaseValue) (p : PeerValue) (rep : RepId) (id : SessionId) (b : Beginning) (at : ℕ) → b.scope.life ≤ db.life → (b.scope.rep ≡ rep → b.scope.life ≡ db.life → IsReached rep.chosen db p b.start) → TiedAt db p rep (new_session id b at)
 tied-new db p rep id b at under reach = λ r. record { life = under; windows = λ e w m. absurd m; start = reach r }
 
--- two peers stay tied where the target becomes a later one, whose sessions are so
+-- two peers stay tied if the target becomes a later one whose sessions satisfy the condition
 pair_later : (source p q : PeerValue) (chosen : Choice) → IsLaterPeer p q → ((s : SessionValue) → Among s q.sessions → TiedAt source.db p (rep_between source p chosen) s) → IsTiedPair source p chosen → IsTiedPair source q chosen
 pair_later source p q chosen later each h =
     let rep = rep_between source p chosen in
@@ -91,8 +91,8 @@ tied_call refuses source target chosen c brings later h =
     let rep = rep_between source target chosen in
     pair_later source target (after_call refuses target c) chosen later (call_keeps (TiedAt source.db target rep) (tied-stays source.db target rep) refuses target c brings h.sessions) h
 
--- a target that grows by what a source answers to a run, and any peer that it is tied to, whichever choice is looked at:
--- the windows that it stores are for the run's session alone, and fit, or aren't of this pair's replication
+-- a target that grows by messages of a source for a run, and any peer to which it is tied, for every selection: the
+-- stored windows are for the run's session, and are tied, or are not of this pair's replication
 module _ (refuses : Document → Bool) (source : DatabaseValue) (chosen : Choice) (run : SessionId) (peer : PeerValue) (other : Choice) (law : LawfulDatabase source)
     (fits : (w : WindowValue) → IsPageOf source chosen w → source.uuid ≡ peer.db.uuid → chosen ≡ other → IsTiedWindow peer.db other w) where
   record Grows (p : PeerValue) : Type 0 where
@@ -115,11 +115,11 @@ module _ (refuses : Document → Bool) (source : DatabaseValue) (chosen : Choice
         tied = pair_later peer p (after_change p s c) other k.1 (each-with (TiedAt peer.db p rep) (tied-stays peer.db p rep) p.sessions (changed s c) own h.tied.sessions) h.tied;
       }
 
-  -- the two stay tied meanwhile
+  -- the two peers stay tied during the run
   pub tied_grown : (given now : PeerValue) → LawfulSessions refuses given → ((s : SessionValue) → Among s given.sessions → IsRunOf run source.uuid chosen s) → IsGrown refuses source chosen run given now → IsTiedPair peer given other → IsTiedPair peer now other
   tied_grown given now l runs grown h = (run_keeps refuses source chosen run Grows grows given now grown (record { lawful = l; runs = runs; tied = h })).tied
 
--- and where a replication begins its session
+-- the two peers stay tied when a replication begins its session
 pub tied_begun : (refuses : Document → Bool) (source target : PeerValue) (plan : Plan) (other : Choice) → LawfulSessions refuses target → IsTiedPair source target other → IsTiedPair source (after_begins source target plan) other
 tied_begun refuses source target plan other l h =
     let rep = rep_between source target other in
@@ -133,7 +133,7 @@ tied_begun refuses source target plan other l h =
 
 -- ---- a database in another life
 
--- it has the same documents
+-- the database in another life has the same documents
 pub entry-life : (db : DatabaseValue) (life : ℕ) (p : PeerValue) (rep : RepId) (e : EntryValue) → IsTiedEntry db p rep e → IsTiedEntry (in_life db life) p rep e
 entry-life db life p rep e h =
     record {
@@ -168,7 +168,7 @@ session-source c a b p s later h =
       start = λ e. reached-source c a b p s.front.start later (h.start (e ∙ later.life));
     }
 
--- while the source's database grows, and its logs stay
+-- the source's database grows, and its logs stay
 pub tied_source : (source new target : PeerValue) (c : Choice) → IsLater source.db new.db → new.outgoing ≡ source.outgoing → IsTiedPair source target c → IsTiedPair new target c
 tied_source source new target c later logs h =
     let rep = rep_between source target c in
@@ -184,9 +184,9 @@ pub backups-source : (backups : List BackupValue) (source new target : PeerValue
 backups-source backups source new target c uuid h =
     subst (AreTiedBackups backups target) (λ i. record { source = sym uuid i; target = target.db.uuid; chosen = c }) h
 
--- ---- an entry is put at the source
+-- ---- an entry is stored at the source
 
--- the log of the replication has one entry more, or another in the place of its session's
+-- the log of the replication has one more entry, or a replaced one
 entry_with : (log : List EntryValue) (e x : EntryValue) → Among x (with_entry log e) → (x ≡ e) ⊎ Among x log
 entry_with log e x m =
     cond_both (holds log e.session) (replaced log e) (e ∷ log) (λ (l : List EntryValue). Among x l → (x ≡ e) ⊎ Among x log)
@@ -196,7 +196,7 @@ entry_with log e x m =
     (λ _ k. elim k [ inl i ↦ inl i | inr n ↦ inr n ])
     m
 
--- what is in a log after an entry was put was in it before, or is that entry, and the log that of its replication
+-- an entry in a log after a put was there before, or is the new one, in the log of its replication
 pub log_with : (logs : List (RepId × List EntryValue)) (rep : RepId) (e : EntryValue) (own : RepId) (x : EntryValue) → Among x (log_in (logs_with logs rep e) own) → (own ≡ rep) × (x ≡ e) ⊎ Among x (log_in logs own)
 log_with [] rep e own x m =
     cond_both (same_rep own rep) (e ∷ []) [] (λ (l : List EntryValue). Among x l → (own ≡ rep) × (x ≡ e) ⊎ ⊥)
@@ -222,7 +222,7 @@ log_with (l ∷ logs) rep e own x m = go (log_with logs rep e own x) (same_rep r
           | inr old ↦ inr (subst (λ (c : Bool). Among x (cond c l.1 (log_in logs own))) (sym u) old)
         ]
 
--- an entry under way is tied, once it is put
+-- an entry in transit is tied when it is stored
 sent_tied : (refuses : Document → Bool) (source target : PeerValue) (c : Choice) (e : EntryValue) → LawfulSessions refuses target → IsTiedPair source target c → IsSentEntry target e → e.life ≡ source.db.life → IsTiedEntry source.db target (rep_between source target c) e
 sent_tied refuses source target c e law h sent same =
     record {
@@ -233,7 +233,7 @@ sent_tied refuses source target c e law h sent same =
       reached = λ r. session_reached refuses c source.db target law sent.session sent.held (h.sessions sent.session sent.held r) (sent.life ∙ same) e.recorded sent.recorded;
     }
 
--- an entry is put into the log of any replication, and whichever choice is looked at, it stays tied
+-- two peers stay tied if an entry is stored in the log of any replication, for every selection
 pub puts_tied : (refuses : Document → Bool) (source target : PeerValue) (rep : RepId) (c : Choice) (e : EntryValue) → LawfulSessions refuses target → IsTiedPair source target c → IsSentEntry target e → IsTiedPair (after_put_entry source rep e) target c
 puts_tied refuses source target rep c e law h sent = go (put_entry_answer source rep e) refl
   where
@@ -254,7 +254,7 @@ puts_tied refuses source target rep c e law h sent = go (put_entry_answer source
           log = λ x m. elim (log_with source.outgoing rep e own x m) [ inl i ↦ subst (IsTiedEntry source.db target own) (sym i.1) tied | inr old ↦ h.log x old ];
         }
 
--- what a log says of a session now may be sent
+-- the current log entry of a session may be sent
 pub sent_entry : (p : PeerValue) (id : SessionId) (e : EntryValue) → session_answer p id (λ s. Ok (entry_of s)) ≡ Ok e → IsSentEntry p e
 sent_entry p id e told = go (session_in p.sessions id) refl told
   where

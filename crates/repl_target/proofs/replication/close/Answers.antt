@@ -8,7 +8,7 @@ record_at_source-requires g c =
     let found = closed-found c.args.target.now.1 c.args.plan.now c.requires.held.0 c.requires.held.1 in
     record { held = subst (λ (q : PeerValue). (s : SessionValue) × (session_in q.sessions c.args.plan.now.session ≡ Some s)) (sym c.record_at_target-concluded.ensures.closed) found }
 
--- the entry found no memory at the source
+-- the allocation for the entry failed at the source
 pub returns-in_err-record_at_source-clause-closes : goal.returns-in_err-record_at_source-clause-closes
 returns-in_err-record_at_source-clause-closes g c =
     let p = err_from_is_err_and c.from_residual.result c.from_residual.ensures.1 in

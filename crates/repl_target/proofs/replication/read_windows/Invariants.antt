@@ -2,7 +2,7 @@ use Rattle.proof_prelude.proofs.{◌≡◌, ◌-◌, ◌≤◌}
 use Rattle.repl_target.specs.{Reads}
 use Rattle.repl_target.proofs.replication.read_windows.Given as goal
 
--- so many windows are read
+-- the windows so far are read
 abbrev pub invariant-loop-since : goal.invariant-loop-since
 invariant-loop-since g l =
     Reads (g.G.WriteFilter.refuses l.initial.target.0) l.source.1.db l.plan l.windows (record { since = l.initial.start; target = l.initial.target.1 }) (record { since = l.since; target = l.target.1 })

@@ -4,7 +4,7 @@ use Rattle.hex.specs.Hex.{encode_lower}
 use Rattle.rev_core.specs.{edit_sig, parent_text}
 use Rattle.rev_core.proofs.local_edit.edit_sig.Goals as goal
 
--- the pieces, one after another
+-- the pieces are hashed in order
 pub returns : goal.returns
 unfolding edit_sig
 returns c =

@@ -2,7 +2,7 @@ use Rattle.proof_prelude.proofs.{◌≡◌, ◌<◌, ◌≤◌, ◌^◌, drop, f
 use Rattle.rev_core.specs.{with_digit, value_of, is_digit}
 use Rattle.rev_core.proofs.rev.generation_of.Given as goal
 
--- the rest of the text gives what all of it gives
+-- reading the rest of the digits gives the value of all digits
 abbrev pub invariant-loop-b : goal.invariant-loop-b
 invariant-loop-b l = record {
   value : fold with_digit l.value (drop l.b-index l.text) ≡ value_of l.text;

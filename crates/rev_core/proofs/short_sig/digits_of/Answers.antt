@@ -4,7 +4,7 @@ use Rattle.rev_core.proofs.{high_at, low_at, length-digits_of}
 use Rattle.rev_core.proofs.short_sig.digits_of.Goals.{then-i-lt-ROOM, else-i-lt-ROOM}
 use Rattle.rev_core.proofs.short_sig.digits_of.Goals as goal
 
--- one digit more
+-- one more digit
 pub loop-i-preserved : goal.loop-i-preserved
 loop-i-preserved c =
     let bytes = c.args.bytes.now in

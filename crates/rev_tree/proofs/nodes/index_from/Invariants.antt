@@ -2,7 +2,7 @@ use Rattle.proof_prelude.proofs.{◌≡◌, ◌+◌, ◌≤◌, [], length, take
 use Rattle.rev_tree.specs.{noted_from, revs_in}
 use Rattle.rev_tree.proofs.nodes.index_from.Given as goal
 
--- the marks so far, and room for the others
+-- the hashes so far, and space for the others
 abbrev pub invariant-loop-i : goal.invariant-loop-i
 invariant-loop-i l = record {
   marks : l.places.entries ≡ noted_from [] 0 (revs_in (take l.i l.nodes));

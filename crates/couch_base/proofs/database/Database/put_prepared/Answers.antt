@@ -6,7 +6,7 @@ use Rattle.couch_base.specs.{DatabaseValue, with_tree, most, IsMadeOf, PreparedT
 use Rattle.couch_base.proofs.{left, taken}
 use Rattle.couch_base.proofs.database.Database.put_prepared.Goals as goal
 
--- what is taken out is what was looked at, and made of the document
+-- the tree that is taken out is the one that was examined, and is the document's
 module _ (ready m : PreparedTree) (o : Option PreparedTree) (looked : o ≡ Some ready) (took : Some m ≡ o) (d : Document) (made : IfSome o (IsMadeOf d)) where
   same : ready ≡ m
   same = same_Some ready m (sym looked ∙ sym took)

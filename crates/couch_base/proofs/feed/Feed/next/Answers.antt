@@ -4,7 +4,7 @@ use Rattle.couch_base.proofs.{past_goal}
 use Rattle.couch_base.specs.declared.feed.Feed.TheInside.{Inside}
 use Rattle.couch_base.proofs.feed.Feed.next.Goals as goal
 
--- what is left at a row is all that was left
+-- the rows from a live row on are all remaining rows
 left_at : (s now : Inside) (i : ℕ) → now ≡ s
     → live_upto now.table.now.entries now.goal (drop i now.rest.now) ≡ live_upto now.table.now.entries now.goal now.rest.now
     → live_upto s.table.now.entries s.goal (drop i s.rest.now) ≡ live_upto s.table.now.entries s.goal s.rest.now

@@ -8,7 +8,7 @@ use Rattle.couch_base.proofs.table.Table.add.Goals as goal
 pub merge_change-requires : goal.merge_change-requires
 merge_change-requires c = ap (λ t. merge_answer t c.args.ancestry.now) c.new-tree.ensures ∙ new_changes c.args.ancestry.now c.revs-revs.ensures.ancestry
 
--- the table after it
+-- the table afterwards
 made : (c : goal.After-self-1) → IsWritten c.args.self.now (record { entries = c.fit.new.docs.entries; rows = c.note.new.index.items; last = c.self.inside.last + 1 }) c.args.id.now (merged (tree_of (documents_of c.args.self.now) c.args.id.now) c.args.ancestry.now c.args.content c.args.origin)
 made c =
     let id = c.args.id.now in

@@ -3,7 +3,7 @@ use Rattle.couch_base.specs.{most, Kept, TableValue, found, IsWritten, Sets}
 use Rattle.couch_base.proofs.{added, found_last}
 use Rattle.couch_base.proofs.table.Table.add_prepared.Goals as goal
 
--- the table after it
+-- the table afterwards
 made : (c : goal.After-self-1) → (found c.args.self.now.entries c.args.key ≡ None)
     × IsWritten c.args.self.now (record { entries = c.append.new.docs.entries; rows = c.push_reserved.new.self.items; last = c.self.inside.last + 1 }) c.args.key c.args.tree
 made c =

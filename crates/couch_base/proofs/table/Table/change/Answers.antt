@@ -15,7 +15,7 @@ merge_change-requires c =
     ∙ ap (λ (v : TableValue). merge_answer (tree_of (documents_of v) id) c.args.ancestry.now) c.self.view_is
     ∙ c.requires.change id (subst (λ (v : TableValue). IsPlace v.entries id (Some c.args.place)) c.self.view_is (standing t.entries c.args.place id c.pair_mut-kept.result.1.now at.unique at.value))
 
--- the table after it
+-- the table afterwards
 made : (c : goal.After-sweep) → IsWritten c.args.self.now (record { entries = set_value_at c.self.inside.docs.entries c.args.place (record { seq = c.self.inside.last + 1; tree = c.merge_change.new.self }); rows = c.sweep.new.index.items; last = c.self.inside.last + 1 })
     c.pair_mut-kept.result.0.now (merged (tree_of (documents_of c.args.self.now) c.pair_mut-kept.result.0.now) c.args.ancestry.now c.args.content c.args.origin)
 made c =
@@ -48,7 +48,7 @@ returns-in-Ok-clause-ok c = λ id at.
     let new : TableValue = record { entries = set_value_at c.self.inside.docs.entries c.args.place (record { seq = c.self.inside.last + 1; tree = c.merge_change.new.self }); rows = c.sweep.new.index.items; last = c.self.inside.last + 1 } in
     subst (λ (q : Id). IsWritten now new q (merged (tree_of (documents_of now) q) c.args.ancestry.now c.args.content c.args.origin)) same (made c)
 
--- ---- a refusal
+-- ---- an error
 
 pub returns-in-Err-clause-err : goal.returns-in-Err-clause-err
 returns-in-Err-clause-err c =

@@ -3,7 +3,7 @@ use Rattle.couch_base.specs.{tree_in, Id, Kept, TableValue, documents_of, feed_o
 use Rattle.couch_base.proofs.{found_in}
 use Rattle.couch_base.proofs.table.Table.tree_at.Goals as goal
 
--- the table has the document at the place
+-- the table has the document at the position
 has_it : (c : goal.In-Some) → found c.self.inside.docs.entries c.args.id.now ≡ Some c.in-Some.kept.now
 has_it c =
     let p = c.requires.place.there in

@@ -5,7 +5,7 @@ use Rattle.pool_workers.specs.{Channels, Pair, Place, StandBy, MayFill, AreBack,
 use Rattle.pool_workers.proofs.{one_of, back_same, back_length, all_popped, shown_start, held_room, held_back, held_shown}
 use Rattle.pool_workers.proofs.context.Context.join_pairs.Goals as goal
 
--- what is promised of the channels, the board and the gate of a pair is said of those of the run
+-- what is guaranteed for the channels, the board and the gate of a pair is guaranteed for those of the run
 stands : {S L D : Type 0} (may : D → Place → Type 0) (a b : Channels S) (y z : D) (o p : Option Board) (r : Pair S L) → a ≡ b → y ≡ z → o ≡ p → StandBy a o (may y) r → StandBy b p (may z) r
 stands may a b y z o p r e f h s = subst (λ c. StandBy c p (may z) r) e (subst (λ d. StandBy a p (may d) r) f (subst (λ q. StandBy a q (may y) r) h s))
 

@@ -1,7 +1,7 @@
 use Rattle.proof_prelude.proofs.{◌≡◌, ◌+◌, ◌≤◌, None, IfSome, length}
 use Rattle.pool_workers.proofs.context.Context.read_ahead.Given as goal
 
--- so many pages are read, one behind the other, and the plan allows them
+-- the pages so far were read in order, and the plan allows them
 abbrev pub invariant-loop-further : goal.invariant-loop-further
 invariant-loop-further g l = record {
   pages : length l.ahead.pages.items ≡ l.further;

@@ -33,7 +33,7 @@ returns-then-stored-entry-clause-err c = rw (← c.self.view_is) (ap logged (sam
 pub returns-then-stored-entry-clause-log : goal.returns-then-stored-entry-clause-log
 returns-then-stored-entry-clause-log c = subst (λ (es : Entries). IsLog (logged es)) (sym (same c)) c.self.invariant.0
 
--- ---- the entry takes the place of the stored one
+-- ---- the entry replaces the stored one
 
 set_there : (c : goal.After-self-in-Some-1) → (c.get_mut.follows.lender c.args.entry).entries ≡ set_value (at_session c.args.entry.session) c.self.inside.entries.entries c.args.entry
 set_there c = (c.get_mut.follows.holds c.args.entry).0

@@ -7,7 +7,7 @@ use Rattle.repl_peer.proofs.{edit_answer-made, edit_noted}
 use Rattle.repl_peer.proofs.peer.local.edit.Goals.{in-Some, in-None}
 use Rattle.repl_peer.proofs.peer.local.edit.Goals as goal
 
--- the revision that an edit makes, and the one that it stands on
+-- the revision that an edit creates, and its parent
 pub edit-requires-in-Ok-edit : goal.edit-requires-in-Ok-edit
 edit-requires-in-Ok-edit c =
     let before : c.match-parent.before ≡ stood_on (tree_in c.args.db.now.docs c.args.id.now) c.match-parent.parent = elim c.match-parent.branch [
@@ -17,7 +17,7 @@ edit-requires-in-Ok-edit c =
     let made = edit_answer-made c.args.db.now c.args.id.now c.match-parent.parent c.args.deleted c.args.body.now c.in-Ok-edit.rev (sym c.in-Ok-edit.ensures.answer) in
     (made.0, subst (λ b. FallsByOne (c.in-Ok-edit.rev ∷ option_to_list b)) (sym before) made.1)
 
--- the write that was made before, with that revision
+-- the prepared write, with that revision
 pub returns-in-Ok-edit-clause-locals : goal.returns-in-Ok-edit-clause-locals
 returns-in-Ok-edit-clause-locals c =
     let locals = c.args.locals.now.items in

@@ -3,7 +3,7 @@ use Rattle.couch_base.specs.{AreMade, WindowValue}
 use Rattle.repl_peer.specs.{SessionValue, Reached, settling_at, with_arrivals}
 use Rattle.repl_peer.proofs.session.ahead.put_ahead.Given as goal
 
--- the documents before this one are put
+-- the documents before this one are stored
 abbrev pub invariant-loop-i : goal.invariant-loop-i
 invariant-loop-i g l = record {
   reached : (w : WindowValue) (s : SessionValue) → w.rows ≡ l.rows → s.id ≡ l.session

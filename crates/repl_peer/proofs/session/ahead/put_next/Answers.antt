@@ -8,7 +8,7 @@ pub returns-then-put_prepared_at-clause-put : goal.returns-then-put_prepared_at-
 returns-then-put_prepared_at-clause-put c = λ put d at.
     let h = c.put_prepared_at.ensures.put put d at in (puts.Changed (c.args.db.now.update_seq + 1), h.0, h.1)
 
--- a put that is done answered what it gives
+-- a successful put returned the expected result
 done_by : (r expected : Result Put BaseFault) (P : Type 0) → is_ok r ≡ true → PutGives r expected → OnOk r P → (x : Put) × (expected ≡ Ok x) × P
 done_by (Ok p) expected P done gives h = (p, sym gives, h)
 done_by (Err e) expected P done gives h = absurd (false≢true done)

@@ -12,7 +12,7 @@ returns-then-i-len-clause-made c =
     let at = slice_get-get_or docs c.args.i x c.requires.within ∙ ap (λ (d : Document). Some d) (sym c.index-docs-i.is) in
     made_set docs c.args.made.now.items c.args.i x c.put_prepared.new.made c.requires.made at c.put_prepared.ensures.made
 
--- what is said of the document that was read is said of the one at its place
+-- the document that was read is the one at its index
 pub returns-then-i-len-clause-put : goal.returns-then-i-len-clause-put
 returns-then-i-len-clause-put c = λ put d at.
     let db = c.args.db.now in

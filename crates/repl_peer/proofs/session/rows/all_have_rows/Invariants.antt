@@ -1,7 +1,7 @@
 use Rattle.proof_prelude.proofs.{◌≡◌, ◌≤◌, length, drop, list_any, list_all, bytes_eq}
 use Rattle.repl_peer.proofs.session.rows.all_have_rows.Given as goal
 
--- the others decide
+-- the remaining documents decide
 abbrev pub invariant-loop-doc : goal.invariant-loop-doc
 invariant-loop-doc l = record {
   within : l.place ≤ length l.rows;

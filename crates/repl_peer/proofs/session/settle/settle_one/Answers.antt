@@ -25,7 +25,7 @@ returns-clause-settled g c =
     let unlike = c.put_prepared_at.ensures.unlike c.if-put_prepared_at.false in
     let after = settling_at c.settle_unmade.new.db c.settle_unmade.new.session in
     let lists = flat_map (λ list. list.items) c.session.inside.earlier.items in
-    -- the session with a place among its arrivals is the same
+    -- reserving space for an arrival does not change the session
     let kept : record (session_value c.session.inside) { arrivals = lists ++ c.arrival.new.arrivals.items } ≡ c.args.session.now =
     (λ i. record (session_value c.session.inside) { arrivals = lists ++ c.in-Ok.ensures.arrivals i }) ∙ c.session.view_is in
     OnOk_then c.settle_unmade.result

@@ -1,7 +1,7 @@
 use Rattle.proof_prelude.proofs.{◌≡◌, ℕ, ◌-◌, ◌++◌, List, length, length-drop, take, drop, reverse, sym, ap, ◌∙◌, arith, length-reverse, reverse-append, reverse-reverse, take-append-drop, take-append_seam}
 use Rattle.repl_peer.proofs.session.settle.without_first.Goals as goal
 
--- what is left of a turned list, turned back
+-- dropping the end of a reversed list, and reversing it again
 first_cut : {X : Type 0} (xs : List X) (n : ℕ) → reverse (take (length xs - n) (reverse xs)) ≡ drop n xs
 first_cut xs n =
     let front = take n xs in

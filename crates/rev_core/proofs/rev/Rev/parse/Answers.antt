@@ -3,7 +3,7 @@ use Rattle.rev_core.specs.{sig_read, cut_at, with_sig, rev_text-read}
 use Rattle.rev_core.proofs.{with_read}
 use Rattle.rev_core.proofs.rev.Rev.parse.Goals as goal
 
--- the first dash, the generation before it and the signature behind it
+-- the first `-`, the generation before it and the signature after it
 pub returns-in-Ok-clause-read : goal.returns-in-Ok-clause-read
 returns-in-Ok-clause-read c =
     let text = c.args.text.now in

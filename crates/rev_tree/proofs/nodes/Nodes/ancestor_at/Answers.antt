@@ -21,7 +21,7 @@ loop-i-preserved c =
           ap (λ l. slice_get l (suc k)) (sym s.walk) ∙ c.loop-i.invariant.left (suc k) ∙ ap (slice_get (ancestors_at nodes c.args.start)) e;
     }
 
--- one revision alone has no ancestor
+-- a single revision has no ancestor
 alone : (r : RevId) (n : ℕ) → 0 < n → slice_get (r ∷ []) n ≡ None
 alone r zero h = absurd (omega arith)
 alone r (suc n) h = refl

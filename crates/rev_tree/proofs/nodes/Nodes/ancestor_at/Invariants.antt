@@ -2,7 +2,7 @@ use Rattle.proof_prelude.proofs.{◌≡◌, ℕ, ◌+◌, ◌<◌, length, slice
 use Rattle.rev_tree.specs.{ancestors_at}
 use Rattle.rev_tree.proofs.nodes.Nodes.ancestor_at.Given as goal
 
--- from the place that is reached on, the ancestors are those that are left
+-- the ancestors from the current index are the remaining ones
 abbrev pub invariant-loop-i : goal.invariant-loop-i
 invariant-loop-i l = record {
   within : l.at < length l.self.items;

@@ -4,7 +4,7 @@ use Rattle.rev_tree.specs.{is_above_at, IsTold}
 use Rattle.rev_tree.proofs.{generation_at}
 use Rattle.rev_tree.proofs.nodes.Nodes.first_told.Given as goal
 
--- the answer here is that at the start
+-- the result at the current index is that at the start
 abbrev pub invariant-walk : goal.invariant-walk
 invariant-walk l = record {
   same : (revs : List RevId) → IsTold l.self.items revs l.told → is_above_at l.self.items revs l.at ≡ is_above_at l.self.items revs l.fn.start;

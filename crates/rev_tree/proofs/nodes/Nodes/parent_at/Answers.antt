@@ -10,7 +10,7 @@ returns-in_err-place-clause-parent c r is =
     ap (rev_at (revs_in nodes)) c.from_residual.ensures
     ∙ sym (parent_is nodes (tree_of nodes) r None c.all-nodes.ensures.linked refl (place_unknown nodes r (sym is ∙ c.in_err-place.was)))
 
--- the node at the place, and that it is the one
+-- the node at the index is the one that was read
 reads : (c : After-parent) → slice_get c.args.self.now.items c.in_ok-place.place ≡ Some c.index-nodes-place.result
 reads c =
     let nodes = c.args.self.now.items in

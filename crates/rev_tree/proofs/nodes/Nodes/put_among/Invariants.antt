@@ -4,7 +4,7 @@ use Rattle.rev_tree.specs.{revs_in, tree_of}
 use Rattle.rev_tree.proofs.{IsPut}
 use Rattle.rev_tree.proofs.nodes.Nodes.put_among.Given as goal
 
--- the head stands at its place, and each revision that was there at its own
+-- the head is at its index, and each old revision at its own
 abbrev pub invariant-loop-i : goal.invariant-loop-i
 invariant-loop-i l = record {
   put : IsPut (tree_of l.fn.self.items) l.self l.origin l.revs l.fn.content l.i l.child;

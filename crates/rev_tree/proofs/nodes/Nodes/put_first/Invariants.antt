@@ -3,7 +3,7 @@ use Rattle.rev_tree.specs.{revs_in, tree_of}
 use Rattle.rev_tree.proofs.{IsPut}
 use Rattle.rev_tree.proofs.nodes.Nodes.put_first.Given as goal
 
--- the first revisions alone have nodes
+-- only the first revisions have nodes
 abbrev pub invariant-loop-i : goal.invariant-loop-i
 invariant-loop-i l = record {
   put : IsPut (tree_of l.fn.self.items) l.self l.origin l.revs l.fn.content l.i l.child;

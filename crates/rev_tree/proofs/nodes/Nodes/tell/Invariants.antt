@@ -4,7 +4,7 @@ use Rattle.rev_tree.specs.{is_above_at, IsTold}
 use Rattle.rev_tree.proofs.{generation_at}
 use Rattle.rev_tree.proofs.nodes.Nodes.tell.Given as goal
 
--- the answer is that of here
+-- the result is that of the current node
 abbrev pub invariant-walk : goal.invariant-walk
 invariant-walk l = record {
   told : (revs : List RevId) → IsTold l.self.items revs l.fn.told.items → l.answer ≡ is_above_at l.self.items revs l.fn.start → IsTold l.self.items revs l.told.items;

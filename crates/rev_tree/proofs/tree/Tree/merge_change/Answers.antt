@@ -18,7 +18,7 @@ put-best-requires-clause-none c =
     ∙ ap (λ (t : TreeValue). first_contradiction t.parents (edges_of c.args.ancestry.now)) c.self.view_is
     ∙ none_from_answer c.args.self.now c.args.ancestry.now Changed c.requires
 
--- the nodes with the ancestry are the merged tree, which is a tree
+-- the nodes with the ancestry represent the merged tree, which is a tree
 after : (c : After-self-1) → tree_of c.give_back.new.self.items ≡ merged c.args.self.now c.args.ancestry.now c.args.content c.args.origin
 after c =
     ap tree_of c.give_back.ensures

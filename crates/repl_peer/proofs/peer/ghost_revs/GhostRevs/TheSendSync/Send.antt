@@ -1,4 +1,4 @@
--- It owns nothing, so it may go to any thread.
+-- The value owns nothing, so any thread may receive it.
 use denote.Param.Send.{IsSend, owning_send}
 use Rattle.repl_peer.specs.contracts.peer.ghost_revs.GhostRevs.{the_row, the_type}
 

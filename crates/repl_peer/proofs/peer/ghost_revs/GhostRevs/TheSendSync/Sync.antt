@@ -1,4 +1,4 @@
--- It owns nothing, so any thread may share it.
+-- The value owns nothing, so threads may share it.
 use denote.Param.Send.{IsSync, part_keyless}
 use Rattle.repl_peer.specs.contracts.peer.ghost_revs.GhostRevs.{the_row}
 use Rattle.repl_peer.proofs.peer.ghost_revs.GhostRevs.TheSendSync.Send.{send}

@@ -1,4 +1,4 @@
--- `of` makes a value of no bytes, with the revisions that its clause names.
+-- `of` creates a zero-size value with the revisions that its clause names.
 use Rattle.proof_prelude.proofs.{List, [], ◌∷◌, ◌++◌, refl}
 use seplogic.Ra.Ura.{Ura}
 use mir.Syntax.{Fn}
@@ -43,7 +43,7 @@ ended = F.ended
 abbrev stayed : Stays ended.signature.params ended.kept
 stayed = (stay_dropped _ yes, tt)
 
--- a struct of no fields
+-- a struct without fields
 abbrev none : Val
 none = vstruct vnil
 

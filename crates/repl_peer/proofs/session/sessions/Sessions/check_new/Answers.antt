@@ -4,7 +4,7 @@ use Rattle.repl_peer.proofs.{holds-lookup, begin_in-exists, begin_in-started, be
 use Rattle.repl_peer.proofs.session.sessions.Sessions.check_new.Goals as goal
 use Rattle.repl_peer.proofs.session.sessions.Sessions.check_new.Goals.{After-contains_key}
 
--- whether the id is there
+-- whether the id exists
 seen : (c : After-contains_key) → holds c.args.self.now c.args.id ≡ c.contains_key.result
 seen c = ap (λ (l : List SessionValue). holds l c.args.id) (sym c.self.view_is) ∙ holds-lookup c.self.inside.ledgered c.self.inside.entries.entries c.self.invariant.0 c.args.id ∙ sym c.contains_key.ensures
 

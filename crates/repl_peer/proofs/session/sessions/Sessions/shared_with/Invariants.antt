@@ -1,4 +1,4 @@
--- no session so far is shared: those behind decide
+-- no session so far is shared, so the remaining ones decide
 use Rattle.proof_prelude.proofs.{◌≡◌, ◌≤◌, ◌-◌, drop, length}
 use Rattle.repl_log.specs.{common}
 use Rattle.repl_peer.specs.{sessions_of, log_of, listed}
