@@ -11,50 +11,49 @@ use std::alloc::{AllocError, Global};
 
 /// The description of the program.
 const ABOUT: &str =
-    "Turns answers of CouchDB into lines of a script, and documents into requests to CouchDB.";
+    "Converts responses of CouchDB to script lines, and documents to requests to CouchDB.";
 
 /// The description of the tasks for `--help`.
-const TASKS_HELP: &str = "Standard input is read, and what is made of it goes to standard output.
-`DB` is a name of 1 to 32 letters, digits, `-` or `_`; N a whole number.
+const TASKS_HELP: &str = "Reads standard input and writes standard output.
+DB is a name of 1 to 32 letters, digits, `-` or `_`; N is an integer.
 
   couch_lines load DB [--whole]
-      a `load` line for each document in answers of CouchDB (_bulk_get?revs=true,
+      Print a `load` line for each document in responses of CouchDB (_bulk_get?revs=true,
       {docid}?open_revs=all&revs=true as JSON, _all_docs?include_docs=true,
-      _changes?include_docs=true, _find, a document itself) and in files of such
-      (couchbackup, couchdb-dump, bodies of _bulk_docs, the answers of `doc` lines),
-      one or several behind one another
+      _changes?include_docs=true, _find, a single document), and in files of such
+      documents (couchbackup, couchdb-dump, bodies of _bulk_docs, output of `doc` lines).
+      The input may contain several of these.
   couch_lines ids [N]
-      bodies of _bulk_get requests that ask for each leaf in an answer of
-      _changes?style=all_docs, or in one of _revs_diff: N leaves in each, one body a
-      line; without N all in one
+      Print bodies of _bulk_get requests for each leaf in a response of
+      _changes?style=all_docs or of _revs_diff: N leaves per body, one body per line.
+      Without N, print one body.
   couch_lines diff [N]
-      bodies of _revs_diff requests that ask which of the leaves in an answer of
-      _changes?style=all_docs are missing: N documents in each, one body a line;
-      without N all in one
+      Print bodies of _revs_diff requests for the leaves in a response of
+      _changes?style=all_docs: N documents per body, one body per line. Without N, print
+      one body.
   couch_lines leaves DB
-      a `doc` line for each leaf in the `change` lines of a script's answers
+      Print a `doc` line for each leaf in the `change` lines of a script's output.
   couch_lines bulk [N] [--whole]
-      bodies of _bulk_docs requests that store the documents in the same answers and
-      files, in `load` lines and in the answers of `doc` lines, N documents in each,
-      one body a line (1000 without N)
+      Print bodies of _bulk_docs requests that store the documents in the same responses
+      and files, in `load` lines, and in the output of `doc` lines: N documents per body
+      (default 1000), one body per line.
   couch_lines trees [DB] [--svg]
-      pictures of a script's answers, as text, or all of them as one picture in SVG:
-      of `show` and `conflicts` the revision trees (with DB, the database of the answers,
-      a text has the `edit` lines that end the conflicts); of `compare` what is missing
-      or otherwise, and how much is there; of `info` and of a session the numbers; of `log`
-      the sessions of a replication, each beside the one that read most
+      Draw a script's output, as text or as one SVG picture: the revision trees of `show`
+      and `conflicts` (with DB, the name of the database, the text includes the `edit`
+      lines that end a conflict); what `compare` finds and counts; the numbers of `info`
+      and of sessions; and the sessions of `log`.
 
-A document is an object whose first member is `_id`, or one that an answer of CouchDB
-names. Its text is copied as it is. What stands in the place of a document is passed over,
-and its number told on standard error; `bulk` refuses an object that holds no document.
+A document is an object whose first member is `_id`, or one that a response of CouchDB
+contains. Its text is copied unchanged. An entry that contains no document is skipped, and
+the number of skipped entries is printed on standard error; `bulk` fails on an object that
+contains no document.
 
-With --whole `load` puts all members but _id, _rev, _revisions and _deleted into one, a
-string named `whole`, in which nothing is looked at: numbers such as 12.5, attachments and
-all else go through couch_replicate as they are. `bulk --whole` takes them out again.
+With --whole, `load` puts all members except _id, _rev, _revisions and _deleted into one
+string member `whole`, and does not interpret them. So numbers such as 12.5, attachments
+and all other members pass through couch_replicate unchanged. `bulk --whole` restores them.
 
-Exit status: 0; 1 where something was passed over; 2 for a bad command line; 3 where the
-input is CouchDB's own error, none of these or cut off, or reading, writing or memory
-failed.";
+Exit status: 0 success; 1 an entry was skipped; 2 usage error; 3 the input is an error of
+CouchDB, is none of the above or is truncated, or reading, writing or an allocation failed.";
 
 /// Why a command line names no task.
 #[derive(Drop)]
@@ -118,9 +117,9 @@ fn command<'a>(alloc: Global) -> Result<Command<'a>, AllocError>
         .arg(flag(
             alloc,
             "whole",
-            "Documents in envelopes, for `load` and `bulk`",
+            "Put documents into envelopes (load), or take them out (bulk)",
         ))?
-        .arg(flag(alloc, "svg", "One picture in SVG, for `trees`"))?;
+        .arg(flag(alloc, "svg", "Draw one SVG picture (trees)"))?;
     Ok(command)
 }
 
@@ -144,5 +143,5 @@ fn second_word<'a>(alloc: Global) -> Arg<'a>
     Arg::new(alloc, "of")
         .value_name("DB|N")
         .action(ArgAction::Set)
-        .help("A database for `load`, `leaves` and `trees`, else a number")
+        .help("The name of a database (load, leaves, trees), or a number (ids, diff, bulk)")
 }

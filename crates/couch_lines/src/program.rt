@@ -83,13 +83,13 @@ fn tell<H: Print + Eprint>(rt: &H, ended: &Ended) -> u8
     match ended {
         Ended::NotRun(NoTask::Words(error)) => report_arguments(rt, error),
         Ended::NotRun(NoTask::Unknown) => {
-            let _ = eprintln!(rt; "error: no such task; couch_lines --help tells them");
+            let _ = eprintln!(rt; "error: unknown task; see couch_lines --help");
             BAD_COMMAND_LINE
         }
         Ended::NotRun(NoTask::Wrong(named)) => {
             let usage = usage_of(*named);
             let _ = eprintln!(rt;
-                "error: wanted is `couch_lines {usage} < FILE`; input goes to standard input"
+                "error: couch_lines reads standard input; usage: couch_lines {usage} < FILE"
             );
             BAD_COMMAND_LINE
         }
@@ -132,7 +132,7 @@ fn tell_run(rt: &impl Eprint, run: &Run) -> u8
     match &run.ended {
         Ok(0) => 0,
         Ok(passed) => {
-            let _ = eprintln!(rt; "passed over: {passed}");
+            let _ = eprintln!(rt; "skipped {passed} entries that contain no document");
             1
         }
         Err(AnswerFault::Device { fault }) => {
@@ -154,11 +154,13 @@ fn tell_refused(rt: &impl Eprint, run: &Run, why: Refusal, at: u64) -> u8
         let reason = unquoted(run.reading.text());
         let _ = eprintln!(rt; "CouchDB says {error}: {reason}");
     } else if !hint.is_empty() {
-        let _ = eprintln!(rt; "refused: {why} at byte {at}: {hint}");
+        let _ = eprintln!(rt;
+            "error: the input is not a response of CouchDB, at byte {at}: {hint} ({why})"
+        );
     } else if id.is_empty() {
-        let _ = eprintln!(rt; "refused: {why} at byte {at}");
+        let _ = eprintln!(rt; "error: invalid input at byte {at} ({why})");
     } else {
-        let _ = eprintln!(rt; "refused: {why} at byte {at}, behind {id}");
+        let _ = eprintln!(rt; "error: invalid input at byte {at}, after document {id} ({why})");
     }
     3
 }
@@ -166,11 +168,11 @@ fn tell_refused(rt: &impl Eprint, run: &Run, why: Refusal, at: u64) -> u8
 /// Explains what the input is, and what to do.
 fn hint_of(why: Refusal) -> &'static str {
     match why {
-        Refusal::Gzip => "this is gzip (curl --compressed)",
-        Refusal::Html => "this is HTML",
-        Refusal::Headers => "these are headers (curl without -i)",
-        Refusal::Multipart => "this is multipart (ask with Accept: application/json)",
-        Refusal::ByteOrderMark => "this begins with a byte order mark",
+        Refusal::Gzip => "it is gzip; use curl --compressed",
+        Refusal::Html => "it is HTML",
+        Refusal::Headers => "it begins with HTTP headers; use curl without -i",
+        Refusal::Multipart => "it is multipart; request it with Accept: application/json",
+        Refusal::ByteOrderMark => "it begins with a byte order mark",
         _ => "",
     }
 }
@@ -183,11 +185,15 @@ fn text_of(bytes: &[u8]) -> &str {
     }
 }
 
-/// A JSON string without its quotation marks.
+/// A JSON string without its quotation marks and the white space around them.
 fn unquoted(bytes: &[u8]) -> &str {
-    let end = if bytes.len() > 1 { bytes.len() - 1 } else { 1 };
-    if bytes.is_empty() {
-        return "";
+    let text = text_of(bytes).trim();
+    let text = match text.strip_prefix('"') {
+        Some(rest) => rest,
+        None => text,
+    };
+    match text.strip_suffix('"') {
+        Some(rest) => rest,
+        None => text,
     }
-    text_of(&bytes[1..end])
 }

@@ -42,7 +42,7 @@ pub struct ErrorReporter<'a, H> {
     /// The JSON reader for lines.
     values: ValueReader,
     /// The buffer for messages.
-    text: Vec<u8>,
+    text: String,
     alloc: Global,
 }
 
@@ -96,7 +96,7 @@ impl<'a, H: Eprint + Clock> ErrorReporter<'a, H> {
             told: 0,
             counts: Vec::new(alloc),
             values: ValueReader::new(alloc),
-            text: Vec::new(alloc),
+            text: String::new(alloc),
             alloc,
         }
     }
@@ -109,17 +109,17 @@ impl<'a, H: Eprint + Clock> ErrorReporter<'a, H> {
         }
         if settings.workers == 0 || settings.workers > MOST_WORKERS {
             let _ = eprintln!(self.rt;
-                "--workers is to be 1 to 64: a replicate line that names none is refused"
+                "warning: --workers must be 1 to 64; replicate and sync commands without \"workers\" will fail"
             );
         }
         if settings.batch == 0 || settings.batch > MOST_BATCH {
             let _ = eprintln!(self.rt;
-                "--batch is to be 1 to 10000: a replicate line that names none is refused"
+                "warning: --batch must be 1 to 10000; replicate and sync commands without \"batch\" will fail"
             );
         }
         if settings.at > LAST_MOMENT {
             let _ = eprintln!(self.rt;
-                "--at is to be in the years up to 9999: a replicate line that names none is refused"
+                "warning: --at must be before the year 10000; replicate and sync commands without \"at\" will fail"
             );
         }
     }
@@ -141,9 +141,8 @@ impl<'a, H: Eprint + Clock> ErrorReporter<'a, H> {
             name,
             &mut self.text,
         );
-        if made.is_ok()
-            && let Ok(text) = str::from_utf8(self.text.as_slice())
-        {
+        if made.is_ok() {
+            let text = self.text.as_str();
             let _ = eprint!(self.rt; "{text}");
         }
     }

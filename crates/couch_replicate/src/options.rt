@@ -10,69 +10,63 @@ use script_databases::Settings;
 use std::alloc::{AllocError, Global};
 
 /// The description of the program.
-const ABOUT: &str =
-    "Runs a script of commands on document databases in memory, and prints the answers.";
+const ABOUT: &str = "Runs JSON commands on in-memory document databases, and prints the results.";
 
 /// The description of scripts for `--help`.
 const SCRIPT_HELP: &str =
-    "Each line of standard input is a JSON object, and is answered on standard output.
-`db` and `name` are names of 1 to 32 letters, digits, `-` or `_`.
+    "Each line of standard input is a JSON object with one command; its result goes to standard output.
+Database and backup names have 1 to 32 letters, digits, `-` or `_`.
 
   {\"do\":\"load\",\"db\":\"a\"}
-      makes the database `a`, where it is not there;
-      \"uuid\":\"11111111-1111-4111-8111-111111111111\" gives it this UUID, else one is made
+      Create the database `a`, unless it exists. \"uuid\":\"11111111-1111-4111-8111-111111111111\" sets the
+      UUID of a new database.
   {\"do\":\"load\",\"db\":\"a\",\"doc\":{\"_id\":\"d\",\"_rev\":\"2-b\",\"_revisions\":{\"start\":2,\"ids\":[\"b\",\"r\"]},\"n\":1}}
-      loads a revision of the document `d` as it is given, with its known ancestors,
-      newest first; with \"_deleted\":true the revision deletes the document
+      Store a revision of document `d` with the given history, newest first. With \"_deleted\":true the
+      revision is a deletion.
   {\"do\":\"edit\",\"db\":\"a\",\"id\":\"d\",\"parent\":\"2-b\",\"body\":{\"n\":2}}
-      adds a revision behind the leaf `2-b`; without `parent` it is the first of a document
-      that is not there or is deleted; with \"deleted\":true it deletes the document
+      Add a revision as a child of the leaf `2-b`. Omit \"parent\" to create a document, or to recreate
+      a deleted one. Use \"deleted\":true to delete.
   {\"do\":\"show\",\"db\":\"a\",\"id\":\"d\"}
-      shows the winning revision of `d` and each leaf of its tree
+      Print the winning revision and every leaf, with its history.
   {\"do\":\"doc\",\"db\":\"a\",\"id\":\"d\",\"rev\":\"2-b\"}
-      prints the document at a revision, or at the winner without `rev`
+      Print a revision of a document; without \"rev\", the winning one.
   {\"do\":\"changes\",\"db\":\"a\",\"since\":1}
-      lists the documents that changed after a sequence (0 without `since`), each with its
-      latest change and its leaves, and the update sequence
+      List the documents changed after a sequence (default 0), with their leaves.
   {\"do\":\"replicate\",\"source\":\"a\",\"target\":\"b\"}
-      carries to `b` what it misses of `a`, from where their logs agree; \"session\" gives the
-      session's UUID, else one is made; \"workers\", \"batch\" and \"at\" stand in the place of
-      the options; \"stop_after\":1 stops after one window, \"alone\":true has one thread,
-      \"progress\":true tells before the answer how much was settled of what was read;
-      \"doc_ids\":[\"d\",\"e\"] carries these documents alone, from where the logs of this
-      list agree
+      Replicate from `a` to `b`, starting at the last common checkpoint. Optional members: \"session\"
+      (UUID), \"workers\", \"batch\", \"at\", \"stop_after\" (number of windows), \"alone\" (true: one thread),
+      \"progress\" (true: also print counts), \"doc_ids\" (replicate only these documents; each list has
+      its own checkpoint).
   {\"do\":\"log\",\"source\":\"a\",\"target\":\"b\",\"side\":\"source\"}
-      prints what a side, `source` or `target`, keeps of the replications from `a` to `b`;
-      with \"doc_ids\" of those of these documents
+      Print the replication log on one side, `source` or `target`. Optional: \"doc_ids\".
   {\"do\":\"audit\",\"source\":\"a\",\"target\":\"b\"}
-      tells whether `b` has, or has refused, all that both logs say was carried: `clean`, or
-      the first revision that is missing; with \"doc_ids\" of these documents
+      Check that `b` has, or has refused, everything that the common checkpoint claims. Prints `clean`,
+      or the first missing revision. Optional: \"doc_ids\".
   {\"do\":\"backup\",\"db\":\"a\",\"name\":\"k\"}
-      keeps a copy of `a` under the name `k`; nothing may have been replicated into `a`
+      Save a copy of `a` as `k`. Fails if `a` has been a replication target.
   {\"do\":\"restore\",\"db\":\"a\",\"name\":\"k\"}
-      puts `a` back to its copy `k`, with the logs of that time; the copy is kept
+      Replace `a` and its logs by the copy `k`, which is kept.
   {\"do\":\"compare\",\"source\":\"a\",\"target\":\"b\"}
-      tells of each document of `a` which leaves `b` misses, which revision contradicts, and
-      which leaves differ, whatever the logs say; with \"doc_ids\" of these documents
+      For each document of `a`, list missing and differing leaves and contradicting revisions in `b`,
+      independent of checkpoints. Optional: \"doc_ids\".
   {\"do\":\"conflicts\",\"db\":\"a\"}
-      lists the documents that have several live leaves, with these leaves
+      List the documents with more than one live leaf.
   {\"do\":\"docs\",\"db\":\"a\",\"since\":1}
-      prints the documents that changed after a sequence, each at each of its leaves, as
-      `load` takes them; with \"doc_ids\" these documents
+      Print every leaf of the documents changed after a sequence, in the form that `load` accepts.
+      Optional: \"doc_ids\".
   {\"do\":\"info\",\"db\":\"a\"}
-      counts documents, leaves, conflicts, revisions and sessions
+      Print the numbers of documents, leaves, conflicts, revisions and sessions.
   {\"do\":\"ledger\",\"target\":\"b\",\"session\":\"11111111111141118111111111111111\"}
-      lists the documents that a session into `b` refused, and why
+      List the documents that `b` refused in a session, with the reasons.
   {\"do\":\"sync\",\"a\":\"a\",\"b\":\"b\"}
-      carries from `a` to `b`, then from `b` to `a`, as two lines of `replicate` would;
-      \"there\" and \"back\" give the sessions' UUIDs
+      Replicate from `a` to `b`, then from `b` to `a`. Optional: \"there\" and \"back\" (session UUIDs).
 
-Blank lines are passed over. A line that is refused is answered with `refused LINE NAME`,
-and changes nothing; but what a replication has carried before it was refused stays.
-docs/PROFILE.md, \"Names of refusals\", has a sentence for each NAME.
+Blank lines are ignored. A command that fails prints `refused LINE NAME` and changes nothing, except
+that a failed replication keeps what it has already copied. docs/PROFILE.md, \"Names of refusals\",
+explains each NAME; so does --explain.
 
-Exit status: 0; 1 where a line was refused; 2 for a bad command line; 3 where reading,
-writing or memory failed.";
+Exit status: 0 if every command succeeded, 1 if one failed, 2 for a usage error, 3 if reading, writing
+or a memory allocation failed.";
 
 /// The options of a command line.
 #[derive(Drop)]
@@ -201,40 +195,40 @@ fn command<'a>(alloc: Global) -> Result<Command<'a>, AllocError>
             alloc,
             "seed",
             "N",
-            "Makes ids from this seed, so that a run can be repeated [default: 0]",
+            "Seed for generated ids; the same seed gives the same ids [default: 0]",
         ))?
         .arg(number(
             alloc,
             "at",
             "SECONDS",
-            "The moment of replications, in seconds since 1970 [default: 0]",
+            "Timestamp recorded for replications, in Unix time [default: 0]",
         ))?
         .arg(number(
             alloc,
             "workers",
             "N",
-            "How many workers a replication has, 1 to 64 [default: 4]",
+            "Number of workers per replication, 1 to 64 [default: 4]",
         ))?
         .arg(number(
             alloc,
             "batch",
             "N",
-            "How many documents a window of a replication has at most, 1 to 10000 [default: 500]",
+            "Maximum number of changes per window, 1 to 10000 [default: 500]",
         ))?
         .arg(flag(
             alloc,
             "quiet",
-            "Loads and edits that are done are answered nothing",
+            "Print nothing for successful loads and edits",
         ))?
         .arg(flag(
             alloc,
             "explain",
-            "Tells the first 20 refusals on standard error, each with a sentence, and counts all by name",
+            "Explain the first 20 errors on standard error, and count all errors by name",
         ))?
         .arg(flag(
             alloc,
             "progress",
-            "Tells on standard error, where it is a terminal, how far the answered lines came",
+            "Show progress on standard error, if it is a terminal",
         ))?
         .arg(hidden_word(alloc, "file"))?;
     Ok(command)
@@ -249,7 +243,7 @@ fn deny<'a>(alloc: Global) -> Arg<'a>
         .long("deny")
         .value_name("PREFIX")
         .action(ArgAction::Set)
-        .help("A target of replications refuses each document whose id begins with this")
+        .help("Refuse replicated documents whose id starts with PREFIX")
 }
 
 /// Defines an option with an integer value from 0 to 2^64 - 1.

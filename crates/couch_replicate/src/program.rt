@@ -50,7 +50,9 @@ fn tell<H: Print + Eprint>(rt: &H, ended: &Ended) -> u8
         Ended::NotRun(NoSettings::Words(error)) => report_arguments(rt, error),
         Ended::NotRun(NoSettings::NoNumber) => BAD_COMMAND_LINE,
         Ended::NotRun(NoSettings::File) => {
-            let _ = eprintln!(rt; "error: input goes to standard input: couch_replicate < FILE");
+            let _ = eprintln!(rt;
+                "error: couch_replicate reads standard input; use: couch_replicate [OPTIONS] < FILE"
+            );
             BAD_COMMAND_LINE
         }
         Ended::NotRun(NoSettings::Memory) => report_out_of_memory(rt),
