@@ -1,4 +1,4 @@
-//! Generated tests over several crates.
+//! Randomized tests of several crates.
 #![tactic(auto)]
 
 #[cfg(test)]

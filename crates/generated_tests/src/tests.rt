@@ -1,41 +1,41 @@
-//! Generated tests over several crates: each compares a crate with a reference of its own, written from the definitions
-//! by other means.
+//! Randomized tests of several crates. Each compares a crate with an independent reference, written from the
+//! definitions.
 
-// What all modules assert by.
+// Assertions of all modules.
 mod checks;
 
 // Trees, and their reference.
 mod merges;
 mod reference;
 
-// Trees in their two forms.
+// Trees in two representations.
 mod forms;
 mod plain;
 
 // Fronts.
 mod fronts;
 
-// Databases: pages, and what is asked and fetched.
+// Databases: pages, requests and fetches.
 mod exchanges;
 mod feeds;
 
-// Choices of documents by chance.
+// Random selections of documents.
 mod choices;
 
-// What is asked of two databases.
+// Comparisons of two databases.
 mod surveys;
 
 // Replicated pairs, and their plain model.
 mod pairs;
 mod plain_sides;
 
-// Pairs that are replicated both ways.
+// Pairs that are replicated in both directions.
 mod syncs;
 
-// Nets of several peers.
+// Networks of several peers.
 mod nets;
 
-// A peer beside its plain side.
+// A peer and its plain model.
 mod sides;
 
 // Worlds, and their plain model.

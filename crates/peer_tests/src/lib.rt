@@ -1,4 +1,4 @@
-//! Tests of calls on databases, peers, worlds and the pool.
+//! Tests of databases, peers, worlds and the pool.
 #![tactic(auto)]
 
 #[cfg(test)]

@@ -1,7 +1,7 @@
-//! Tests of databases and peers, each a table of calls with the texts that they must answer.
+//! Tests of databases and peers. Each is a table of calls with their expected results as strings.
 //!
-//! A bench holds the databases or peers and what was read and fetched from them. It makes a call by its name, so a
-//! proof sees each kind of call once, and a test is data: it needs no proof of its own that is worth the name.
+//! A bench holds the databases or peers, and what was read and fetched from them. A call is an enum value, so a proof
+//! covers each kind of call once, and a test is data without a proof of its own.
 
 // Calls on databases.
 mod database_rows;
@@ -11,15 +11,15 @@ mod databases;
 mod peer_rows;
 mod peers;
 
-// Copies of peers.
+// Backups of peers.
 mod backup_rows;
 mod backups;
 
-// Choices of documents, and what is replicated under them.
+// Selections of documents, and replications with them.
 mod choice_rows;
 mod choices;
 
-// The parts of a replication that each way to replicate shares.
+// The steps of a replication that all implementations share.
 mod plan_rows;
 mod plans;
 
@@ -32,20 +32,20 @@ mod carried;
 mod pool_rows;
 mod pools;
 
-// What watches a run of the pool, what holds its workers, and what stops it.
+// Observing, blocking and stopping a run of the pool.
 mod pool_boards;
 mod pool_gates;
 mod pool_orders;
 mod pool_schedules;
 
-// Values that go into a thread and come back.
+// Values that move into a thread and back.
 mod crossings;
 
-// Nets of peers.
+// Networks of peers.
 mod net_rows;
 mod nets;
 
-// What is asked of two peers.
+// Questions about two peers.
 mod survey_rows;
 mod surveys;
 
@@ -53,6 +53,6 @@ mod surveys;
 mod world_rows;
 mod worlds;
 
-// Texts of answers.
+// Strings of results.
 mod records;
 mod texts;

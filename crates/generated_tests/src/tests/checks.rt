@@ -1,9 +1,9 @@
-//! What all modules assert by.
+//! Assertions of all modules.
 use std::process::Abort;
 
-/// Asserts a fact, of which a name tells where it does not hold.
+/// Asserts a fact; the name is printed if it is false.
 ///
-/// An assertion with a text is some 30 steps for the prover, and a call is ten.
+/// An assertion with a message costs the prover some 30 steps, a call only ten.
 pub(crate) fn holds(rt: &impl Abort, fact: bool, name: &str) {
     assert!(rt; fact, "{name}");
 }

@@ -1,4 +1,4 @@
-//! Choices of documents by chance.
+//! Random selections of documents.
 use crate::tests::feeds::id;
 use crate::tests::merges::below;
 use crate::tests::plain_sides::{ALL, IDS, Picked, is_picked};
@@ -7,18 +7,18 @@ use rand_chacha::ChaCha8Rng;
 use std::alloc::Global;
 use std::process::Abort;
 
-/// Some of the documents, at least one.
+/// Returns a nonempty random set of documents.
 pub(crate) fn some(rng: &mut ChaCha8Rng) -> Picked {
     below(rng, 31) as Picked + 1
 }
 
-/// All documents, or some of them.
+/// Returns all documents, or a random set.
 pub(crate) fn all_or_some(rng: &mut ChaCha8Rng) -> Picked {
     if below(rng, 2) == 0 { ALL } else { some(rng) }
 }
 
-/// The choice of documents by their numbers, none where all are meant. They are named from the last one on, and the
-/// first that is named once more.
+/// Creates the selection of documents by number, or none if all are meant. The ids are given in reverse order, the
+/// first one twice.
 pub(crate) fn chosen(rt: &impl Abort, alloc: Global, picked: Picked) -> Option<Chosen> {
     if picked == ALL {
         return None;

@@ -1,4 +1,4 @@
-//! What one database asks for another one's feed, and what is fetched for it, compared with the reference.
+//! Requests of one database for another one's feed, and the fetched documents, compared with the reference.
 use crate::tests::checks::holds;
 use crate::tests::feeds::{number_of, put};
 use crate::tests::merges::{are, rev};
@@ -20,7 +20,7 @@ pub(crate) struct Side {
 }
 
 impl Side {
-    /// A database of no documents.
+    /// Creates an empty database.
     pub(crate) fn new(alloc: Global, uuid: u128) -> Side {
         Side {
             db: Database::new(alloc, uuid),
@@ -28,7 +28,7 @@ impl Side {
         }
     }
 
-    /// Puts documents by chance.
+    /// Puts random documents.
     pub(crate) fn grow(
         &mut self,
         rt: &impl Abort,
@@ -42,7 +42,7 @@ impl Side {
     }
 }
 
-/// The place of a revision.
+/// Returns the index of a revision.
 pub(crate) fn place_of(rt: &impl Abort, wanted: Rev) -> usize {
     for place in 0..PLACES {
         if rev(rt, place) == wanted {
@@ -52,7 +52,7 @@ pub(crate) fn place_of(rt: &impl Abort, wanted: Rev) -> usize {
     PLACES
 }
 
-/// The bits of some revisions.
+/// Returns the bits of revisions.
 fn mask_of(rt: &impl Abort, revs: &[Rev]) -> u32 {
     let mut mask = 0;
     for one in revs {
@@ -61,7 +61,7 @@ fn mask_of(rt: &impl Abort, revs: &[Rev]) -> u32 {
     mask
 }
 
-/// Asserts that what is asked of a document are those leaves of a tree that another one has not, winner first.
+/// Asserts that a request for a document has exactly those leaves of a tree that another tree lacks, winner first.
 fn asks_of(
     rt: &impl Abort,
     alloc: Global,
@@ -80,7 +80,7 @@ fn asks_of(
     );
 }
 
-/// Asserts that what is asked is what the target has not, in the order of the source's feed.
+/// Asserts that a request has exactly what the target lacks, in the order of the source's feed.
 fn asks(rt: &impl Abort, alloc: Global, source: &PlainSide, target: &PlainSide, asked: &Asked) {
     let mut seq = 0u64;
     let mut at = 0usize;
@@ -118,7 +118,7 @@ fn is_leaf(
     );
 }
 
-/// Asserts that the documents from a place on are the leaves of a tree above some revisions. Gives the place behind
+/// Asserts that the documents from an index on are the leaves of a tree above some revisions. Returns the index after
 /// them.
 fn brings_leaves(
     rt: &impl Abort,
@@ -138,7 +138,7 @@ fn brings_leaves(
     at
 }
 
-/// Asserts that the gone revisions from a place on are those that a tree has not. Gives the place behind them.
+/// Asserts that the gone revisions from an index on are those that a tree lacks. Returns the index after them.
 fn loses(
     rt: &impl Abort,
     parcel: &Parcel,
@@ -162,7 +162,7 @@ fn loses(
     at
 }
 
-/// Asserts that a parcel is what the trees say of what was asked. Gives how many documents it has.
+/// Asserts that a parcel is what the trees have for a request. Returns its number of documents.
 fn brings(
     rt: &impl Abort,
     alloc: Global,
@@ -187,13 +187,13 @@ fn brings(
     docs
 }
 
-/// Asserts that what a side answers to what is asked is what its trees say. Gives how many documents that are.
+/// Asserts that a side returns what its trees have for a request. Returns the number of documents.
 fn answers(rt: &impl Abort, alloc: Global, side: &Side, asked: &Asked) -> usize {
     let parcel = side.db.open_revs(alloc, asked).expect(rt, "memory");
     brings(rt, alloc, &side.plain, asked, &parcel)
 }
 
-/// What the target asks for the source's whole feed.
+/// Returns the target's request for the source's complete feed.
 fn asked(rt: &impl Abort, alloc: Global, source: &Side, target: &Side) -> Asked {
     let goal = source.plain.update_seq;
     let window = source
@@ -203,7 +203,7 @@ fn asked(rt: &impl Abort, alloc: Global, source: &Side, target: &Side) -> Asked 
     target.db.revs_diff(alloc, &window).expect(rt, "memory")
 }
 
-/// Grows both sides, and asserts what is asked and answered. Gives how many documents the source brings.
+/// Grows both sides, and asserts requests and parcels. Returns the number of documents of the source.
 fn exchange(
     rt: &impl Abort,
     alloc: Global,
@@ -215,14 +215,14 @@ fn exchange(
     target.grow(rt, alloc, rng, 10);
     let asked = asked(rt, alloc, source, target);
     asks(rt, alloc, &source.plain, &target.plain, &asked);
-    // The source may have moved on by the time of the fetch, and another database may lack what is asked.
+    // The source may have changed before the fetch, and another database may lack what is requested.
     source.grow(rt, alloc, rng, 10);
     let docs = answers(rt, alloc, source, &asked);
     let _others = answers(rt, alloc, target, &asked);
     docs
 }
 
-/// The exchange of a source with a target. Nothing else lives beside a side: each value adds to its proof.
+/// Exchanges between a source and a target. A function of its own, because each value beside a side adds to the proof.
 fn with_target(rt: &impl Abort, alloc: Global, seed: u64, source: &mut Side) -> usize {
     let mut rng = ChaCha8Rng::seed_from_u64(seed);
     let mut target = Side::new(alloc, 2);

@@ -1,4 +1,4 @@
-//! Puts and pages by chance, compared with a reference that filters and sorts all documents.
+//! Random puts and pages, compared with a reference that filters and sorts all documents.
 use crate::tests::checks::holds;
 use crate::tests::merges::{ancestry, are, below, places};
 use crate::tests::plain_sides::{IDS, PlainSide, next_above};
@@ -12,14 +12,14 @@ use serde_json::Value;
 use std::alloc::Global;
 use std::process::Abort;
 
-/// The id of a number.
+/// Returns the id of a number.
 pub(crate) fn id(rt: &impl Abort, alloc: Global, number: usize) -> DocId {
     let number = number % IDS;
     let text = format!(in alloc; "d{number}").expect(rt, "memory");
     DocId::parse(alloc, text.as_str()).expect(rt, "an id")
 }
 
-/// The number of the document of an id, which is `d` and a digit.
+/// Returns the number of a document whose id is `d` and a digit.
 pub(crate) fn number_of(rt: &impl Abort, text: &str) -> usize {
     match text.as_bytes() {
         [b'd', digit] if *digit >= b'0' => (*digit - b'0') as usize % IDS,
@@ -27,13 +27,13 @@ pub(crate) fn number_of(rt: &impl Abort, text: &str) -> usize {
     }
 }
 
-/// The body `{}`.
+/// Returns the body `{}`.
 pub(crate) fn body(rt: &impl Abort, alloc: Global) -> Body {
     let value = Value::from_slice(alloc, b"{}").expect(rt, "a value");
     read_body(alloc, &value).expect(rt, "a body")
 }
 
-/// A document by its id's number and the places of its ancestry, with the body `{}`.
+/// Creates a document from its number and the indices of its ancestry, with the body `{}`.
 pub(crate) fn document(
     rt: &impl Abort,
     alloc: Global,
@@ -45,7 +45,7 @@ pub(crate) fn document(
     Doc::new(id(rt, alloc, number), ancestry, deleted, body(rt, alloc))
 }
 
-/// A document by chance, and what merging it gives, which is done in the plain side.
+/// Creates a random document, and merges it into the plain side. Returns the document and the expected result.
 pub(crate) fn document_by_chance(
     rt: &impl Abort,
     alloc: Global,
@@ -60,7 +60,7 @@ pub(crate) fn document_by_chance(
     (document(rt, alloc, number, &walk, deleted), answer)
 }
 
-/// Whether a put answers what is wanted, with the update sequence that then stands.
+/// Whether a put returns the expected result, given the update sequence after it.
 pub(crate) fn is_answer(answer: Result<Put, BaseFault>, wanted: Answer, update_seq: u64) -> bool {
     match answer {
         Ok(Put::Changed { seq }) => wanted == Answer::Changed && seq == update_seq,
@@ -72,7 +72,7 @@ pub(crate) fn is_answer(answer: Result<Put, BaseFault>, wanted: Answer, update_s
     }
 }
 
-/// Puts a document by chance into both.
+/// Puts a random document into both.
 pub(crate) fn put(
     rt: &impl Abort,
     alloc: Global,
@@ -92,7 +92,7 @@ fn row_has(rt: &impl Abort, alloc: Global, row: &Row, number: usize, tree: &Refe
     holds(rt, same && are(rt, row.leaves(), &leaves), "a row");
 }
 
-/// Asserts that a row is that of the document next above a sequence. Gives its own.
+/// Asserts that a row is that of the next document above a sequence. Returns its sequence.
 fn row_is(
     rt: &impl Abort,
     alloc: Global,
@@ -109,7 +109,7 @@ fn row_is(
     seq
 }
 
-/// Asserts that the window has the first rows above `since`, and ends where it should.
+/// Asserts that the window has the first rows above `since`, and the expected end.
 fn window_is(
     rt: &impl Abort,
     alloc: Global,
@@ -135,7 +135,7 @@ fn window_is(
     holds(rt, window.lo() == since && window.hi() == hi, "the bounds");
 }
 
-/// Asks for a page by chance.
+/// Reads a random page.
 fn page(rt: &impl Abort, alloc: Global, rng: &mut ChaCha8Rng, db: &Database, plain: &PlainSide) {
     let since = below(rng, 30) as u64;
     let goal = below(rng, 40) as u64;
@@ -146,7 +146,7 @@ fn page(rt: &impl Abort, alloc: Global, rng: &mut ChaCha8Rng, db: &Database, pla
     }
 }
 
-/// Asserts that a page is rightly refused.
+/// Asserts that a page fails with the expected error.
 fn page_refused(
     rt: &impl Abort,
     fault: BaseFault,
@@ -167,7 +167,7 @@ fn page_refused(
     holds(rt, rightly, "a page is refused");
 }
 
-/// Forty puts, and a page after each.
+/// Performs forty puts, and reads a page after each.
 fn grow(rt: &impl Abort, alloc: Global, rng: &mut ChaCha8Rng, db: &mut Database) {
     let mut plain = PlainSide::new();
     for _ in 0..40 {

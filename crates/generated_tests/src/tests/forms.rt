@@ -1,4 +1,4 @@
-//! Both forms of a tree after merges by chance: each call answers in the one as it does in the other.
+//! Two representations of a tree after random merges: each call has the same result in both.
 
 use crate::tests::checks::holds;
 use crate::tests::merges::{ancestry, below, content, places, rev};
@@ -11,7 +11,7 @@ use rev_tree::{Merged, Origin, Revs, SessionId, Tree, TreeFault};
 use std::alloc::{AllocError, Global};
 use std::process::Abort;
 
-/// The answer of a merge as the plain form gives it.
+/// Converts the result of a merge to that of the plain form.
 fn plain_answer(rt: &impl Abort, answer: Result<Merged, TreeFault>) -> PlainAnswer {
     let fault = match answer {
         Ok(merged) => return Ok(merged),
@@ -56,7 +56,7 @@ fn agree_on_walk(rt: &impl Abort, alloc: Global, tree: &Tree, plain: &PlainTree,
     }
 }
 
-/// Asserts that revisions are the ancestry of one in the plain form.
+/// Asserts that revisions are the ancestry of a revision in the plain form.
 fn is_walk(rt: &impl Abort, alloc: Global, plain: &PlainTree, one: Rev, walk: &[Rev]) {
     let wanted = plain.ancestry(alloc, one).expect(rt, "memory");
     holds(
@@ -73,7 +73,7 @@ fn has_as(tree: &Tree, plain: &PlainTree, one: Rev) -> bool {
     stands && tree.origin(one) == origin && tree.is_leaf(one) == plain.is_leaf(one)
 }
 
-/// Asserts that a tree answers as the plain form does about a revision.
+/// Asserts that both representations agree about a revision.
 fn agree_on_rev(rt: &impl Abort, alloc: Global, tree: &Tree, plain: &PlainTree, one: Rev) {
     holds(rt, has_as(tree, plain, one), "a revision");
     holds(rt, tree.parent_of(one) == plain.parent_of(one), "a parent");
@@ -81,7 +81,7 @@ fn agree_on_rev(rt: &impl Abort, alloc: Global, tree: &Tree, plain: &PlainTree, 
     agree_on_walk(rt, alloc, tree, plain, one);
 }
 
-/// Asserts that a tree has leaves.
+/// Asserts that a tree has these leaves.
 fn agree_on_leaves(rt: &impl Abort, alloc: Global, tree: &Tree, leaves: &[Rev]) {
     are_same(rt, tree.leaves(alloc), leaves);
     holds(rt, tree.leaf_count() == leaves.len(), "the leaves");
@@ -101,13 +101,13 @@ fn agree_on_above(
     are_same(rt, tree.leaves_above(alloc, asked), &above);
 }
 
-/// Asserts that a tree misses of some revisions what the plain form does.
+/// Asserts that a tree and the plain form lack the same ones of some revisions.
 fn agree_on_missing(rt: &impl Abort, alloc: Global, tree: &Tree, plain: &PlainTree, asked: &[Rev]) {
     let missing = plain.missing(alloc, asked).expect(rt, "memory");
     are_same(rt, tree.missing(alloc, asked), &missing);
 }
 
-/// Asserts that a tree answers as the plain form does, asked of the revisions too.
+/// Asserts that both representations agree, also about the given revisions.
 fn agree(rt: &impl Abort, alloc: Global, tree: &Tree, plain: &PlainTree, asked: &[Rev]) {
     let leaves = plain.leaves(alloc).expect(rt, "memory");
     agree_on_leaves(rt, alloc, tree, &leaves);
@@ -119,7 +119,7 @@ fn agree(rt: &impl Abort, alloc: Global, tree: &Tree, plain: &PlainTree, asked: 
     }
 }
 
-/// Where the revisions of a round come from.
+/// Returns the origin of a round.
 fn origin_of(rng: &mut ChaCha8Rng, round: u64) -> Origin {
     if below(rng, 2) == 0 {
         Origin::Local(round)
@@ -128,13 +128,13 @@ fn origin_of(rng: &mut ChaCha8Rng, round: u64) -> Origin {
     }
 }
 
-/// An ancestry by chance.
+/// Returns a random ancestry.
 fn ancestry_by_chance(rt: &impl Abort, alloc: Global, rng: &mut ChaCha8Rng) -> Ancestry {
     let places = places(rng, alloc).expect(rt, "memory");
     ancestry(rt, alloc, &places)
 }
 
-/// One merge into both forms.
+/// Merges into both representations.
 fn merge(
     rt: &impl Abort,
     alloc: Global,
@@ -156,7 +156,7 @@ fn merge(
     agree(rt, alloc, tree, plain, given.revs());
 }
 
-/// One merge into both forms, and readings of other revisions.
+/// Merges into both representations, and reads other revisions.
 fn merge_and_read(
     rt: &impl Abort,
     alloc: Global,
@@ -173,8 +173,8 @@ fn merge_and_read(
     agree(rt, alloc, tree, plain, asked.revs());
 }
 
-/// Fifty merges from one seed into both forms. Each is followed by readings of what was given and of other revisions,
-/// half of them of a copy, and the last by readings of every revision.
+/// Performs fifty merges from one seed in both representations. After each, reads what was given and other revisions,
+/// half of the time in a copy; after the last one, reads every revision.
 fn merges_alike(rt: &impl Abort, alloc: Global, seed: u64, tree: &mut Tree) {
     let mut rng = ChaCha8Rng::seed_from_u64(seed);
     let mut plain = PlainTree::new(alloc);

@@ -1,4 +1,4 @@
-//! Windows finished in orders by chance, compared after each with a list of marks.
+//! Windows finished in random orders, compared after each with a list of Booleans.
 use crate::tests::checks::holds;
 use rand_chacha::ChaCha8Rng;
 use rand_core::{Rng, SeedableRng};
@@ -6,10 +6,10 @@ use range_front::{Front, FrontFault};
 use std::alloc::Global;
 use std::process::Abort;
 
-/// How many windows a front has here.
+/// The number of windows of a front.
 const WINDOWS: usize = 20;
 
-/// The low water by marks, where window `i` is (start + 10 i, start + 10 i + 10].
+/// Returns the low water from a list of Booleans; window `i` is (start + 10 i, start + 10 i + 10].
 fn low_water(start: u64, marks: &[bool; WINDOWS]) -> u64 {
     let mut water = start;
     for mark in marks {
@@ -21,7 +21,7 @@ fn low_water(start: u64, marks: &[bool; WINDOWS]) -> u64 {
     water
 }
 
-/// How many longest runs of marks there are above the low water. The run from the start on, up to the low water, isn't
+/// Returns the number of maximal runs of true above the low water. The run from the start to the low water is not
 /// counted.
 fn range_count(marks: &[bool; WINDOWS]) -> usize {
     let mut count: usize = 0;
@@ -35,7 +35,7 @@ fn range_count(marks: &[bool; WINDOWS]) -> usize {
     count
 }
 
-/// A front of windows of ten sequences above a start.
+/// Creates a front of windows of ten sequences above a start.
 fn filled(rt: &impl Abort, alloc: Global, start: u64) -> Front {
     let mut front = Front::new(alloc, start);
     for i in 0..WINDOWS as u64 {
@@ -44,7 +44,7 @@ fn filled(rt: &impl Abort, alloc: Global, start: u64) -> Front {
     front
 }
 
-/// Finishes a window, and asserts what that answers and leaves.
+/// Finishes a window, and asserts the result and the effect.
 fn finish_one(rt: &impl Abort, front: &mut Front, lo: u64, is_done: bool) {
     let wanted = if is_done {
         Err(FrontFault::AlreadyDone)
@@ -68,12 +68,12 @@ fn finish_one(rt: &impl Abort, front: &mut Front, lo: u64, is_done: bool) {
     );
 }
 
-/// Whether a front has the low water and the runs of some marks.
+/// Whether a front has the low water and the runs of a list of Booleans.
 fn is_marked(front: &Front, start: u64, marks: &[bool; WINDOWS]) -> bool {
     front.low_water() == low_water(start, marks) && front.range_count() == range_count(marks)
 }
 
-/// Forty tries to finish a window by chance: each is taken the first time, and refused after it.
+/// Tries forty times to finish a random window: each succeeds the first time and fails afterwards.
 fn finishes(rt: &impl Abort, front: &mut Front, seed: u64) {
     let mut rng = ChaCha8Rng::seed_from_u64(seed);
     let start = seed % 7;
@@ -99,7 +99,7 @@ fn two_hundred_orders_agree(rt: HostRuntime) {
     }
 }
 
-/// Windows of two sequences, so many.
+/// Appends windows of two sequences.
 fn many(rt: &impl Abort, front: &mut Front, windows: u64) {
     for number in 0..windows {
         let hi = number.saturating_mul(2).saturating_add(2);
@@ -107,21 +107,21 @@ fn many(rt: &impl Abort, front: &mut Front, windows: u64) {
     }
 }
 
-/// Finishes the window of a number.
+/// Finishes the window with a number.
 fn finish(rt: &impl Abort, front: &mut Front, number: u64) {
     let lo = number.saturating_mul(2);
     let hi = lo.saturating_add(2);
     front.finish(lo, hi).expect(rt, "a window that is not done");
 }
 
-/// Finishes every second of so many pairs of windows, from the front on.
+/// Finishes the second window of each pair, from the front.
 fn finish_odd(rt: &impl Abort, front: &mut Front, pairs: u64) {
     for pair in 0..pairs {
         finish(rt, front, pair.saturating_mul(2).saturating_add(1));
     }
 }
 
-/// Finishes the others, from the back on.
+/// Finishes the other windows, from the back.
 fn finish_even(rt: &impl Abort, front: &mut Front, pairs: u64) {
     for back in 0..pairs {
         let pair = pairs.saturating_sub(back).saturating_sub(1);

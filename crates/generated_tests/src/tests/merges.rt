@@ -1,4 +1,4 @@
-//! Merges by chance, compared after each with the reference: every reading of the tree, and every answer.
+//! Random merges, compared after each with the reference: every read call, and every result.
 ghost use Rattle.std.specs.Prelude.{◌≤◌};
 
 use crate::tests::checks::holds;
@@ -11,7 +11,7 @@ use std::alloc::{AllocError, Global};
 use std::process::Abort;
 use std::sync::ArcSlice;
 
-/// The signature at a place.
+/// Returns the signature at an index.
 fn sig(rt: &impl Abort, place: usize) -> Sig {
     match Sig::parse(&[b'a' + (place % 3) as u8]) {
         Ok(sig) => sig,
@@ -19,7 +19,7 @@ fn sig(rt: &impl Abort, place: usize) -> Sig {
     }
 }
 
-/// The revision at a place.
+/// Returns the revision at an index.
 pub(crate) fn rev(rt: &impl Abort, place: usize) -> Rev {
     let text = [
         b'1' + (place % PLACES / 3) as u8,
@@ -32,7 +32,7 @@ pub(crate) fn rev(rt: &impl Abort, place: usize) -> Rev {
     }
 }
 
-/// Whether the revisions are those at the places.
+/// Whether the revisions are those at the indices.
 pub(crate) fn are(rt: &impl Abort, revs: &[Rev], places: &[usize]) -> bool {
     let mut are = revs.len() == places.len();
     for (one, place) in revs.iter().zip(places) {
@@ -41,7 +41,7 @@ pub(crate) fn are(rt: &impl Abort, revs: &[Rev], places: &[usize]) -> bool {
     are
 }
 
-/// A number below a bound, or 0.
+/// Returns a random number below a bound, or 0.
 pub(crate) fn below(rng: &mut ChaCha8Rng, bound: u32) -> usize
     ensures { result ≤ bound }
 {
@@ -52,7 +52,7 @@ pub(crate) fn below(rng: &mut ChaCha8Rng, bound: u32) -> usize
     }
 }
 
-/// The places of an ancestry by chance, newest first.
+/// Returns the indices of a random ancestry, newest first.
 pub(crate) fn places(rng: &mut ChaCha8Rng, alloc: Global) -> Result<Vec<usize>, AllocError> {
     let start = below(rng, 6);
     let length = below(rng, 6);
@@ -65,7 +65,7 @@ pub(crate) fn places(rng: &mut ChaCha8Rng, alloc: Global) -> Result<Vec<usize>, 
     Ok(places)
 }
 
-/// The ancestry at the places.
+/// Creates the ancestry at the indices.
 pub(crate) fn ancestry(rt: &impl Abort, alloc: Global, places: &[usize]) -> Ancestry {
     let mut sigs = Vec::new(alloc);
     for place in places {
@@ -75,7 +75,7 @@ pub(crate) fn ancestry(rt: &impl Abort, alloc: Global, places: &[usize]) -> Ance
     Ancestry::from_parts(alloc, start as u32, &sigs).expect(rt, "an ancestry")
 }
 
-/// Asserts that a revision has the content that the reference has.
+/// Asserts that a revision has the content of the reference.
 fn agree_on_content(rt: &impl Abort, tree: &Tree, reference: &Reference, one: Rev, place: usize) {
     match (tree.content(one), reference.content(place)) {
         (Some(content), Some((deleted, body))) => {
@@ -90,13 +90,13 @@ fn agree_on_content(rt: &impl Abort, tree: &Tree, reference: &Reference, one: Re
     }
 }
 
-/// Asserts that revisions are those at the places.
+/// Asserts that revisions are those at the indices.
 fn assert_are(rt: &impl Abort, answer: Result<Revs, AllocError>, places: &[usize]) {
     let revs = answer.expect(rt, "revisions");
     holds(rt, are(rt, revs.as_slice(), places), "revisions");
 }
 
-/// Asserts that a revision has the ancestry that the reference has.
+/// Asserts that a revision has the ancestry of the reference.
 fn agree_on_walk(
     rt: &impl Abort,
     alloc: Global,
@@ -111,7 +111,7 @@ fn agree_on_walk(
     }
 }
 
-/// Asserts that revisions are the ancestry of one that the reference has.
+/// Asserts that revisions are the ancestry of a revision in the reference.
 fn is_walk(rt: &impl Abort, alloc: Global, reference: &Reference, place: usize, walk: &[Rev]) {
     let places = reference.ancestry(alloc, place).expect(rt, "memory");
     holds(
@@ -132,7 +132,7 @@ fn has_as(tree: &Tree, reference: &Reference, one: Rev, place: usize) -> bool {
     stands && is_leaf && tree.origin(one) == origin
 }
 
-/// Asserts that every reading of a revision is that of the reference.
+/// Asserts that every read call about a revision agrees with the reference.
 fn agree_at(rt: &impl Abort, alloc: Global, tree: &Tree, reference: &Reference, place: usize) {
     let one = rev(rt, place);
     holds(rt, has_as(tree, reference, one, place), "a revision");
@@ -140,7 +140,7 @@ fn agree_at(rt: &impl Abort, alloc: Global, tree: &Tree, reference: &Reference, 
     agree_on_walk(rt, alloc, tree, reference, one, place);
 }
 
-/// Asserts that the leaves, and the winner, are those at the places.
+/// Asserts that the leaves, and the winner, are those at the indices.
 fn agree_on_leaves(rt: &impl Abort, alloc: Global, tree: &Tree, places: &[usize]) {
     assert_are(rt, tree.leaves(alloc), places);
     holds(rt, tree.leaf_count() == places.len(), "the leaves");
@@ -150,7 +150,7 @@ fn agree_on_leaves(rt: &impl Abort, alloc: Global, tree: &Tree, places: &[usize]
     }
 }
 
-/// Asserts that every reading of the tree is that of the reference.
+/// Asserts that every read call of the tree agrees with the reference.
 fn agree(rt: &impl Abort, alloc: Global, tree: &Tree, reference: &Reference) {
     let leaves = reference.leaves(alloc).expect(rt, "memory");
     agree_on_leaves(rt, alloc, tree, &leaves);
@@ -160,7 +160,7 @@ fn agree(rt: &impl Abort, alloc: Global, tree: &Tree, reference: &Reference) {
     }
 }
 
-/// The revisions at some places.
+/// Returns the revisions at some indices.
 fn revs(rt: &impl Abort, alloc: Global, places: &[usize]) -> Vec<Rev> {
     let mut revs = Vec::new(alloc);
     for place in places {
@@ -169,7 +169,7 @@ fn revs(rt: &impl Abort, alloc: Global, places: &[usize]) -> Vec<Rev> {
     revs
 }
 
-/// Asserts that what is missing of some revisions is what the reference says.
+/// Asserts that the tree and the reference lack the same ones of some revisions.
 fn agree_on_missing(
     rt: &impl Abort,
     alloc: Global,
@@ -182,7 +182,7 @@ fn agree_on_missing(
     assert_are(rt, tree.missing(alloc, &revs), &missing);
 }
 
-/// Asserts that what stands above some revisions is what the reference says.
+/// Asserts that the leaves above some revisions are those of the reference.
 fn agree_on_above(
     rt: &impl Abort,
     alloc: Global,
@@ -195,7 +195,7 @@ fn agree_on_above(
     assert_are(rt, tree.leaves_above(alloc, &revs), &above);
 }
 
-/// Asserts that what stands above some revisions by chance, and what is missing of them, is what the reference says.
+/// Asserts that the leaves above random revisions, and the missing ones of them, are those of the reference.
 fn agree_on_asked(
     rt: &impl Abort,
     alloc: Global,
@@ -208,7 +208,7 @@ fn agree_on_asked(
     agree_on_above(rt, alloc, tree, reference, &asked);
 }
 
-/// Asserts that the answer is that of the reference.
+/// Asserts that the result is that of the reference.
 fn answers(rt: &impl Abort, answer: Result<Merged, TreeFault>, wanted: Answer) {
     match answer {
         Ok(Merged::Changed) => holds(rt, wanted == Answer::Changed, "a change"),
@@ -217,7 +217,7 @@ fn answers(rt: &impl Abort, answer: Result<Merged, TreeFault>, wanted: Answer) {
     }
 }
 
-/// The child, the known and the given parent of a contradiction.
+/// Returns the child, the known parent and the given parent of a contradiction.
 fn contradiction(fault: TreeFault) -> Option<(Rev, Rev, Rev)> {
     match fault {
         TreeFault::Contradiction {
@@ -229,7 +229,7 @@ fn contradiction(fault: TreeFault) -> Option<(Rev, Rev, Rev)> {
     }
 }
 
-/// Asserts that the refusal is that of the reference.
+/// Asserts that the error is that of the reference.
 fn refused(rt: &impl Abort, fault: TreeFault, wanted: Answer) {
     let Some((child, known, given)) = contradiction(fault) else {
         rt.panic(format_args!("no contradiction"))
@@ -249,13 +249,13 @@ fn refused(rt: &impl Abort, fault: TreeFault, wanted: Answer) {
     );
 }
 
-/// A content with a body of one byte.
+/// Creates a content with a body of one byte.
 pub(crate) fn content(rt: &impl Abort, alloc: Global, deleted: bool, byte: u8) -> Content {
     let body = ArcSlice::from_slice(alloc, &[byte]).expect(rt, "memory");
     Content::new(deleted, body)
 }
 
-/// One merge into both. Says whether it was refused.
+/// Merges into both. Returns whether the merge failed.
 fn merge(
     rt: &impl Abort,
     alloc: Global,
@@ -278,7 +278,7 @@ fn merge(
     is_refused
 }
 
-/// Fifty merges from one seed. Gives how many of them were refused.
+/// Performs fifty merges from one seed. Returns the number of failures.
 fn merges(rt: &impl Abort, alloc: Global, seed: u64, tree: &mut Tree) -> usize {
     let mut rng = ChaCha8Rng::seed_from_u64(seed);
     let mut reference = Reference::new();
@@ -300,6 +300,6 @@ fn two_hundred_seeds_agree(rt: HostRuntime) {
         let mut tree = Tree::new(rt.alloc());
         refusals = refusals.saturating_add(merges(&rt, rt.alloc(), seed, &mut tree));
     }
-    // Both kinds of answer are met often enough to tell something.
+    // Both outcomes are frequent enough to be tested.
     assert!(rt; 1_000 < refusals && refusals < 9_000, "{refusals} refusals");
 }

@@ -1,6 +1,6 @@
-//! Nets whose peers diverge by chance: by a hub, and along a ring that is gone round twice, all end with the same
-//! documents, a second time carries nothing, and no audit finds a hole; along hops by chance, whoever a chain leads to
-//! has all that its beginning had.
+//! Networks of randomly diverging peers. Through a hub, and twice around a ring, all peers end with the same documents,
+//! a second round changes nothing, and audits are clean. Along random hops, each peer that a chain reaches has
+//! everything from its beginning.
 use crate::tests::checks::holds;
 use crate::tests::feeds::id;
 use crate::tests::merges::below;
@@ -14,12 +14,12 @@ use rev_core::Rev;
 use std::alloc::Global;
 use std::process::Abort;
 
-/// How many peers a net has, and how often they go on by themselves before they meet.
+/// The number of peers of a network, and the number of rounds.
 const PEERS: usize = 5;
 
 const MEETINGS: usize = 3;
 
-/// Edits of documents by chance at each peer.
+/// Makes random edits of documents at each peer.
 fn edit(rt: &impl Abort, alloc: Global, rng: &mut ChaCha8Rng, net: &mut Net<Rules>) {
     for place in 0..PEERS {
         for _ in 0..6 {
@@ -36,12 +36,12 @@ fn edit(rt: &impl Abort, alloc: Global, rng: &mut ChaCha8Rng, net: &mut Net<Rule
     }
 }
 
-/// The peer at a place.
+/// Returns the peer at a place.
 fn at<'a>(rt: &impl Abort, net: &'a Net<Rules>, place: usize) -> &'a Peer<Rules> {
     net.peer(place).expect(rt, "a peer")
 }
 
-/// Asserts that no audit finds a hole.
+/// Asserts that all audits are clean.
 fn assert_clean(rt: &impl Abort, alloc: Global, net: &Net<Rules>) {
     for one in 0..PEERS {
         for other in 0..PEERS {
@@ -53,14 +53,14 @@ fn assert_clean(rt: &impl Abort, alloc: Global, net: &Net<Rules>) {
     }
 }
 
-/// Asserts that all peers hold the same documents.
+/// Asserts that all peers have the same documents.
 fn assert_all_same(rt: &impl Abort, alloc: Global, net: &Net<Rules>) {
     for other in 1..PEERS {
         assert_same(rt, alloc, at(rt, net, 0), at(rt, net, other));
     }
 }
 
-/// The update sequences of all peers, summed up.
+/// Returns the sum of the update sequences of all peers.
 fn sequences(rt: &impl Abort, net: &Net<Rules>) -> u64 {
     let mut sum = 0u64;
     for place in 0..PEERS {
@@ -69,7 +69,7 @@ fn sequences(rt: &impl Abort, net: &Net<Rules>) -> u64 {
     sum
 }
 
-/// One plan for each peer behind the first.
+/// Returns a plan for each peer other than the first.
 fn plans(rt: &impl Abort, alloc: Global, rng: &mut ChaCha8Rng, sessions: &mut u128) -> Vec<Plan> {
     let mut plans = Vec::new(alloc);
     for _ in 1..PEERS {
@@ -78,7 +78,7 @@ fn plans(rt: &impl Abort, alloc: Global, rng: &mut ChaCha8Rng, sessions: &mut u1
     plans
 }
 
-/// Hops twice round a ring: each place is led to from every other.
+/// Returns hops twice around a ring: chains lead from every place to every other.
 fn ring(rt: &impl Abort, alloc: Global, rng: &mut ChaCha8Rng, sessions: &mut u128) -> Vec<Hop> {
     let mut hops = Vec::new(alloc);
     for step in 0..2 * PEERS {
@@ -92,7 +92,7 @@ fn ring(rt: &impl Abort, alloc: Global, rng: &mut ChaCha8Rng, sessions: &mut u12
     hops
 }
 
-/// Some hops between places by chance.
+/// Returns random hops between places.
 fn hops(rt: &impl Abort, alloc: Global, rng: &mut ChaCha8Rng, sessions: &mut u128) -> Vec<Hop> {
     let mut hops = Vec::new(alloc);
     for _ in 0..8 + below(rng, 32) {
@@ -106,9 +106,9 @@ fn hops(rt: &impl Abort, alloc: Global, rng: &mut ChaCha8Rng, sessions: &mut u12
     hops
 }
 
-/// Of each place the places that chains of hops lead to from there, as bits.
+/// Returns, for each place, the places that chains of hops reach from it, as bits.
 ///
-/// The reference goes through the hops once, and asks of no chain.
+/// The reference processes the hops once, without enumerating chains.
 fn reached(hops: &[Hop]) -> [u32; PEERS] {
     let mut reached = [0u32; PEERS];
     for (place, places) in reached.iter_mut().enumerate() {
@@ -122,7 +122,7 @@ fn reached(hops: &[Hop]) -> [u32; PEERS] {
     reached
 }
 
-/// The leaves of all documents at all peers, each with its place and the number of its document.
+/// Returns the leaves of all documents at all peers, each with its place and the number of its document.
 fn leaves_of(rt: &impl Abort, alloc: Global, net: &Net<Rules>) -> Vec<(usize, usize, Rev)> {
     let mut all = Vec::new(alloc);
     for place in 0..PEERS {
@@ -137,7 +137,7 @@ fn leaves_of(rt: &impl Abort, alloc: Global, net: &Net<Rules>) -> Vec<(usize, us
     all
 }
 
-/// Whether a peer has a revision of the document of a number.
+/// Whether a peer has a revision of a document.
 fn has(rt: &impl Abort, alloc: Global, peer: &Peer<Rules>, number: usize, rev: Rev) -> bool {
     match peer.db().tree(&id(rt, alloc, number)) {
         Some(tree) => tree.has(rev),
@@ -145,7 +145,7 @@ fn has(rt: &impl Abort, alloc: Global, peer: &Peer<Rules>, number: usize, rev: R
     }
 }
 
-/// Asserts that each leaf is at all places that were reached from its own.
+/// Asserts that each leaf is at all places reached from its own.
 fn assert_led(
     rt: &impl Abort,
     alloc: Global,
@@ -163,7 +163,7 @@ fn assert_led(
     }
 }
 
-/// Replicates along hops by chance, and tells whether chains led everywhere: then all are the same.
+/// Replicates along random hops. Returns whether chains led everywhere; if so, all peers are the same.
 fn along_chance(
     rt: &impl Abort,
     alloc: Global,
@@ -188,7 +188,7 @@ fn along_chance(
     everywhere
 }
 
-/// A net of peers without documents.
+/// Creates a network of peers without documents.
 fn net(rt: &impl Abort, alloc: Global) -> Net<Rules> {
     let mut net = Net::new(alloc);
     for uuid in 1..6u64 {
@@ -199,7 +199,7 @@ fn net(rt: &impl Abort, alloc: Global) -> Net<Rules> {
     net
 }
 
-/// Peers that go on by themselves, meet by a hub or along a ring, and meet once more, some times.
+/// Lets peers diverge, synchronize through a hub or along a ring, and synchronize again, several times.
 fn of_seed(rt: &impl Abort, alloc: Global, seed: u64) {
     let mut rng = ChaCha8Rng::seed_from_u64(seed);
     let mut sessions = 0;
@@ -230,7 +230,7 @@ fn of_seed(rt: &impl Abort, alloc: Global, seed: u64) {
     }
 }
 
-/// Peers that go on by themselves and replicate along hops by chance, some times: how often chains led everywhere.
+/// Lets peers diverge and replicate along random hops, several times. Returns how often chains led everywhere.
 fn by_chance(rt: &impl Abort, alloc: Global, seed: u64) -> usize {
     let mut rng = ChaCha8Rng::seed_from_u64(seed);
     let mut sessions = 0;
@@ -258,6 +258,6 @@ fn thirty_nets_replicate_by_chance(rt: HostRuntime) {
     for seed in 0..30u64 {
         ends = ends.saturating_add(by_chance(&rt, rt.alloc(), seed));
     }
-    // Chains lead everywhere now and then, and now and then they don't.
+    // Sometimes chains lead everywhere, and sometimes they do not.
     assert!(rt; 5 < ends && ends < 85, "both kinds of ends: {ends}");
 }

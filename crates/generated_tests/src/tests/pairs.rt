@@ -1,5 +1,5 @@
-//! Replications of random pairs, by one thread and by the pool, of all documents and of two choices by chance, each
-//! compared with the plain model: both sides' trees, what is covered, the report, and the session's ledger.
+//! Replications of random pairs, by one thread and by the pool, of all documents and of two random selections. Each is
+//! compared with the plain model: both sides' trees, coverage, the report, and the session's ledger.
 use crate::tests::checks::holds;
 use crate::tests::choices::{chosen, some};
 use crate::tests::feeds::{document_by_chance, is_answer};
@@ -19,34 +19,34 @@ use std::process::Abort;
 use std::sync::Wait;
 use std::thread::Threads;
 
-/// How many choices there are of the document that is refused; some are no document's.
+/// The number of choices for the refused document; some are not a document's number.
 const CHOICES: u32 = 8;
 
-/// The places of what is replicated: all documents, and the two choices.
+/// The indices of what is replicated: all documents, and the two selections.
 const WHOLE: usize = 0;
 
 const FIRST: usize = 1;
 
 const SECOND: usize = 2;
 
-/// The places of the sources, behind the target.
+/// The indices of the sources, after the target.
 const SOURCE: usize = 0;
 
 const OTHER: usize = 1;
 
-/// What is done with the sides.
+/// A step of a test.
 #[derive(Clone, Copy)]
 enum Call {
-    /// Loads so many documents by chance into the target.
+    /// Load this many random documents into the target.
     GrowTarget(usize),
-    /// The same into a source.
+    /// Load this many random documents into a source.
     Grow(usize, usize),
-    /// Replicates a source into the target: all documents, or those of a choice.
+    /// Replicate a source into the target: all documents, or those of a selection.
     Replicate(usize, usize),
 }
 
-/// Another source goes into a target with documents of its own, then the source, by one choice and whole, and after it
-/// has grown by both choices and whole once more.
+/// Another source is replicated into a target with its own documents; then the source, for one selection and
+/// completely; and after it has grown, for both selections and completely again.
 static CALLS: &[Call] = &[
     Call::Grow(OTHER, 10),
     Call::GrowTarget(5),
@@ -60,7 +60,8 @@ static CALLS: &[Call] = &[
     Call::Replicate(SOURCE, WHOLE),
 ];
 
-/// A peer, its plain side, and up to which sequence it was replicated into the target: whole, and by each choice.
+/// A peer, its plain model, and the sequences up to which it was replicated into the target: completely, and for each
+/// selection.
 #[derive(Drop)]
 struct Side {
     peer: Peer<Rules>,
@@ -69,7 +70,7 @@ struct Side {
 }
 
 impl Side {
-    /// No documents. Those whose ids begin with a prefix are refused.
+    /// Creates a side without documents. It refuses documents whose ids begin with a prefix.
     fn new(alloc: Global, uuid: u128, deny: Option<String>) -> Side {
         Side {
             peer: Peer::new(alloc, uuid, Rules { deny }),
@@ -78,7 +79,7 @@ impl Side {
         }
     }
 
-    /// Loads a document by chance into both, and asserts that both answer the same.
+    /// Loads a random document into both, and asserts the same result.
     fn load(&mut self, rt: &impl Abort, alloc: Global, rng: &mut ChaCha8Rng) {
         let (doc, wanted) = document_by_chance(rt, alloc, rng, &mut self.plain, IDS);
         let answer = self.peer.load(&doc);
@@ -90,28 +91,28 @@ impl Side {
     }
 }
 
-/// A target, the sources, and what chance has picked.
+/// A target, the sources, and the random choices.
 #[derive(Drop)]
 struct Bench {
     alloc: Global,
     rng: ChaCha8Rng,
-    /// How many workers replicate; none for one thread alone.
+    /// The number of workers; 0 for one thread.
     workers: u64,
     deny: Option<usize>,
-    /// All documents, and two choices.
+    /// All documents, and two selections.
     picked: [Picked; 3],
     sessions: u128,
     sides: Vec<Side>,
 }
 
 impl Bench {
-    /// A target that refuses a document by chance, a source and another one, of no documents.
+    /// Creates a target that refuses a random document, a source, and another source, all without documents.
     fn new(rt: &impl Abort, alloc: Global, seed: u64, workers: u64) -> Bench {
         let mut rng = ChaCha8Rng::seed_from_u64(seed);
         let number = below(&mut rng, CHOICES);
         let deny = if number < IDS { Some(number) } else { None };
         let first = some(&mut rng);
-        // The other choice has another number of the same 31.
+        // The other selection is a different one of the same 31.
         let second = first % 31 + 1;
         let mut bench = Bench {
             alloc,
@@ -128,13 +129,13 @@ impl Bench {
         bench
     }
 
-    /// Makes the next side.
+    /// Creates the next side.
     fn make(&mut self, rt: &impl Abort, uuid: u128, deny: Option<String>) {
         let side = Side::new(self.alloc, uuid, deny);
         self.sides.push(side).expect(rt, "memory");
     }
 
-    /// Makes a call.
+    /// Performs a step.
     fn call<R: Abort + Threads + Wait + Sync>(&mut self, rt: &R, call: Call) {
         match call {
             Call::GrowTarget(loads) => self.grow(rt, 0, loads),
@@ -143,7 +144,7 @@ impl Bench {
         }
     }
 
-    /// Loads documents by chance into the side of a place.
+    /// Loads random documents into a side.
     fn grow(&mut self, rt: &impl Abort, at: usize, loads: usize) {
         let side = self.sides.get_mut(at).expect(rt, "a side");
         for _ in 0..loads {
@@ -151,7 +152,7 @@ impl Bench {
         }
     }
 
-    /// Replicates a source into the target, all of it or a choice, by a session of its own.
+    /// Replicates a source into the target, completely or for a selection, in a session of its own.
     fn replicate<R: Abort + Threads + Wait + Sync>(
         &mut self,
         rt: &R,
@@ -181,7 +182,7 @@ struct How {
     deny: Option<usize>,
 }
 
-/// The prefix that refuses the document of a number.
+/// Returns the prefix that refuses the document with this number.
 pub(crate) fn prefix(rt: &impl Abort, alloc: Global, deny: Option<usize>) -> Option<String> {
     match deny {
         Some(number) => Some(format!(in alloc; "d{number}").expect(rt, "memory")),
@@ -189,7 +190,7 @@ pub(crate) fn prefix(rt: &impl Abort, alloc: Global, deny: Option<usize>) -> Opt
     }
 }
 
-/// A plan with windows that scan 1 to 4 rows by chance.
+/// Creates a plan with windows that scan 1 to 4 rows, at random.
 fn plan(
     rt: &impl Abort,
     rng: &mut ChaCha8Rng,
@@ -207,12 +208,12 @@ fn plan(
     }
 }
 
-/// A peer that is taken from its place for a run of the pool.
+/// Takes a peer for a run of the pool.
 fn taken(alloc: Global, place: &mut Peer<Rules>) -> Peer<Rules> {
     mem::replace(place, Peer::new(alloc, 0, Rules { deny: None }))
 }
 
-/// Takes both peers of a run back to their places, and gives its report.
+/// Puts both peers of a run back, and returns its report.
 fn taken_back(
     ran: Ran<Rules>,
     source: &mut Peer<Rules>,
@@ -230,7 +231,7 @@ fn taken_back(
     outcome.ok()
 }
 
-/// Replicates one peer into another: by one thread where the plan has no workers, else by the pool.
+/// Replicates one peer into another: by one thread if the plan has no workers, else by the pool.
 fn carry_peers<R: Threads + Wait + Sync>(
     rt: &R,
     alloc: Global,
@@ -270,7 +271,7 @@ fn replicate<R: Abort + Threads + Wait + Sync>(
     source.carried[how.choice % 3] = source.plain.update_seq;
 }
 
-/// Replicates the plain sides, and asserts that the report and the session's ledger are what that gives.
+/// Replicates the plain sides, and asserts that the report and the session's ledger agree with them.
 fn compare(
     rt: &impl Abort,
     alloc: Global,
@@ -291,7 +292,7 @@ fn compare(
     holds(rt, same, "the ledger");
 }
 
-/// The report of what was carried above a sequence.
+/// Returns the expected report of a replication from a sequence.
 fn wanted(source: &PlainSide, since: u64, session: SessionId, carried: &Carried) -> Report {
     Report {
         session,
@@ -307,7 +308,7 @@ fn wanted(source: &PlainSide, since: u64, session: SessionId, carried: &Carried)
     }
 }
 
-/// The calls of a seed, with so many workers.
+/// Performs the steps of a seed, with this many workers.
 fn of_seed<R: Abort + Threads + Wait + Sync>(rt: &R, alloc: Global, seed: u64, workers: u64) {
     let mut bench = Bench::new(rt, alloc, seed, workers);
     for call in CALLS {

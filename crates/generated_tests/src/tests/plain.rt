@@ -1,13 +1,13 @@
-//! A tree in its plain form: the ancestries as they were given, and two lists of what stands at each revision.
+//! A tree in its plain form: the ancestries as they were given, and two lists of what is known about each revision.
 //!
-//! It is slow and short: each question is a walk over the lists, the first entry counts, and nothing is kept by place.
+//! It is slow and simple: each call scans the lists, the first entry counts, and nothing is indexed.
 
 use rev_core::{Ancestry, Rev};
 use rev_tree::{Merged, Origin};
 use std::alloc::{AllocError, Global};
 use std::cmp::Ordering;
 
-/// What a merge answers, or the child, the known and the given parent of a contradiction.
+/// The result of a merge; an error is the child, the known parent and the given parent of a contradiction.
 pub(crate) type PlainAnswer = Result<Merged, (Rev, Rev, Rev)>;
 
 /// The ancestries, the contents and the origins.
@@ -19,7 +19,7 @@ pub(crate) struct PlainTree {
 }
 
 impl PlainTree {
-    /// The tree of no revisions.
+    /// Creates an empty tree.
     pub(crate) fn new(alloc: Global) -> PlainTree {
         PlainTree {
             ancestries: Vec::new(alloc),
@@ -28,12 +28,12 @@ impl PlainTree {
         }
     }
 
-    /// How many revisions there are.
+    /// Returns the number of revisions.
     pub(crate) fn rev_count(&self) -> usize {
         self.origins.as_slice().len()
     }
 
-    /// Where a revision came from.
+    /// Returns the origin of a revision.
     pub(crate) fn origin(&self, rev: Rev) -> Option<Origin> {
         for entry in &self.origins {
             if entry.0 == rev {
@@ -43,7 +43,7 @@ impl PlainTree {
         None
     }
 
-    /// The flag and the byte of a revision's content.
+    /// Returns the deleted flag and the byte of a revision's content.
     pub(crate) fn content(&self, rev: Rev) -> Option<(bool, u8)> {
         for entry in &self.contents {
             if entry.0 == rev {
@@ -53,7 +53,7 @@ impl PlainTree {
         None
     }
 
-    /// The parent of a revision.
+    /// Returns the parent of a revision.
     pub(crate) fn parent_of(&self, rev: Rev) -> Option<Rev> {
         for ancestry in &self.ancestries {
             if let Some(parent) = ancestry.parent_of(rev) {
@@ -63,7 +63,7 @@ impl PlainTree {
         None
     }
 
-    /// Whether a revision is there and nobody's parent.
+    /// Whether a revision is in the tree and is not a parent.
     pub(crate) fn is_leaf(&self, rev: Rev) -> bool {
         for ancestry in &self.ancestries {
             if ancestry.contains(rev) && ancestry.head() != rev {
@@ -73,13 +73,13 @@ impl PlainTree {
         self.origin(rev).is_some()
     }
 
-    /// The order of leaves.
+    /// Compares two leaves.
     fn compare(&self, a: Rev, b: Rev) -> Ordering {
         let deleted = |rev| self.content(rev).is_some_and(|content| content.0);
         deleted(a).cmp(&deleted(b)).then(b.cmp(&a))
     }
 
-    /// The leaves, winner first: each is put before the first that it precedes.
+    /// Returns the leaves, winner first: each is inserted before the first one that it precedes.
     pub(crate) fn leaves(&self, alloc: Global) -> Result<Vec<Rev>, AllocError> {
         let mut leaves: Vec<Rev> = Vec::new(alloc);
         for entry in &self.origins {
@@ -94,7 +94,7 @@ impl PlainTree {
         Ok(leaves)
     }
 
-    /// A revision and its ancestors, which are fewer than its generation says.
+    /// Returns a revision and its ancestors, which are fewer than its generation.
     pub(crate) fn ancestry(&self, alloc: Global, rev: Rev) -> Result<Vec<Rev>, AllocError> {
         let mut walk = Vec::new(alloc);
         let mut at = Some(rev);
@@ -107,7 +107,7 @@ impl PlainTree {
         Ok(walk)
     }
 
-    /// Those of the leaves of which one of the revisions is an ancestor.
+    /// Returns the leaves that have one of the revisions as an ancestor.
     pub(crate) fn above(
         &self,
         alloc: Global,
@@ -124,7 +124,7 @@ impl PlainTree {
         Ok(above)
     }
 
-    /// Those that are not there.
+    /// Returns the revisions that are not in the tree.
     pub(crate) fn missing(&self, alloc: Global, revs: &[Rev]) -> Result<Vec<Rev>, AllocError> {
         let mut missing = Vec::new(alloc);
         for rev in revs {
@@ -135,7 +135,7 @@ impl PlainTree {
         Ok(missing)
     }
 
-    /// The first given child whose known parent is another.
+    /// Returns the first given child with another known parent.
     fn contradiction(&self, revs: &[Rev]) -> Option<(Rev, Rev, Rev)> {
         for pair in revs.windows(2) {
             if let [child, given] = pair {
@@ -149,7 +149,7 @@ impl PlainTree {
         None
     }
 
-    /// Whether the revisions, their edges and a content of the head are there.
+    /// Whether the tree has the revisions, their edges and a content of the head.
     fn is_same(&self, ancestry: &Ancestry) -> bool {
         let revs = ancestry.revs();
         revs.iter().all(|rev| self.origin(*rev).is_some())
@@ -158,7 +158,7 @@ impl PlainTree {
             && self.content(ancestry.head()).is_some()
     }
 
-    /// Merges an ancestry, the content of its head and the origin of what is new.
+    /// Merges an ancestry, the content of its head and the origin of new revisions.
     pub(crate) fn merge(
         &mut self,
         alloc: Global,

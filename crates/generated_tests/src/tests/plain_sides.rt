@@ -1,26 +1,26 @@
-//! A database and what its sessions refused, as plain data: trees are bit masks.
+//! A database, and what its sessions refused, as plain data: trees are bit masks.
 use crate::tests::reference::{Answer, PLACES, Reference, mask_of};
 use std::alloc::Global;
 use std::process::Abort;
 
-/// How many documents there can be, with the ids d0 to d4.
+/// The number of possible documents, with ids d0 to d4.
 pub(crate) const IDS: usize = 5;
 
 /// The sequence of each document's latest change, and its tree.
 pub(crate) type Documents = [Option<(u64, Reference)>; IDS];
 
-/// A bit for each document that is chosen, of all where none are.
+/// A bit for each selected document; all bits if all are selected.
 pub(crate) type Picked = u32;
 
 /// All documents.
 pub(crate) const ALL: Picked = 0xffff_ffff;
 
-/// Whether a document is chosen.
+/// Whether a document is selected.
 pub(crate) fn is_picked(picked: Picked, number: usize) -> bool {
     picked & (1 << (number % IDS)) != 0
 }
 
-/// The number of the document that stands next above a sequence, and at or under a goal.
+/// Returns the number of the next document above a sequence and at or below a goal.
 pub(crate) fn next_above(documents: &Documents, seq: u64, goal: u64) -> Option<(usize, u64)> {
     let mut best: Option<(usize, u64)> = None;
     for number in 0..IDS {
@@ -37,14 +37,14 @@ pub(crate) fn next_above(documents: &Documents, seq: u64, goal: u64) -> Option<(
     best
 }
 
-/// Of each document a bit for each revision that is meant.
+/// For each document, a bit for each revision that is meant.
 pub(crate) type Masks = [u32; IDS];
 
-/// A row of a ledger: the document, its head, and the child, its known and its given parent of a contradiction;
-/// `PLACES` for each of these three where the filter refuses it.
+/// A row of a ledger: the document, its newest revision, and the child, known parent and given parent of a
+/// contradiction; `PLACES` for each of these three if the filter refuses the document.
 pub(crate) type Row = [usize; 5];
 
-/// The tree of each document with the sequence of its latest change, and the revisions of what was refused.
+/// The tree of each document with the sequence of its latest change, and the revisions of refused documents.
 #[derive(Clone, Copy)]
 pub(crate) struct PlainSide {
     pub(crate) documents: Documents,
@@ -53,7 +53,7 @@ pub(crate) struct PlainSide {
 }
 
 impl PlainSide {
-    /// No documents.
+    /// Creates a side without documents.
     pub(crate) fn new() -> PlainSide {
         PlainSide {
             documents: [None; IDS],
@@ -62,7 +62,7 @@ impl PlainSide {
         }
     }
 
-    /// The tree of a document.
+    /// Returns the tree of a document.
     pub(crate) fn tree(&self, number: usize) -> Reference {
         match self.documents[number % IDS] {
             Some((_, tree)) => tree,
@@ -70,7 +70,7 @@ impl PlainSide {
         }
     }
 
-    /// Merges an ancestry, newest first, into a document, and says what that gives.
+    /// Merges an ancestry, newest first, into a document, and returns the result.
     pub(crate) fn merge(&mut self, number: usize, walk: &[usize], deleted: bool) -> Answer {
         let mut tree = self.tree(number);
         let answer = tree.merge(walk, (deleted, 0), 0);
@@ -81,7 +81,7 @@ impl PlainSide {
         answer
     }
 
-    /// Merges a fetched document, or refuses it and gives its row of the ledger.
+    /// Merges a fetched document, or refuses it and returns its ledger row.
     pub(crate) fn take(
         &mut self,
         number: usize,
@@ -105,13 +105,13 @@ impl PlainSide {
         Some(row)
     }
 
-    /// The revisions of a document that are in its tree or were refused.
+    /// Returns the revisions of a document that are in its tree or were refused.
     pub(crate) fn covered(&self, number: usize) -> u32 {
         self.tree(number).revisions() | self.refused[number % IDS]
     }
 }
 
-/// What a replication has read, and the rows of its ledger.
+/// What a replication has read, and its ledger rows.
 #[derive(Drop)]
 pub(crate) struct Carried {
     pub(crate) checked: u64,
@@ -121,7 +121,7 @@ pub(crate) struct Carried {
 }
 
 impl Carried {
-    /// Nothing.
+    /// Creates an empty value.
     fn new(alloc: Global) -> Carried {
         Carried {
             checked: 0,
@@ -131,7 +131,7 @@ impl Carried {
         }
     }
 
-    /// Counts a fetched document, of which a row is told where it was refused.
+    /// Counts a fetched document; a row means that it was refused.
     fn count(&mut self, rt: &impl Abort, row: Option<Row>) {
         self.found = self.found.saturating_add(1);
         match row {
@@ -141,7 +141,8 @@ impl Carried {
     }
 }
 
-/// Carries the chosen documents of a source's feed above a sequence into a target. Documents of a number are refused.
+/// Replicates the selected documents of a source's feed above a sequence into a target, which refuses the document with
+/// a number.
 pub(crate) fn carry(
     rt: &impl Abort,
     alloc: Global,
@@ -166,7 +167,7 @@ pub(crate) fn carry(
     carried
 }
 
-/// Carries the leaves of a document that the target has not.
+/// Replicates the leaves of a document that the target lacks.
 fn carry_document(
     rt: &impl Abort,
     alloc: Global,
@@ -188,7 +189,7 @@ fn carry_document(
     }
 }
 
-/// Merges a leaf of a source's tree with its ancestry, or refuses it and gives its row of the ledger.
+/// Merges a leaf of a source's tree with its ancestry, or refuses it and returns its ledger row.
 pub(crate) fn take_leaf(
     rt: &impl Abort,
     alloc: Global,

@@ -1,6 +1,6 @@
 //! A plain model of a world, written from docs/PROFILE.md, "Worlds", "Sessions of a peer", "Settling" and "Backup and
-//! restore": trees are bit masks, a feed is a scan over all documents, and what was sent and stored stands in tables of
-//! plain rows.
+//! restore": trees are bit masks, a feed is a scan of all documents, and messages and sessions are tables of plain
+//! rows.
 use crate::tests::plain_sides::{
     ALL, IDS, Masks, Picked, PlainSide, Row, is_picked, next_above, take_leaf,
 };
@@ -8,10 +8,10 @@ use crate::tests::reference::mask_of;
 use std::alloc::Global;
 use std::process::Abort;
 
-/// The document that is edited and never loaded. Its revision of the generation g stands at the place 3 (g - 1).
+/// The document that is edited and never loaded. Its revision of generation g has index 3 (g - 1).
 pub(crate) const EDITED: usize = 4;
 
-/// A window, or what is asked for one: the life of its source, its bounds, and the leaves of its rows.
+/// A window, or a request for one: the life of its source, its bounds, and the leaves of its rows.
 #[derive(Clone, Copy)]
 pub(crate) struct Rows {
     life: u64,
@@ -20,21 +20,21 @@ pub(crate) struct Rows {
     leaves: Masks,
 }
 
-/// What was fetched: what was asked, and the source as it was then.
+/// What was fetched: the request, and the source at that time.
 #[derive(Clone, Copy)]
 struct Fetched {
     asked: Rows,
     source: PlainSide,
 }
 
-/// What a log tells of a session.
+/// The log entry of a session.
 #[derive(Clone, Copy, Debug, PartialEq, Eq)]
 pub(crate) struct Done {
     pub(crate) session: u128,
     pub(crate) life: u64,
     pub(crate) start: u64,
     pub(crate) recorded: u64,
-    /// When it began and when it last recorded, in seconds since 1970.
+    /// When the session began and when it last recorded, in seconds since 1970.
     pub(crate) moments: (u64, u64),
     pub(crate) checked: u64,
     pub(crate) found: u64,
@@ -42,7 +42,7 @@ pub(crate) struct Done {
     pub(crate) failures: u64,
 }
 
-/// The log of the replication at its source, the oldest first, with the life of the source's database.
+/// The log of the replication at its source, oldest first, with the life of the source's database.
 #[derive(Drop)]
 pub(crate) struct SourceLog {
     pub(crate) life: u64,
@@ -50,7 +50,7 @@ pub(crate) struct SourceLog {
 }
 
 impl SourceLog {
-    /// The same log.
+    /// Copies the log.
     fn copy(&self, rt: &impl Abort, alloc: Global) -> SourceLog {
         SourceLog {
             life: self.life,
@@ -59,28 +59,28 @@ impl SourceLog {
     }
 }
 
-/// A copy of the source.
+/// A backup of the source.
 #[derive(Drop)]
 struct Copied {
     side: PlainSide,
     log: SourceLog,
 }
 
-/// How often a list of steps came to what a restore leaves behind.
+/// How often a list of steps reached the situations that a restore creates.
 #[derive(Clone, Copy, Debug)]
 pub(crate) struct Met {
-    /// A copy was put back while windows, entries or logs were under way.
+    /// A backup was restored while windows, entries or logs were in transit.
     pub(crate) restores: u64,
     /// A session began in a life that had ended.
     pub(crate) begins: u64,
-    /// A window was of another life than the session that was to store it.
+    /// A window was from another life than the session that was to store it.
     pub(crate) windows: u64,
-    /// An entry was of another life than the source.
+    /// An entry was from another life than the source.
     pub(crate) entries: u64,
 }
 
 impl Met {
-    /// Nothing.
+    /// Creates counts of 0.
     pub(crate) fn new() -> Met {
         Met {
             restores: 0,
@@ -90,7 +90,7 @@ impl Met {
         }
     }
 
-    /// Adds what another list came to.
+    /// Adds the counts of another list.
     pub(crate) fn add(&mut self, other: &Met) {
         self.restores = self.restores.saturating_add(other.restores);
         self.begins = self.begins.saturating_add(other.begins);
@@ -98,7 +98,7 @@ impl Met {
         self.entries = self.entries.saturating_add(other.entries);
     }
 
-    /// The least of these counts.
+    /// Returns the least of the counts.
     pub(crate) fn least(&self) -> u64 {
         self.restores
             .min(self.begins)
@@ -114,7 +114,7 @@ struct Session {
     goal: u64,
 }
 
-/// A window that a session stores.
+/// A window of a session.
 #[derive(Clone, Copy)]
 struct Stored {
     session: u128,
@@ -122,7 +122,7 @@ struct Stored {
     is_done: bool,
 }
 
-/// The sessions of a target, their windows, and the rows of their ledgers, each the oldest first.
+/// The sessions of a target, their windows, and their ledger rows, each oldest first.
 #[derive(Drop)]
 pub(crate) struct Sessions {
     begun: Vec<Session>,
@@ -130,7 +130,7 @@ pub(crate) struct Sessions {
     ledger: Vec<(u128, Row)>,
 }
 
-/// How many bits some masks have.
+/// Returns the number of bits of masks.
 fn count(masks: &Masks) -> u64 {
     let mut all = 0u64;
     for mask in masks {
@@ -139,7 +139,7 @@ fn count(masks: &Masks) -> u64 {
     all
 }
 
-/// The chosen ones of the rows of a feed above a sequence, at or under a goal, in a life.
+/// Returns the page of selected rows of a feed above a sequence, at or below a goal, in a life.
 fn page(side: &PlainSide, life: u64, since: u64, goal: u64, limit: u64, picked: Picked) -> Rows {
     let mut leaves = [0; IDS];
     let mut hi = since;
@@ -161,7 +161,7 @@ fn page(side: &PlainSide, life: u64, since: u64, goal: u64, limit: u64, picked: 
     }
 }
 
-/// What a side misses of some rows.
+/// Returns what a side lacks of rows.
 fn missing(side: &PlainSide, rows: &Rows) -> Rows {
     let mut leaves = [0; IDS];
     for number in 0..IDS {
@@ -170,7 +170,7 @@ fn missing(side: &PlainSide, rows: &Rows) -> Rows {
     Rows { leaves, ..*rows }
 }
 
-/// Whether a side covers each leaf of some rows.
+/// Whether a side covers each leaf of rows.
 fn covers(side: &PlainSide, rows: &Rows) -> bool {
     let mut covers = true;
     for number in 0..IDS {
@@ -179,7 +179,7 @@ fn covers(side: &PlainSide, rows: &Rows) -> bool {
     covers
 }
 
-/// Whether each document that is asked for stands in some rows.
+/// Whether each requested document is in the rows.
 fn are_of(asked: &Rows, rows: &Rows) -> bool {
     let mut are = true;
     for number in 0..IDS {
@@ -189,7 +189,7 @@ fn are_of(asked: &Rows, rows: &Rows) -> bool {
 }
 
 impl Sessions {
-    /// No sessions.
+    /// Creates an empty table.
     fn new(alloc: Global) -> Sessions {
         Sessions {
             begun: Vec::new(alloc),
@@ -198,7 +198,7 @@ impl Sessions {
         }
     }
 
-    /// The least number above 0 that no session has.
+    /// Returns the least number above 0 that no session has.
     fn next(&self) -> u128 {
         let mut next = 1u128;
         for _ in &self.begun {
@@ -209,19 +209,19 @@ impl Sessions {
         next
     }
 
-    /// The place of a session.
+    /// Returns the index of a session.
     fn place(&self, session: u128) -> Option<usize> {
         self.begun
             .iter()
             .position(|held| held.done.session == session)
     }
 
-    /// A session.
+    /// Returns a session.
     fn get(&self, session: u128) -> Option<Session> {
         self.begun.get(self.place(session)?).copied()
     }
 
-    /// Where the windows of a session end.
+    /// Returns the end of a session's windows.
     fn end(&self, session: Session) -> u64 {
         let mut end = session.done.start;
         for window in &self.windows {
@@ -232,7 +232,7 @@ impl Sessions {
         end
     }
 
-    /// Where the first windows of a session that are all done end.
+    /// Returns the low water of a session.
     fn low_water(&self, session: Session) -> u64 {
         let mut low = session.done.start;
         for window in &self.windows {
@@ -243,8 +243,8 @@ impl Sessions {
         low
     }
 
-    /// Where a log of the source and the sessions agree: at what both have recorded of the newest session that is in
-    /// both, and at 0 without one.
+    /// Returns the common checkpoint of a log of the source and the sessions: the lesser recorded sequence of the
+    /// newest session in both, or 0.
     fn agreed(&self, entries: &[Done]) -> u64 {
         for held in self.begun.iter().rev() {
             if let Some(place) = place_in(entries, held.done.session) {
@@ -255,7 +255,8 @@ impl Sessions {
         0
     }
 
-    /// Begins a session where a log of the source and the sessions agree, in the life of that log, where it may.
+    /// Begins a session at the common checkpoint of a log of the source and the sessions, in the life of that log, if
+    /// it is valid.
     fn begin(&mut self, rt: &impl Abort, session: u128, log: &SourceLog, goal: u64, time: u64) {
         let start = self.agreed(&log.entries);
         if start <= goal && self.get(session).is_none() {
@@ -274,7 +275,7 @@ impl Sessions {
         }
     }
 
-    /// Stores a window, where it is of the session's life and the next.
+    /// Stores a window, if it is from the session's life and is the next one.
     fn append(&mut self, rt: &impl Abort, session: u128, rows: Rows) {
         let Some(held) = self.get(session) else {
             return;
@@ -289,7 +290,7 @@ impl Sessions {
         }
     }
 
-    /// The place of the window for which something was asked, where it is stored, is not done, and has each document.
+    /// Returns the index of the window of a request, if it is stored, is not done, and has each document.
     fn window_for(&self, session: u128, asked: &Rows) -> Option<usize> {
         self.windows.iter().position(|window| {
             window.session == session
@@ -300,7 +301,7 @@ impl Sessions {
         })
     }
 
-    /// Counts a document of a session, of which a row is told where it was refused.
+    /// Counts a document of a session; a row means that it was refused.
     fn count(&mut self, rt: &impl Abort, session: u128, row: Option<Row>) {
         let place = self.place(session).unwrap_or(0);
         let held = self.begun.get_mut(place).expect(rt, "a session");
@@ -313,19 +314,19 @@ impl Sessions {
         }
     }
 
-    /// Whether a side covers the window of a place.
+    /// Whether a side covers the window at an index.
     fn is_covered(&self, rt: &impl Abort, window: usize, side: &PlainSide) -> bool {
         covers(side, &self.windows.get(window).expect(rt, "a window").rows)
     }
 
-    /// Marks the window of a place as done, and counts its leaves.
+    /// Marks the window at an index as done, and counts its leaves.
     fn finish(&mut self, rt: &impl Abort, window: usize) -> u64 {
         let stored = self.windows.get_mut(window).expect(rt, "a window");
         stored.is_done = true;
         count(&stored.rows.leaves)
     }
 
-    /// Marks the window of a place as done, and counts what was looked at and asked.
+    /// Marks the window at an index as done, and counts leaves and requested revisions.
     fn mark(&mut self, rt: &impl Abort, session: u128, window: usize, asked: &Rows) {
         let checked = self.finish(rt, window);
         let place = self.place(session).unwrap_or(0);
@@ -334,7 +335,7 @@ impl Sessions {
         held.done.found = held.done.found.saturating_add(count(&asked.leaves));
     }
 
-    /// Records a session; where it is to be concluded, only at its goal. Gives what a log then tells of it.
+    /// Records a session; if it is to be concluded, only at its goal. Returns its log entry.
     fn record(&mut self, session: u128, concludes: bool, time: u64) -> Option<Done> {
         let low = self.low_water(self.get(session)?);
         let place = self.place(session)?;
@@ -348,7 +349,7 @@ impl Sessions {
     }
 }
 
-/// Settles what was fetched for a session of a target, where that stores its window.
+/// Settles what was fetched for a session of a target, if that has the window.
 fn settle(
     rt: &impl Abort,
     alloc: Global,
@@ -372,7 +373,7 @@ fn settle(
     }
 }
 
-/// Settles the leaves of a document that are at or above those that are asked.
+/// Settles the leaves of a document at or above the requested ones.
 fn settle_document(
     rt: &impl Abort,
     alloc: Global,
@@ -391,7 +392,7 @@ fn settle_document(
     }
 }
 
-/// The place of a session in a log.
+/// Returns the index of a session in a log.
 fn place_in(log: &[Done], session: u128) -> Option<usize> {
     for (place, held) in log.iter().enumerate() {
         if held.session == session {
@@ -401,7 +402,7 @@ fn place_in(log: &[Done], session: u128) -> Option<usize> {
     None
 }
 
-/// Puts what is told of a session into a log, where none of that session has recorded more.
+/// Stores an entry in a log, unless an entry of the session has a greater recorded sequence.
 fn put_done(rt: &impl Abort, log: &mut Vec<Done>, done: Done) {
     let Some(place) = place_in(log, done.session) else {
         log.push(done).expect(rt, "memory");
@@ -413,7 +414,7 @@ fn put_done(rt: &impl Abort, log: &mut Vec<Done>, done: Done) {
     }
 }
 
-/// Two sides, the target's sessions, the source's log, the messages, and copies of the source. Each list has the oldest
+/// Two sides, the target's sessions, the source's log, the messages, and backups of the source. Each list is oldest
 /// first.
 #[derive(Drop)]
 pub(crate) struct PlainWorld {
@@ -435,7 +436,7 @@ pub(crate) struct PlainWorld {
 }
 
 impl PlainWorld {
-    /// No documents; the target refuses none, and all are replicated.
+    /// Creates a world without documents; the target refuses none, and all are replicated.
     pub(crate) fn new(alloc: Global) -> PlainWorld {
         PlainWorld {
             source: PlainSide::new(),
@@ -457,7 +458,7 @@ impl PlainWorld {
         }
     }
 
-    /// How many windows, asked lists, parcels, entries and logs there are.
+    /// Returns the numbers of windows, requests, parcels, entries and logs.
     pub(crate) fn sizes(&self) -> (usize, usize, usize, usize, usize) {
         (
             self.windows.len(),
@@ -468,12 +469,12 @@ impl PlainWorld {
         )
     }
 
-    /// How many copies of the source there are.
+    /// Returns the number of backups of the source.
     pub(crate) fn copies(&self) -> usize {
         self.copies.len()
     }
 
-    /// One of the two sides.
+    /// Returns one of the two sides.
     pub(crate) fn side(&mut self, is_source: bool) -> &mut PlainSide {
         if is_source {
             &mut self.source
@@ -482,8 +483,8 @@ impl PlainWorld {
         }
     }
 
-    /// The session that is to be carried on: the newest, where it has not recorded its goal and is of the source's life,
-    /// or of any; else the next.
+    /// Returns the session to continue: the newest one, if it has not recorded its goal and is from the source's life
+    /// (or any life, if `any_life`); else the next number.
     pub(crate) fn carried(&self, any_life: bool) -> u128 {
         match self.sessions.begun.last() {
             Some(held)
@@ -493,7 +494,7 @@ impl PlainWorld {
         }
     }
 
-    /// Where the windows of a session end, 0 where it is not there.
+    /// Returns the end of a session's windows, or 0 if the session does not exist.
     pub(crate) fn end(&self, session: u128) -> u64 {
         match self.sessions.get(session) {
             Some(held) => self.sessions.end(held),
@@ -501,7 +502,7 @@ impl PlainWorld {
         }
     }
 
-    /// What a log tells of the sessions.
+    /// Returns the log entries of the sessions.
     pub(crate) fn told(&self, rt: &impl Abort, alloc: Global) -> Vec<Done> {
         let mut all = Vec::new(alloc);
         for session in &self.sessions.begun {
@@ -510,7 +511,7 @@ impl PlainWorld {
         all
     }
 
-    /// The rows of a session's ledger.
+    /// Returns the ledger rows of a session.
     pub(crate) fn ledger(&self, rt: &impl Abort, alloc: Global, session: u128) -> Vec<Row> {
         let mut rows = Vec::new(alloc);
         for (of, row) in &self.sessions.ledger {
@@ -523,7 +524,7 @@ impl PlainWorld {
 
     // ---- steps
 
-    /// Edits the document that is edited, behind its one leaf, or anew where there is none.
+    /// Edits the document `EDITED`: a child of its one leaf, or a new document.
     pub(crate) fn edit(&mut self, at_source: bool, parent: Option<usize>) {
         let side = self.side(at_source);
         let leaves = side.tree(EDITED).leaf_mask();
@@ -544,7 +545,7 @@ impl PlainWorld {
         self.logs.push(log).expect(rt, "memory");
     }
 
-    /// Begins a session from a log that was read, where it may.
+    /// Begins a session from a log that was read, if it is valid.
     pub(crate) fn begin(
         &mut self,
         rt: &impl Abort,
@@ -562,7 +563,7 @@ impl PlainWorld {
         }
     }
 
-    /// Reads a page of the source, where there is one.
+    /// Reads a page of the source, if there is one.
     pub(crate) fn page(&mut self, rt: &impl Abort, since: u64, goal: u64, limit: u64) {
         if limit != 0 && since < goal && goal <= self.source.update_seq {
             let life = self.log.life;
@@ -582,7 +583,7 @@ impl PlainWorld {
         }
     }
 
-    /// Asks for what the target misses of a window.
+    /// Requests what the target lacks of a window.
     pub(crate) fn diff(&mut self, rt: &impl Abort, window: usize) {
         if let Some(rows) = self.windows.get(window) {
             let asked = missing(&self.target, rows);
@@ -590,7 +591,7 @@ impl PlainWorld {
         }
     }
 
-    /// Fetches what is asked.
+    /// Fetches the documents for a request.
     pub(crate) fn fetch(&mut self, rt: &impl Abort, asked: usize) {
         if let Some(asked) = self.asked.get(asked) {
             let fetched = Fetched {
@@ -601,7 +602,7 @@ impl PlainWorld {
         }
     }
 
-    /// Settles a parcel for a session, where that stores its window.
+    /// Settles a parcel for a session, if that has its window.
     pub(crate) fn settle(&mut self, rt: &impl Abort, alloc: Global, session: u128, parcel: usize) {
         if let Some(fetched) = self.parcels.get(parcel) {
             let (target, sessions) = (&mut self.target, &mut self.sessions);
@@ -609,14 +610,15 @@ impl PlainWorld {
         }
     }
 
-    /// Records a session, or concludes it, and tells of it.
+    /// Records or concludes a session, and puts its entry into the bag.
     pub(crate) fn record(&mut self, rt: &impl Abort, session: u128, concludes: bool, time: u64) {
         if let Some(done) = self.sessions.record(session, concludes, time) {
             self.entries.push(done).expect(rt, "memory");
         }
     }
 
-    /// Puts an entry into the source's log, where it is of the source's life and none of its session has recorded more.
+    /// Stores an entry in the source's log, if it is from the source's life and no entry of its session has a greater
+    /// recorded sequence.
     pub(crate) fn put_entry(&mut self, rt: &impl Abort, entry: usize) {
         if let Some(entry) = self.entries.get(entry) {
             if entry.life == self.log.life {
@@ -627,7 +629,7 @@ impl PlainWorld {
         }
     }
 
-    /// Copies the source.
+    /// Backs up the source.
     pub(crate) fn back_up(&mut self, rt: &impl Abort, alloc: Global) {
         let copied = Copied {
             side: self.source,
@@ -636,7 +638,7 @@ impl PlainWorld {
         self.copies.push(copied).expect(rt, "memory");
     }
 
-    /// Puts the source back to a copy, in a life above both.
+    /// Restores the source from a backup, in a life above both.
     pub(crate) fn restore(&mut self, rt: &impl Abort, alloc: Global, copy: usize) {
         if let Some(copied) = self.copies.get(copy) {
             if self.windows.len() > 0 || self.entries.len() > 0 || self.logs.len() > 0 {
@@ -649,7 +651,7 @@ impl PlainWorld {
         }
     }
 
-    /// Loses all messages; the copies stay.
+    /// Loses all messages; backups stay.
     pub(crate) fn crash(&mut self) {
         self.windows.clear();
         self.asked.clear();

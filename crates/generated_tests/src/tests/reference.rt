@@ -1,20 +1,20 @@
-//! A tree over eighteen revisions, as bits: generations 1 to 6 with the signatures a, b and c.
+//! A tree of eighteen revisions as bits: generations 1 to 6 with the signatures a, b and c.
 //!
-//! The revision at place `p` has the generation `p / 3 + 1` and the signature `p % 3`, so places rise as revisions do.
-//! It is written from docs/PROFILE.md, "Merging" and "Leaves and the winner": sets are masks, union is `|`.
+//! The revision at index `p` has generation `p / 3 + 1` and signature `p % 3`, so indices are ordered as revisions are.
+//! Written from docs/PROFILE.md, "Merging" and "Leaves and the winner": sets are masks, union is `|`.
 
 use std::alloc::{AllocError, Global};
 use std::process::Abort;
 
-/// How many revisions there can be.
+/// The number of possible revisions.
 pub(crate) const PLACES: usize = 18;
 
-/// The bit of a place.
+/// Returns the bit of an index.
 pub(crate) fn bit(place: usize) -> u32 {
     1 << (place % PLACES)
 }
 
-/// The bits of some places.
+/// Returns the bits of indices.
 pub(crate) fn mask_of(places: &[usize]) -> u32 {
     let mut mask = 0;
     for place in places {
@@ -23,7 +23,7 @@ pub(crate) fn mask_of(places: &[usize]) -> u32 {
     mask
 }
 
-/// The place of the lowest bit.
+/// Returns the index of the lowest bit.
 fn lowest(mask: u32) -> usize {
     for place in 0..PLACES {
         if mask & bit(place) != 0 {
@@ -33,7 +33,7 @@ fn lowest(mask: u32) -> usize {
     0
 }
 
-/// What a merge answers.
+/// The result of a merge.
 #[derive(Clone, Copy, Debug, PartialEq, Eq)]
 pub(crate) enum Answer {
     Changed,
@@ -45,7 +45,7 @@ pub(crate) enum Answer {
     },
 }
 
-/// Three sets and the origins.
+/// The three sets and the origins.
 #[derive(Clone, Copy)]
 pub(crate) struct Reference {
     revisions: u32,
@@ -55,7 +55,7 @@ pub(crate) struct Reference {
 }
 
 impl Reference {
-    /// No revisions.
+    /// Creates an empty tree.
     pub(crate) fn new() -> Reference {
         Reference {
             revisions: 0,
@@ -65,12 +65,12 @@ impl Reference {
         }
     }
 
-    /// Whether a revision is there.
+    /// Whether a revision is in the tree.
     pub(crate) fn has(&self, place: usize) -> bool {
         self.revisions & bit(place) != 0
     }
 
-    /// How many there are.
+    /// Returns the number of revisions.
     pub(crate) fn count(&self) -> usize {
         let mut count = 0usize;
         for place in 0..PLACES {
@@ -81,17 +81,17 @@ impl Reference {
         count
     }
 
-    /// The content of a revision.
+    /// Returns the content of a revision.
     pub(crate) fn content(&self, place: usize) -> Option<(bool, u8)> {
         self.contents[place % PLACES]
     }
 
-    /// The origin of a revision.
+    /// Returns the origin of a revision.
     pub(crate) fn origin(&self, place: usize) -> Option<u64> {
         self.origins[place % PLACES]
     }
 
-    /// The first given child, newest first, that has another parent.
+    /// Returns the first given child, newest first, that has another parent.
     pub(crate) fn contradiction(&self, revs: &[usize]) -> Option<Answer> {
         for pair in revs.windows(2) {
             if let [child, given] = pair {
@@ -108,7 +108,7 @@ impl Reference {
         None
     }
 
-    /// Union with an ancestry, newest first, and a content of its head.
+    /// Merges an ancestry, newest first, and a content of its head.
     pub(crate) fn merge(&mut self, revs: &[usize], content: (bool, u8), origin: u64) -> Answer {
         if let Some(answer) = self.contradiction(revs) {
             return answer;
@@ -142,12 +142,12 @@ impl Reference {
             && self.contents == other.contents
     }
 
-    /// A bit for each revision.
+    /// Returns a bit for each revision.
     pub(crate) fn revisions(&self) -> u32 {
         self.revisions
     }
 
-    /// A bit for each revision that is nobody's parent.
+    /// Returns a bit for each revision that is not a parent.
     pub(crate) fn leaf_mask(&self) -> u32 {
         let mut parents = 0;
         for mask in self.parents {
@@ -156,12 +156,12 @@ impl Reference {
         self.revisions & !parents
     }
 
-    /// Whether a revision is there and nobody's parent.
+    /// Whether a revision is in the tree and is not a parent.
     pub(crate) fn is_leaf(&self, place: usize) -> bool {
         self.leaf_mask() & bit(place) != 0
     }
 
-    /// The leaves: those that are not deleted first, then by falling place.
+    /// Returns the leaves: live before deleted, then by falling index.
     pub(crate) fn leaves(&self, alloc: Global) -> Result<Vec<usize>, AllocError> {
         let mut leaves = Vec::new(alloc);
         for deleted in [false, true] {
@@ -177,7 +177,7 @@ impl Reference {
         Ok(leaves)
     }
 
-    /// A revision and its known ancestors, newest first.
+    /// Returns a revision and its known ancestors, newest first.
     pub(crate) fn ancestry(&self, alloc: Global, place: usize) -> Result<Vec<usize>, AllocError> {
         let mut walk = Vec::new(alloc);
         let mut at = place;
@@ -192,12 +192,12 @@ impl Reference {
         Ok(walk)
     }
 
-    /// A bit for each revision of an ancestry.
+    /// Returns a bit for each revision of an ancestry.
     pub(crate) fn walk_mask(&self, rt: &impl Abort, alloc: Global, place: usize) -> u32 {
         mask_of(&self.ancestry(alloc, place).expect(rt, "memory"))
     }
 
-    /// The leaves whose ancestries have one of the revisions, winner first.
+    /// Returns the leaves whose ancestries have one of the revisions, winner first.
     pub(crate) fn leaves_above(&self, rt: &impl Abort, alloc: Global, revs: u32) -> Vec<usize> {
         let mut above = Vec::new(alloc);
         for leaf in &self.leaves(alloc).expect(rt, "memory") {
@@ -208,7 +208,7 @@ impl Reference {
         above
     }
 
-    /// Those of some revisions that are not there.
+    /// Returns the revisions that are not in the tree.
     pub(crate) fn missing(&self, rt: &impl Abort, alloc: Global, revs: &[usize]) -> Vec<usize> {
         let mut missing = Vec::new(alloc);
         for place in revs {

@@ -1,4 +1,4 @@
-//! A peer compared with its plain side: the trees, what is covered, and what was refused.
+//! A peer compared with its plain model: the trees, coverage, and refusals.
 use crate::tests::exchanges::place_of;
 use crate::tests::feeds::{id, number_of};
 use crate::tests::merges::{are, rev};
@@ -10,8 +10,7 @@ use rev_tree::{SessionId, Tree};
 use std::alloc::Global;
 use std::process::Abort;
 
-/// Whether a peer holds the first documents, by their numbers, as its plain side does, and covers the same revisions of
-/// them.
+/// Whether a peer and its plain model agree about the first documents: the trees, and which revisions are covered.
 pub(crate) fn agrees(
     rt: &impl Abort,
     alloc: Global,
@@ -26,7 +25,7 @@ pub(crate) fn agrees(
     agrees
 }
 
-/// Whether a peer has the plain tree of a document, and covers the same revisions of it.
+/// Whether a peer and its plain model agree about a document.
 fn agrees_on(
     rt: &impl Abort,
     alloc: Global,
@@ -67,7 +66,7 @@ fn is_leaf(rt: &impl Abort, alloc: Global, tree: &Tree, wanted: &Reference, plac
     has_content(tree, one, wanted.content(place)) && are(rt, walk.revs(), &places)
 }
 
-/// Whether a revision has a content with the flag of a plain one and the body `{}`.
+/// Whether a revision has a content with the plain one's deleted flag and the body `{}`.
 fn has_content(tree: &Tree, one: Rev, wanted: Option<(bool, u8)>) -> bool {
     match (tree.content(one), wanted) {
         (Some(content), Some((deleted, _))) => {
@@ -77,7 +76,7 @@ fn has_content(tree: &Tree, one: Rev, wanted: Option<(bool, u8)>) -> bool {
     }
 }
 
-/// Whether the ledger of a session has the rows that are wanted, in whatever order.
+/// Whether the ledger of a session has the expected rows, in any order.
 pub(crate) fn has_ledger(
     rt: &impl Abort,
     alloc: Global,
@@ -95,7 +94,7 @@ pub(crate) fn has_ledger(
     rows.as_slice() == wanted.as_slice()
 }
 
-/// A row of a peer's ledger.
+/// Returns a row of a peer's ledger.
 fn row(rt: &impl Abort, refused: &Refused) -> Row {
     let doc = refused.doc();
     let number = number_of(rt, doc.id().text());

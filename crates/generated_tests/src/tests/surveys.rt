@@ -1,4 +1,4 @@
-//! What a target misses of a source, which documents are in conflict and how much a database holds, compared with the
+//! What a target lacks of a source, which documents are in conflict and how much a database contains, compared with the
 //! reference; and the documents of all leaves, put into an empty database.
 use crate::tests::checks::holds;
 use crate::tests::exchanges::Side;
@@ -15,7 +15,7 @@ use rev_tree::Origin;
 use std::alloc::Global;
 use std::process::Abort;
 
-/// The place of the first revision of some leaves' ancestries that has another parent in another tree.
+/// Returns the index of the first revision in the leaves' ancestries that has another parent in another tree.
 fn contradicts(
     rt: &impl Abort,
     alloc: Global,
@@ -32,7 +32,7 @@ fn contradicts(
     None
 }
 
-/// The places of the leaves of which another tree has another content.
+/// Returns the indices of the leaves of which another tree has another content.
 fn differ(
     rt: &impl Abort,
     alloc: Global,
@@ -50,7 +50,7 @@ fn differ(
     found
 }
 
-/// Whether a comparison names the revision at a place, where there is one.
+/// Whether a comparison names the revision at an optional index.
 fn names(rt: &impl Abort, comparison: &Comparison, place: Option<usize>) -> bool {
     match (comparison.contradiction(), place) {
         (Some(found), Some(place)) => found.child == rev(rt, place),
@@ -59,7 +59,7 @@ fn names(rt: &impl Abort, comparison: &Comparison, place: Option<usize>) -> bool
     }
 }
 
-/// Asserts that a comparison says what two trees do.
+/// Asserts that a comparison agrees with two trees.
 fn says(
     rt: &impl Abort,
     alloc: Global,
@@ -85,7 +85,7 @@ fn says(
     holds(rt, names(rt, comparison, place), "what contradicts");
 }
 
-/// Compares each document of two sides, and gives the total.
+/// Compares each document of two sides, and returns the total.
 fn compares(rt: &impl Abort, alloc: Global, source: &Side, target: &Side) -> Total {
     let mut total = Total::none();
     for number in 0..IDS {
@@ -98,7 +98,7 @@ fn compares(rt: &impl Abort, alloc: Global, source: &Side, target: &Side) -> Tot
     total
 }
 
-/// The places of the leaves that are not deleted.
+/// Returns the indices of the live leaves.
 fn live(rt: &impl Abort, alloc: Global, tree: &Reference) -> Vec<usize> {
     let mut live = Vec::new(alloc);
     for leaf in &tree.leaves(alloc).expect(rt, "memory") {
@@ -109,7 +109,7 @@ fn live(rt: &impl Abort, alloc: Global, tree: &Reference) -> Vec<usize> {
     live
 }
 
-/// Asserts that what is in conflict of a document is what the reference says.
+/// Asserts that the leaves in conflict agree with the reference.
 fn conflicts(rt: &impl Abort, alloc: Global, database: &Database, id: &DocId, live: &[usize]) {
     if let Some(tree) = database.tree(id) {
         let found = conflicting(alloc, tree).expect(rt, "memory");
@@ -118,7 +118,7 @@ fn conflicts(rt: &impl Abort, alloc: Global, database: &Database, id: &DocId, li
     }
 }
 
-/// Adds a document to what a database holds.
+/// Adds a document to expected counts.
 fn counts(census: &mut Census, tree: &Reference, leaves: usize, live: usize) {
     census.documents = census.documents.saturating_add(1);
     census.deleted = census.deleted.saturating_add(u64::from(live == 0));
@@ -127,7 +127,7 @@ fn counts(census: &mut Census, tree: &Reference, leaves: usize, live: usize) {
     census.revisions = census.revisions.saturating_add(tree.count() as u64);
 }
 
-/// Asserts what is in conflict, and how much there is. Gives how many documents are in conflict.
+/// Asserts conflicts and counts. Returns the number of documents in conflict.
 fn in_conflict(rt: &impl Abort, alloc: Global, side: &Side) -> u64 {
     let mut wanted = Census::none();
     for number in 0..IDS {
@@ -151,7 +151,7 @@ fn give(rt: &impl Abort, alloc: Global, source: &Database, id: &DocId, target: &
     }
 }
 
-/// Asserts that a database has the leaves that the reference has.
+/// Asserts that a database has the leaves of the reference.
 fn has_leaves(rt: &impl Abort, alloc: Global, database: &Database, plain: &PlainSide) {
     for number in 0..IDS {
         let wanted = plain.tree(number).leaves(alloc).expect(rt, "memory");
@@ -169,7 +169,7 @@ fn has_leaves(rt: &impl Abort, alloc: Global, database: &Database, plain: &Plain
     }
 }
 
-/// Asserts that the documents of all leaves make what a side holds, in an empty database.
+/// Asserts that the documents of all leaves, put into an empty database, give what a side has.
 fn comes_back(rt: &impl Abort, alloc: Global, side: &Side, again: &mut Database) {
     for number in 0..IDS {
         give(rt, alloc, &side.db, &id(rt, alloc, number), again);
@@ -177,8 +177,8 @@ fn comes_back(rt: &impl Abort, alloc: Global, side: &Side, again: &mut Database)
     has_leaves(rt, alloc, again, &side.plain);
 }
 
-/// Asserts that all that is asked of a source is answered as the reference has it. Gives how many documents contradict,
-/// how many leaves differ, and how many documents are in conflict.
+/// Asserts all calls of `repl_inspect` against the reference. Returns the numbers of contradicting documents, of
+/// differing leaves, and of documents in conflict.
 fn survey(rt: &impl Abort, alloc: Global, source: &Side, target: &Side) -> [u64; 3] {
     let total = compares(rt, alloc, source, target);
     let conflicts = in_conflict(rt, alloc, source);
@@ -187,7 +187,7 @@ fn survey(rt: &impl Abort, alloc: Global, source: &Side, target: &Side) -> [u64;
     [total.contradicting, total.differing, conflicts]
 }
 
-/// The survey of a source and a target. Nothing else lives beside a side: each value adds to its proof.
+/// Tests a source and a target. A function of its own, because each value beside a side adds to the proof.
 fn with_target(rt: &impl Abort, alloc: Global, seed: u64, source: &mut Side) -> [u64; 3] {
     let mut rng = ChaCha8Rng::seed_from_u64(seed);
     let mut target = Side::new(alloc, 2);
@@ -206,7 +206,7 @@ fn two_hundred_pairs_agree(rt: HostRuntime) {
             found[at] = found[at].saturating_add(more[at]);
         }
     }
-    // Each is met often enough to tell something.
+    // Each case is frequent enough to be tested.
     assert!(rt;
         found[0] > 100 && found[1] > 50 && found[2] > 100,
         "{found:?}"

@@ -1,5 +1,5 @@
-//! Pairs that diverge by chance and are replicated both ways, by one thread and by the pool: then both sides hold the
-//! same documents, and a second time carries nothing.
+//! Pairs that diverge at random and are replicated in both directions, by one thread and by the pool: both sides then
+//! have the same documents, and a second replication changes nothing.
 use crate::tests::checks::holds;
 use crate::tests::feeds::id;
 use crate::tests::merges::below;
@@ -18,17 +18,17 @@ use std::process::Abort;
 use std::sync::Wait;
 use std::thread::Threads;
 
-/// How often both sides go on by themselves and then meet.
+/// The number of rounds in which both sides diverge and then synchronize.
 const MEETINGS: usize = 3;
 
-/// A body by chance, of few, so that both sides make the same change now and then.
+/// Returns one of a few random bodies, so that both sides sometimes make the same change.
 pub(crate) fn body(rt: &impl Abort, alloc: Global, rng: &mut ChaCha8Rng) -> Body {
     let text = format!(in alloc; "{{\"n\":{}}}", below(rng, 3)).expect(rt, "memory");
     let value = Value::from_slice(alloc, text.as_bytes()).expect(rt, "a value");
     read_body(alloc, &value).expect(rt, "a body")
 }
 
-/// A leaf of a tree by chance; none, where there is no tree.
+/// Returns a random leaf of a tree, or `None` if there is no tree.
 pub(crate) fn leaf(
     rt: &impl Abort,
     alloc: Global,
@@ -41,7 +41,7 @@ pub(crate) fn leaf(
     leaves.get(place).copied()
 }
 
-/// Makes a document, or changes or deletes a leaf of it.
+/// Creates a document, or changes or deletes a leaf of it.
 fn edit_one(
     rt: &impl Abort,
     alloc: Global,
@@ -56,7 +56,7 @@ fn edit_one(
     let _revised = peer.edit(&id, parent, deleted, &body);
 }
 
-/// Edits of documents by chance.
+/// Makes random edits of documents.
 fn edit(
     rt: &impl Abort,
     alloc: Global,
@@ -70,7 +70,7 @@ fn edit(
     }
 }
 
-/// The same of all documents but d0.
+/// Makes random edits of all documents except d0.
 fn edit_others(
     rt: &impl Abort,
     alloc: Global,
@@ -84,8 +84,8 @@ fn edit_others(
     }
 }
 
-/// Whether two trees have the same revisions in number, the same leaves, winner first, and of each leaf the same
-/// ancestry and content.
+/// Whether two trees have the same number of revisions, the same leaves in the same order, and the same ancestry and
+/// content for each leaf.
 fn are_same(rt: &impl Abort, alloc: Global, one: &Tree, other: &Tree) -> bool {
     let leaves = one.leaves(alloc).expect(rt, "memory");
     let mut same = one.rev_count() == other.rev_count()
@@ -96,7 +96,7 @@ fn are_same(rt: &impl Abort, alloc: Global, one: &Tree, other: &Tree) -> bool {
     same
 }
 
-/// Whether a leaf of both has the same ancestry and content.
+/// Whether a leaf has the same ancestry and content in both trees.
 fn is_same_leaf(rt: &impl Abort, alloc: Global, one: &Tree, other: &Tree, leaf: Rev) -> bool {
     let (ours, theirs) = match (one.ancestry(alloc, leaf), other.ancestry(alloc, leaf)) {
         (Ok(ours), Ok(theirs)) => (ours, theirs),
@@ -112,7 +112,7 @@ fn is_same_leaf(rt: &impl Abort, alloc: Global, one: &Tree, other: &Tree, leaf: 
     }
 }
 
-/// Whether two peers hold the same of a document.
+/// Whether two peers have the same for a document.
 fn is_same(rt: &impl Abort, alloc: Global, a: &Peer<Rules>, b: &Peer<Rules>, id: &DocId) -> bool {
     match (a.db().tree(id), b.db().tree(id)) {
         (Some(one), Some(other)) => are_same(rt, alloc, one, other),
@@ -121,7 +121,7 @@ fn is_same(rt: &impl Abort, alloc: Global, a: &Peer<Rules>, b: &Peer<Rules>, id:
     }
 }
 
-/// Asserts that two peers hold the same documents.
+/// Asserts that two peers have the same documents.
 pub(crate) fn assert_same(rt: &impl Abort, alloc: Global, a: &Peer<Rules>, b: &Peer<Rules>) {
     for number in 0..IDS {
         let same = is_same(rt, alloc, a, b, &id(rt, alloc, number));
@@ -129,7 +129,7 @@ pub(crate) fn assert_same(rt: &impl Abort, alloc: Global, a: &Peer<Rules>, b: &P
     }
 }
 
-/// Asserts that two peers hold the same documents but for d0, which the second one has never taken.
+/// Asserts that two peers have the same documents, except that the second one has never accepted d0.
 fn assert_same_but_d0(rt: &impl Abort, alloc: Global, a: &Peer<Rules>, b: &Peer<Rules>) {
     for number in 1..IDS {
         let same = is_same(rt, alloc, a, b, &id(rt, alloc, number));
@@ -140,7 +140,7 @@ fn assert_same_but_d0(rt: &impl Abort, alloc: Global, a: &Peer<Rules>, b: &Peer<
     holds(rt, b.db().tree(&d0).is_none(), "the other side hasn't");
 }
 
-/// A plan of the next session, with windows that scan 1 to 4 rows by chance.
+/// Creates a plan of the next session, with windows that scan 1 to 4 rows, at random.
 pub(crate) fn plan(
     rt: &impl Abort,
     rng: &mut ChaCha8Rng,
@@ -158,7 +158,7 @@ pub(crate) fn plan(
     }
 }
 
-/// Replicates both ways: by one thread where there are no workers, else by the pool.
+/// Replicates in both directions: by one thread if there are no workers, else by the pool.
 fn meet<R: Abort + Threads + Wait + Sync>(
     rt: &R,
     alloc: Global,
@@ -176,7 +176,7 @@ fn meet<R: Abort + Threads + Wait + Sync>(
     (a, b, outcome.expect(rt, "nothing refused"))
 }
 
-/// Two peers that go on by themselves, meet, and meet once more, some times.
+/// Lets two peers diverge, synchronize, and synchronize again, several times.
 fn of_seed<R: Abort + Threads + Wait + Sync>(rt: &R, alloc: Global, seed: u64, workers: u64) {
     let mut rng = ChaCha8Rng::seed_from_u64(seed);
     let mut sessions = 0;
@@ -209,13 +209,13 @@ fn edit_d0(rt: &impl Abort, alloc: Global, rng: &mut ChaCha8Rng, peer: &mut Peer
     let _revised = peer.edit(&id, parent, false, &body);
 }
 
-/// A peer that refuses d0.
+/// Creates a peer that refuses d0.
 fn refusing(rt: &impl Abort, alloc: Global) -> Peer<Rules> {
     let deny = "d0".to_string(alloc).expect(rt, "memory");
     Peer::new(alloc, 2, Rules { deny: Some(deny) })
 }
 
-/// Two peers of which the second refuses d0 each time: all other documents are the same after each meeting.
+/// Tests two peers, the second of which refuses d0 each time: all other documents are the same after each round.
 fn beside_refusals<R: Abort + Threads + Wait + Sync>(
     rt: &R,
     alloc: Global,

@@ -1,4 +1,4 @@
-//! Lists of steps by chance, taken by a world and by its plain model, and compared: both peers, the logs and the bag.
+//! Random lists of steps, taken by a world and by its plain model, and compared: both peers, the logs and the bag.
 use crate::tests::checks::holds;
 use crate::tests::choices::{all_or_some, chosen};
 use crate::tests::feeds::{body, document_by_chance, id};
@@ -19,32 +19,32 @@ use rev_tree::SessionId;
 use std::alloc::Global;
 use std::process::Abort;
 
-/// How many steps a list has.
+/// The number of steps of a list.
 const STEPS: usize = 80;
 
-/// How many of these load a document first.
+/// The number of these that load a document first.
 const LOADS: usize = 4;
 
-/// Deals out steps by chance. Each is taken by the model, and stands in the list.
+/// Generates random steps. Each is taken by the model and added to the list.
 #[derive(Drop)]
 struct Dealer {
     alloc: Global,
     rng: ChaCha8Rng,
-    /// The revisions of a document that is edited again and again, the oldest first.
+    /// The revisions of a document that is edited repeatedly, oldest first.
     chain: Vec<Rev>,
     model: PlainWorld,
-    /// The number of the step that is dealt, and of the turn of the replication.
+    /// The number of the generated step, and of the turn of the replication.
     number: usize,
     turn: usize,
 }
 
-/// A moment.
+/// Creates a timestamp.
 fn moment(rt: &impl Abort, seconds: usize) -> Moment {
     Moment::new(seconds as u64).expect(rt, "a moment")
 }
 
 impl Dealer {
-    /// Nothing is dealt yet.
+    /// Creates a generator without steps.
     fn new(alloc: Global, seed: u64) -> Dealer {
         Dealer {
             alloc,
@@ -56,7 +56,7 @@ impl Dealer {
         }
     }
 
-    /// Picks a document that the target refuses, or none, and the documents that are replicated.
+    /// Chooses a document that the target refuses, or none, and the documents that are replicated.
     fn pick(&mut self) {
         let number = below(&mut self.rng, 8);
         if number < EDITED {
@@ -65,7 +65,7 @@ impl Dealer {
         self.model.picked = all_or_some(&mut self.rng);
     }
 
-    /// A place of the bag: mostly the last one, sometimes one outside.
+    /// Returns an index of the bag: usually the last one, sometimes one out of range.
     fn place(&mut self, length: usize) -> usize {
         if below(&mut self.rng, 6) == 0 {
             below(&mut self.rng, 5)
@@ -74,7 +74,7 @@ impl Dealer {
         }
     }
 
-    /// The session that is to be carried on, sometimes another one.
+    /// Returns the session to continue, sometimes another one.
     fn session(&mut self) -> u128 {
         if below(&mut self.rng, 8) == 0 {
             below(&mut self.rng, 4) as u128
@@ -84,12 +84,12 @@ impl Dealer {
         }
     }
 
-    /// Nothing, and one now and then.
+    /// Returns 0, sometimes 1.
     fn off(&mut self) -> u64 {
         if below(&mut self.rng, 8) == 0 { 1 } else { 0 }
     }
 
-    /// A document is loaded.
+    /// Generates the load of a document.
     fn load(&mut self, rt: &impl Abort, at_source: bool) -> Step {
         let side = self.model.side(at_source);
         let (doc, _answer) = document_by_chance(rt, self.alloc, &mut self.rng, side, EDITED);
@@ -100,7 +100,7 @@ impl Dealer {
         }
     }
 
-    /// The place of a parent for an edit: mostly the leaf's, and none where there is no revision.
+    /// Returns the index of a parent for an edit: usually the leaf's; `None` if there is no revision.
     fn parent(&mut self, at_source: bool) -> Option<usize> {
         let held = self.model.side(at_source).tree(EDITED).count();
         let generation = if below(&mut self.rng, 4) == 0 {
@@ -115,7 +115,7 @@ impl Dealer {
         }
     }
 
-    /// A document is edited.
+    /// Generates the edit of a document.
     fn edit(&mut self, rt: &impl Abort, at_source: bool) -> Step {
         let place = self.parent(at_source);
         self.model.edit(at_source, place);
@@ -142,13 +142,13 @@ impl Dealer {
         }
     }
 
-    /// The source's log is read.
+    /// Generates the reading of the source's log.
     fn read_log(&mut self, rt: &impl Abort) -> Step {
         self.model.read_log(rt, self.alloc);
         Step::ReadLog
     }
 
-    /// A session begins from a log that was read.
+    /// Generates the beginning of a session from a log that was read.
     fn begin(&mut self, rt: &impl Abort) -> Step {
         let session = self.session();
         let sizes = self.model.sizes();
@@ -163,7 +163,7 @@ impl Dealer {
         }
     }
 
-    /// A page is read, mostly the next one of a session.
+    /// Generates the reading of a page, usually the next one of a session.
     fn page(&mut self, rt: &impl Abort) -> Step {
         let since = if below(&mut self.rng, 4) == 0 {
             below(&mut self.rng, 5) as u64
@@ -178,7 +178,7 @@ impl Dealer {
         Step::Page { since, goal, limit }
     }
 
-    /// A window is stored.
+    /// Generates the storing of a window.
     fn append(&mut self, rt: &impl Abort) -> Step {
         let session = self.session();
         let sizes = self.model.sizes();
@@ -190,7 +190,7 @@ impl Dealer {
         }
     }
 
-    /// A window is compared with the target.
+    /// Generates a request for a window.
     fn diff(&mut self, rt: &impl Abort) -> Step {
         let sizes = self.model.sizes();
         let window = self.place(sizes.0);
@@ -198,7 +198,7 @@ impl Dealer {
         Step::Diff { window }
     }
 
-    /// What is asked is fetched.
+    /// Generates a fetch for a request.
     fn fetch(&mut self, rt: &impl Abort) -> Step {
         let sizes = self.model.sizes();
         let asked = self.place(sizes.1);
@@ -206,7 +206,7 @@ impl Dealer {
         Step::Fetch { asked }
     }
 
-    /// A parcel is settled.
+    /// Generates the settling of a parcel.
     fn settle(&mut self, rt: &impl Abort) -> Step {
         let session = self.session();
         let sizes = self.model.sizes();
@@ -218,7 +218,7 @@ impl Dealer {
         }
     }
 
-    /// A session is recorded, or concluded.
+    /// Generates the recording or concluding of a session.
     fn record(&mut self, rt: &impl Abort, concludes: bool) -> Step {
         let session = self.session();
         self.model
@@ -232,7 +232,7 @@ impl Dealer {
         }
     }
 
-    /// An entry is put into the source's log.
+    /// Generates the storing of an entry in the source's log.
     fn put_entry(&mut self, rt: &impl Abort) -> Step {
         let sizes = self.model.sizes();
         let entry = self.place(sizes.3);
@@ -240,13 +240,13 @@ impl Dealer {
         Step::PutEntry { entry }
     }
 
-    /// The source is copied.
+    /// Generates a backup of the source.
     fn back_up(&mut self, rt: &impl Abort) -> Step {
         self.model.back_up(rt, self.alloc);
         Step::Backup
     }
 
-    /// The source is put back to a copy.
+    /// Generates a restore of the source.
     fn restore(&mut self, rt: &impl Abort) -> Step {
         let copies = self.model.copies();
         let backup = self.place(copies);
@@ -254,13 +254,13 @@ impl Dealer {
         Step::Restore { backup }
     }
 
-    /// All messages are lost.
+    /// Generates the loss of all messages.
     fn crash(&mut self) -> Step {
         self.model.crash();
         Step::Crash
     }
 
-    /// The step of a replication whose turn it is.
+    /// Generates the next step of a replication.
     fn carry_on(&mut self, rt: &impl Abort, turn: usize) -> Step {
         match turn % 9 {
             0 => self.read_log(rt),
@@ -275,7 +275,7 @@ impl Dealer {
         }
     }
 
-    /// A step out of turn, by the number of its kind.
+    /// Generates a step out of order, by the number of its kind.
     fn odd(&mut self, rt: &impl Abort, kind: usize) -> Step {
         match kind {
             0 | 1 => self.load(rt, true),
@@ -293,7 +293,7 @@ impl Dealer {
         }
     }
 
-    /// The next step.
+    /// Generates the next step.
     fn next(&mut self, rt: &impl Abort) -> Step {
         self.number = self.number.saturating_add(1);
         let kind = below(&mut self.rng, 26);
@@ -309,7 +309,7 @@ impl Dealer {
     }
 }
 
-/// Makes the revisions of a document that is edited again and again: names that the model does not look into.
+/// Computes the revisions of the document that is edited repeatedly; the model does not interpret them.
 fn make_chain(rt: &impl Abort, alloc: Global, chain: &mut Vec<Rev>) {
     for _ in 0..6u64 {
         let parent = chain.last().copied();
@@ -318,7 +318,7 @@ fn make_chain(rt: &impl Abort, alloc: Global, chain: &mut Vec<Rev>) {
     }
 }
 
-/// Deals a list of steps.
+/// Generates a list of steps.
 fn deal(rt: &impl Abort, alloc: Global, dealer: &mut Dealer) -> Vec<Step> {
     let mut steps = Vec::new(alloc);
     for _ in 0..STEPS {
@@ -329,7 +329,7 @@ fn deal(rt: &impl Abort, alloc: Global, dealer: &mut Dealer) -> Vec<Step> {
 
 // ---- comparing
 
-/// Whether a database has as much of the chain as its model, and nothing else of that document.
+/// Whether a database has the part of the chain that its model has, and nothing else of that document.
 fn has_chain(rt: &impl Abort, alloc: Global, db: &Database, held: usize, chain: &[Rev]) -> bool {
     match db.tree(&id(rt, alloc, EDITED)) {
         Some(tree) => {
@@ -340,7 +340,7 @@ fn has_chain(rt: &impl Abort, alloc: Global, db: &Database, held: usize, chain: 
     }
 }
 
-/// What a log's entry tells, plainly.
+/// Converts a log entry to its plain form.
 fn done_of(entry: &Entry) -> Done {
     Done {
         session: entry.session.0,
@@ -355,7 +355,7 @@ fn done_of(entry: &Entry) -> Done {
     }
 }
 
-/// Whether a log, newest first, tells what is wanted, oldest first.
+/// Whether a log, newest first, has the expected entries, oldest first.
 fn is_log(log: &Log, wanted: &[Done]) -> bool {
     let mut same = log.len() == wanted.len();
     for (place, done) in wanted.iter().rev().enumerate() {
@@ -364,7 +364,7 @@ fn is_log(log: &Log, wanted: &[Done]) -> bool {
     same
 }
 
-/// Asserts that a peer has what is wanted of the documents.
+/// Asserts that a peer has the expected documents.
 fn compare_documents(
     rt: &impl Abort,
     alloc: Global,
@@ -381,13 +381,13 @@ fn compare_documents(
     );
 }
 
-/// Asserts that a log, newest first, tells what is wanted, oldest first.
+/// Asserts that a log, newest first, has the expected entries, oldest first.
 fn compare_log(rt: &impl Abort, log: Option<Log>, wanted: &[Done]) {
     let log = log.expect(rt, "a log");
     holds(rt, is_log(&log, wanted), "a log");
 }
 
-/// Asserts that what the target tells of its sessions is that of the model.
+/// Asserts that the entries of the target's sessions agree with the model.
 fn compare_sessions(
     rt: &impl Abort,
     alloc: Global,
@@ -402,7 +402,7 @@ fn compare_sessions(
     }
 }
 
-/// Asserts that a session's ledger is that of the model.
+/// Asserts that a session's ledger agrees with the model.
 fn compare_ledger(
     rt: &impl Abort,
     alloc: Global,
@@ -415,7 +415,7 @@ fn compare_ledger(
     holds(rt, has, "a ledger");
 }
 
-/// Asserts that an audit of the documents that are replicated finds nothing.
+/// Asserts that an audit of the replicated documents is clean.
 fn is_clean(
     rt: &impl Abort,
     alloc: Global,
@@ -429,7 +429,7 @@ fn is_clean(
     }
 }
 
-/// Asserts that two peers are those of the model.
+/// Asserts that two peers agree with the model.
 fn compare_peers(
     rt: &impl Abort,
     alloc: Global,
@@ -451,12 +451,12 @@ fn compare_peers(
     is_clean(rt, alloc, source, target, chosen.as_ref());
 }
 
-/// A peer that refuses a prefix.
+/// Creates a peer that refuses a prefix.
 fn peer(alloc: Global, uuid: u128, deny: Option<String>) -> Peer<Rules> {
     Peer::new(alloc, uuid, Rules { deny })
 }
 
-/// A world of two peers without documents, whose replication is of some documents or of all.
+/// Creates a world of two peers without documents, whose replication is of selected documents or of all.
 fn world(
     rt: &impl Abort,
     alloc: Global,
@@ -467,14 +467,14 @@ fn world(
     World::new(alloc, source, target, chosen).expect(rt, "two peers")
 }
 
-/// Takes a list, and asserts that the world is then its model.
+/// Takes a list of steps, and asserts that the world agrees with its model.
 fn take(rt: &impl Abort, alloc: Global, world: &mut World<Rules>, steps: &[Step], dealer: &Dealer) {
     world.run(alloc, steps).expect(rt, "memory");
     holds(rt, world.bag_sizes() == dealer.model.sizes(), "the bag");
     compare_peers(rt, alloc, world.source(), world.target(), dealer);
 }
 
-/// Deals a list, takes it in a world, and gives up to which sequence both logs agree at most.
+/// Generates a list and takes it in a world. Returns the common checkpoint of both logs, or 0.
 fn taken(rt: &impl Abort, alloc: Global, dealer: &mut Dealer, world: &mut World<Rules>) -> u64 {
     let steps = deal(rt, alloc, dealer);
     take(rt, alloc, world, &steps, dealer);
@@ -486,7 +486,7 @@ fn taken(rt: &impl Abort, alloc: Global, dealer: &mut Dealer, world: &mut World<
         .map_or(0, |done| done.recorded)
 }
 
-/// The list of a seed.
+/// Tests the list of a seed.
 fn of_seed(rt: &impl Abort, alloc: Global, seed: u64, met: &mut Met) -> u64 {
     let mut dealer = Dealer::new(alloc, seed);
     dealer.pick();

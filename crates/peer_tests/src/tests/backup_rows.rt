@@ -1,4 +1,4 @@
-//! The rows of copies: a source put back to one, and what belongs to another life of it. Each call with ample memory.
+//! The rows of backups: a source that is restored, and data from its other lives. Each call with ample memory.
 use crate::tests::peers::{Call, Lists, Rep, Rows, expect};
 use rev_tree::SessionId;
 
@@ -9,7 +9,7 @@ const TARGET: usize = 1;
 
 const OTHER: usize = 2;
 
-/// The first copy or window, and the next ones.
+/// The first backup or window, and the next ones.
 const FIRST: usize = 0;
 
 const SECOND: usize = 1;
@@ -31,7 +31,7 @@ const REP: Rep = Rep {
     target: 2,
 };
 
-/// A source of three documents, which the first session carries into an empty target, is copied.
+/// A source of three documents, which the first session replicates into an empty target, is backed up.
 const COPIED: Rows = &[
     (Call::Peer(1, None), "made"),
     (Call::Peer(2, None), "made"),
@@ -55,7 +55,7 @@ const COPIED: Rows = &[
     (Call::Backup(SOURCE), "1 at 3"),
 ];
 
-/// The second session carries three more documents.
+/// The second session replicates three more documents.
 const AHEAD: Rows = &[
     (
         Call::Load(SOURCE, r#"{"_id":"d4","_rev":"1-a"}"#),
@@ -81,7 +81,7 @@ const AHEAD: Rows = &[
     ),
 ];
 
-/// The source is put back: documents, local writes and log are those of the copy. Another document takes the sequence
+/// The source is restored: documents, local writes and log are those of the backup. Another document gets the sequence
 /// that d4 had.
 const PUT_BACK: Rows = &[
     (Call::Restore(SOURCE, FIRST), "restored"),
@@ -107,11 +107,11 @@ fn other_life_refused(rt: HostRuntime) {
             Call::PutEntryOf(SOURCE, REP, TARGET, S2),
             "OtherLife { now: 1 }",
         ),
-        // That it is older than the stored one would come behind.
+        // `Older` would also apply, but is checked later.
         (Call::PutEntry(SOURCE, REP, S1, 1), "OtherLife { now: 1 }"),
         (Call::SourceLog(SOURCE, REP), "1 at 3;"),
         (Call::Page(SOURCE, 3, 4), "3 to 4: 4 e 1-a;"),
-        // That the windows of the second session end at 6 would come behind, and that there is no third one before.
+        // That the windows of the second session end at 6 would be checked later, and so would the missing third one.
         (Call::Append(TARGET, S2, SECOND), "OtherLife { now: 0 }"),
         (Call::Append(TARGET, S3, SECOND), "NoSuchSession"),
         (
@@ -122,7 +122,7 @@ fn other_life_refused(rt: HostRuntime) {
         (Call::SourceLog(SOURCE, REP), "3 at 4;1 at 3;"),
         (Call::Audit(SOURCE, TARGET), "clean"),
         (Call::Tree(TARGET, "d4"), "1-a of 1"),
-        // What the third session says is of this life.
+        // The third session is from this life.
         (Call::PutEntryOf(SOURCE, REP, TARGET, S3), "put"),
     ];
     static LISTS: Lists = &[COPIED, AHEAD, PUT_BACK, ROWS];
@@ -133,7 +133,7 @@ fn other_life_refused(rt: HostRuntime) {
 fn copies_are_refused_by_name(rt: HostRuntime) {
     const ROWS: Rows = &[
         (Call::Backup(TARGET), "IsTarget"),
-        // That the copy is of another database would come behind.
+        // `ForeignBackup` would also apply, but is checked later.
         (Call::Restore(TARGET, FIRST), "IsTarget"),
         (Call::Peer(3, None), "made"),
         (Call::Restore(OTHER, FIRST), "ForeignBackup"),
@@ -150,7 +150,7 @@ fn copies_are_refused_by_name(rt: HostRuntime) {
 fn a_life_is_above_both(rt: HostRuntime) {
     const ROWS: Rows = &[
         (Call::Backup(SOURCE), "1 at 4"),
-        // The first copy once more, and then the second one.
+        // The first backup again, and then the second one.
         (Call::Restore(SOURCE, FIRST), "restored"),
         (Call::Life(SOURCE), "2"),
         (Call::Numbers(SOURCE), "1 at 3"),
@@ -160,7 +160,7 @@ fn a_life_is_above_both(rt: HostRuntime) {
         (Call::Numbers(SOURCE), "1 at 4"),
         (Call::Tree(SOURCE, "e"), "1-a of 1"),
         (Call::Backup(SOURCE), "1 at 4"),
-        // Another peer of this database, in life 0, keeps its own filter.
+        // Another peer with this database, in life 0, keeps its own filter.
         (Call::Peer(1, Some("d")), "made"),
         (Call::Restore(OTHER, THIRD), "restored"),
         (Call::Life(OTHER), "4"),
@@ -170,7 +170,7 @@ fn a_life_is_above_both(rt: HostRuntime) {
             Call::Verdict(OTHER, r#"{"_id":"d1","_rev":"1-a"}"#),
             "Refuse",
         ),
-        // Where both logs agree, a session begins, whatever the lives.
+        // A session begins at the common checkpoint of both logs, whichever lives they are from.
         (Call::BeginPlan(S4, 10), "3"),
     ];
     static LISTS: Lists = &[COPIED, AHEAD, PUT_BACK, ROWS];

@@ -1,10 +1,10 @@
-//! Copies of peers, and putting them back, as calls on the peers of a bench.
+//! Backing up and restoring the peers of a bench.
 use crate::tests::records::fault_text;
 use crate::tests::texts::numbers_text;
 use repl_target::{Backup, Peer, Rules};
 use std::alloc::Global;
 
-/// Copies the peer of a place.
+/// Backs up a peer.
 pub(crate) fn back_up(
     alloc: Global,
     peer: Option<&Peer<Rules>>,
@@ -19,7 +19,7 @@ pub(crate) fn back_up(
     }
 }
 
-/// Keeps a copy, and gives the uuid and the update sequence of its database.
+/// Stores a backup, and returns the UUID and the update sequence of its database.
 fn keep(alloc: Global, backups: &mut Vec<Backup>, backup: Backup) -> Option<String> {
     let text = numbers_text(alloc, backup.db());
     let Ok(()) = backups.push(backup) else {
@@ -28,7 +28,7 @@ fn keep(alloc: Global, backups: &mut Vec<Backup>, backup: Backup) -> Option<Stri
     text
 }
 
-/// Puts the peer of a place back to the copy of one.
+/// Restores a peer by index.
 pub(crate) fn restore_at(
     alloc: Global,
     peer: Option<&mut Peer<Rules>>,
@@ -40,7 +40,7 @@ pub(crate) fn restore_at(
     }
 }
 
-/// Puts a peer back to a copy.
+/// Restores a peer.
 pub(crate) fn restore(alloc: Global, peer: &mut Peer<Rules>, backup: &Backup) -> Option<String> {
     match peer.restore(backup) {
         Ok(()) => "restored".to_string(alloc).ok(),

@@ -1,4 +1,4 @@
-//! What a peer holds of a document, and what was refused of one.
+//! What a peer has of a document, and refused documents.
 use crate::tests::texts::{doc_text, joined};
 use couch_base::Database;
 use doc_json::DocId;
@@ -8,7 +8,7 @@ use rev_tree::SessionId;
 use std::alloc::Global;
 use test_support::shown;
 
-/// The documents at the leaves of a document, winner first.
+/// Returns the documents at the leaves of a document, winner first.
 pub(crate) fn leaves(alloc: Global, db: &Database, id: &str) -> Option<String> {
     let Ok(id) = DocId::parse(alloc, id) else {
         return None;
@@ -22,7 +22,7 @@ pub(crate) fn leaves(alloc: Global, db: &Database, id: &str) -> Option<String> {
     all_at(alloc, db, &id, leaves.as_slice())
 }
 
-/// The documents at some revisions of a document.
+/// Returns the documents at some revisions of a document.
 fn all_at(alloc: Global, db: &Database, id: &DocId, revs: &[Rev]) -> Option<String> {
     let mut all = Some(String::new(alloc));
     for rev in revs {
@@ -31,7 +31,7 @@ fn all_at(alloc: Global, db: &Database, id: &DocId, revs: &[Rev]) -> Option<Stri
     all
 }
 
-/// The document at a revision.
+/// Returns the document at a revision.
 fn at(alloc: Global, db: &Database, id: &DocId, rev: Rev) -> Option<String> {
     match db.document(alloc, id, rev) {
         Ok(Some(doc)) => doc_text(alloc, &doc),
@@ -39,7 +39,7 @@ fn at(alloc: Global, db: &Database, id: &DocId, rev: Rev) -> Option<String> {
     }
 }
 
-/// The documents of an id that were refused to a session, in the order in which they came, each with why.
+/// Returns the refused documents of an id in a session, in order and with reasons.
 pub(crate) fn refused(
     alloc: Global,
     peer: &Peer<Rules>,
@@ -52,7 +52,7 @@ pub(crate) fn refused(
     }
 }
 
-/// The documents of an id in a ledger, each with why it was refused.
+/// Returns the documents of an id in a ledger, with reasons.
 fn refused_of(alloc: Global, rows: &[Refused], id: &str) -> Option<String> {
     let mut all = Some(String::new(alloc));
     for row in rows {
@@ -63,7 +63,7 @@ fn refused_of(alloc: Global, rows: &[Refused], id: &str) -> Option<String> {
     all
 }
 
-/// A document that was refused, and why.
+/// Returns a refused document and the reason.
 fn refused_text(alloc: Global, row: &Refused) -> Option<String> {
     joined(doc_text(alloc, row.doc()), shown(alloc, &row.reason()))
 }

@@ -1,4 +1,4 @@
-//! The rows of chosen documents: the choices themselves, pages under them, replications, and their logs.
+//! The rows of selections: selections themselves, pages, replications, and their logs.
 use crate::tests::choices::{Call, Rows, expect};
 use rev_tree::SessionId;
 
@@ -36,7 +36,7 @@ fn choices_made(rt: HostRuntime) {
         (Call::Has(Some(3), "é"), "true"),
         (Call::Has(None, "d3"), "true"),
         (Call::Choose(&[]), "NoneChosen"),
-        // A repeat is not counted.
+        // A repeated id is not counted.
         (Call::ChooseMany(999), "999"),
         (Call::ChooseMany(1_000), "1000"),
         (Call::Has(Some(6), "1000"), "true"),
@@ -101,7 +101,7 @@ fn pages_under_a_choice(rt: HostRuntime) {
         (Call::Choose(&["d9"]), "1 d9"),
         (Call::Page(0, 4, 2, Some(0)), "0 to 2: 2 d2 1-a;"),
         (Call::Page(2, 4, 2, Some(0)), "2 to 4: 4 d4 1-a;"),
-        // A page may end behind its last row, and may have none.
+        // A page may end after its last row, and may have no rows.
         (Call::Page(0, 4, 3, Some(0)), "0 to 3: 2 d2 1-a;"),
         (Call::Page(0, 4, 1, Some(0)), "0 to 1:"),
         (Call::Page(2, 3, 500, Some(0)), "2 to 3:"),
@@ -120,7 +120,7 @@ fn pages_under_a_choice(rt: HostRuntime) {
     expect(&rt, rt.alloc(), LISTS);
 }
 
-/// The replications of the rows `chosen_copied`: two documents, all, and the two once more.
+/// The replications of the rows `chosen_copied`: two documents, all, and the two again.
 const COPIED: Rows = &[
     (Call::Choose(&["d4", "d2", "d2"]), "2 d2 d4"),
     (Call::Choose(&["d2", "d4"]), "2 d2 d4"),
@@ -201,7 +201,7 @@ fn holes_of_chosen_documents(rt: HostRuntime) {
         (Call::HoleAbove(0, Some(0)), "clean"),
         (Call::HoleAbove(0, Some(1)), "hole 1 d1 1-a"),
         (Call::HoleAbove(1, None), "hole 3 d3 1-a"),
-        // What another choice brought is covered for all.
+        // What another selection brought counts as covered for all documents.
         (
             Call::LoadTarget(r#"{"_id":"d1","_rev":"1-a"}"#),
             "Changed { seq: 3 }",

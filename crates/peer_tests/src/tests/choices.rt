@@ -1,4 +1,4 @@
-//! Choices of documents, two peers that are replicated under them, and the calls on these by name.
+//! Selections, two peers that are replicated with them, and calls on these.
 use crate::tests::peers::{agreed, found_text, load, source_log, target_log};
 use crate::tests::plans::plan;
 use crate::tests::records::{fault_text, report_text};
@@ -12,53 +12,52 @@ use std::alloc::Global;
 use std::process::Abort;
 use test_support::shown;
 
-/// The place of a choice; none for all documents.
+/// The index of a selection; `None` for all documents.
 pub(crate) type Under = Option<usize>;
 
-/// A call on the source, the target, or the choices, which are named by their places.
+/// A call on the source, the target, or the selections, which are named by index.
 #[derive(Clone, Copy)]
 pub(crate) enum Call<'a> {
-    /// Loads a document into the source.
+    /// Load a document into the source.
     Load(&'a str),
-    /// Loads a document into the target.
+    /// Load a document into the target.
     LoadTarget(&'a str),
-    /// Chooses documents. That becomes the next choice.
+    /// Select documents, as the next selection.
     Choose(&'a [&'a str]),
-    /// Chooses the documents of the numbers from 1 to some, and the first of them once more. That becomes the next
-    /// choice.
+    /// Select the documents with numbers from 1 on, the first one twice, as the next selection.
     ChooseMany(u32),
-    /// Copies a choice. That becomes the next one.
+    /// Copy a selection, as the next one.
     Copy(usize),
-    /// Asks whether two choices are equal.
+    /// Read whether two selections are equal.
     Equal(usize, usize),
-    /// Asks whether a document is chosen.
+    /// Read whether a document is selected.
     Has(Under, &'a str),
-    /// Reads the text of the id of the replication from the source into the target.
+    /// Read the text of the id of the replication from the source into the target.
     Text(Under),
-    /// Reads a page of the source: above a sequence, towards a goal, of so many rows that are scanned.
+    /// Read a page of the source: above a sequence, up to a goal, scanning this many rows.
     Page(u64, u64, u64, Under),
-    /// Replicates the source into the target by one thread: a session, and how many rows a window scans.
+    /// Replicate the source into the target by one thread: a session, and how many rows a window scans.
     Replicate(SessionId, u64, Under),
-    /// Begins a session at the target.
+    /// Begin a session at the target.
     Begin(SessionId, Under),
-    /// Appends to a session at the target a page of the source above a sequence, towards a goal.
+    /// Append to a session at the target a page of the source above a sequence, up to a goal.
     Append(SessionId, u64, u64, Under),
-    /// Audits the target.
+    /// Audit the target.
     Audit(Under),
-    /// Asks for the first hole of the target above a sequence of the source.
+    /// Read the first hole of the target above a sequence of the source.
     HoleAbove(u64, Under),
-    /// Compares the logs of the replication.
+    /// Compare the logs of the replication.
     Common(Under),
-    /// Reads the log of the replication at the source.
+    /// Read the log of the replication at the source.
     SourceLog(Under),
-    /// Reads the log of the replication at the target.
+    /// Read the log of the replication at the target.
     TargetLog(Under),
 }
 
-/// Calls, each with the text that it must answer.
+/// Calls, each with its expected result.
 pub(crate) type Rows = &'static [(Call<'static>, &'static str)];
 
-/// A source, a target, and choices.
+/// A source, a target, and selections.
 #[derive(Drop)]
 struct Bench {
     alloc: Global,
@@ -68,7 +67,7 @@ struct Bench {
 }
 
 impl Bench {
-    /// Peers of no documents, with the uuids 1 and 2.
+    /// Creates peers without documents, with UUIDs 1 and 2.
     fn new(alloc: Global) -> Bench {
         Bench {
             alloc,
@@ -78,14 +77,14 @@ impl Bench {
         }
     }
 
-    /// Makes the calls in order, and asserts what each answers.
+    /// Performs the calls in order, and asserts each result.
     fn run(&mut self, rt: &impl Abort, calls: &[(Call, &str)]) {
         for (i, (call, wanted)) in calls.iter().enumerate() {
             expect_answer(rt, i, self.answer(call), wanted);
         }
     }
 
-    /// Makes a call, and gives the text of its answer.
+    /// Performs a call and returns its result as a string.
     fn answer(&mut self, call: &Call) -> Option<String> {
         match *call {
             Call::Load(text) => load(self.alloc, &mut self.source, text),
@@ -97,7 +96,7 @@ impl Bench {
         }
     }
 
-    /// Makes a call that makes no choice.
+    /// Performs a call that creates no selection.
     fn answer_under(&mut self, call: &Call) -> Option<String> {
         let (source, target) = (&mut self.source, &mut self.target);
         match *call {
@@ -112,7 +111,7 @@ impl Bench {
     }
 }
 
-/// The choice that a call is under.
+/// Returns the selection of a call.
 fn under_of(call: &Call) -> Under {
     match *call {
         Call::Has(under, _)
@@ -130,7 +129,7 @@ fn under_of(call: &Call) -> Under {
     }
 }
 
-/// Makes a call under a choice.
+/// Performs a call with a selection.
 fn of_peers(
     alloc: Global,
     source: &mut Peer<Rules>,
@@ -152,7 +151,7 @@ fn of_peers(
     }
 }
 
-/// Makes a call under a choice that changes nothing.
+/// Performs a call with a selection that changes nothing.
 fn read(
     alloc: Global,
     source: &Peer<Rules>,
@@ -173,7 +172,7 @@ fn read(
     }
 }
 
-/// Makes a call on the replication of an id.
+/// Performs a call on a replication.
 fn of_replication(
     alloc: Global,
     source: &Peer<Rules>,
@@ -190,7 +189,7 @@ fn of_replication(
     }
 }
 
-/// The text of the id of a replication.
+/// Returns the text of a replication id.
 fn rep_text(alloc: Global, rep: &RepId) -> Option<String> {
     match rep_id(alloc, rep) {
         Ok(text) => String::from_utf8(text).ok(),
@@ -198,7 +197,7 @@ fn rep_text(alloc: Global, rep: &RepId) -> Option<String> {
     }
 }
 
-/// The choice of a place, none for all documents; nothing where no choice has that place.
+/// Returns the selection at an index; `Some(None)` for all documents, `None` if there is no such selection.
 fn chosen(choices: &[Chosen], under: Under) -> Option<Option<&Chosen>> {
     match under {
         Some(at) => choices.get(at).map(Some),
@@ -206,7 +205,7 @@ fn chosen(choices: &[Chosen], under: Under) -> Option<Option<&Chosen>> {
     }
 }
 
-/// Makes the choice of some ids, and tells how many it has, and the ids where these are few.
+/// Creates the selection of ids, and returns their number, and the ids if they are few.
 fn choose_ids(alloc: Global, choices: &mut Vec<Chosen>, ids: Vec<DocId>) -> Option<String> {
     match Chosen::new(ids) {
         Ok(chosen) => keep(alloc, choices, chosen),
@@ -214,7 +213,7 @@ fn choose_ids(alloc: Global, choices: &mut Vec<Chosen>, ids: Vec<DocId>) -> Opti
     }
 }
 
-/// Keeps a choice, and tells how many ids it has, and the ids where these are few.
+/// Stores a selection, and returns the number of its ids, and the ids if they are few.
 fn keep(alloc: Global, choices: &mut Vec<Chosen>, chosen: Chosen) -> Option<String> {
     let text = ids_text(alloc, chosen.ids());
     let Ok(()) = choices.push(chosen) else {
@@ -223,7 +222,7 @@ fn keep(alloc: Global, choices: &mut Vec<Chosen>, chosen: Chosen) -> Option<Stri
     text
 }
 
-/// How many ids there are, and the ids where these are few.
+/// Returns the number of ids, and the ids if they are few.
 fn ids_text(alloc: Global, ids: &[DocId]) -> Option<String> {
     let mut all = shown(alloc, &ids.len());
     if ids.len() < 10 {
@@ -234,12 +233,12 @@ fn ids_text(alloc: Global, ids: &[DocId]) -> Option<String> {
     all
 }
 
-/// A blank and an id.
+/// Returns a space and an id.
 fn id_text(alloc: Global, id: &DocId) -> Option<String> {
     format!(in alloc; " {}", id.text()).ok()
 }
 
-/// Appends an id that is one.
+/// Appends an optional id.
 fn push_id(ids: &mut Vec<DocId>, id: Option<DocId>) -> Option<()> {
     match id {
         Some(id) => ids.push(id).ok(),
@@ -247,7 +246,7 @@ fn push_id(ids: &mut Vec<DocId>, id: Option<DocId>) -> Option<()> {
     }
 }
 
-/// Chooses documents.
+/// Selects documents.
 fn choose(alloc: Global, choices: &mut Vec<Chosen>, names: &[&str]) -> Option<String> {
     let mut ids = Vec::new(alloc);
     for name in names {
@@ -258,7 +257,7 @@ fn choose(alloc: Global, choices: &mut Vec<Chosen>, names: &[&str]) -> Option<St
     choose_ids(alloc, choices, ids)
 }
 
-/// The id of a number.
+/// Returns the id of a number.
 fn number_id(alloc: Global, number: u32) -> Option<DocId> {
     let Ok(text) = number.to_string(alloc) else {
         return None;
@@ -266,7 +265,7 @@ fn number_id(alloc: Global, number: u32) -> Option<DocId> {
     DocId::parse(alloc, text.as_str()).ok()
 }
 
-/// Chooses the documents of the numbers from 1 to some, and the first of them once more.
+/// Selects the documents with numbers from 1 on, the first one twice.
 fn choose_many(alloc: Global, choices: &mut Vec<Chosen>, count: u32) -> Option<String> {
     let mut ids = Vec::new(alloc);
     for number in 0..count {
@@ -280,7 +279,7 @@ fn choose_many(alloc: Global, choices: &mut Vec<Chosen>, count: u32) -> Option<S
     choose_ids(alloc, choices, ids)
 }
 
-/// Copies a choice.
+/// Copies a selection.
 fn copy(alloc: Global, choices: &mut Vec<Chosen>, at: usize) -> Option<String> {
     let Some(chosen) = choices.get(at) else {
         return None;
@@ -291,7 +290,7 @@ fn copy(alloc: Global, choices: &mut Vec<Chosen>, at: usize) -> Option<String> {
     keep(alloc, choices, chosen)
 }
 
-/// Whether two choices are equal.
+/// Returns whether two selections are equal.
 fn equal(alloc: Global, choices: &[Chosen], one: usize, other: usize) -> Option<String> {
     match (choices.get(one), choices.get(other)) {
         (Some(one), Some(other)) => shown(alloc, &(one == other)),
@@ -299,7 +298,7 @@ fn equal(alloc: Global, choices: &[Chosen], one: usize, other: usize) -> Option<
     }
 }
 
-/// Whether a document is chosen.
+/// Returns whether a document is selected.
 fn has(alloc: Global, chosen: Option<&Chosen>, id: &str) -> Option<String> {
     let Ok(id) = DocId::parse(alloc, id) else {
         return None;
@@ -322,7 +321,7 @@ fn page(
     }
 }
 
-/// A page of 500 rows that are scanned.
+/// Reads a page that scans 500 rows.
 fn page_of(
     alloc: Global,
     source: &Peer<Rules>,
@@ -333,7 +332,7 @@ fn page_of(
     source.page(alloc, since, goal, 500, chosen).ok()
 }
 
-/// Appends a window, where there is one, to a session.
+/// Appends an optional window to a session.
 fn store(
     alloc: Global,
     target: &mut Peer<Rules>,
@@ -349,7 +348,7 @@ fn store(
     }
 }
 
-/// The plan of a session under a choice, as a copy of it has it.
+/// Returns a copy of the plan of a session with a selection.
 fn plan_under(session: SessionId, batch: u64, chosen: Option<&Chosen>) -> Option<Plan> {
     let Some(mut plan) = plan(session, batch, 0) else {
         return None;
@@ -398,7 +397,7 @@ fn begin(
     }
 }
 
-/// Makes lists of calls on a bench of their own, and asserts what each answers.
+/// Performs lists of calls on a new bench, and asserts each result.
 pub(crate) fn expect(rt: &impl Abort, alloc: Global, lists: &[Rows]) {
     let mut bench = Bench::new(alloc);
     for calls in lists {

@@ -1,4 +1,4 @@
-//! Values that go into a thread and come back.
+//! Values that move into a thread and back.
 use crate::tests::backups::restore;
 use crate::tests::carried::leaves;
 use crate::tests::peers::load;
@@ -14,7 +14,7 @@ const DOCUMENT: &str = r#"{"_id":"d","_revisions":{"start":2,"ids":["b","a"]},"v
 
 const LATER: &str = r#"{"_id":"d","_revisions":{"start":3,"ids":["c","b","a"]},"v":2}"#;
 
-/// What an empty database misses of one that has the document.
+/// Returns what an empty database lacks of one with the document.
 fn parcel(alloc: Global) -> Option<Parcel> {
     let mut source = Database::new(alloc, 1);
     let Some(document) = doc(alloc, DOCUMENT) else {
@@ -32,7 +32,7 @@ fn parcel(alloc: Global) -> Option<Parcel> {
     source.open_revs(alloc, &asked).ok()
 }
 
-/// Moves a parcel into a thread, which reads it and gives it back with its text.
+/// Moves a parcel into a thread, which reads it and returns it with its text.
 fn read_parcel<R: Threads>(
     rt: &R,
     alloc: Global,
@@ -57,7 +57,7 @@ fn a_parcel_goes_into_a_thread_and_back(rt: HostRuntime) {
     expect_answer(&rt, 1, parcel_text(rt.alloc(), &parcel), TEXT);
 }
 
-/// Moves a copy of a peer into a thread, which reads it and gives it back with the numbers of its database.
+/// Moves a backup of a peer into a thread, which reads it and returns it with the numbers of its database.
 fn read_backup<R: Threads>(
     rt: &R,
     alloc: Global,
@@ -73,7 +73,7 @@ fn read_backup<R: Threads>(
     }
 }
 
-// The peer is put back to the copy that has come back.
+// The peer is restored from the backup that came back.
 #[test]
 fn a_backup_goes_into_a_thread_and_back(rt: HostRuntime) {
     let mut peer = Peer::new(rt.alloc(), 1, Rules { deny: None });

@@ -1,10 +1,10 @@
-//! The rows of databases: pages, puts, edits, and what is asked and fetched. Each call with ample memory.
+//! The rows of databases: pages, puts, edits, requests and fetches. Each call with ample memory.
 use crate::tests::databases::{Bench, Call, Rows, expect};
 
-/// The first database of a bench, which is the source of what is fetched.
+/// The first database of a bench, the source of fetches.
 const A: usize = 0;
 
-/// The second database, which asks for what it misses.
+/// The second database, which requests what it lacks.
 const B: usize = 1;
 
 /// The first thing that was read or fetched.
@@ -35,7 +35,7 @@ static THREE: Rows = &[
     (Call::Numbers(A), "7 at 5"),
 ];
 
-/// The document d with the leaves 2-b and 2-a over 1-r in A.
+/// The document d with the leaves 2-b and 2-a above 1-r in A.
 static BOTH: Rows = &[
     (
         Call::Put(
@@ -50,7 +50,7 @@ static BOTH: Rows = &[
     ),
 ];
 
-/// The whole feed of `BOTH`, and what B asks for where it is empty.
+/// The complete feed of `BOTH`, and the request of an empty B.
 static BOTH_ASKED: Rows = &[
     (Call::Page(A, 0, 2, 10), "0 to 2: 2 d 2-b,2-a;"),
     (Call::Diff(B, FIRST), "0 to 2: d 2-b,2-a;"),
@@ -95,7 +95,7 @@ fn puts_as_given(rt: HostRuntime) {
     // A longer ancestry fills the gap, and the first content of an ancestor is a change.
     const LONGER: &str = r#"{"_id":"d","_revisions":{"start":3,"ids":["c","b","a"]}}"#;
     const ANCESTOR: &str = r#"{"_id":"d","_rev":"2-b","n":1}"#;
-    // Its content stays as it came first.
+    // The first content stays.
     const AGAIN: &str = r#"{"_id":"d","_rev":"2-b","n":2}"#;
     const OTHER: &str = r#"{"_id":"d","_revisions":{"start":4,"ids":["d","c","x"]}}"#;
     static ROWS: Rows = &[
@@ -111,7 +111,7 @@ fn puts_as_given(rt: HostRuntime) {
         (Call::Tree(A, "e"), "no document"),
         (Call::Document(A, "d", "2-b"), r#" d 2-b,1-a live {"n":1};"#),
         (Call::Document(A, "d", "3-c"), " d 3-c,2-b,1-a live {};"),
-        // An ancestor that is known by its id alone, a revision and a document that are not there.
+        // An ancestor that is known only by its id, and a revision and a document that do not exist.
         (Call::Document(A, "d", "1-a"), "no content"),
         (Call::Document(A, "d", "2-x"), "no content"),
         (Call::Document(A, "e", "2-b"), "no content"),
@@ -129,13 +129,13 @@ fn edits_of_each_kind(rt: HostRuntime) {
     const DEAD: &str = "1-e2ee0f94de389cef87fb74faf99cc2e1";
     const LIVE: &str = "2-e7915e5a79f14ff8d97a52f9ef488bbf";
     static ROWS: Rows = &[
-        // The first edit of a document, then one of its leaf.
+        // The first edit of a document, then an edit of its leaf.
         (Call::Edit(A, "d", "", false, "{}", 0), FIRST_EDIT),
         (
             Call::Edit(A, "d", FIRST_EDIT, false, r#"{"n":1}"#, 1),
             SECOND_EDIT,
         ),
-        // A deletion, then an edit without a parent, which stands on the deleted winner.
+        // A deletion, then an edit without a parent, which becomes a child of the deleted winner.
         (Call::Edit(A, "d", SECOND_EDIT, true, "{}", 2), GONE),
         (
             Call::Tree(A, "d"),
@@ -159,7 +159,7 @@ fn edits_of_each_kind(rt: HostRuntime) {
             "no parent, Local(0), live {}",
         ),
         (Call::Numbers(A), "0 at 4"),
-        // A first edit may delete, and a deleted leaf may be named.
+        // A first edit may delete, and a deleted leaf may be named as parent.
         (Call::Edit(A, "e", "", true, "{}", 4), DEAD),
         (Call::Edit(A, "e", DEAD, false, "{}", 5), LIVE),
         (
@@ -178,7 +178,7 @@ fn edits_refused_by_name(rt: HostRuntime) {
     static ROWS: Rows = &[
         (Call::Edit(A, "d", "1-a", false, "{}", 0), "NoSuchDocument"),
         (Call::Put(A, TWO), "Changed { seq: 1 }"),
-        // A parent that is no leaf, one that is not in the tree, and none beside a live leaf.
+        // A parent that is not a leaf, one that is not in the tree, and no parent although there is a live leaf.
         (Call::Edit(A, "d", "1-a", false, "{}", 0), "Conflict"),
         (Call::Edit(A, "d", "2-x", false, "{}", 0), "Conflict"),
         (Call::Edit(A, "d", "", false, "{}", 0), "Conflict"),
@@ -194,7 +194,7 @@ fn edits_refused_by_name(rt: HostRuntime) {
 
 #[test]
 fn an_edit_that_is_there(rt: HostRuntime) {
-    // The id of this edit is put into the tree, without the parent.
+    // The new revision of this edit is put into the tree without its parent.
     const THERE: &str = r#"{"_id":"d","_rev":"2-1c600d37126a8e6d3c67d6f7a6a5c299"}"#;
     static ROWS: Rows = &[
         (
@@ -228,7 +228,7 @@ fn at_the_last_sequences(rt: HostRuntime) {
         (Call::Numbers(B), "8 at 9007199254740991"),
         (Call::Tree(A, "d"), "no document"),
         (Call::Put(A, LAST), "Changed { seq: 9007199254740991 }"),
-        // What changes nothing takes no sequence; a contradiction is told before the want of one.
+        // What changes nothing takes no sequence; a contradiction is reported before a missing sequence.
         (Call::Put(A, LAST), "Same"),
         (Call::Put(A, OTHER), "Contradiction 2-b,1-a,1-x"),
         (Call::Put(A, r#"{"_id":"e","_rev":"1-a"}"#), "SeqFull"),
@@ -262,7 +262,7 @@ fn a_fetched_document_has_its_ancestry_and_content(rt: HostRuntime) {
         (Call::Put(A, DELETED), "Changed { seq: 3 }"),
         (Call::Page(A, 0, 3, 10), "0 to 3: 3 d 2-a,3-c;"),
         (Call::Diff(B, FIRST), "0 to 3: d 2-a,3-c;"),
-        // The live leaf comes before the deleted one, whose ancestry is longer than it was given.
+        // The live leaf comes before the deleted one, whose known ancestry is longer than the given one.
         (
             Call::Fetch(A, FIRST),
             r#"0 to 3: d 2-a,1-r live {"n":1}; d 3-c,2-b,1-r deleted {};"#,
@@ -303,7 +303,7 @@ fn known_ancestor_not_asked(rt: HostRuntime) {
 
 #[test]
 fn pages_of_few_documents_with_high_sequences(rt: HostRuntime) {
-    // No call gives up for the size of a number.
+    // No call fails because a number is large.
     const MOST: u64 = 18_446_744_073_709_551_615;
     const LAST: u64 = 9_007_199_254_740_990;
     static ROWS: Rows = &[
@@ -334,9 +334,9 @@ fn pages_of_few_documents_with_high_sequences(rt: HostRuntime) {
 
 #[test]
 fn copies_of_a_database(rt: HostRuntime) {
-    /// The last life.
+    /// The greatest life.
     const LAST: u64 = 9_007_199_254_740_991;
-    // The second database is the same, and the third one is it in another life.
+    // The second database is equal, and the third one is a copy in another life.
     const SAME: usize = 1;
     const OTHER: usize = 2;
     const LATEST: usize = 3;
@@ -354,7 +354,7 @@ fn copies_of_a_database(rt: HostRuntime) {
         (Call::WindowLife(0), "0"),
         (Call::WindowLife(1), "9"),
         (Call::Document(OTHER, "c", "1-d"), " c 1-d live {};"),
-        // What is written into a copy stands in no other one; the life stays.
+        // What is written into a copy is in no other one; the life stays.
         (
             Call::Put(OTHER, r#"{"_id":"a","_rev":"1-b"}"#),
             "Changed { seq: 6 }",
@@ -363,7 +363,7 @@ fn copies_of_a_database(rt: HostRuntime) {
         (Call::Life(OTHER), "9"),
         (Call::Tree(A, "a"), "1-a of 1"),
         (Call::Tree(SAME, "a"), "1-a of 1"),
-        // A copy of a copy is of its life.
+        // A copy of a copy has its life.
         (Call::Copy(OTHER, None), "made"),
         (Call::Life(LATEST), "9"),
         (Call::Numbers(LATEST), "7 at 6"),

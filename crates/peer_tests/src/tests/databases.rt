@@ -1,4 +1,4 @@
-//! Databases with what is read and fetched from them, and the calls on these by name.
+//! Databases, what is read and fetched from them, and calls on these.
 use crate::tests::texts::{
     asked_text, base_fault_text, body, doc, doc_text, expect_answer, node_text, numbers_text,
     parcel_text, tree_text, window_text,
@@ -11,39 +11,39 @@ use std::alloc::Global;
 use std::process::Abort;
 use test_support::{rev, rev_text, shown};
 
-/// A call on a database, which is named by its place, as windows, asked lists and parcels are.
+/// A call on a database, which is named by index, as windows, requests and parcels are.
 #[derive(Clone, Copy)]
 pub(crate) enum Call<'a> {
-    /// Makes the next database: its uuid, and its sequence.
+    /// Create the next database: its UUID, and its sequence.
     DatabaseAt(u128, u64),
-    /// Puts a document.
+    /// Put a document.
     Put(usize, &'a str),
-    /// Edits a document: its id, the parent (an empty text for none), whether it is deleted, the body, and the number
+    /// Edit a document: its id, the parent (an empty string for none), whether it is deleted, the body, and the number
     /// of the local write.
     Edit(usize, &'a str, &'a str, bool, &'a str, u64),
-    /// Makes the next database as a copy of one, in a life where one is told.
+    /// Copy a database, as the next one, optionally into a life.
     Copy(usize, Option<u64>),
-    /// Reads the uuid and the update sequence.
+    /// Read the UUID and the update sequence.
     Numbers(usize),
-    /// Reads the life.
+    /// Read the life.
     Life(usize),
-    /// Reads the life of a window.
+    /// Read the life of a window.
     WindowLife(usize),
-    /// Reads the tree of a document.
+    /// Read the tree of a document.
     Tree(usize, &'a str),
-    /// Reads a revision of a document.
+    /// Read a revision of a document.
     Node(usize, &'a str, &'a str),
-    /// Reads the document at a revision.
+    /// Read the document at a revision.
     Document(usize, &'a str, &'a str),
-    /// Reads a page above a sequence, towards a goal, of some rows at most. It becomes the next window.
+    /// Read a page above a sequence, up to a goal, of at most this many rows, as the next window.
     Page(usize, u64, u64, u64),
-    /// Asks a database for what it misses of a window. That becomes the next asked list.
+    /// Request what a database lacks of a window, as the next request.
     Diff(usize, usize),
-    /// Fetches an asked list from a database. That becomes the next parcel.
+    /// Fetch the documents for a request from a database, as the next parcel.
     Fetch(usize, usize),
 }
 
-/// Calls, each with the text that it must answer.
+/// Calls, each with its expected result.
 pub(crate) type Rows = &'static [(Call<'static>, &'static str)];
 
 /// What was read and fetched.
@@ -55,7 +55,7 @@ pub(crate) struct Held {
 }
 
 impl Held {
-    /// Nothing.
+    /// Creates an empty value.
     pub(crate) fn new(alloc: Global) -> Held {
         Held {
             windows: Vec::new(alloc),
@@ -74,7 +74,7 @@ pub(crate) struct Bench {
 }
 
 impl Bench {
-    /// Databases of no documents, with these uuids.
+    /// Creates databases without documents, with these UUIDs.
     pub(crate) fn new(rt: &impl Abort, alloc: Global, uuids: &[u128]) -> Bench {
         let mut databases = Vec::new(alloc);
         for uuid in uuids {
@@ -89,14 +89,14 @@ impl Bench {
         }
     }
 
-    /// Makes the calls in order, and asserts what each answers.
+    /// Performs the calls in order, and asserts each result.
     pub(crate) fn run(&mut self, rt: &impl Abort, calls: &[(Call, &str)]) {
         for (i, (call, wanted)) in calls.iter().enumerate() {
             expect_answer(rt, i, self.answer(call), wanted);
         }
     }
 
-    /// Makes a call, and gives the text of its answer.
+    /// Performs a call and returns its result as a string.
     fn answer(&mut self, call: &Call) -> Option<String> {
         match *call {
             Call::DatabaseAt(uuid, seq) => make_at(self.alloc, &mut self.databases, uuid, seq),
@@ -106,7 +106,7 @@ impl Bench {
         }
     }
 
-    /// Makes a call on the database of a place.
+    /// Performs a call on the database at an index.
     fn answer_of(&mut self, place: Option<usize>, call: &Call) -> Option<String> {
         let Some(at) = place else {
             return None;
@@ -126,7 +126,7 @@ fn window_life(alloc: Global, windows: &[Window], at: usize) -> Option<String> {
     }
 }
 
-/// The place of the database that a call is on.
+/// Returns the index of the database of a call.
 fn place_of(call: &Call) -> Option<usize> {
     match *call {
         Call::Put(at, _)
@@ -143,7 +143,7 @@ fn place_of(call: &Call) -> Option<usize> {
     }
 }
 
-/// Makes a call on one database.
+/// Performs a call on one database.
 fn of_one(alloc: Global, db: &mut Database, held: &mut Held, call: &Call) -> Option<String> {
     match *call {
         Call::Put(_, text) => put(alloc, db, text),
@@ -159,7 +159,7 @@ fn of_one(alloc: Global, db: &mut Database, held: &mut Held, call: &Call) -> Opt
     }
 }
 
-/// Makes a call on one database that changes nothing.
+/// Performs a call on one database that changes nothing.
 fn read(alloc: Global, db: &Database, call: &Call) -> Option<String> {
     match *call {
         Call::Numbers(_) => numbers_text(alloc, db),
@@ -171,7 +171,7 @@ fn read(alloc: Global, db: &Database, call: &Call) -> Option<String> {
     }
 }
 
-/// Makes the next database, at a sequence.
+/// Creates the next database, at a sequence.
 fn make_at(alloc: Global, databases: &mut Vec<Database>, uuid: u128, seq: u64) -> Option<String> {
     match Database::new_at(alloc, uuid, seq) {
         Ok(db) => made_text(alloc, databases.push(db).ok()),
@@ -179,10 +179,10 @@ fn make_at(alloc: Global, databases: &mut Vec<Database>, uuid: u128, seq: u64) -
     }
 }
 
-/// The last life: 2^53 - 1.
+/// The greatest life: 2^53 - 1.
 const LAST_LIFE: u64 = 9_007_199_254_740_991;
 
-/// Makes the next database as a copy of one, in a life where one is told.
+/// Copies a database, as the next one, optionally into a life.
 fn copy(
     alloc: Global,
     databases: &mut Vec<Database>,
@@ -198,7 +198,7 @@ fn copy(
     made_text(alloc, databases.push(copy).ok())
 }
 
-/// A copy of a database, in a life where one is told.
+/// Copies a database, optionally into a life.
 fn copied(alloc: Global, db: &Database, life: Option<u64>) -> Option<Database> {
     match life {
         Some(life) if life <= LAST_LIFE => db.copy_in(alloc, life).ok(),
@@ -207,7 +207,7 @@ fn copied(alloc: Global, db: &Database, life: Option<u64>) -> Option<Database> {
     }
 }
 
-/// Reads a page, which becomes the next window.
+/// Reads a page, as the next window.
 fn page(
     alloc: Global,
     db: &Database,
@@ -222,7 +222,7 @@ fn page(
     }
 }
 
-/// Asks a database for what it misses of a window.
+/// Requests what a database lacks of a window.
 fn diff(alloc: Global, db: &Database, held: &mut Held, window: usize) -> Option<String> {
     let Some(window) = held.windows.get(window) else {
         return None;
@@ -230,12 +230,12 @@ fn diff(alloc: Global, db: &Database, held: &mut Held, window: usize) -> Option<
     keep_asked(alloc, &mut held.asked, missed(alloc, db, window))
 }
 
-/// What a database misses of a window.
+/// Returns what a database lacks of a window.
 fn missed(alloc: Global, db: &Database, window: &Window) -> Option<Asked> {
     db.revs_diff(alloc, window).ok()
 }
 
-/// Fetches an asked list.
+/// Fetches the documents for a request.
 fn fetch(alloc: Global, db: &Database, held: &mut Held, asked: usize) -> Option<String> {
     let Some(asked) = held.asked.get(asked) else {
         return None;
@@ -243,12 +243,12 @@ fn fetch(alloc: Global, db: &Database, held: &mut Held, asked: usize) -> Option<
     keep_parcel(alloc, &mut held.parcels, fetched(alloc, db, asked))
 }
 
-/// What a database answers to an asked list.
+/// Returns what a database has for a request.
 fn fetched(alloc: Global, db: &Database, asked: &Asked) -> Option<Parcel> {
     db.open_revs(alloc, asked).ok()
 }
 
-/// That something new was made and kept.
+/// Returns the string for a created value.
 pub(crate) fn made_text(alloc: Global, kept: Option<()>) -> Option<String> {
     match kept {
         Some(()) => "made".to_string(alloc).ok(),
@@ -256,7 +256,7 @@ pub(crate) fn made_text(alloc: Global, kept: Option<()>) -> Option<String> {
     }
 }
 
-/// Keeps a window, and gives its text.
+/// Stores a window, and returns its text.
 pub(crate) fn keep_window(
     alloc: Global,
     windows: &mut Vec<Window>,
@@ -269,7 +269,7 @@ pub(crate) fn keep_window(
     text
 }
 
-/// Keeps an asked list, where there is one, and gives its text.
+/// Stores an optional request, and returns its text.
 pub(crate) fn keep_asked(
     alloc: Global,
     lists: &mut Vec<Asked>,
@@ -285,7 +285,7 @@ pub(crate) fn keep_asked(
     text
 }
 
-/// Keeps a parcel, where there is one, and gives its text.
+/// Stores an optional parcel, and returns its text.
 pub(crate) fn keep_parcel(
     alloc: Global,
     parcels: &mut Vec<Parcel>,
@@ -301,7 +301,7 @@ pub(crate) fn keep_parcel(
     text
 }
 
-/// Makes lists of calls on a bench of their own, with databases of these uuids, and asserts what each answers.
+/// Performs lists of calls on a new bench with databases of these UUIDs, and asserts each result.
 pub(crate) fn expect(rt: &impl Abort, alloc: Global, uuids: &[u128], lists: &[Rows]) {
     let mut bench = Bench::new(rt, alloc, uuids);
     for calls in lists {
@@ -309,7 +309,7 @@ pub(crate) fn expect(rt: &impl Abort, alloc: Global, uuids: &[u128], lists: &[Ro
     }
 }
 
-/// The text of what a put answers.
+/// Returns the result of a put as a string.
 pub(crate) fn put_text(alloc: Global, answer: Result<Put, BaseFault>) -> Option<String> {
     match answer {
         Ok(put) => shown(alloc, &put),
@@ -317,7 +317,7 @@ pub(crate) fn put_text(alloc: Global, answer: Result<Put, BaseFault>) -> Option<
     }
 }
 
-/// The text of what an edit answers.
+/// Returns the result of an edit as a string.
 pub(crate) fn edit_text(alloc: Global, answer: Result<Rev, BaseFault>) -> Option<String> {
     match answer {
         Ok(rev) => rev_text(alloc, rev),
@@ -325,7 +325,7 @@ pub(crate) fn edit_text(alloc: Global, answer: Result<Rev, BaseFault>) -> Option
     }
 }
 
-/// The parent that a text names, none where it is empty; nothing where it is no revision.
+/// Parses a parent: an empty string is `Some(None)`; `None` if it is not a revision.
 pub(crate) fn parent_of(text: &str) -> Option<Option<Rev>> {
     if text.is_empty() {
         return Some(None);
@@ -400,7 +400,7 @@ fn document(alloc: Global, db: &Database, id: &str, text: &str) -> Option<String
     }
 }
 
-/// A document, where there is one.
+/// Returns the text of an optional document.
 fn content_text(alloc: Global, found: Option<Doc>) -> Option<String> {
     match found {
         Some(doc) => doc_text(alloc, &doc),

@@ -1,4 +1,4 @@
-//! Calls on peers with large values: a contract can't forbid that a call answers `Memory` where none is wanting.
+//! Calls on peers with large values: no contract can exclude that a call returns `Memory` although memory is left.
 use crate::tests::databases::{edit_text, put_text};
 use crate::tests::plans::plan;
 use crate::tests::records::{fault_text, report_text};
@@ -10,7 +10,7 @@ use rev_tree::{SessionId, Tree};
 use std::alloc::Global;
 use test_support::rev_text;
 
-/// The signature of a number: its digits.
+/// Returns the signature of a number: its digits.
 fn sig(alloc: Global, number: u32) -> Option<Sig> {
     let Ok(text) = number.to_string(alloc) else {
         return None;
@@ -18,7 +18,7 @@ fn sig(alloc: Global, number: u32) -> Option<Sig> {
     Sig::parse(text.as_bytes()).ok()
 }
 
-/// Signatures of the numbers from 0 on.
+/// Returns the signatures of the numbers from 0 on.
 fn sigs(alloc: Global, length: u32) -> Option<Vec<Sig>> {
     let mut sigs = Vec::new(alloc);
     for number in 0..length {
@@ -32,7 +32,7 @@ fn sigs(alloc: Global, length: u32) -> Option<Vec<Sig>> {
     Some(sigs)
 }
 
-/// The document d at an ancestry from a generation down, with an empty body.
+/// Returns the document d with an ancestry from a generation downwards, with an empty body.
 fn doc(alloc: Global, start: u32, sigs: &[Sig]) -> Option<Doc> {
     let Ok(id) = DocId::parse(alloc, "d") else {
         return None;
@@ -46,7 +46,7 @@ fn doc(alloc: Global, start: u32, sigs: &[Sig]) -> Option<Doc> {
     Some(Doc::new(id, ancestry, false, body))
 }
 
-/// Loads d with an ancestry of so many revisions, down to the generation 1.
+/// Loads d with an ancestry of this length, down to generation 1.
 pub(crate) fn load_long(alloc: Global, peer: &mut Peer<Rules>, length: u32) -> Option<String> {
     let Some(sigs) = sigs(alloc, length) else {
         return None;
@@ -57,7 +57,7 @@ pub(crate) fn load_long(alloc: Global, peer: &mut Peer<Rules>, length: u32) -> O
     put_text(alloc, peer.load(&doc))
 }
 
-/// Loads d at the signature of a number, of the generation 1.
+/// Loads d with the signature of a number, of generation 1.
 fn load_leaf(alloc: Global, peer: &mut Peer<Rules>, number: u32) -> Option<String> {
     let Some(sig) = sig(alloc, number) else {
         return None;
@@ -68,7 +68,7 @@ fn load_leaf(alloc: Global, peer: &mut Peer<Rules>, number: u32) -> Option<Strin
     put_text(alloc, peer.load(&doc))
 }
 
-/// Loads so many leaves of d, all of the generation 1, and tells what the last load answers.
+/// Loads this many leaves of d, all of generation 1, and returns the result of the last load.
 pub(crate) fn load_wide(alloc: Global, peer: &mut Peer<Rules>, leaves: u32) -> Option<String> {
     let mut text = String::new(alloc);
     for number in 0..leaves {
@@ -80,7 +80,7 @@ pub(crate) fn load_wide(alloc: Global, peer: &mut Peer<Rules>, leaves: u32) -> O
     Some(text)
 }
 
-/// A body of so many letters x.
+/// Returns a body of this many letters x.
 fn letters_body(alloc: Global, letters: usize) -> Option<Body> {
     let Ok(mut text) = r#"{"t":""#.to_string(alloc) else {
         return None;
@@ -96,7 +96,7 @@ fn letters_body(alloc: Global, letters: usize) -> Option<Body> {
     body(alloc, text.as_str())
 }
 
-/// Makes d by an edit, with a body of so many letters x.
+/// Creates d by an edit, with a body of this many letters x.
 pub(crate) fn edit_large(alloc: Global, peer: &mut Peer<Rules>, letters: usize) -> Option<String> {
     let Some(body) = letters_body(alloc, letters) else {
         return None;
@@ -107,8 +107,8 @@ pub(crate) fn edit_large(alloc: Global, peer: &mut Peer<Rules>, letters: usize) 
     edit_text(alloc, peer.edit(&id, None, false, &body))
 }
 
-/// Reads how large the tree of d is: the winner, the leaves, the revisions, the winner's ancestry and the length of its
-/// body.
+/// Reads the size of the tree of d: the winner, the numbers of leaves and revisions, the length of the winner's
+/// ancestry, and the length of its body.
 pub(crate) fn sizes(alloc: Global, peer: &Peer<Rules>) -> Option<String> {
     let Ok(id) = DocId::parse(alloc, "d") else {
         return None;
@@ -119,7 +119,7 @@ pub(crate) fn sizes(alloc: Global, peer: &Peer<Rules>) -> Option<String> {
     }
 }
 
-/// How many leaves a tree lists.
+/// Returns the number of leaves that a tree lists.
 fn leaf_count(alloc: Global, tree: &Tree) -> Option<usize> {
     let Ok(leaves) = tree.leaves(alloc) else {
         return None;
@@ -127,7 +127,7 @@ fn leaf_count(alloc: Global, tree: &Tree) -> Option<usize> {
     Some(leaves.as_slice().len())
 }
 
-/// How many revisions the ancestry of a revision has.
+/// Returns the length of a revision's ancestry.
 fn walk_length(alloc: Global, tree: &Tree, rev: Rev) -> Option<usize> {
     let Ok(walk) = tree.ancestry(alloc, rev) else {
         return None;
@@ -135,7 +135,7 @@ fn walk_length(alloc: Global, tree: &Tree, rev: Rev) -> Option<usize> {
     Some(walk.revs().len())
 }
 
-/// Reads how large a tree is.
+/// Reads the size of a tree.
 fn tree_sizes(alloc: Global, tree: &Tree) -> Option<String> {
     let Some(winner) = tree.winner() else {
         return None;
@@ -160,7 +160,7 @@ fn tree_sizes(alloc: Global, tree: &Tree) -> Option<String> {
     .ok()
 }
 
-/// Replicates a peer into another one by one thread.
+/// Replicates a peer into another by one thread.
 pub(crate) fn replicate(
     alloc: Global,
     source: &mut Peer<Rules>,

@@ -1,4 +1,4 @@
-//! Rows of large values, each with ample memory: none of these calls gives up.
+//! Rows with large values, each with ample memory: no call fails.
 use crate::tests::peers::{Call, Lists, Rows, expect};
 use rev_tree::SessionId;
 
@@ -37,7 +37,7 @@ fn a_tree_of_1_001_leaves(rt: HostRuntime) {
             Call::Replicate(S1, 10_000),
             "session 1 from 0 to 1001 checked 1001 found 1001 read 1001 written 1001 failed 0",
         ),
-        // The signature 999 is the greatest in the order of texts.
+        // The signature 999 is the greatest in string order.
         (
             Call::Sizes(TARGET),
             "1-999 of 1001 leaves and 1001 revs, walk 1, body 2",
@@ -50,7 +50,7 @@ fn a_tree_of_1_001_leaves(rt: HostRuntime) {
 #[test]
 fn a_body_of_100_kb(rt: HostRuntime) {
     const ROWS: Rows = &[
-        // The signature is MD5 of a line end, the kind, a line end and the body, by another program.
+        // The signature is the MD5 of a line feed, the kind, a line feed and the body, computed by another program.
         (
             Call::EditLarge(SOURCE, 100_000),
             "1-e92068c18fcfcf8724b9bb33e1f43cca",

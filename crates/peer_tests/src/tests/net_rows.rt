@@ -1,5 +1,5 @@
-//! The rows of nets: what a hub spreads; a chain that is broken, a document that is refused, a history that is cut off;
-//! and what is refused.
+//! The rows of networks: spreading through a hub; a broken chain, a refused document, an incomplete history; and
+//! errors.
 use crate::tests::nets::{Call, Lists, Rows, expect, of_slice};
 
 /// Four peers.
@@ -10,7 +10,7 @@ const FOUR: Rows = &[
     (Call::Add(4, None), "3"),
 ];
 
-/// What edits make of the body {"v":1}, as the first revision and behind 1-a.
+/// The revisions of edits with the body {"v":1}: the first one, and a child of 1-a.
 const FIRST: &str = "1-125e243b9a90308f8be767a220f77ae9";
 
 const SECOND: &str = "2-04e04b58ba493e5eb3fd86e7cf77b40e";
@@ -59,7 +59,7 @@ fn a_hub_spreads_what_anybody_writes(rt: HostRuntime) {
         (Call::Audit(0, 3), "clean"),
         (Call::Audit(3, 0), "clean"),
         (Call::Audit(1, 2), "clean"),
-        // Whoever comes later has what others replicate to it.
+        // A peer that is added later gets what others replicate to it.
         (Call::Add(5, None), "4"),
         (Call::Along(&[(2, 4)]), "done"),
         (Call::Tree(4, "d"), "1-b,1-a of 2"),
@@ -75,7 +75,7 @@ fn a_broken_chain_brings_nothing_to_its_end(rt: HostRuntime) {
             Call::Load(0, r#"{"_id":"d","_rev":"1-a"}"#),
             "Changed { seq: 1 }",
         ),
-        // The second link is taken before the first.
+        // The second link of the chain comes before the first.
         (Call::Along(&[(1, 2), (0, 1), (3, 2)]), "done"),
         (Call::Tree(1, "d"), "1-a of 1"),
         (Call::Tree(2, "d"), "no document"),
@@ -104,13 +104,13 @@ fn a_refused_document_stays_away_and_others_go_on(rt: HostRuntime) {
             Call::Load(1, r#"{"_id":"d","_rev":"1-a"}"#),
             "Changed { seq: 2 }",
         ),
-        // A refusal is no error, and d is everywhere.
+        // A refusal is not an error, and d is everywhere.
         (Call::Hub(2, 2), "done"),
         (Call::Tree(0, "x1"), "no document"),
         (Call::Tree(2, "x1"), "no document"),
         (Call::Tree(0, "d"), "1-a of 1"),
         (Call::Tree(2, "d"), "1-a of 1"),
-        // And so it is the next time.
+        // The same happens the next time.
         (Call::Edit(2, "d", "1-a", r#"{"v":1}"#), SECOND),
         (Call::Edit(1, "x1", "1-a", r#"{"v":1}"#), SECOND),
         (Call::Hub(2, 2), "done"),
@@ -124,7 +124,7 @@ fn a_refused_document_stays_away_and_others_go_on(rt: HostRuntime) {
         ),
         (Call::Tree(2, "x1"), "no document"),
         (Call::Audit(1, 0), "clean"),
-        // By another way it comes.
+        // It comes by another path.
         (Call::Along(&[(1, 2)]), "done"),
         (
             Call::Tree(2, "x1"),
@@ -170,7 +170,7 @@ fn trees_that_disagree_do_so_still(rt: HostRuntime) {
             Call::Load(1, r#"{"_id":"d","_revisions":{"start":2,"ids":["c","y"]}}"#),
             "Changed { seq: 1 }",
         ),
-        // Two contents of one.
+        // Two contents of one revision.
         (
             Call::Load(0, r#"{"_id":"e","_rev":"1-a","v":1}"#),
             "Changed { seq: 2 }",
@@ -203,7 +203,7 @@ fn hops_that_are_refused(rt: HostRuntime) {
             Call::Load(0, r#"{"_id":"d","_rev":"1-a"}"#),
             "Changed { seq: 1 }",
         ),
-        // What was carried before stands, and what comes behind isn't taken.
+        // The hops before the failed one keep their effect, and those after it are not taken.
         (Call::Along(&[(0, 1), (1, 1), (1, 2)]), "hop 1: SamePeer"),
         (Call::Tree(1, "d"), "1-a of 1"),
         (Call::Tree(2, "d"), "no document"),
@@ -215,7 +215,7 @@ fn hops_that_are_refused(rt: HostRuntime) {
             Call::Load(0, r#"{"_id":"f","_rev":"1-a"}"#),
             "Changed { seq: 3 }",
         ),
-        // A replication that stops below its goal is none that ended well.
+        // A replication that stops below its goal is an error.
         (
             Call::AlongTwoRows(&[(0, 2), (2, 3)]),
             "hop 0: Unfinished { low_water: 2 }",

@@ -1,4 +1,4 @@
-//! Nets of peers, and the calls on these by name.
+//! Networks of peers, and calls on these.
 use crate::tests::carried::leaves;
 use crate::tests::databases::{parent_of, tree};
 use crate::tests::peers::found_text;
@@ -14,39 +14,39 @@ use std::alloc::Global;
 use std::process::Abort;
 use test_support::{rev_text, shown};
 
-/// The places of a hop: its source and its target.
+/// The source and the target of a hop.
 type Places = (usize, usize);
 
-/// A call on a net, whose peers are named by their places. Each replication has the next session.
+/// A call on a network, whose peers are named by place. Each replication has the next session.
 #[derive(Clone, Copy)]
 pub(crate) enum Call<'a> {
-    /// Adds a peer: its uuid, and the prefix that its filter refuses.
+    /// Add a peer: its UUID, and the prefix that its filter refuses.
     Add(u128, Option<&'a str>),
-    /// Loads a document.
+    /// Load a document.
     Load(usize, &'a str),
-    /// Edits a document: its id, the parent (an empty text for none) and the body.
+    /// Edit a document: its id, the parent (an empty string for none) and the body.
     Edit(usize, &'a str, &'a str, &'a str),
-    /// Replicates along hops.
+    /// Replicate along hops.
     Along(&'a [Places]),
-    /// The same in windows of one row, of which each replication reads two at most.
+    /// Replicate along hops, in windows of one row, at most two for each replication.
     AlongTwoRows(&'a [Places]),
-    /// Replicates by the hub, with so many plans there, and so many back.
+    /// Replicate through the hub, with these numbers of plans for the two directions.
     Hub(usize, usize),
-    /// Audits a target, the second one, against a source.
+    /// Audit a target, the second one, against a source.
     Audit(usize, usize),
-    /// Reads the tree of a document.
+    /// Read the tree of a document.
     Tree(usize, &'a str),
-    /// Reads the documents at the leaves of a document, winner first.
+    /// Read the documents at the leaves of a document, winner first.
     Leaves(usize, &'a str),
 }
 
-/// Calls, each with the text that it must answer.
+/// Calls, each with its expected result.
 pub(crate) type Rows = &'static [(Call<'static>, &'static str)];
 
-/// Lists of calls that are made one after another.
+/// Lists of calls that are performed in order.
 pub(crate) type Lists = &'static [Rows];
 
-/// A net, and the last session.
+/// A network, and the last session.
 #[derive(Drop)]
 struct Bench {
     alloc: Global,
@@ -55,7 +55,7 @@ struct Bench {
 }
 
 impl Bench {
-    /// Makes a call, and gives the text of its answer.
+    /// Performs a call and returns its result as a string.
     fn answer(&mut self, call: &Call) -> Option<String> {
         match *call {
             Call::Add(uuid, deny) => self.add(uuid, deny),
@@ -68,7 +68,7 @@ impl Bench {
         }
     }
 
-    /// Makes a call that changes nothing.
+    /// Performs a call that changes nothing.
     fn read(&self, call: &Call) -> Option<String> {
         match *call {
             Call::Audit(source, target) => self.audit(source, target),
@@ -80,7 +80,7 @@ impl Bench {
         }
     }
 
-    /// Adds a peer, and tells its place.
+    /// Adds a peer, and returns its place.
     fn add(&mut self, uuid: u128, deny: Option<&str>) -> Option<String> {
         let deny = match deny {
             Some(prefix) => {
@@ -125,7 +125,7 @@ impl Bench {
         }
     }
 
-    /// The plan of the next session, in windows of one row where it reads some of them alone.
+    /// Creates the plan of the next session, in windows of one row if it stops early.
     fn next_plan(&mut self, stop_after: Option<u64>) -> Option<Plan> {
         self.session = self.session.saturating_add(1);
         let batch = if stop_after.is_some() { 1 } else { 500 };
@@ -136,7 +136,7 @@ impl Bench {
         Some(plan)
     }
 
-    /// So many plans.
+    /// Creates this many plans.
     fn plans(&mut self, count: usize) -> Option<Vec<Plan>> {
         let mut plans = Vec::new(self.alloc);
         for _ in 0..count {
@@ -166,7 +166,7 @@ impl Bench {
         done_text(self.alloc, done)
     }
 
-    /// Replicates by the hub.
+    /// Replicates through the hub.
     fn by_hub(&mut self, there: usize, back: usize) -> Option<String> {
         let Some(there) = self.plans(there) else {
             return None;
@@ -196,7 +196,7 @@ fn of_database(alloc: Global, db: &Database, call: &Call) -> Option<String> {
     }
 }
 
-/// How replications ended.
+/// Returns how replications ended.
 fn done_text(alloc: Global, done: Result<(), NetFault>) -> Option<String> {
     match done {
         Ok(()) => "done".to_string(alloc).ok(),
@@ -204,7 +204,7 @@ fn done_text(alloc: Global, done: Result<(), NetFault>) -> Option<String> {
     }
 }
 
-/// Why a call on a net is refused.
+/// Returns the error of a call on a network.
 pub(crate) fn net_fault_text(alloc: Global, fault: NetFault) -> Option<String> {
     match fault {
         NetFault::Hop(at, why) => {
@@ -215,7 +215,7 @@ pub(crate) fn net_fault_text(alloc: Global, fault: NetFault) -> Option<String> {
     }
 }
 
-/// Makes lists of calls on a new net, and asserts what each answers.
+/// Performs lists of calls on a new network, and asserts each result.
 pub(crate) fn expect(rt: &impl Abort, alloc: Global, lists: Lists) {
     let mut bench = Bench {
         alloc,
@@ -229,7 +229,7 @@ pub(crate) fn expect(rt: &impl Abort, alloc: Global, lists: Lists) {
     }
 }
 
-/// Three peers without documents.
+/// Creates three peers without documents.
 fn three(alloc: Global) -> Option<Vec<Peer<Rules>>> {
     let mut peers = Vec::new(alloc);
     for uuid in 1..4u64 {
@@ -241,7 +241,7 @@ fn three(alloc: Global) -> Option<Vec<Peer<Rules>>> {
     Some(peers)
 }
 
-/// Writes at two of them.
+/// Writes at two of the peers.
 fn write(alloc: Global, peers: &mut [Peer<Rules>]) -> Option<()> {
     let Some(doc) = doc(alloc, r#"{"_id":"d","_rev":"1-a"}"#) else {
         return None;
@@ -261,7 +261,7 @@ fn write(alloc: Global, peers: &mut [Peer<Rules>]) -> Option<()> {
     Some(())
 }
 
-/// The plans of a session and the next.
+/// Creates the plans of a session and the next one.
 fn two_plans(session: u128) -> Option<[Plan; 2]> {
     let Some(one) = plan(SessionId(session), 500, 0) else {
         return None;
@@ -272,7 +272,7 @@ fn two_plans(session: u128) -> Option<[Plan; 2]> {
     Some([one, other])
 }
 
-/// Replicates the second into the third, and then all by the first.
+/// Replicates the second peer into the third, and then all through the first.
 fn replicate(alloc: Global, peers: &mut [Peer<Rules>]) -> Option<()> {
     let Some(first) = plan(SessionId(1), 500, 0) else {
         return None;
@@ -294,7 +294,7 @@ fn replicate(alloc: Global, peers: &mut [Peer<Rules>]) -> Option<()> {
     sync_by_hub(alloc, peers, &there, &back).ok()
 }
 
-/// What each of three peers that wrote and replicated has of the two documents.
+/// Returns what each of three peers that wrote and replicated has of the two documents.
 fn replicated(alloc: Global) -> Option<String> {
     let Some(mut peers) = three(alloc) else {
         return None;
@@ -313,7 +313,7 @@ fn replicated(alloc: Global) -> Option<String> {
     all
 }
 
-/// Asserts what writes and replications on a slice of peers leave.
+/// Asserts the effect of writes and replications on a slice of peers.
 pub(crate) fn of_slice(rt: &impl Abort, alloc: Global) {
     const WANTED: &str = " d 1-a live {}; e 1-a7b2c897c2eeb544e2e818194f53a9e3 live {};";
     let mut all = String::new(alloc);

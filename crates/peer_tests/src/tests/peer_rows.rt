@@ -1,4 +1,4 @@
-//! The rows of peers: local writes, sessions, each refusal, logs and audits. Each call with ample memory.
+//! The rows of peers: local writes, sessions, each error, logs and audits. Each call with ample memory.
 use crate::tests::peers::{Beginning, Call, Lists, Rep, Rows, expect};
 use rev_tree::SessionId;
 
@@ -23,7 +23,7 @@ const S2: SessionId = SessionId(2);
 
 const S3: SessionId = SessionId(3);
 
-/// The replication from the peer of the uuid 1 to that of the uuid 2.
+/// The replication from the peer with UUID 1 to the peer with UUID 2.
 const REP: Rep = Rep {
     source: 1,
     target: 2,
@@ -35,13 +35,13 @@ const OTHER_REP: Rep = Rep {
     target: 2,
 };
 
-/// The document d at 1-a, as it is loaded.
+/// The document d at 1-a.
 const D: &str = r#"{"_id":"d","_rev":"1-a"}"#;
 
-/// The edit of d at 1-a with an empty body, whose signature is MD5 of the parent, the kind and the body.
+/// The edit of d at 1-a with an empty body; its signature is the MD5 of the parent, the kind and the body.
 const NEXT: &str = "2-1c600d37126a8e6d3c67d6f7a6a5c299";
 
-/// A session of `REP` on no other one, from 0 to 1.
+/// A session of `REP` without a base, from 0 to 1.
 const TO_ONE: Beginning = Beginning {
     rep: REP,
     base: None,
@@ -49,7 +49,7 @@ const TO_ONE: Beginning = Beginning {
     goal: 1,
 };
 
-/// The same, to 9.
+/// A session of `REP` without a base, from 0 to 9.
 const TO_NINE: Beginning = Beginning {
     rep: REP,
     base: None,
@@ -57,7 +57,7 @@ const TO_NINE: Beginning = Beginning {
     goal: 9,
 };
 
-/// A session of `REP` on the first one, from 1 to 2.
+/// A session of `REP` based on the first one, from 1 to 2.
 const FROM_ONE: Beginning = Beginning {
     rep: REP,
     base: Some(S1),
@@ -73,7 +73,7 @@ const THREE: Rows = &[
     (Call::Load(SOURCE, D), "Changed { seq: 1 }"),
 ];
 
-/// The first session of the target stores the source's feed and asks for its document.
+/// The first session of the target stores the source's feed and requests its document.
 const ASKED: Rows = &[
     (Call::Begin(TARGET, S1, TO_ONE, 10), "begun"),
     (Call::Page(SOURCE, 0, 1), "0 to 1: 1 d 1-a;"),
@@ -81,7 +81,7 @@ const ASKED: Rows = &[
     (Call::Diff(TARGET, FIRST), "0 to 1: d 1-a;"),
 ];
 
-/// The source edits d, and the asked revision is answered by its descendant.
+/// The source edits d, and the requested revision is answered with its descendant.
 const MOVED: Rows = &[
     (Call::Edit(SOURCE, "d", "1-a", false, "{}"), NEXT),
     (Call::Numbers(SOURCE), "1 at 2"),
@@ -108,7 +108,7 @@ fn fetch_brings_descendant(rt: HostRuntime) {
         (Call::Covered(TARGET, "d", "1-a"), "true"),
         (Call::Record(TARGET, S1, 11), "1"),
     ];
-    // The next session has nothing to ask for.
+    // The next session has nothing to request.
     const THEN: Rows = &[
         (Call::Diff(TARGET, SECOND), "1 to 2:"),
         (Call::Fetch(SOURCE, SECOND), "1 to 2:"),
@@ -134,7 +134,7 @@ fn a_refused_descendant_covers(rt: HostRuntime) {
         (Call::Covered(TARGET, "d", "1-a"), "true"),
         (Call::Record(TARGET, S1, 11), "1"),
     ];
-    // The document is not in the tree, so it is asked for and refused once more.
+    // The document is not in the tree, so it is requested and refused again.
     const LAST: Rows = &[
         (
             Call::Diff(TARGET, SECOND),
@@ -154,7 +154,7 @@ fn a_refused_descendant_covers(rt: HostRuntime) {
     expect(&rt, rt.alloc(), LISTS);
 }
 
-/// A sequence that leaves room for one change.
+/// A sequence after which one change is possible.
 const LAST_BUT_ONE: u64 = 9_007_199_254_740_990;
 
 #[test]
@@ -179,7 +179,7 @@ fn sequences_run_out(rt: HostRuntime) {
         (Call::Diff(TARGET, FIRST), "0 to 2: d 1-a; e 1-a;"),
         (Call::Fetch(SOURCE, FIRST), FETCHED),
     ];
-    // The first document takes the last sequence, and the second one stays out; the first is an arrival once more.
+    // The first document takes the last sequence, and the second one gets none; the first is an arrival again.
     const STOPPED: &str = "Stopped 1, rest e, SeqFull";
     const TWICE: &str =
         "session 1 from 0 to 0 checked 0 found 0 read 2 written 2 failed 0, 10 to 11";
@@ -190,7 +190,7 @@ fn sequences_run_out(rt: HostRuntime) {
         (Call::Settle(TARGET, S1, FIRST), STOPPED),
         (Call::Entry(TARGET, S1), TWICE),
         (Call::Covered(TARGET, "e", "1-a"), "false"),
-        // A document that is refused takes no sequence.
+        // A refused document takes no sequence.
         (
             Call::Begin(OTHER, S1, Beginning { goal: 2, ..TO_ONE }, 10),
             "begun",
@@ -299,7 +299,7 @@ fn a_session_from_beginning_to_end(rt: HostRuntime) {
         ),
     ];
     const THEN: Rows = &[
-        // One is filtered, and the ancestry of d contradicts its tree: 2-c has the parent 1-b there.
+        // One document is filtered, and the ancestry of d contradicts its tree, in which 2-c has the parent 1-b.
         (Call::Settle(TARGET, S1, FIRST), "written 1 failed 2"),
         (Call::Covered(TARGET, "secret", "1-a"), "true"),
         (Call::Covered(TARGET, "d", "3-d"), "true"),
@@ -313,7 +313,7 @@ fn a_session_from_beginning_to_end(rt: HostRuntime) {
             Call::Entry(TARGET, S1),
             "session 1 from 0 to 3 checked 3 found 3 read 3 written 1 failed 2, 10 to 20",
         ),
-        // What arrived has the session and its row's sequence as its origin; a local write its number.
+        // The origin of an arrival is the session and its row's sequence; that of a local write is its number.
         (
             Call::Node(TARGET, "x1", "1-a"),
             "no parent, Feed(SessionId(1), 1), live {}",
@@ -330,7 +330,7 @@ fn local_writes_are_numbered(rt: HostRuntime) {
     const SECOND_WRITE: &str =
         r#"{"_id":"d","_revisions":{"start":3,"ids":["c","1c600d37126a8e6d3c67d6f7a6a5c299","x"]}}"#;
     const ROWS: Rows = &[
-        // The filter is not asked.
+        // Local writes are not filtered.
         (Call::Peer(1, Some("d")), "made"),
         (
             Call::Edit(SOURCE, "d", "1-a", false, "{}"),
@@ -491,7 +491,7 @@ fn a_session_that_is_not_there_is_refused(rt: HostRuntime) {
 fn a_foreign_document_is_refused(rt: HostRuntime) {
     const E: &str = r#"{"_id":"e","_rev":"1-a"}"#;
     const ROWS: Rows = &[
-        // The other source's window has the same bounds, and its document no row in the stored one.
+        // The other source's window has the same bounds, and its document has no row in the stored one.
         (Call::Load(OTHER, E), "Changed { seq: 1 }"),
         (Call::Page(OTHER, 0, 1), "0 to 1: 1 e 1-a;"),
         (Call::Diff(TARGET, SECOND), "0 to 1: e 1-a;"),
@@ -530,7 +530,7 @@ fn a_foreign_document_is_refused_before_a_done_window(rt: HostRuntime) {
 fn the_leaves_of_a_done_window_are_let_go(rt: HostRuntime) {
     const ROWS: Rows = &[
         (Call::Windows(TARGET, S1), "0 to 1 of 0 with 1 rows;"),
-        // A window with a leaf that isn't covered isn't done.
+        // A window with a leaf that is not covered is not done.
         (Call::Fetch(OTHER, FIRST), "0 to 1: gone d 1-a;"),
         (Call::Settle(TARGET, S1, FIRST), "Uncovered 1 d 1-a"),
         (Call::Windows(TARGET, S1), "0 to 1 of 0 with 1 rows;"),
@@ -544,7 +544,7 @@ fn the_leaves_of_a_done_window_are_let_go(rt: HostRuntime) {
     expect(&rt, rt.alloc(), LISTS);
 }
 
-// With the two above, the hostile parcels: of another source, and fetched before a third party wrote.
+// With the two above, the hostile parcels: one from another source, and one fetched before another client wrote.
 #[test]
 fn a_parcel_of_another_leaf_leaves_its_window_uncovered(rt: HostRuntime) {
     const ROWS: Rows = &[
@@ -581,7 +581,7 @@ fn a_parcel_of_what_a_third_party_wrote_counts(rt: HostRuntime) {
     expect(&rt, rt.alloc(), LISTS);
 }
 
-/// A source at the sequence 12 of one document, which changed each time, and an empty target.
+/// A source at sequence 12 with one document, which changed each time, and an empty target.
 const TWELVE: Rows = &[
     (Call::Peer(1, None), "made"),
     (Call::Peer(2, None), "made"),
@@ -660,7 +660,7 @@ const RECORDED: Rows = &[
 #[test]
 fn common_session(rt: HostRuntime) {
     const ROWS: Rows = &[
-        // The third session, which the source doesn't know.
+        // The third session, which the source does not know.
         (
             Call::Begin(TARGET, S3, Beginning { goal: 12, ..TO_ONE }, 10),
             "begun",
@@ -693,7 +693,7 @@ fn common_session(rt: HostRuntime) {
         (Call::Common(SOURCE, TARGET, REP), "2 at 4"),
         (Call::PutEntry(SOURCE, REP, S2, 3), "Older { stored: 4 }"),
         (Call::SourceLog(SOURCE, REP), "2 at 4;1 at 9;"),
-        // A session that is there is replaced in its place, also at the same sequence.
+        // An existing session is replaced in place, also at the same sequence.
         (Call::PutEntry(SOURCE, REP, S1, 9), "put"),
         (Call::PutEntry(SOURCE, REP, S1, 10), "put"),
         (Call::SourceLog(SOURCE, REP), "2 at 4;1 at 10;"),
@@ -715,12 +715,12 @@ fn an_audit_is_clean(rt: HostRuntime) {
             Call::Conclude(TARGET, S1, 11),
             "session 1 from 0 to 1 checked 1 found 1 read 1 written 1 failed 0",
         ),
-        // There is no common session, and then there is one.
+        // First there is no common session, then there is one.
         (Call::Audit(SOURCE, TARGET), "clean"),
         (Call::PutEntryOf(SOURCE, REP, TARGET, S1), "put"),
         (Call::Common(SOURCE, TARGET, REP), "1 at 1"),
         (Call::Audit(SOURCE, TARGET), "clean"),
-        // What comes above its sequence is not looked at.
+        // Rows above the checkpoint are not audited.
         (Call::Load(SOURCE, E), "Changed { seq: 2 }"),
         (Call::Audit(SOURCE, TARGET), "clean"),
     ];

@@ -1,4 +1,4 @@
-//! Peers with what is read and fetched from them, and the calls on these by name.
+//! Peers, what is read and fetched from them, and calls on these.
 use crate::tests::databases::{
     Held, edit_text, keep_asked, keep_parcel, keep_window, made_text, node, parent_of, put_text,
     tree,
@@ -19,7 +19,7 @@ use std::alloc::{AllocError, Global};
 use std::process::Abort;
 use test_support::{bare_entry, rev, shown};
 
-/// The replication of all documents between two databases, by their uuids.
+/// The replication of all documents between two databases, by UUID.
 #[derive(Clone, Copy)]
 pub(crate) struct Rep {
     pub(crate) source: u128,
@@ -27,7 +27,7 @@ pub(crate) struct Rep {
 }
 
 impl Rep {
-    /// Its id.
+    /// Returns the replication id.
     pub(crate) fn id(self) -> RepId {
         RepId {
             source: self.source,
@@ -37,7 +37,7 @@ impl Rep {
     }
 }
 
-/// How a session begins: its replication, its base, its start and its goal.
+/// The parameters of a session: its replication, base, start and goal.
 #[derive(Clone, Copy)]
 pub(crate) struct Beginning {
     pub(crate) rep: Rep,
@@ -46,94 +46,94 @@ pub(crate) struct Beginning {
     pub(crate) goal: u64,
 }
 
-/// A call on a peer, which is named by its place, as windows, asked lists and parcels are.
+/// A call on a peer, which is named by index, as windows, requests and parcels are.
 #[derive(Clone, Copy)]
 pub(crate) enum Call<'a> {
-    /// Makes the next peer: its uuid, and the prefix that its filter refuses.
+    /// Create the next peer: its UUID, and the prefix that its filter refuses.
     Peer(u128, Option<&'a str>),
-    /// Makes the next peer, with a database at a sequence.
+    /// Create the next peer, with a database at a sequence.
     PeerAt(u128, Option<&'a str>, u64),
-    /// Loads a document.
+    /// Load a document.
     Load(usize, &'a str),
-    /// Edits a document: its id, the parent (an empty text for none), whether it is deleted, and the body.
+    /// Edit a document: its id, the parent (an empty string for none), whether it is deleted, and the body.
     Edit(usize, &'a str, &'a str, bool, &'a str),
-    /// Reads the uuid and the update sequence.
+    /// Read the UUID and the update sequence.
     Numbers(usize),
-    /// Reads the life of the database.
+    /// Read the life of the database.
     Life(usize),
-    /// Reads the tree of a document.
+    /// Read the tree of a document.
     Tree(usize, &'a str),
-    /// Reads a revision of a document.
+    /// Read a revision of a document.
     Node(usize, &'a str, &'a str),
-    /// Asks the filter for its verdict on a document.
+    /// Read the filter's verdict on a document.
     Verdict(usize, &'a str),
-    /// Asks whether a revision of a document is covered.
+    /// Read whether a revision of a document is covered.
     Covered(usize, &'a str, &'a str),
-    /// Reads a page above a sequence, towards a goal, of 500 rows at most. It becomes the next window.
+    /// Read a page above a sequence, up to a goal, of at most 500 rows, as the next window.
     Page(usize, u64, u64),
-    /// Asks a peer for what it misses of a window. That becomes the next asked list.
+    /// Request what a peer lacks of a window, as the next request.
     Diff(usize, usize),
-    /// Fetches an asked list from a peer. That becomes the next parcel.
+    /// Fetch the documents for a request from a peer, as the next parcel.
     Fetch(usize, usize),
-    /// Begins a session at a moment.
+    /// Begin a session with a timestamp.
     Begin(usize, SessionId, Beginning, u64),
-    /// Appends a copy of a window to a session.
+    /// Append a copy of a window to a session.
     Append(usize, SessionId, usize),
-    /// Settles a copy of a parcel in a session.
+    /// Settle a copy of a parcel in a session.
     Settle(usize, SessionId, usize),
-    /// Records a session at a moment.
+    /// Record a session with a timestamp.
     Record(usize, SessionId, u64),
-    /// Concludes a session at a moment.
+    /// Conclude a session with a timestamp.
     Conclude(usize, SessionId, u64),
-    /// Reads the entry of a session.
+    /// Read the entry of a session.
     Entry(usize, SessionId),
-    /// Reads the windows that a session stores, and which of them are kept whole.
+    /// Read the windows of a session, and which of them are complete.
     Windows(usize, SessionId),
-    /// Reads the log of a replication into a peer.
+    /// Read the log of a replication into a peer.
     TargetLog(usize, Rep),
-    /// Reads the log of a replication from a peer.
+    /// Read the log of a replication from a peer.
     SourceLog(usize, Rep),
-    /// Puts into the log of a replication from a peer the entry of a session that recorded up to a sequence.
+    /// Store in the log of a replication from a peer the entry of a session that recorded up to a sequence.
     PutEntry(usize, Rep, SessionId, u64),
-    /// Puts into the log of a replication from a peer the entry that another peer, the target, has of a session.
+    /// Store in the log of a replication from a peer the entry that another peer, the target, has of a session.
     PutEntryOf(usize, Rep, usize, SessionId),
-    /// Copies a peer. That becomes the next copy, of which the database's uuid and update sequence are told.
+    /// Back up a peer, as the next backup; the result is the database's UUID and update sequence.
     Backup(usize),
-    /// Puts a peer back to a copy.
+    /// Restore a peer from a backup.
     Restore(usize, usize),
-    /// Compares the logs of a replication at its source and its target.
+    /// Compare the logs of a replication at its source and its target.
     Common(usize, usize, Rep),
-    /// Audits a target, the second one, against a source.
+    /// Audit a target, the second one, against a source.
     Audit(usize, usize),
-    /// Asks whether a plan between two peers can be begun, with windows of some rows at most.
+    /// Check a plan between two peers, with this maximum number of rows of a window.
     CheckPlan(usize, usize, u64),
-    /// Begins the session of a plan at the second peer, from the first, at a moment.
+    /// Begin the session of a plan at the second peer, from the first, with a timestamp.
     BeginPlan(SessionId, u64),
-    /// Puts the entry of a session of the second peer into the log of the first.
+    /// Store the entry of a session of the second peer in the log of the first.
     RecordAtSource(SessionId),
-    /// Asks for the first hole of a target, the second one, above a sequence of its source.
+    /// Read the first hole of a target, the second one, above a sequence of its source.
     HoleAbove(usize, usize, u64),
-    /// Replicates the first peer into the second: a session, and how many rows a window has at most.
+    /// Replicate the first peer into the second: a session, and the maximum number of rows of a window.
     Replicate(SessionId, u64),
-    /// Loads d with so many revisions in its ancestry.
+    /// Load d with this many revisions in its ancestry.
     LoadLong(usize, u32),
-    /// Loads so many leaves of d.
+    /// Load this many leaves of d.
     LoadWide(usize, u32),
-    /// Makes d with so many letters in its body.
+    /// Create d with this many letters in its body.
     EditLarge(usize, usize),
-    /// Reads how large the tree of d is.
+    /// Read the size of the tree of d.
     Sizes(usize),
 }
 
-/// Calls, each with the text that it must answer.
+/// Calls, each with its expected result.
 pub(crate) type Rows = &'static [(Call<'static>, &'static str)];
 
-/// Lists of calls that are made one after another.
+/// Lists of calls that are performed in order.
 ///
-/// A test has its lists as one static: a proof goes through each list that a test names.
+/// A test has its lists as one static, because a proof processes each list that a test names.
 pub(crate) type Lists = &'static [Rows];
 
-/// Peers, their copies, and what was read and fetched from them.
+/// Peers, their backups, and what was read and fetched from them.
 #[derive(Drop)]
 struct Bench {
     alloc: Global,
@@ -143,7 +143,7 @@ struct Bench {
 }
 
 impl Bench {
-    /// No peers.
+    /// Creates a bench without peers.
     fn new(alloc: Global) -> Bench {
         Bench {
             alloc,
@@ -153,14 +153,14 @@ impl Bench {
         }
     }
 
-    /// Makes the calls in order, and asserts what each answers.
+    /// Performs the calls in order, and asserts each result.
     fn run(&mut self, rt: &impl Abort, calls: &[(Call, &str)]) {
         for (i, (call, wanted)) in calls.iter().enumerate() {
             expect_answer(rt, i, self.answer(call), wanted);
         }
     }
 
-    /// Makes a call, and gives the text of its answer.
+    /// Performs a call and returns its result as a string.
     fn answer(&mut self, call: &Call) -> Option<String> {
         match *call {
             Call::Peer(uuid, deny) => make(self.alloc, &mut self.peers, uuid, deny),
@@ -177,7 +177,7 @@ impl Bench {
         }
     }
 
-    /// Makes a call on the peer of a place, or on two peers.
+    /// Performs a call on the peer at an index, or on two peers.
     fn answer_of(&mut self, place: Option<usize>, call: &Call) -> Option<String> {
         let Some(at) = place else {
             return of_two(self.alloc, &mut self.peers, call);
@@ -189,7 +189,7 @@ impl Bench {
     }
 }
 
-/// The place of the peer that a call is on, where it is on one alone.
+/// Returns the index of the peer of a call on exactly one peer.
 fn place_of(call: &Call) -> Option<usize> {
     match *call {
         Call::Load(at, _)
@@ -221,7 +221,7 @@ fn place_of(call: &Call) -> Option<usize> {
     }
 }
 
-/// Makes a call on one peer.
+/// Performs a call on one peer.
 fn of_one(alloc: Global, peer: &mut Peer<Rules>, held: &mut Held, call: &Call) -> Option<String> {
     match *call {
         Call::Page(_, since, goal) => page(alloc, peer, &mut held.windows, since, goal),
@@ -237,7 +237,7 @@ fn of_one(alloc: Global, peer: &mut Peer<Rules>, held: &mut Held, call: &Call) -
     }
 }
 
-/// Makes a call on one peer that reads or writes nothing else.
+/// Performs a call on one peer that uses nothing else.
 fn of_one_alone(alloc: Global, peer: &mut Peer<Rules>, call: &Call) -> Option<String> {
     match *call {
         Call::Load(_, text) => load(alloc, peer, text),
@@ -255,7 +255,7 @@ fn of_one_alone(alloc: Global, peer: &mut Peer<Rules>, call: &Call) -> Option<St
     }
 }
 
-/// Makes a call on one peer that changes nothing.
+/// Performs a call on one peer that changes nothing.
 fn read(alloc: Global, peer: &Peer<Rules>, call: &Call) -> Option<String> {
     match *call {
         Call::Numbers(_) => numbers_text(alloc, peer.db()),
@@ -273,7 +273,7 @@ fn read(alloc: Global, peer: &Peer<Rules>, call: &Call) -> Option<String> {
     }
 }
 
-/// Makes a call on two peers.
+/// Performs a call on two peers.
 fn of_two(alloc: Global, peers: &mut Vec<Peer<Rules>>, call: &Call) -> Option<String> {
     match *call {
         Call::PutEntryOf(at, rep, target, session) => {
@@ -292,7 +292,7 @@ fn of_two(alloc: Global, peers: &mut Vec<Peer<Rules>>, call: &Call) -> Option<St
     }
 }
 
-/// Makes a call on a source and a target that changes nothing.
+/// Performs a call on a source and a target that changes nothing.
 fn compare(
     alloc: Global,
     source: &Peer<Rules>,
@@ -310,7 +310,7 @@ fn compare(
     }
 }
 
-/// Makes a call on the first peer, as the source, and the second one.
+/// Performs a call on the first peer, as the source, and the second one.
 fn of_first_two(alloc: Global, peers: &mut Vec<Peer<Rules>>, call: &Call) -> Option<String> {
     let Some((source, others)) = peers.split_first_mut() else {
         return None;
@@ -326,7 +326,7 @@ fn of_first_two(alloc: Global, peers: &mut Vec<Peer<Rules>>, call: &Call) -> Opt
     }
 }
 
-/// Makes the next peer.
+/// Creates the next peer.
 pub(crate) fn make(
     alloc: Global,
     peers: &mut Vec<Peer<Rules>>,
@@ -339,7 +339,7 @@ pub(crate) fn make(
     made_text(alloc, peers.push(Peer::new(alloc, uuid, rules)).ok())
 }
 
-/// Makes the next peer, with a database at a sequence.
+/// Creates the next peer, with a database at a sequence.
 fn make_at(
     alloc: Global,
     peers: &mut Vec<Peer<Rules>>,
@@ -356,7 +356,7 @@ fn make_at(
     }
 }
 
-/// Reads a page, which becomes the next window.
+/// Reads a page, as the next window.
 fn page(
     alloc: Global,
     peer: &Peer<Rules>,
@@ -370,7 +370,7 @@ fn page(
     }
 }
 
-/// Asks a peer for what it misses of a window.
+/// Requests what a peer lacks of a window.
 fn diff(alloc: Global, peer: &Peer<Rules>, held: &mut Held, window: usize) -> Option<String> {
     let Some(window) = held.windows.get(window) else {
         return None;
@@ -378,12 +378,12 @@ fn diff(alloc: Global, peer: &Peer<Rules>, held: &mut Held, window: usize) -> Op
     keep_asked(alloc, &mut held.asked, missed(alloc, peer, window))
 }
 
-/// What a peer misses of a window.
+/// Returns what a peer lacks of a window.
 fn missed(alloc: Global, peer: &Peer<Rules>, window: &Window) -> Option<Asked> {
     peer.revs_diff(alloc, window).ok()
 }
 
-/// Fetches an asked list.
+/// Fetches the documents for a request.
 fn fetch(alloc: Global, peer: &Peer<Rules>, held: &mut Held, asked: usize) -> Option<String> {
     let Some(asked) = held.asked.get(asked) else {
         return None;
@@ -391,12 +391,12 @@ fn fetch(alloc: Global, peer: &Peer<Rules>, held: &mut Held, asked: usize) -> Op
     keep_parcel(alloc, &mut held.parcels, fetched(alloc, peer, asked))
 }
 
-/// What a peer answers to an asked list.
+/// Returns what a peer has for a request.
 fn fetched(alloc: Global, peer: &Peer<Rules>, asked: &Asked) -> Option<Parcel> {
     peer.open_revs(alloc, asked).ok()
 }
 
-/// Appends a copy of a window, where there is one.
+/// Appends a copy of an optional window.
 fn append(
     alloc: Global,
     peer: &mut Peer<Rules>,
@@ -415,7 +415,7 @@ fn append(
     }
 }
 
-/// Settles a copy of a parcel, where there is one.
+/// Settles a copy of an optional parcel.
 fn settle(
     alloc: Global,
     peer: &mut Peer<Rules>,
@@ -434,7 +434,7 @@ fn settle(
     }
 }
 
-/// Puts an entry of a target at its source.
+/// Stores an entry of a target at its source.
 fn put_of(
     alloc: Global,
     peers: &mut Vec<Peer<Rules>>,
@@ -487,7 +487,7 @@ pub(crate) fn source_log(alloc: Global, peer: &Peer<Rules>, rep: &RepId) -> Opti
     log_text(alloc, &log)
 }
 
-/// Makes lists of calls on a bench of their own, and asserts what each answers.
+/// Performs lists of calls on a new bench, and asserts each result.
 pub(crate) fn expect(rt: &impl Abort, alloc: Global, lists: &[Rows]) {
     let mut bench = Bench::new(alloc);
     for calls in lists {
@@ -495,7 +495,7 @@ pub(crate) fn expect(rt: &impl Abort, alloc: Global, lists: &[Rows]) {
     }
 }
 
-/// The filter that refuses a prefix.
+/// Creates the filter that refuses a prefix.
 fn rules(alloc: Global, deny: Option<&str>) -> Option<Rules> {
     match deny {
         Some(prefix) => match prefix.to_string(alloc) {
@@ -506,7 +506,7 @@ fn rules(alloc: Global, deny: Option<&str>) -> Option<Rules> {
     }
 }
 
-/// What an audit finds, where memory is left.
+/// Returns the result of an audit, unless an allocation failed.
 pub(crate) fn found_text(alloc: Global, found: Result<Audit, AllocError>) -> Option<String> {
     match found {
         Ok(Audit::Clean) => "clean".to_string(alloc).ok(),
@@ -603,7 +603,7 @@ fn conclude(
     }
 }
 
-/// Puts the entry of a session that read nothing and recorded up to a sequence.
+/// Stores the entry of a session that read nothing and recorded up to a sequence.
 fn put_entry(
     alloc: Global,
     peer: &mut Peer<Rules>,
@@ -617,7 +617,7 @@ fn put_entry(
     put(alloc, peer, rep, bare_entry(session, recorded, at))
 }
 
-/// Puts an entry.
+/// Stores an entry.
 fn put(alloc: Global, peer: &mut Peer<Rules>, rep: &RepId, entry: Entry) -> Option<String> {
     match peer.put_entry(rep, entry) {
         Ok(()) => "put".to_string(alloc).ok(),
@@ -633,7 +633,7 @@ pub(crate) fn entry(alloc: Global, peer: &Peer<Rules>, session: SessionId) -> Op
     }
 }
 
-/// Asks the filter for its verdict on a document.
+/// Reads the filter's verdict on a document.
 fn verdict(alloc: Global, peer: &Peer<Rules>, text: &str) -> Option<String> {
     let Some(doc) = doc(alloc, text) else {
         return None;
@@ -641,7 +641,7 @@ fn verdict(alloc: Global, peer: &Peer<Rules>, text: &str) -> Option<String> {
     shown(alloc, &peer.filter().verdict(&doc))
 }
 
-/// Asks whether a revision of a document is covered.
+/// Reads whether a revision of a document is covered.
 fn covered(alloc: Global, peer: &Peer<Rules>, id: &str, text: &str) -> Option<String> {
     let Ok(id) = DocId::parse(alloc, id) else {
         return None;
@@ -652,7 +652,7 @@ fn covered(alloc: Global, peer: &Peer<Rules>, id: &str, text: &str) -> Option<St
     shown(alloc, &peer.covered(&id, rev))
 }
 
-/// Reads the windows that a session stores.
+/// Reads the windows of a session.
 fn windows(alloc: Global, peer: &Peer<Rules>, session: SessionId) -> Option<String> {
     match peer.windows(session) {
         Some(windows) => stored_text(alloc, windows),

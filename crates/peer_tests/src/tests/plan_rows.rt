@@ -1,4 +1,4 @@
-//! The rows of plans: what is refused, where a session begins, its entry at the source, and the walk above a sequence.
+//! The rows of plans: errors, the start of a session, its entry at the source, and the scan above a sequence.
 use crate::tests::peers::{Call, Lists, Rep, Rows, expect};
 use rev_tree::SessionId;
 
@@ -9,7 +9,7 @@ const TARGET: usize = 1;
 
 const REFUSING: usize = 2;
 
-/// The first thing that was read or fetched, and the second.
+/// The first value that was read or fetched, and the second.
 const FIRST: usize = 0;
 
 const SECOND: usize = 1;
@@ -19,7 +19,7 @@ const S1: SessionId = SessionId(1);
 
 const S2: SessionId = SessionId(2);
 
-/// The replication from the source into the target, and that into the peer that refuses d.
+/// The replication from the source into the target, and the one into the peer that refuses d.
 const REP: Rep = Rep {
     source: 1,
     target: 2,
@@ -47,7 +47,7 @@ fn plans_refused(rt: HostRuntime) {
         (Call::CheckPlan(SOURCE, TARGET, 10_001), "BadBatch"),
         (Call::CheckPlan(SOURCE, TARGET, 1), "can begin"),
         (Call::CheckPlan(SOURCE, TARGET, 10_000), "can begin"),
-        // The batch is looked at first.
+        // The batch is checked first.
         (Call::CheckPlan(SOURCE, SOURCE, 0), "BadBatch"),
         (Call::CheckPlan(SOURCE, SOURCE, 500), "SamePeer"),
     ];
@@ -55,7 +55,7 @@ fn plans_refused(rt: HostRuntime) {
     expect(&rt, rt.alloc(), LISTS);
 }
 
-/// The first session of the target begins, carries the feed up to 1, and is recorded at both sides.
+/// The first session of the target begins, replicates the feed up to 1, and is recorded on both sides.
 const FIRST_SESSION: Rows = &[
     (Call::BeginPlan(S1, 10), "0"),
     (
@@ -111,7 +111,7 @@ fn an_older_entry_is_passed_over(rt: HostRuntime) {
         (Call::SourceLog(SOURCE, REP), "1 at 9;"),
         (Call::RecordAtSource(S1), "recorded"),
         (Call::SourceLog(SOURCE, REP), "1 at 9;"),
-        // The lesser of the two sequences is where the next one begins.
+        // The next session begins at the lesser of the two sequences.
         (Call::BeginPlan(S2, 13), "1"),
     ];
     static LISTS: Lists = &[THREE, FIRST_SESSION, ROWS];

@@ -1,4 +1,4 @@
-//! The parts of a replication that every way to replicate shares, as calls on the peers of a bench.
+//! The steps of a replication that all implementations share, as calls on the peers of a bench.
 use crate::tests::records::fault_text;
 use repl_log::Moment;
 use repl_target::{Peer, Plan, Rules, begin_plan, check_plan, record_at_source};
@@ -6,7 +6,7 @@ use rev_tree::SessionId;
 use std::alloc::Global;
 use test_support::shown;
 
-/// The plan of a session with windows of some rows at most, at a moment.
+/// Creates the plan of a session with this maximum number of rows of a window and a timestamp.
 pub(crate) fn plan(session: SessionId, batch: u64, moment: u64) -> Option<Plan> {
     let Ok(at) = Moment::new(moment) else {
         return None;
@@ -21,7 +21,7 @@ pub(crate) fn plan(session: SessionId, batch: u64, moment: u64) -> Option<Plan> 
     })
 }
 
-/// Asks whether a plan can be begun.
+/// Checks a plan.
 pub(crate) fn check(
     alloc: Global,
     source: &Peer<Rules>,
@@ -55,7 +55,7 @@ pub(crate) fn begin(
     }
 }
 
-/// Puts the entry of a session of a target into the log of its source.
+/// Stores the entry of a session of a target in the log of its source.
 pub(crate) fn record(
     alloc: Global,
     source: &mut Peer<Rules>,
@@ -65,7 +65,7 @@ pub(crate) fn record(
     let Some(plan) = plan(session, 500, 0) else {
         return None;
     };
-    // The call asks for a session that the target holds.
+    // The call requires a session that the target has.
     let Some(_windows) = target.windows(plan.session) else {
         return None;
     };

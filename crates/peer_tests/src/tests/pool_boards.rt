@@ -29,7 +29,7 @@ const TWO_ROWS: How = How {
     stop_after: None,
 };
 
-/// For how many turns one waits for another.
+/// The maximum number of times one thread polls for another.
 const TURNS: u32 = 1_000_000;
 
 /// A source of two documents of one revision each, and an empty target.
@@ -39,7 +39,7 @@ static TWO: Rows = &[
     (Call::Fill(A, 2), "Changed { seq: 2 }"),
 ];
 
-/// The same of forty documents.
+/// A source of forty documents of one revision each, and an empty target.
 static FORTY: Rows = &[
     (Call::Peer(1, None), "made"),
     (Call::Peer(2, None), "made"),
@@ -55,7 +55,7 @@ const WELL_FORTY: &str =
 /// The seats of four viewers.
 type Viewers = (BoardSeat, BoardSeat, BoardSeat, BoardSeat);
 
-/// Waits until it is told, for so many turns at most, and says whether it was.
+/// Polls until a flag is set, at most `TURNS` times, and returns whether it was set.
 fn wait_for(told: &AtomicBool) -> bool {
     for _ in 0..TURNS {
         if told.load(Ordering::SeqCst) {
@@ -66,7 +66,7 @@ fn wait_for(told: &AtomicBool) -> bool {
     false
 }
 
-/// Holds the first window's writer, once it has settled, until the board was read.
+/// A gate that blocks the first window's writer, after it has settled, until the board was read.
 #[derive(Drop)]
 struct HoldsSettled {
     held: AtomicBool,
@@ -75,7 +75,7 @@ struct HoldsSettled {
 }
 
 impl HoldsSettled {
-    /// Nothing was told yet.
+    /// Creates the gate with no flag set.
     fn new() -> HoldsSettled {
         HoldsSettled {
             held: AtomicBool::new(false),
@@ -99,7 +99,7 @@ impl Gate for HoldsSettled {
     }
 }
 
-/// Reads the board once the gate holds the writer, and tells the gate.
+/// Reads the board when the gate blocks the writer, and sets the gate's flag.
 fn read_while_held(board: &Board, gate: &HoldsSettled, viewer: BoardSeat) -> (u64, u64)
     requires { CameWith board.now viewer }
 {
@@ -110,7 +110,7 @@ fn read_while_held(board: &Board, gate: &HoldsSettled, viewer: BoardSeat) -> (u6
     seen
 }
 
-/// A run on a board beside a viewer who reads while the gate holds a writer: how it ended, and what was read.
+/// Performs a run on a board while a viewer reads during the block. Returns how it ended, and what was read.
 fn run_held<R: Abort + Threads + Wait + Sync>(
     rt: &R,
     bench: &mut Bench,
@@ -143,7 +143,7 @@ fn run_held<R: Abort + Threads + Wait + Sync>(
     )
 }
 
-/// A board for so many workers, their seats, and the seat of one viewer.
+/// Creates a board for this many workers, their seats, and the seat of one viewer.
 fn board_for(alloc: Global, workers: usize) -> Option<(Board, Vec<BoardSeat>, BoardSeat)>
     ensures { IfSome result (λ r. All (WorksAt r.0) r.1.items × CameWith r.0 r.2) }
 {
@@ -156,7 +156,7 @@ fn board_for(alloc: Global, workers: usize) -> Option<(Board, Vec<BoardSeat>, Bo
     }
 }
 
-/// How often a viewer reads the board beside a run.
+/// The number of times a viewer reads the board during a run.
 const READS: u32 = 2_000;
 
 /// Takes the last seat of a new board.
@@ -168,7 +168,7 @@ fn take_seat(board: &Board, seats: &mut Vec<BoardSeat>) -> Option<BoardSeat>
     seats.pop()
 }
 
-/// A board for so many workers and four viewers, with the workers' seats and the viewers'.
+/// Creates a board for this many workers and four viewers, with the workers' seats and the viewers'.
 fn board_for_four(alloc: Global, workers: usize) -> Option<(Board, Vec<BoardSeat>, Viewers)>
     ensures { IfSome result (λ r. All (WorksAt r.0) r.1.items
         × CameWith r.0 r.2.0 × CameWith r.0 r.2.1 × CameWith r.0 r.2.2 × CameWith r.0 r.2.3) }
@@ -194,7 +194,7 @@ fn board_for_four(alloc: Global, workers: usize) -> Option<(Board, Vec<BoardSeat
     Some((board, seats, (a, b, c, d)))
 }
 
-/// Reads the board again and again, and says whether no number fell, and none settled was above what was read.
+/// Reads the board repeatedly. Returns whether no number fell, and settled never exceeded read.
 fn sees_no_fall(board: &Board, viewer: BoardSeat) -> bool
     requires { CameWith board.now viewer }
 {
@@ -211,7 +211,8 @@ fn sees_no_fall(board: &Board, viewer: BoardSeat) -> bool
     true
 }
 
-/// A run on a board beside four viewers that read in loops: how it ended, and for how many of them no number fell.
+/// Performs a run on a board while four viewers read in loops. Returns how it ended, and for how many viewers no number
+/// fell.
 fn run_watched<R: Abort + Threads + Wait + Sync>(
     rt: &R,
     bench: &mut Bench,
@@ -284,7 +285,7 @@ fn progress_shown(rt: HostRuntime) {
     assert_eq!(rt; board.read(&mut viewer), (2, 2));
 }
 
-// A board that is raised only at the end of a run would show nothing then.
+// A board that is raised only at the end of a run would show nothing at that time.
 #[test]
 fn progress_seen_beside_a_held_writer(rt: HostRuntime) {
     let Some((board, seats, viewer)) = board_for(rt.alloc(), 2) else {

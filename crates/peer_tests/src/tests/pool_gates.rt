@@ -1,4 +1,4 @@
-//! Runs of the pool whose gate stops or holds a worker.
+//! Runs of the pool whose gate stops or blocks a worker.
 use crate::tests::peers::Rep;
 use crate::tests::pool_rows::{CARRIED, DOCUMENTS, OPEN_PEERS};
 use crate::tests::pools::{Bench, Call, How, Rows};
@@ -16,7 +16,7 @@ const A: usize = 0;
 
 const B: usize = 1;
 
-/// The replication from the one into the other.
+/// The replication from one into the other.
 const REP: Rep = Rep {
     source: 1,
     target: 2,
@@ -38,7 +38,7 @@ const AGAIN: How = How {
     ..TWO_ROWS
 };
 
-/// For how many turns a gate holds a worker.
+/// The maximum number of times a gate polls while it blocks a worker.
 const TURNS: u32 = 1_000_000;
 
 /// A source of four documents of one revision each, and an empty target.
@@ -48,10 +48,10 @@ static FOUR: Rows = &[
     (Call::Fill(A, 4), "Changed { seq: 4 }"),
 ];
 
-/// How a run of it ends well.
+/// The result of a successful run of it.
 const WELL: &str = "session 1 from 0 to 4 checked 4 found 4 read 4 written 4 failed 0, fetched 4";
 
-/// Waits until it is told, for so many turns at most.
+/// Polls until a flag is set, at most `TURNS` times.
 fn hold(told: &AtomicBool, ran_out: &AtomicBool) {
     for _ in 0..TURNS {
         if told.load(Ordering::SeqCst) {
@@ -62,7 +62,8 @@ fn hold(told: &AtomicBool, ran_out: &AtomicBool) {
     ran_out.store(true, Ordering::SeqCst);
 }
 
-/// Holds the first window's fetcher until the second window is recorded, and notes what both recordings answer.
+/// A gate that blocks the first window's fetcher until the second window is recorded, and stores the recorded sequences
+/// of both.
 #[derive(Drop)]
 struct HoldsFetched {
     second: AtomicBool,
@@ -72,7 +73,7 @@ struct HoldsFetched {
 }
 
 impl HoldsFetched {
-    /// Nothing was told yet.
+    /// Creates the gate with no flag set.
     fn new() -> HoldsFetched {
         HoldsFetched {
             second: AtomicBool::new(false),
@@ -100,18 +101,19 @@ impl Gate for HoldsFetched {
     }
 }
 
-/// Stops once, at a kind of place of a window: took, asked, fetched, settled or recorded, by their numbers from 0.
+/// A gate that stops once, at a kind of place of a window: took, asked, fetched, settled or recorded, numbered from 0.
 #[derive(Drop)]
 struct StopsOnce {
     kind: u64,
     window: u64,
-    /// Whether it says that it holds workers, though it holds none: then each is a thread of its own, however few.
+    /// Whether it claims that it may block, although it never does: then each worker is a thread of its own, even if
+    /// they are few.
     may_block: bool,
     stopped: AtomicBool,
 }
 
 impl StopsOnce {
-    /// It has not stopped yet.
+    /// Creates the gate before its stop.
     fn new(kind: u64, window: u64, may_block: bool) -> StopsOnce {
         StopsOnce {
             kind,
@@ -122,7 +124,7 @@ impl StopsOnce {
     }
 }
 
-/// The kind of a place, and its window.
+/// Returns the kind of a place, and its window.
 pub(crate) fn kind_of(place: Place) -> (u64, u64) {
     match place {
         Place::Took(window) => (0, window),
@@ -151,7 +153,8 @@ impl Gate for StopsOnce {
     }
 }
 
-/// Counts the recordings of windows of one row, and notes whether one tells another low water than the end of its window.
+/// A gate that counts the recordings of windows of one row, and notes whether one has another low water than the end of
+/// its window.
 #[derive(Drop)]
 struct CountsRecordings {
     count: AtomicU64,
@@ -172,7 +175,8 @@ impl Gate for CountsRecordings {
     }
 }
 
-// A writer that recorded each second window only, or told another low water than it recorded, would be as right by its contract.
+// A writer that recorded only every second window, or returned another low water than it recorded, would satisfy its
+// contract.
 #[test]
 fn each_recording_tells_the_low_water(rt: HostRuntime) {
     const ONE_BY_ONE: How = How {
@@ -203,7 +207,7 @@ fn windows_done_out_of_order(rt: HostRuntime) {
     assert_eq!(rt; gate.at_first.load(Ordering::SeqCst), 4);
 }
 
-// A count of what was fetched that is copied from the report would be 0.
+// A count of fetched documents that is copied from the report would be 0.
 #[test]
 fn fetched_is_counted_where_a_run_stops(rt: HostRuntime) {
     const HALTED: &str = "Halted(Fetched(0)), fetched 2";
@@ -224,7 +228,7 @@ fn fetched_is_counted_where_a_run_stops(rt: HostRuntime) {
     }
 }
 
-/// The beginning of what is told of a stop at a kind of place.
+/// The beginning of the result of a stop at each kind of place.
 static STOPPED: [&str; 5] = [
     "Halted(Took(",
     "Halted(Asked(",
@@ -237,7 +241,7 @@ static CLEAN: Rows = &[(Call::Audit(A, B), "clean")];
 
 static AT_GOAL: Rows = &[(Call::Common(A, B, REP), "11")];
 
-/// Asserts that a run stops at a kind of place of a window, where the gate stops it, and that an audit is clean then.
+/// Asserts that a run stops at a kind of place of a window, where the gate stops it, and that an audit is then clean.
 pub(crate) fn expect_stop<G: Gate + Sync, R: Abort + Threads + Wait + Sync>(
     rt: &R,
     alloc: Global,
@@ -258,7 +262,7 @@ pub(crate) fn expect_stop<G: Gate + Sync, R: Abort + Threads + Wait + Sync>(
     bench.run(rt, CLEAN);
 }
 
-/// Asserts that a further run begins at what both logs agree about, and ends at the goal, as both logs then say.
+/// Asserts that a further run begins at the common checkpoint and ends at the goal, as both logs then say.
 pub(crate) fn go_on<R: Abort + Threads + Wait + Sync>(rt: &R, alloc: Global, bench: &mut Bench) {
     let from = bench
         .answer(rt, &Call::Common(A, B, REP))
@@ -271,7 +275,8 @@ pub(crate) fn go_on<R: Abort + Threads + Wait + Sync>(rt: &R, alloc: Global, ben
     bench.run(rt, AT_GOAL);
 }
 
-/// A run by so many workers, whom the gate may hold or not, that stops, and a further one that carries the rest.
+/// Performs a run with this many workers, whom the gate may block or not, that stops, and a further one that completes
+/// the copy.
 fn stop_and_go_on<R: Abort + Threads + Wait + Sync>(
     rt: &R,
     alloc: Global,
@@ -289,7 +294,7 @@ fn stop_and_go_on<R: Abort + Threads + Wait + Sync>(
     bench.run(rt, CARRIED);
 }
 
-// By two workers of each crew, by two pairs, and by one worker, who works on the caller's thread.
+// With two fetchers and two writers, with two pairs, and with a single worker, which works on the caller's thread.
 #[test]
 fn a_stop_at_each_place(rt: HostRuntime) {
     for kind in 0..5u64 {

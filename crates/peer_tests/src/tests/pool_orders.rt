@@ -1,4 +1,4 @@
-//! Runs of the pool whose gate counts, or holds a worker at its place until another has come to a further one.
+//! Runs of the pool whose gate counts, or blocks a worker at its place until another has reached a later one.
 use crate::tests::pool_gates::kind_of;
 use crate::tests::pools::{Bench, Call, How, Rows};
 use crate::tests::texts::expect_answer;
@@ -15,7 +15,7 @@ const A: usize = 0;
 
 const B: usize = 1;
 
-/// A run in windows of so many rows.
+/// Returns a run in windows of this many rows.
 const fn in_windows_of(batch: u64) -> How {
     How {
         session: SessionId(1),
@@ -25,17 +25,19 @@ const fn in_windows_of(batch: u64) -> How {
     }
 }
 
-/// Of each window, at how many places the gate was asked, one after another; and how often it was asked out of turn.
+/// For each window, the number of places at which the gate was asked in order; and the number of times it was asked out
+/// of order.
 #[derive(Drop)]
 struct Counts {
     places: Vec<AtomicU64>,
     strays: AtomicU64,
-    /// Whether it says that it holds workers, though it holds none: then they are threads, however few.
+    /// Whether it claims that it may block, although it never does: then workers are threads of their own, even if they
+    /// are few.
     may_block: bool,
 }
 
 impl Counts {
-    /// So many windows, of which none was asked for.
+    /// Creates the counts for this many windows, all 0.
     fn new(rt: &impl Abort, alloc: Global, windows: usize, may_block: bool) -> Counts {
         let mut places = Vec::new(alloc);
         for _ in 0..windows {
@@ -48,7 +50,7 @@ impl Counts {
         }
     }
 
-    /// How many windows have gone through all five places.
+    /// Returns the number of windows that have passed all five places.
     fn gone_through(&self) -> usize {
         let mut windows = 0usize;
         for places in &self.places {
@@ -80,8 +82,8 @@ impl Gate for Counts {
     }
 }
 
-/// Asserts that a run by so many workers asks the gate, which may hold them or not, at each place of a window, once and in
-/// order.
+/// Asserts that a run with this many workers asks the gate, which may block them or not, exactly once at each place of
+/// a window, in order.
 fn expect_in_order<R: Abort + Threads + Wait + Sync>(
     rt: &R,
     alloc: Global,
@@ -109,8 +111,8 @@ fn expect_in_order<R: Abort + Threads + Wait + Sync>(
     assert_eq!(rt; bench.fetchers() as u64, workers);
 }
 
-// A window's count is at a kind of place only where the gate was asked at each one before, once. By two crews, by pairs,
-// and by one worker, who works on the caller's thread.
+// A window's count reaches a kind of place only if the gate was asked exactly once at each one before. With two groups
+// of threads, with pairs, and with a single worker on the caller's thread.
 #[test]
 fn each_place_once_and_in_order(rt: HostRuntime) {
     expect_in_order(&rt, rt.alloc(), 4, true);
@@ -121,19 +123,19 @@ fn each_place_once_and_in_order(rt: HostRuntime) {
 /// A kind of place, by its number from 0, of a window.
 type Spot = (u64, u64);
 
-/// At the first spot a worker waits until the second one is come to.
+/// A worker at the first spot waits until the second one is reached.
 type Holds = &'static [(Spot, Spot)];
 
-/// The number that stands for a spot: a bit of its own, of the first twelve windows.
+/// Returns the bit of a spot, among the first twelve windows.
 pub(crate) fn bit_of(spot: Spot) -> u64 {
     let place = spot.0 % 5 + 5 * (spot.1 % 12);
     1 << place
 }
 
-/// For how many turns a worker is held at most.
+/// The maximum number of times a blocked worker polls.
 const TURNS: u32 = 1_000_000;
 
-/// Holds workers as a table says, each until its spot is come to.
+/// A gate that blocks workers as a table says, each until its spot is reached.
 #[derive(Drop)]
 struct Orders {
     holds: Holds,
@@ -142,7 +144,7 @@ struct Orders {
 }
 
 impl Orders {
-    /// No worker has come.
+    /// Creates the gate before any worker has come.
     fn new(holds: Holds) -> Orders {
         Orders {
             holds,
@@ -151,7 +153,7 @@ impl Orders {
         }
     }
 
-    /// Waits until a spot is come to.
+    /// Polls until a spot is reached.
     fn wait_for(&self, spot: Spot) {
         let wanted = bit_of(spot);
         for _ in 0..TURNS {
@@ -179,7 +181,7 @@ impl Gate for Orders {
     }
 }
 
-/// A run of eight documents in windows of two rows by one fetcher and one writer, whom the table holds.
+/// Performs a run of eight documents in windows of two rows with one fetcher and one writer, which the table blocks.
 fn run_held<R: Abort + Threads + Wait + Sync>(rt: &R, alloc: Global, holds: Holds) {
     const WELL: &str =
         "session 1 from 0 to 8 checked 8 found 8 read 8 written 8 failed 0, fetched 8";
@@ -216,28 +218,28 @@ const SETTLED: u64 = 3;
 
 const RECORDED: u64 = 4;
 
-// To ask, to settle and to record each take the lock, which so is free where the other worker is held meanwhile.
+// Asking, settling and recording each take the lock, which is therefore free while the other worker is blocked.
 #[test]
 fn no_lock_is_held_at_any_place(rt: HostRuntime) {
     static HOLDS: Holds = &[
-        // The second window is asked for beside a writer at `Settled`.
+        // The second window is asked for while a writer is at `Settled`.
         ((TOOK, 1), (SETTLED, 0)),
         ((SETTLED, 0), (ASKED, 1)),
-        // The first one is recorded beside a fetcher at `Asked`.
+        // The first one is recorded while a fetcher is at `Asked`.
         ((ASKED, 1), (RECORDED, 0)),
-        // The second one is settled beside a fetcher at `Took`: its writer is held before, until that has come.
+        // The second one is settled while a fetcher is at `Took`; its writer is blocked until the fetcher has come.
         ((RECORDED, 0), (TOOK, 2)),
         ((TOOK, 2), (SETTLED, 1)),
-        // The same one is recorded beside a fetcher at `Fetched`.
+        // The same one is recorded while a fetcher is at `Fetched`.
         ((SETTLED, 1), (FETCHED, 2)),
         ((FETCHED, 2), (RECORDED, 1)),
-        // The last one is asked for beside a writer at `Recorded`.
+        // The last one is asked for while a writer is at `Recorded`.
         ((RECORDED, 1), (ASKED, 3)),
     ];
     run_held(&rt, rt.alloc(), HOLDS);
 }
 
-// No worker waits for another where none needs the other's work.
+// No worker waits for another whose work it does not need.
 #[test]
 fn fetching_goes_on_beside_a_held_writer(rt: HostRuntime) {
     static HOLDS: Holds = &[((SETTLED, 0), (FETCHED, 2))];

@@ -1,4 +1,4 @@
-//! Documents that runs of the pool carry, with conflicts, several revisions, deletions and a history that is cut off.
+//! Documents for runs of the pool, with conflicts, several revisions, deletions and an incomplete history.
 use crate::tests::peers::Rep;
 use crate::tests::pools::{Call, Rows};
 use rev_tree::SessionId;
@@ -8,7 +8,7 @@ const A: usize = 0;
 
 const B: usize = 1;
 
-/// The replication from the one into the other.
+/// The replication from one into the other.
 const REP: Rep = Rep {
     source: 1,
     target: 2,
@@ -16,20 +16,19 @@ const REP: Rep = Rep {
 
 const S1: SessionId = SessionId(1);
 
-/// A source and a target that refuses nothing.
+/// A source, and a target that refuses nothing.
 pub(crate) static OPEN_PEERS: Rows = &[
     (Call::Peer(1, None), "made"),
     (Call::Peer(2, None), "made"),
 ];
 
-/// A source and a target that refuses the two documents whose ids begin with x.
+/// A source, and a target that refuses the two documents whose ids begin with x.
 pub(crate) static CHOOSY_PEERS: Rows = &[
     (Call::Peer(1, None), "made"),
     (Call::Peer(2, Some("x")), "made"),
 ];
 
-/// Six documents with ten leaves. In the order of the feed, so two in each of three windows: b and x2, a and c, x1 and
-/// d.
+/// Six documents with ten leaves. In feed order, two in each of three windows: b and x2, a and c, x1 and d.
 pub(crate) static DOCUMENTS: Rows = &[
     (
         Call::Load(A, r#"{"_id":"a","_rev":"1-a","v":1}"#),
@@ -104,7 +103,7 @@ const LEAVES_X1: &str = r#" x1 1-q live {"v":10}; x1 1-p live {"v":4};"#;
 
 const LEAVES_X2: &str = r#" x2 1-a live {"v":6};"#;
 
-/// What is carried to a target that refuses nothing: at both peers each document has the same leaves, ancestries and
+/// The result at a target that refuses nothing: at both peers each document has the same leaves, ancestries and
 /// contents.
 pub(crate) static CARRIED: Rows = &[
     (Call::Audit(A, B), "clean"),
@@ -122,7 +121,8 @@ pub(crate) static CARRIED: Rows = &[
     (Call::Leaves(B, "x2"), LEAVES_X2),
 ];
 
-/// What the first session leaves at a target that refuses two of the documents, in whatever order its windows were done.
+/// The effect of the first session at a target that refuses two of the documents, in whichever order its windows were
+/// done.
 pub(crate) static SIFTED: Rows = &[
     (
         Call::Entry(B, S1),

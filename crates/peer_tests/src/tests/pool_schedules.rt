@@ -1,4 +1,4 @@
-//! Runs of the pool in orders that are chosen by chance: the gate holds every worker, and lets one go at a time.
+//! Runs of the pool in random orders: the gate blocks every worker, and lets one run at a time.
 use crate::tests::peers::Rep;
 use crate::tests::pool_gates::{expect_stop, go_on, kind_of};
 use crate::tests::pool_orders::bit_of;
@@ -27,38 +27,38 @@ const TWO_ROWS: How = How {
     stop_after: None,
 };
 
-/// How many windows a run has, and how many workers each crew has.
+/// The number of windows of a run, and of workers in each group.
 const WINDOWS: u64 = 3;
 
 const WORKERS: u64 = 2;
 
-/// How many places a run has: five for each window.
+/// The number of places of a run: five for each window.
 const PLACES: u64 = 15;
 
-/// The bits of the places where windows are fetched, and where they are recorded.
+/// The bits of the places `Fetched`, and of the places `Recorded`.
 const FETCHED: u64 = 0b001_0000_1000_0100;
 
 const RECORDED: u64 = 0b100_0010_0001_0000;
 
-/// How many naps pass before one is let go where a worker that surely comes isn't there yet.
+/// The number of naps after which a worker is released although an expected worker has not come yet.
 const SURE_NAPS: u32 = 20_000;
 
-/// How often a worker looks whether its turn has come, at most.
+/// The maximum number of times a worker checks whether its turn has come.
 const LOOKS: u32 = 1_000_000;
 
-/// The next state of a generator, Knuth's linear congruential one.
+/// Returns the next state of a generator, Knuth's linear congruential one.
 fn next_state(state: u64) -> u64 {
     state
         .wrapping_mul(6_364_136_223_846_793_005)
         .wrapping_add(1_442_695_040_888_963_407)
 }
 
-/// How many bits a number has.
+/// Returns the number of bits of a number.
 fn bits(number: u64) -> u64 {
     u64::from(number.count_ones())
 }
 
-/// The place of a number from 0 among those that are held; they are in the order of windows, and of a worker in each.
+/// Returns the n-th of the blocked places, from 0, in the order of windows.
 fn nth_held(held: u64, nth: u64) -> u64 {
     let mut passed = 0u64;
     for place in 0..PLACES {
@@ -72,30 +72,31 @@ fn nth_held(held: u64, nth: u64) -> u64 {
     0
 }
 
-/// Which workers are held and what they have left, each place by its bit, and whose turn it is.
+/// Which workers are blocked and which places they have left, one bit per place, and whose turn it is.
 #[derive(Clone, Copy)]
 struct Turns {
-    /// What the next choice is drawn from.
+    /// The state of the random choice.
     chance: u64,
     held: u64,
     left: u64,
-    /// The place whose worker goes on; 0 where none was chosen.
+    /// The place whose worker runs; 0 if none was chosen.
     chosen: u64,
-    /// How many naps of held workers have ended since one came or was let go.
+    /// The number of naps of blocked workers since one came or was released.
     naps: u32,
     /// The place at which a worker is stopped; 0 for none.
     stop_at: u64,
-    /// The places in the order in which they were left, each in four bits, as its number and 1.
+    /// The places in the order in which they were left; each has four bits, with its number plus 1.
     order: u64,
     ran_out: bool,
 }
 
 impl Turns {
-    /// How many workers surely come to a place, and how many may.
+    /// Returns how many workers are certain to come to a place, and how many may.
     ///
-    /// A fetcher has a window until it is past `Fetched`, and a writer a parcel until it is past `Recorded`. The fetcher
-    /// that finds no further window tells a writer the end, before the other's last parcel comes or after it; so once
-    /// all are fetched and one is recorded there may be one writer for the other two. Who was stopped drops what comes.
+    /// A fetcher has a window until it has passed `Fetched`, and a writer a parcel until it has passed `Recorded`. The
+    /// fetcher that finds no further window sends the end to a writer, before or after the other's last parcel; so once
+    /// all are fetched and one is recorded, there may be one writer for the other two. A stopped worker drops all
+    /// messages.
     fn awaited(&self) -> (u64, u64) {
         let fetched = bits(self.left & FETCHED);
         let recorded = bits(self.left & RECORDED);
@@ -111,7 +112,7 @@ impl Turns {
         (may, may)
     }
 
-    /// Chooses one of those that are held, once all are there that come, and says whether it did.
+    /// Chooses one of the blocked workers, once all expected ones have come. Returns whether it did.
     fn choose(&mut self) -> bool {
         let held = bits(self.held);
         if held == 0 {
@@ -133,7 +134,7 @@ impl Turns {
         true
     }
 
-    /// Whether the worker at a place goes on now, and whether one was chosen.
+    /// Returns whether the worker at a place may run now, and whether one was chosen.
     fn look(&mut self, here: u64) -> (bool, bool) {
         let goes = self.chosen == here;
         if goes {
@@ -146,30 +147,30 @@ impl Turns {
         (goes, chose)
     }
 
-    /// A worker has come to a place.
+    /// Notes that a worker has come to a place.
     fn come(&mut self, here: u64) {
         self.held |= here;
         self.naps = 0;
     }
 
-    /// A worker has slept, and nobody was chosen meanwhile.
+    /// Notes that a worker has slept, and no worker was chosen meanwhile.
     fn nap(&mut self) {
         self.naps = self.naps.saturating_add(1);
     }
 }
 
-/// Lets one worker go at a time, drawn from a seed, and stops the one at a place.
+/// A gate that lets one worker run at a time, drawn from a seed, and stops the one at a place.
 #[derive(Drop)]
 struct Drawn {
     stop_at: u64,
     turns: Mutex<Turns>,
-    /// Rung whenever one is chosen.
+    /// Signalled whenever a worker is chosen.
     bell: AtomicU64,
     ran_out: AtomicBool,
 }
 
 impl Drawn {
-    /// No worker has come.
+    /// Creates the gate before any worker has come.
     fn new(seed: u64, stop_at: u64) -> Drawn {
         Drawn {
             stop_at,
@@ -188,12 +189,12 @@ impl Drawn {
         }
     }
 
-    /// A worker has come to a place.
+    /// Notes that a worker has come to a place.
     fn come<R: Wait>(&self, rt: &R, here: u64) {
         self.turns.lock(rt).come(here);
     }
 
-    /// Whether the worker at a place goes on now.
+    /// Whether the worker at a place may run now.
     fn goes<R: Wait>(&self, rt: &R, here: u64) -> bool {
         let (goes, chose) = self.turns.lock(rt).look(here);
         if chose {
@@ -203,7 +204,7 @@ impl Drawn {
         goes
     }
 
-    /// Sleeps until the bell is rung once more, a millisecond at most.
+    /// Sleeps until the next signal, at most a millisecond.
     fn sleep<R: Wait>(&self, rt: &R, rung: u64) {
         let low = (rung % 4_294_967_296) as u32;
         self.bell.park_timeout(rt, low, Duration::from_millis(1));
@@ -212,7 +213,7 @@ impl Drawn {
         }
     }
 
-    /// Holds a worker at its place until its turn comes.
+    /// Blocks a worker at its place until its turn comes.
     fn hold<R: Wait>(&self, rt: &R, here: u64) {
         for _ in 0..LOOKS {
             let rung = self.bell.load(Ordering::SeqCst);
@@ -224,7 +225,7 @@ impl Drawn {
         self.ran_out.store(true, Ordering::SeqCst);
     }
 
-    /// The order in which the places were left, and whether a worker was let go that was to be held.
+    /// Returns the order in which the places were left, and whether a worker was released early.
     fn end(self) -> (u64, bool) {
         let turns = self.turns.into_inner();
         (turns.order, turns.ran_out || self.ran_out.into_inner())
@@ -246,7 +247,7 @@ impl Gate for Drawn {
     }
 }
 
-/// A run in an order of a seed into a target that refuses three leaves; the order.
+/// Performs a run in the order of a seed into a target that refuses three leaves. Returns the order.
 fn run_drawn<R: Abort + Threads + Wait + Sync>(rt: &R, alloc: Global, seed: u64) -> u64 {
     const WELL: &str =
         "session 1 from 0 to 11 checked 10 found 10 read 10 written 7 failed 3, fetched 10";
@@ -261,7 +262,7 @@ fn run_drawn<R: Abort + Threads + Wait + Sync>(rt: &R, alloc: Global, seed: u64)
     order
 }
 
-/// How many different numbers stand in a sorted list; none of them is 0.
+/// Returns the number of distinct numbers in a sorted list without 0.
 fn different(sorted: &[u64]) -> u64 {
     let mut found = 0u64;
     let mut last = 0;
@@ -274,7 +275,7 @@ fn different(sorted: &[u64]) -> u64 {
     found
 }
 
-// The target's own sequences are in the order of the run; all that is read at the end is the same.
+// The target's own sequences depend on the order of the run; everything else that is read at the end is the same.
 #[test]
 fn every_order_ends_alike(rt: HostRuntime) {
     let mut orders = Vec::new(rt.alloc());
@@ -287,7 +288,7 @@ fn every_order_ends_alike(rt: HostRuntime) {
     assert!(rt; found > 500, "{found} orders");
 }
 
-/// A run in an order of a seed that stops at one of the places, and a further run that carries the rest.
+/// Performs a run in the order of a seed that stops at one of the places, and a further run that completes the copy.
 fn stop_drawn<R: Abort + Threads + Wait + Sync>(rt: &R, alloc: Global, seed: u64) {
     let (kind, window) = (seed % 5, seed / 5 % WINDOWS);
     let gate = Drawn::new(seed, bit_of((kind, window)));

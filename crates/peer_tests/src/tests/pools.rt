@@ -1,4 +1,4 @@
-//! Peers that are replicated by the pool, and the calls on these by name.
+//! Peers that are replicated by the pool, and calls on these.
 ghost use Rattle.std.specs.Prelude.{◌≡◌, vec_len};
 ghost use Rattle.std.specs.List.{All};
 ghost use Rattle.pool_workers.specs.Boards.{WorksAt};
@@ -20,49 +20,49 @@ use std::sync::Wait;
 use std::thread::Threads;
 use test_support::shown;
 
-/// How a run is planned.
+/// The parameters of a run.
 #[derive(Clone, Copy)]
 pub(crate) struct How {
     pub(crate) session: SessionId,
-    /// How many workers there are; none for the bench's own number.
+    /// The number of workers; `None` for the bench's own number.
     pub(crate) workers: Option<u64>,
     pub(crate) batch: u64,
     pub(crate) stop_after: Option<u64>,
 }
 
-/// A call on peers, which are named by their places.
+/// A call on peers, which are named by index.
 #[derive(Clone, Copy)]
 pub(crate) enum Call<'a> {
-    /// Makes the next peer: its uuid, and the prefix that its filter refuses.
+    /// Create the next peer: its UUID, and the prefix that its filter refuses.
     Peer(u128, Option<&'a str>),
-    /// Loads the documents d0, d1 and so on, so many.
+    /// Load this many documents d0, d1 and so on.
     Fill(usize, u64),
-    /// Loads a document.
+    /// Load a document.
     Load(usize, &'a str),
-    /// Replicates one peer into another by the pool.
+    /// Replicate one peer into another by the pool.
     Run(usize, usize, How),
-    /// Reads the tree of a document.
+    /// Read the tree of a document.
     Tree(usize, &'a str),
-    /// Reads the entry of a session.
+    /// Read the entry of a session.
     Entry(usize, SessionId),
-    /// Reads the documents at the leaves of a document, winner first.
+    /// Read the documents at the leaves of a document, winner first.
     Leaves(usize, &'a str),
-    /// Reads which leaves of a document were refused to a session, and why.
+    /// Read which leaves of a document a session refused, and why.
     Refused(usize, SessionId, &'a str),
-    /// Reads the log of a replication from a peer.
+    /// Read the log of a replication from a peer.
     SourceLog(usize, Rep),
-    /// Reads the log of a replication into a peer.
+    /// Read the log of a replication into a peer.
     TargetLog(usize, Rep),
-    /// Compares the logs of a replication at its source and its target.
+    /// Compare the logs of a replication at its source and its target.
     Common(usize, usize, Rep),
-    /// Audits a target, the second one, against a source.
+    /// Audit a target, the second one, against a source.
     Audit(usize, usize),
 }
 
-/// Calls, each with the text that it must answer.
+/// Calls, each with its expected result.
 pub(crate) type Rows = &'static [(Call<'static>, &'static str)];
 
-/// Peers, and how many workers a run has.
+/// Peers, and the number of workers of a run.
 #[derive(Drop)]
 pub(crate) struct Bench {
     alloc: Global,
@@ -72,7 +72,7 @@ pub(crate) struct Bench {
 }
 
 impl Bench {
-    /// No peers.
+    /// Creates a bench without peers.
     pub(crate) fn new(alloc: Global, workers: u64) -> Bench {
         Bench {
             alloc,
@@ -82,19 +82,19 @@ impl Bench {
         }
     }
 
-    /// How many fetchers the last run has counted documents for.
+    /// Returns the number of fetchers for which the last run has counted documents.
     pub(crate) fn fetchers(&self) -> usize {
         self.fetchers
     }
 
-    /// Makes the calls in order, and asserts what each answers.
+    /// Performs the calls in order, and asserts each result.
     pub(crate) fn run<R: Abort + Threads + Wait + Sync>(&mut self, rt: &R, calls: &[(Call, &str)]) {
         for (i, (call, wanted)) in calls.iter().enumerate() {
             expect_answer(rt, i, self.answer(rt, call), wanted);
         }
     }
 
-    /// Makes a call, and gives the text of its answer.
+    /// Performs a call and returns its result as a string.
     pub(crate) fn answer<R: Abort + Threads + Wait + Sync>(
         &mut self,
         rt: &R,
@@ -106,7 +106,7 @@ impl Bench {
         }
     }
 
-    /// Makes a call that starts no thread.
+    /// Performs a call that starts no thread.
     fn answer_alone(&mut self, call: &Call) -> Option<String> {
         match *call {
             Call::Peer(uuid, deny) => make(self.alloc, &mut self.peers, uuid, deny),
@@ -131,7 +131,7 @@ impl Bench {
         }
     }
 
-    /// How a run is planned.
+    /// Returns the plan of a run.
     fn plan(&self, how: How) -> Option<Plan> {
         let Ok(at) = Moment::new(0) else {
             return None;
@@ -146,18 +146,18 @@ impl Bench {
         })
     }
 
-    /// Takes a peer from its place.
+    /// Takes a peer from the bench.
     fn taken(&mut self, rt: &impl Abort, at: usize) -> Peer<Rules> {
         let empty = Peer::new(self.alloc, 0, Rules { deny: None });
         mem::replace(self.peers.get_mut(at).expect(rt, "a peer"), empty)
     }
 
-    /// Puts a peer into a place.
+    /// Puts a peer back.
     fn give(&mut self, rt: &impl Abort, at: usize, peer: Peer<Rules>) {
         *self.peers.get_mut(at).expect(rt, "a place") = peer;
     }
 
-    /// Replicates one peer into another with a gate, and tells how that ended and the sum of what was fetched.
+    /// Replicates one peer into another with a gate. Returns how that ended, and the number of fetched documents.
     pub(crate) fn replicate<G: Gate + Sync, R: Abort + Threads + Wait + Sync>(
         &mut self,
         rt: &R,
@@ -175,7 +175,7 @@ impl Bench {
         self.take_back(rt, source, target, ran)
     }
 
-    /// The same on a board, where there is a seat for each worker.
+    /// Replicates on a board with a seat for each worker.
     pub(crate) fn replicate_on<G: Gate + Sync, R: Abort + Threads + Wait + Sync>(
         &mut self,
         rt: &R,
@@ -199,7 +199,7 @@ impl Bench {
         self.take_back(rt, 0, 1, ran)
     }
 
-    /// Takes both peers back to their places, and tells how a run ended.
+    /// Puts both peers back, and returns how a run ended.
     fn take_back(
         &mut self,
         rt: &impl Abort,
@@ -221,7 +221,7 @@ impl Bench {
     }
 }
 
-/// Makes a call on one peer.
+/// Performs a call on one peer.
 fn of_one(alloc: Global, peer: &mut Peer<Rules>, call: &Call) -> Option<String> {
     match *call {
         Call::Fill(_, documents) => fill(alloc, peer, documents),
@@ -230,7 +230,7 @@ fn of_one(alloc: Global, peer: &mut Peer<Rules>, call: &Call) -> Option<String> 
     }
 }
 
-/// Makes a call on one peer that changes nothing.
+/// Performs a call on one peer that changes nothing.
 fn read(alloc: Global, peer: &Peer<Rules>, call: &Call) -> Option<String> {
     match *call {
         Call::Tree(_, id) => tree(alloc, peer.db(), id),
@@ -243,7 +243,7 @@ fn read(alloc: Global, peer: &Peer<Rules>, call: &Call) -> Option<String> {
     }
 }
 
-/// Makes a call on a source and a target that changes nothing.
+/// Performs a call on a source and a target that changes nothing.
 fn compare(
     alloc: Global,
     source: &Peer<Rules>,
@@ -257,7 +257,7 @@ fn compare(
     }
 }
 
-/// Runs the pool. Nothing else lives beside the peers: each value adds to its proof.
+/// Runs the pool. A function of its own, because each value beside the peers adds to the proof.
 fn ran<G: Gate + Sync, R: Threads + Wait + Sync>(
     rt: &R,
     alloc: Global,
@@ -284,7 +284,7 @@ fn ran_on<G: Gate + Sync, R: Threads + Wait + Sync>(
     run_on(rt, alloc, source, target, plan, gate, progress)
 }
 
-/// How a run ended, and the sum of what was fetched.
+/// Returns how a run ended, and the number of fetched documents.
 fn ended_text(
     alloc: Global,
     outcome: Result<Report, PoolFault>,
@@ -296,12 +296,12 @@ fn ended_text(
     )
 }
 
-/// How many documents were fetched.
+/// Returns the number of fetched documents as a string.
 fn fetched_text(alloc: Global, fetched: u64) -> Option<String> {
     format!(in alloc; ", fetched {fetched}").ok()
 }
 
-/// The sum of some counts.
+/// Returns the sum of counts.
 fn sum_of(counts: &[u64]) -> u64 {
     let mut sum = 0u64;
     for count in counts {
@@ -310,7 +310,7 @@ fn sum_of(counts: &[u64]) -> u64 {
     sum
 }
 
-/// How a run ended.
+/// Returns how a run ended.
 fn outcome_text(alloc: Global, outcome: Result<Report, PoolFault>) -> Option<String> {
     match outcome {
         Ok(report) => report_text(alloc, report),
@@ -320,7 +320,7 @@ fn outcome_text(alloc: Global, outcome: Result<Report, PoolFault>) -> Option<Str
     }
 }
 
-/// Loads the document of a number.
+/// Loads the document with a number.
 fn load_number(alloc: Global, peer: &mut Peer<Rules>, number: u64) -> Option<String> {
     match format!(in alloc; "{{\"_id\":\"d{number}\",\"_rev\":\"1-a\"}}") {
         Ok(text) => load(alloc, peer, text.as_str()),
@@ -328,7 +328,7 @@ fn load_number(alloc: Global, peer: &mut Peer<Rules>, number: u64) -> Option<Str
     }
 }
 
-/// Loads so many documents of one revision each, and tells what the last load answers.
+/// Loads this many documents of one revision each, and returns the result of the last load.
 fn fill(alloc: Global, peer: &mut Peer<Rules>, documents: u64) -> Option<String> {
     let mut text = String::new(alloc);
     for number in 0..documents {
@@ -340,7 +340,7 @@ fn fill(alloc: Global, peer: &mut Peer<Rules>, documents: u64) -> Option<String>
     Some(text)
 }
 
-/// What both logs of a replication agree about.
+/// Returns the common checkpoint of a replication.
 fn agreed(
     alloc: Global,
     source: &Peer<Rules>,
@@ -356,7 +356,7 @@ fn agreed(
     recorded_text(alloc, common(&outgoing, &incoming))
 }
 
-/// What a session that both logs have has recorded, 0 where there is none.
+/// Returns what the common session has recorded, or 0 if there is none.
 fn recorded_text(alloc: Global, found: Option<(SessionId, u64)>) -> Option<String> {
     match found {
         Some((_, recorded)) => shown(alloc, &recorded),

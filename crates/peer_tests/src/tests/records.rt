@@ -1,4 +1,4 @@
-//! Texts of what sessions say and refuse.
+//! Strings of session results and errors.
 use crate::tests::texts::{joined, place_text};
 use doc_json::Doc;
 use repl_log::{Entry, Log, common};
@@ -6,26 +6,26 @@ use repl_target::{Cause, Report, Settled, TargetFault};
 use std::alloc::Global;
 use test_support::shown;
 
-/// How many documents were written, and how many refused.
+/// Returns the numbers of written and refused documents.
 pub(crate) fn settled_text(alloc: Global, settled: Settled) -> Option<String> {
     let Settled { written, failures } = settled;
     format!(in alloc; "written {written} failed {failures}").ok()
 }
 
-/// A report, as the program prints it.
+/// Returns a report as the program prints it.
 pub(crate) fn report_text(alloc: Global, report: Report) -> Option<String> {
     let all = bounds_text(alloc, report);
     let all = joined(all, read_text(alloc, report));
     joined(all, written_text(alloc, report))
 }
 
-/// The session of a report, and its bounds.
+/// Returns the session of a report, and its bounds.
 fn bounds_text(alloc: Global, report: Report) -> Option<String> {
     let (session, start) = (report.session.0, report.start);
     format!(in alloc; "session {session} from {start} to {}", report.recorded).ok()
 }
 
-/// What a report tells of reading.
+/// Returns the counts of reading in a report.
 fn read_text(alloc: Global, report: Report) -> Option<String> {
     let (checked, found) = (report.counts.checked, report.counts.found);
     format!(in alloc;
@@ -35,13 +35,13 @@ fn read_text(alloc: Global, report: Report) -> Option<String> {
     .ok()
 }
 
-/// What a report tells of writing.
+/// Returns the counts of writing in a report.
 fn written_text(alloc: Global, report: Report) -> Option<String> {
     let (written, failures) = (report.counts.written, report.counts.failures);
     format!(in alloc; " written {written} failed {failures}").ok()
 }
 
-/// An entry: the report that it gives, and its moments.
+/// Returns an entry: its report, and its timestamps.
 pub(crate) fn entry_text(alloc: Global, entry: Entry) -> Option<String> {
     let report = Report {
         session: entry.session,
@@ -52,13 +52,13 @@ pub(crate) fn entry_text(alloc: Global, entry: Entry) -> Option<String> {
     joined(report_text(alloc, report), moments_text(alloc, entry))
 }
 
-/// The moments of an entry.
+/// Returns the timestamps of an entry.
 fn moments_text(alloc: Global, entry: Entry) -> Option<String> {
     let (begun, ended) = (entry.start_time.seconds(), entry.end_time.seconds());
     format!(in alloc; ", {begun} to {ended}").ok()
 }
 
-/// Of each entry the session and what it has recorded, newest session first.
+/// Returns the session and the recorded sequence of each entry, newest session first.
 pub(crate) fn log_text(alloc: Global, log: &Log) -> Option<String> {
     let mut all = Some(String::new(alloc));
     for i in 0..log.len() {
@@ -67,7 +67,7 @@ pub(crate) fn log_text(alloc: Global, log: &Log) -> Option<String> {
     all
 }
 
-/// The session of an entry, where there is one, and what it has recorded.
+/// Returns the session and the recorded sequence of an optional entry.
 fn recorded_text(alloc: Global, entry: Option<Entry>) -> Option<String> {
     match entry {
         Some(entry) => format!(in alloc; "{} at {};", entry.session.0, entry.recorded).ok(),
@@ -75,7 +75,7 @@ fn recorded_text(alloc: Global, entry: Option<Entry>) -> Option<String> {
     }
 }
 
-/// What the logs of a source and a target agree about.
+/// Returns the common checkpoint of the logs of a source and a target.
 pub(crate) fn common_text(alloc: Global, outgoing: &Log, incoming: &Log) -> Option<String> {
     match common(outgoing, incoming) {
         Some((session, recorded)) => format!(in alloc; "{} at {recorded}", session.0).ok(),
@@ -83,7 +83,7 @@ pub(crate) fn common_text(alloc: Global, outgoing: &Log, incoming: &Log) -> Opti
     }
 }
 
-/// Why a call on a session is refused.
+/// Returns the error of a call on a session.
 pub(crate) fn fault_text(alloc: Global, fault: TargetFault) -> Option<String> {
     match fault {
         TargetFault::Uncovered { seq, id, rev } => place_text(alloc, "Uncovered", seq, &id, rev),
@@ -96,7 +96,7 @@ pub(crate) fn fault_text(alloc: Global, fault: TargetFault) -> Option<String> {
     }
 }
 
-/// Where a parcel was settled only in part: how many documents are settled, the others, and why.
+/// Returns the result of a partial settling: the number of settled documents, the others, and the cause.
 fn stopped_text(alloc: Global, settled: u64, rest: &[Doc], cause: Cause) -> Option<String> {
     let Some(rest) = ids_text(alloc, rest) else {
         return None;
@@ -104,7 +104,7 @@ fn stopped_text(alloc: Global, settled: u64, rest: &[Doc], cause: Cause) -> Opti
     format!(in alloc; "Stopped {settled}, rest{rest}, {cause:?}").ok()
 }
 
-/// The ids of documents.
+/// Returns the ids of documents.
 fn ids_text(alloc: Global, docs: &[Doc]) -> Option<String> {
     let mut all = String::new(alloc);
     for doc in docs {

@@ -1,4 +1,4 @@
-//! The rows of what is asked: what is missing, contradicts and differs; what is in conflict, refused and counted; and a
+//! The rows of `repl_inspect`: missing, contradicting and differing leaves; conflicts, refusals and counts; and a
 //! document of 1,000 leaves.
 use crate::tests::surveys::{Call, Rows, expect};
 
@@ -20,9 +20,9 @@ fn what_a_target_misses(rt: HostRuntime) {
         // The target has neither document.
         (Call::Compare("d"), "2 missing 3-d 2-c differing"),
         (Call::Compare("e"), "1 missing 1-a differing"),
-        // Nobody has this one.
+        // Neither peer has this document.
         (Call::Compare("f"), "0 missing differing"),
-        // It has 2-b over another parent, and 2-c with another body.
+        // The target has 2-b with another parent, and 2-c with another body.
         (
             Call::Target(r#"{"_id":"d","_revisions":{"start":2,"ids":["b","x"]}}"#),
             "Changed { seq: 1 }",
@@ -35,7 +35,7 @@ fn what_a_target_misses(rt: HostRuntime) {
             Call::Compare("d"),
             "2 missing 3-d contradicts 2-b differing 2-c",
         ),
-        // It has the leaf as it is, but for that it is not deleted.
+        // The target has the same leaf, except that it is live.
         (
             Call::Target(r#"{"_id":"e","_rev":"1-a"}"#),
             "Changed { seq: 3 }",
@@ -64,7 +64,7 @@ fn a_gap_is_neither_missing_nor_other(rt: HostRuntime) {
             Call::Source(r#"{"_id":"d","_revisions":{"start":3,"ids":["c","b","a"]}}"#),
             "Changed { seq: 1 }",
         ),
-        // The target knows the leaf alone, of which the parent is not told, and a child of it.
+        // The target knows only the leaf, whose parent was not given, and a child of it.
         (
             Call::Target(r#"{"_id":"d","_revisions":{"start":4,"ids":["d","c"]}}"#),
             "Changed { seq: 1 }",
@@ -129,7 +129,7 @@ fn what_is_in_conflict_and_how_much_there_is(rt: HostRuntime) {
             "Changed { seq: 2 }",
         ),
         (Call::Conflict("d"), " 2-c 2-b"),
-        // A leaf that deletes is in no conflict, whatever its generation.
+        // A deleted leaf is not in conflict, whatever its generation.
         (
             Call::Source(
                 r#"{"_id":"d","_revisions":{"start":3,"ids":["d","c","a"]},"_deleted":true}"#,

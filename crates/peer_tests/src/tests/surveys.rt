@@ -1,4 +1,4 @@
-//! What is asked of two peers, by name: a source, and a target into which it is replicated.
+//! Questions about two peers: a source, and a target into which it is replicated.
 use crate::tests::databases::tree;
 use crate::tests::large::load_wide;
 use crate::tests::peers::load;
@@ -16,40 +16,40 @@ use std::alloc::Global;
 use std::process::Abort;
 use test_support::{rev_text, shown};
 
-/// The one session.
+/// The only session.
 const SESSION: SessionId = SessionId(1);
 
 /// A call on the two peers.
 #[derive(Clone, Copy)]
 pub(crate) enum Call<'a> {
-    /// Loads a document into the source.
+    /// Load a document into the source.
     Source(&'a str),
-    /// The same into the target.
+    /// Load a document into the target.
     Target(&'a str),
-    /// Loads so many leaves of the document d into the source.
+    /// Load this many leaves of the document d into the source.
     Wide(u32),
-    /// Replicates the source into the target.
+    /// Replicate the source into the target.
     Replicate,
-    /// Compares a document of the source with the target's.
+    /// Compare a document of the source with the target's.
     Compare(&'a str),
-    /// The total of the source's feed, or of a chosen document.
+    /// Read the total of the source's feed, or of one selected document.
     Total(Option<&'a str>),
-    /// The leaves of a document of the source that are in conflict.
+    /// Read the leaves of a document of the source that are in conflict.
     Conflict(&'a str),
-    /// How much the source holds.
+    /// Count the content of the source.
     Census,
-    /// The ledger of the session.
+    /// Read the ledger of the session.
     Ledger,
-    /// The documents of the leaves of a document of the source.
+    /// Read the documents of the leaves of a document of the source.
     Documents(&'a str),
-    /// Reads the tree of a document of the target.
+    /// Read the tree of a document of the target.
     Tree(&'a str),
 }
 
-/// Calls, each with the text that it must answer.
+/// Calls, each with its expected result.
 pub(crate) type Rows = &'static [(Call<'static>, &'static str)];
 
-/// The source and the target, which refuses documents whose ids begin with x.
+/// The source, and the target, which refuses documents whose ids begin with x.
 #[derive(Drop)]
 struct Bench {
     alloc: Global,
@@ -58,7 +58,7 @@ struct Bench {
 }
 
 impl Bench {
-    /// Makes a call, and gives the text of its answer.
+    /// Performs a call and returns its result as a string.
     fn answer(&mut self, call: &Call) -> Option<String> {
         match *call {
             Call::Source(text) => load(self.alloc, &mut self.source, text),
@@ -69,7 +69,7 @@ impl Bench {
         }
     }
 
-    /// Asks, which changes nothing.
+    /// Performs a call that changes nothing.
     fn ask(&self, call: &Call) -> Option<String> {
         match *call {
             Call::Compare(id) => self.compare(id),
@@ -105,7 +105,7 @@ impl Bench {
         }
     }
 
-    /// How much the source holds.
+    /// Counts the content of the source.
     fn census(&self) -> Option<String> {
         match census_of(self.alloc, self.source.db()) {
             Ok(census) => shown(self.alloc, &census),
@@ -113,7 +113,7 @@ impl Bench {
         }
     }
 
-    /// The ledger of the session.
+    /// Reads the ledger of the session.
     fn ledger(&self) -> Option<String> {
         match self.target.ledger(SESSION) {
             Some(rows) => ledger(self.alloc, rows),
@@ -121,7 +121,7 @@ impl Bench {
         }
     }
 
-    /// The total of the feed.
+    /// Reads the total of the feed.
     fn total(&self, id: Option<&str>) -> Option<String> {
         match id {
             Some(id) => {
@@ -134,7 +134,7 @@ impl Bench {
         }
     }
 
-    /// The total under a choice.
+    /// Reads the total with a selection.
     fn total_under(&self, chosen: Option<&Chosen>) -> Option<String> {
         match compare_feed(self.alloc, &self.source, &self.target, chosen) {
             Ok(total) => shown(self.alloc, &total),
@@ -142,7 +142,7 @@ impl Bench {
         }
     }
 
-    /// The leaves in conflict.
+    /// Reads the leaves in conflict.
     fn conflict(&self, id: &str) -> Option<String> {
         let Ok(id) = DocId::parse(self.alloc, id) else {
             return None;
@@ -153,7 +153,7 @@ impl Bench {
         }
     }
 
-    /// The documents of all leaves.
+    /// Reads the documents of all leaves.
     fn documents(&self, id: &str) -> Option<String> {
         let Ok(id) = DocId::parse(self.alloc, id) else {
             return None;
@@ -165,7 +165,7 @@ impl Bench {
     }
 }
 
-/// The leaves of a tree that are in conflict.
+/// Returns the leaves of a tree that are in conflict.
 fn conflict_text(alloc: Global, tree: &Tree) -> Option<String> {
     match conflicting(alloc, tree) {
         Ok(found) => revs_text(alloc, &found),
@@ -173,7 +173,7 @@ fn conflict_text(alloc: Global, tree: &Tree) -> Option<String> {
     }
 }
 
-/// The texts of documents.
+/// Returns the texts of documents.
 fn docs_text(alloc: Global, docs: &[Doc]) -> Option<String> {
     let mut all = Some(String::new(alloc));
     for doc in docs {
@@ -182,7 +182,7 @@ fn docs_text(alloc: Global, docs: &[Doc]) -> Option<String> {
     all
 }
 
-/// The choice of one document.
+/// Creates the selection of one document.
 fn choice(alloc: Global, id: &str) -> Option<Chosen> {
     let mut ids = Vec::new(alloc);
     let Ok(id) = DocId::parse(alloc, id) else {
@@ -194,7 +194,7 @@ fn choice(alloc: Global, id: &str) -> Option<Chosen> {
     Chosen::new(ids).ok()
 }
 
-/// Revisions, each behind a space.
+/// Returns revisions, each after a space.
 fn revs_text(alloc: Global, revs: &[Rev]) -> Option<String> {
     let mut all = Some(String::new(alloc));
     for rev in revs {
@@ -204,7 +204,7 @@ fn revs_text(alloc: Global, revs: &[Rev]) -> Option<String> {
     all
 }
 
-/// How many leaves there are, those that are missing, the child that contradicts, and the leaves that differ.
+/// Returns the number of leaves, the missing ones, the contradicting child, and the differing leaves.
 fn comparison_text(alloc: Global, found: &Comparison) -> Option<String> {
     let all = joined(leaves_text(alloc, found), revs_text(alloc, found.missing()));
     let all = joined(all, contradiction_text(alloc, found));
@@ -212,12 +212,12 @@ fn comparison_text(alloc: Global, found: &Comparison) -> Option<String> {
     joined(all, revs_text(alloc, found.differing()))
 }
 
-/// How many leaves there are.
+/// Returns the number of leaves.
 fn leaves_text(alloc: Global, found: &Comparison) -> Option<String> {
     format!(in alloc; "{} missing", found.leaves()).ok()
 }
 
-/// The child that contradicts; an empty text where none does.
+/// Returns the contradicting child, or an empty string.
 fn contradiction_text(alloc: Global, found: &Comparison) -> Option<String> {
     match found.contradiction() {
         Some(told) => joined(plain(alloc, " contradicts "), rev_text(alloc, told.child)),
@@ -225,7 +225,7 @@ fn contradiction_text(alloc: Global, found: &Comparison) -> Option<String> {
     }
 }
 
-/// A row of a ledger.
+/// Returns a row of a ledger.
 fn row_text(alloc: Global, row: LedgerRow) -> Option<String> {
     match row {
         LedgerRow::Denied { rev } => { joined(plain(alloc, " denied"), revs_text(alloc, &[rev])) }
@@ -236,7 +236,7 @@ fn row_text(alloc: Global, row: LedgerRow) -> Option<String> {
     }
 }
 
-/// The rows of a ledger, each behind its document's id.
+/// Returns the rows of a ledger, each after its document's id.
 fn ledger(alloc: Global, rows: &[Refused]) -> Option<String> {
     let mut all = Some(String::new(alloc));
     for row in rows {
@@ -247,7 +247,7 @@ fn ledger(alloc: Global, rows: &[Refused]) -> Option<String> {
     all
 }
 
-/// A bench of no documents. The target refuses documents whose ids begin with x.
+/// Creates a bench without documents. The target refuses documents whose ids begin with x.
 fn two_peers(rt: &impl Abort, alloc: Global) -> Bench {
     let deny = "x".to_string(alloc).expect(rt, "memory");
     Bench {
@@ -257,7 +257,7 @@ fn two_peers(rt: &impl Abort, alloc: Global) -> Bench {
     }
 }
 
-/// Makes the calls, and asserts what each answers.
+/// Performs the calls, and asserts each result.
 pub(crate) fn expect(rt: &impl Abort, alloc: Global, rows: Rows) {
     let mut bench = two_peers(rt, alloc);
     for (i, (call, wanted)) in rows.iter().enumerate() {

@@ -1,4 +1,4 @@
-//! Texts of what calls answer, and what is read from the texts of a call.
+//! Strings of results, and parsing the arguments of calls.
 use couch_base::{Asked, BaseFault, Database, Parcel, Row, Wanted, Window};
 use doc_json::{Body, Doc, DocId, read_body, read_doc};
 use repl_target::StoredWindow;
@@ -9,7 +9,8 @@ use std::alloc::Global;
 use std::process::Abort;
 use test_support::{rev_text, revs_text, shown};
 
-/// Asserts that the call of a number could be made, and what it answered. `None` is told of a call that could not.
+/// Asserts that a call could be performed and returned the expected string. `None` means that the call could not be
+/// performed.
 pub(crate) fn expect_answer(rt: &impl Abort, number: usize, answer: Option<String>, wanted: &str) {
     let is_wanted = match &answer {
         Some(text) => text.as_str() == wanted,
@@ -18,7 +19,7 @@ pub(crate) fn expect_answer(rt: &impl Abort, number: usize, answer: Option<Strin
     assert!(rt; is_wanted, "call {number}: {answer:?}, not {wanted}");
 }
 
-/// The document of a text that is one.
+/// Parses a document.
 pub(crate) fn doc(alloc: Global, text: &str) -> Option<Doc> {
     let Ok(value) = Value::from_str(alloc, text) else {
         return None;
@@ -26,7 +27,7 @@ pub(crate) fn doc(alloc: Global, text: &str) -> Option<Doc> {
     read_doc(alloc, &value).ok()
 }
 
-/// The body of a text that is one.
+/// Parses a body.
 pub(crate) fn body(alloc: Global, text: &str) -> Option<Body> {
     let Ok(value) = Value::from_str(alloc, text) else {
         return None;
@@ -34,7 +35,7 @@ pub(crate) fn body(alloc: Global, text: &str) -> Option<Body> {
     read_body(alloc, &value).ok()
 }
 
-/// A text and one behind it, where both could be made. Whoever joins many asks only at the end whether all could.
+/// Concatenates two strings, if both exist. Callers that join many check only at the end.
 pub(crate) fn joined(all: Option<String>, text: Option<String>) -> Option<String> {
     let (Some(mut all), Some(text)) = (all, text) else {
         return None;
@@ -45,17 +46,17 @@ pub(crate) fn joined(all: Option<String>, text: Option<String>) -> Option<String
     }
 }
 
-/// A text of its own.
+/// Copies a string.
 pub(crate) fn plain(alloc: Global, text: &str) -> Option<String> {
     text.to_string(alloc).ok()
 }
 
-/// The bounds of what was read or fetched.
+/// Returns the bounds of a window, request or parcel.
 fn bounds_text(alloc: Global, lo: u64, hi: u64) -> Option<String> {
     format!(in alloc; "{lo} to {hi}:").ok()
 }
 
-/// The bounds of a window, and its rows.
+/// Returns the bounds of a window, and its rows.
 pub(crate) fn window_text(alloc: Global, window: &Window) -> Option<String> {
     let mut all = bounds_text(alloc, window.lo(), window.hi());
     for row in window.rows() {
@@ -64,7 +65,7 @@ pub(crate) fn window_text(alloc: Global, window: &Window) -> Option<String> {
     all
 }
 
-/// The sequence, the id and the leaves of a row.
+/// Returns the sequence, the id and the leaves of a row.
 fn row_text(alloc: Global, row: &Row) -> Option<String> {
     let Some(leaves) = revs_text(alloc, row.leaves()) else {
         return None;
@@ -72,7 +73,7 @@ fn row_text(alloc: Global, row: &Row) -> Option<String> {
     format!(in alloc; " {} {} {leaves};", row.seq(), row.id().text()).ok()
 }
 
-/// The bounds of stored windows, and of each whether it is kept whole.
+/// Returns the bounds of stored windows, and whether each is complete.
 pub(crate) fn stored_text(alloc: Global, windows: &[StoredWindow]) -> Option<String> {
     let mut all = Some(String::new(alloc));
     for window in windows {
@@ -81,7 +82,7 @@ pub(crate) fn stored_text(alloc: Global, windows: &[StoredWindow]) -> Option<Str
     all
 }
 
-/// The same of one window.
+/// Returns the bounds of a stored window, and whether it is complete.
 fn one_stored_text(alloc: Global, window: &StoredWindow) -> Option<String> {
     let (life, lo, hi) = (window.life(), window.lo(), window.hi());
     match window.rows() {
@@ -90,7 +91,7 @@ fn one_stored_text(alloc: Global, window: &StoredWindow) -> Option<String> {
     }
 }
 
-/// The bounds of what is asked, and the documents.
+/// Returns the bounds of a request, and its documents.
 pub(crate) fn asked_text(alloc: Global, asked: &Asked) -> Option<String> {
     let mut all = bounds_text(alloc, asked.lo(), asked.hi());
     for wanted in asked.docs() {
@@ -99,7 +100,7 @@ pub(crate) fn asked_text(alloc: Global, asked: &Asked) -> Option<String> {
     all
 }
 
-/// The id and the revisions of a document that is asked for.
+/// Returns the id and the revisions of a requested document.
 fn wanted_text(alloc: Global, wanted: &Wanted) -> Option<String> {
     let Some(revs) = revs_text(alloc, wanted.revs()) else {
         return None;
@@ -107,7 +108,7 @@ fn wanted_text(alloc: Global, wanted: &Wanted) -> Option<String> {
     format!(in alloc; " {} {revs};", wanted.id().text()).ok()
 }
 
-/// The bounds of a parcel, its documents, and what is gone.
+/// Returns the bounds of a parcel, its documents, and the gone revisions.
 pub(crate) fn parcel_text(alloc: Global, parcel: &Parcel) -> Option<String> {
     let mut all = bounds_text(alloc, parcel.lo(), parcel.hi());
     for doc in parcel.docs() {
@@ -119,7 +120,7 @@ pub(crate) fn parcel_text(alloc: Global, parcel: &Parcel) -> Option<String> {
     all
 }
 
-/// A revision that is gone.
+/// Returns a gone revision.
 fn gone_text(alloc: Global, id: &DocId, rev: Rev) -> Option<String> {
     let Some(rev) = rev_text(alloc, rev) else {
         return None;
@@ -127,12 +128,12 @@ fn gone_text(alloc: Global, id: &DocId, rev: Rev) -> Option<String> {
     format!(in alloc; " gone {} {rev};", id.text()).ok()
 }
 
-/// The uuid and the update sequence of a database.
+/// Returns the UUID and the update sequence of a database.
 pub(crate) fn numbers_text(alloc: Global, db: &Database) -> Option<String> {
     format!(in alloc; "{} at {}", db.uuid(), db.update_seq()).ok()
 }
 
-/// A fetched document: its id, its ancestry, whether it is deleted, and its body.
+/// Returns a fetched document: its id, its ancestry, whether it is deleted, and its body.
 pub(crate) fn doc_text(alloc: Global, doc: &Doc) -> Option<String> {
     let Ok(body) = std::str::from_utf8(doc.body().text()) else {
         return None;
@@ -144,7 +145,7 @@ pub(crate) fn doc_text(alloc: Global, doc: &Doc) -> Option<String> {
     format!(in alloc; " {} {revs} {kind} {body};", doc.id().text()).ok()
 }
 
-/// The leaves of a tree, winner first, and how many revisions it has.
+/// Returns the leaves of a tree, winner first, and its number of revisions.
 pub(crate) fn tree_text(alloc: Global, tree: &Tree) -> Option<String> {
     let Ok(leaves) = tree.leaves(alloc) else {
         return None;
@@ -155,14 +156,14 @@ pub(crate) fn tree_text(alloc: Global, tree: &Tree) -> Option<String> {
     format!(in alloc; "{text} of {}", tree.rev_count()).ok()
 }
 
-/// A revision of a tree: its parent, its origin and its content.
+/// Returns a revision of a tree: its parent, its origin and its content.
 pub(crate) fn node_text(alloc: Global, tree: &Tree, rev: Rev) -> Option<String> {
     let all = parent_text(alloc, tree, rev);
     let all = joined(all, origin_text(alloc, tree.origin(rev)));
     joined(all, content_text(alloc, tree, rev))
 }
 
-/// The parent of a revision.
+/// Returns the parent of a revision.
 fn parent_text(alloc: Global, tree: &Tree, rev: Rev) -> Option<String> {
     match tree.parent_of(rev) {
         Some(parent) => rev_text(alloc, parent),
@@ -170,7 +171,7 @@ fn parent_text(alloc: Global, tree: &Tree, rev: Rev) -> Option<String> {
     }
 }
 
-/// An origin, where there is one, between commas.
+/// Returns an optional origin, between commas.
 fn origin_text(alloc: Global, origin: Option<Origin>) -> Option<String> {
     match origin {
         Some(origin) => format!(in alloc; ", {origin:?}, ").ok(),
@@ -178,7 +179,7 @@ fn origin_text(alloc: Global, origin: Option<Origin>) -> Option<String> {
     }
 }
 
-/// The content of a revision.
+/// Returns the content of a revision.
 fn content_text(alloc: Global, tree: &Tree, rev: Rev) -> Option<String> {
     let Some(content) = tree.content(rev) else {
         return "no content".to_string(alloc).ok();
@@ -190,7 +191,7 @@ fn content_text(alloc: Global, tree: &Tree, rev: Rev) -> Option<String> {
     format!(in alloc; "{kind} {body}").ok()
 }
 
-/// Why a call on a database is refused.
+/// Returns the error of a call on a database.
 pub(crate) fn base_fault_text(alloc: Global, fault: BaseFault) -> Option<String> {
     match fault {
         BaseFault::RevExists { rev } => named_text(alloc, "RevExists", &[rev]),
@@ -203,7 +204,7 @@ pub(crate) fn base_fault_text(alloc: Global, fault: BaseFault) -> Option<String>
     }
 }
 
-/// A name, and the sequence, the id and the revision behind it.
+/// Returns a name, followed by a sequence, an id and a revision.
 pub(crate) fn place_text(
     alloc: Global,
     name: &str,
@@ -217,7 +218,7 @@ pub(crate) fn place_text(
     format!(in alloc; "{name} {seq} {} {rev}", id.text()).ok()
 }
 
-/// A name, and the revisions behind it.
+/// Returns a name, followed by revisions.
 fn named_text(alloc: Global, name: &str, revs: &[Rev]) -> Option<String> {
     let Some(revs) = revs_text(alloc, revs) else {
         return None;

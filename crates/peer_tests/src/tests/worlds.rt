@@ -1,4 +1,4 @@
-//! Worlds: steps by their names, and what they leave.
+//! Worlds: steps by name, and their effects.
 use crate::tests::databases::tree;
 use crate::tests::peers::{agreed, entry, source_log, target_log};
 use crate::tests::texts::{body, doc, expect_answer};
@@ -11,24 +11,24 @@ use std::alloc::{AllocError, Global};
 use std::process::Abort;
 use test_support::rev;
 
-/// The replication of a world's peers, which have the uuids 1 and 2.
+/// The replication of a world's peers, which have UUIDs 1 and 2.
 const REP: RepId = RepId {
     source: 1,
     target: 2,
     chosen: None,
 };
 
-/// A step, with its documents as texts. All moments are 0.
+/// A step, with its documents as strings. All timestamps are 0.
 #[derive(Clone, Copy)]
 pub(crate) enum Act<'a> {
-    /// Edits a document at the source: its id, the parent and the body.
+    /// Edit a document at the source: its id, the parent and the body.
     EditSource(&'a str, &'a str, &'a str),
-    /// The same at the target.
+    /// Edit a document at the target: its id, the parent and the body.
     EditTarget(&'a str, &'a str, &'a str),
     LoadSource(&'a str),
     ThirdParty(&'a str),
     ReadLog,
-    /// Begins a session from a log of the bag: the log's place and the goal.
+    /// Begin a session from a log of the bag: the log's index and the goal.
     Begin(SessionId, usize, u64),
     Page(u64, u64, u64),
     Append(SessionId, usize),
@@ -43,7 +43,7 @@ pub(crate) enum Act<'a> {
     Crash,
 }
 
-/// What is asked of a world, which a number names: 1 for the source, 2 for the target.
+/// A question about a world. Sides are numbered: 1 for the source, 2 for the target.
 #[derive(Clone, Copy)]
 pub(crate) enum Question<'a> {
     /// The common checkpoint of the two logs.
@@ -54,26 +54,26 @@ pub(crate) enum Question<'a> {
     Log(u128),
     /// The tree of a document at a side.
     Tree(u128, &'a str),
-    /// The numbers of windows, asked lists, parcels, entries and logs.
+    /// The numbers of windows, requests, parcels, entries and logs.
     Sizes,
     /// The life of the source's database.
     Life,
-    /// What an audit finds.
+    /// The result of an audit.
     Audit,
 }
 
-/// Steps, in their order.
+/// Steps in order.
 pub(crate) type Acts = &'static [Act<'static>];
 
-/// Questions, each with the text that it must be answered.
+/// Questions, each with its expected result.
 pub(crate) type Told = &'static [(Question<'static>, &'static str)];
 
-/// A moment of 0 seconds.
+/// Creates the timestamp 0.
 fn at_0() -> Option<Moment> {
     Moment::new(0).ok()
 }
 
-/// The step of an act.
+/// Returns the step of an act.
 fn step(alloc: Global, act: Act) -> Option<Step> {
     match act {
         Act::EditSource(id, parent, text) => edit_source(alloc, id, parent, text),
@@ -84,7 +84,7 @@ fn step(alloc: Global, act: Act) -> Option<Step> {
     }
 }
 
-/// The edit of a document at the source.
+/// Returns the edit of a document at the source.
 fn edit_source(alloc: Global, id: &str, parent: &str, text: &str) -> Option<Step> {
     let Some(body) = body(alloc, text) else {
         return None;
@@ -100,7 +100,7 @@ fn edit_source(alloc: Global, id: &str, parent: &str, text: &str) -> Option<Step
     })
 }
 
-/// The same at the target.
+/// Returns the edit of a document at the target.
 fn edit_target(alloc: Global, id: &str, parent: &str, text: &str) -> Option<Step> {
     let Some(body) = body(alloc, text) else {
         return None;
@@ -116,7 +116,7 @@ fn edit_target(alloc: Global, id: &str, parent: &str, text: &str) -> Option<Step
     })
 }
 
-/// The step of an act without a document.
+/// Returns the step of an act without a document.
 fn plain_step(act: Act) -> Option<Step> {
     let Some(at) = at_0() else {
         return None;
@@ -143,7 +143,7 @@ fn plain_step(act: Act) -> Option<Step> {
     }
 }
 
-/// The steps of acts.
+/// Returns the steps of acts.
 fn steps(alloc: Global, acts: &[Act]) -> Option<Vec<Step>> {
     let mut all = Vec::new(alloc);
     for act in acts {
@@ -154,7 +154,7 @@ fn steps(alloc: Global, acts: &[Act]) -> Option<Vec<Step>> {
     Some(all)
 }
 
-/// Appends a step that could be made.
+/// Appends an optional step.
 fn push_step(all: &mut Vec<Step>, step: Option<Step>) -> Option<()> {
     match step {
         Some(step) => all.push(step).ok(),
@@ -170,7 +170,7 @@ fn take(alloc: Global, world: &mut World<Rules>, acts: &[Act]) -> Option<()> {
     world.run(alloc, &steps).ok()
 }
 
-/// The log of the replication at a side.
+/// Returns the log of the replication at a side.
 fn side_log(alloc: Global, world: &World<Rules>, side: u128) -> Option<String> {
     if side == 1 {
         source_log(alloc, world.source(), &REP)
@@ -179,7 +179,7 @@ fn side_log(alloc: Global, world: &World<Rules>, side: u128) -> Option<String> {
     }
 }
 
-/// What an audit finds, where memory is left.
+/// Returns the result of an audit, unless an allocation failed.
 fn audit_text(alloc: Global, world: &World<Rules>) -> Option<String> {
     match audit(alloc, world.source(), world.target(), None) {
         Ok(Audit::Clean) => "clean".to_string(alloc).ok(),
@@ -188,7 +188,7 @@ fn audit_text(alloc: Global, world: &World<Rules>) -> Option<String> {
     }
 }
 
-/// The side of a world.
+/// Returns a side of a world.
 fn side(world: &World<Rules>, number: u128) -> &Peer<Rules> {
     if number == 1 {
         world.source()
@@ -197,19 +197,19 @@ fn side(world: &World<Rules>, number: u128) -> &Peer<Rules> {
     }
 }
 
-/// The numbers of windows, asked lists, parcels, entries and logs.
+/// Returns the numbers of windows, requests, parcels, entries and logs.
 fn sizes_text(alloc: Global, sizes: (usize, usize, usize, usize, usize)) -> Option<String> {
     let (windows, asked, parcels, entries, logs) = sizes;
     format!(in alloc; "{windows} {asked} {parcels} {entries} {logs}").ok()
 }
 
-/// The life of the source's database.
+/// Returns the life of the source's database.
 fn life_text(alloc: Global, world: &World<Rules>) -> Option<String> {
     let life = world.source().db().life();
     format!(in alloc; "{life}").ok()
 }
 
-/// What a question is answered.
+/// Returns the result of a question.
 fn answer(alloc: Global, world: &World<Rules>, question: Question) -> Option<String> {
     match question {
         Question::Common => agreed(alloc, world.source(), world.target(), &REP),
@@ -222,7 +222,7 @@ fn answer(alloc: Global, world: &World<Rules>, question: Question) -> Option<Str
     }
 }
 
-/// Takes steps in a world, and asserts what its questions are answered.
+/// Takes steps in a world, and asserts the results of its questions.
 fn tell(rt: &impl Abort, alloc: Global, world: &mut World<Rules>, lists: &[Acts], told: Told) {
     for acts in lists {
         if take(alloc, world, acts).is_none() {
@@ -234,24 +234,24 @@ fn tell(rt: &impl Abort, alloc: Global, world: &mut World<Rules>, lists: &[Acts]
     }
 }
 
-/// A peer that refuses nothing.
+/// Creates a peer that refuses nothing.
 fn peer(alloc: Global, uuid: u128) -> Peer<Rules> {
     Peer::new(alloc, uuid, Rules { deny: None })
 }
 
-/// A world of two empty peers.
+/// Creates a world of two empty peers.
 fn world(rt: &impl Abort, alloc: Global) -> World<Rules> {
     let (source, target) = (peer(alloc, 1), peer(alloc, 2));
     World::new(alloc, source, target, None).expect(rt, "two peers")
 }
 
-/// Takes lists of steps in a world of two empty peers, and asserts what its questions are answered.
+/// Takes lists of steps in a world of two empty peers, and asserts the results of its questions.
 pub(crate) fn expect(rt: &impl Abort, alloc: Global, lists: &[Acts], told: Told) {
     let mut world = world(rt, alloc);
     tell(rt, alloc, &mut world, lists, told);
 }
 
-/// Loads so many documents at the source: d0, d1 and so on, each at 1-a.
+/// Loads this many documents at the source: d0, d1 and so on, each at 1-a.
 fn load_many(alloc: Global, world: &mut World<Rules>, count: u64) -> Option<()> {
     for number in 0..count {
         let Ok(text) = format!(in alloc; r#"{{"_id":"d{number}","_rev":"1-a"}}"#) else {
@@ -264,7 +264,7 @@ fn load_many(alloc: Global, world: &mut World<Rules>, count: u64) -> Option<()> 
     Some(())
 }
 
-/// Takes lists of steps in a world whose source holds so many documents, and asserts what its questions are answered.
+/// Takes lists of steps in a world whose source has this many documents, and asserts the results of its questions.
 pub(crate) fn expect_of_many(
     rt: &impl Abort,
     alloc: Global,
@@ -277,7 +277,7 @@ pub(crate) fn expect_of_many(
     tell(rt, alloc, &mut world, lists, told);
 }
 
-/// Asserts that two peers of one uuid make no world.
+/// Asserts that two peers with the same UUID cannot form a world.
 pub(crate) fn refuse_one(rt: &impl Abort, alloc: Global) {
     let (source, target) = (peer(alloc, 1), peer(alloc, 1));
     let fault = World::new(alloc, source, target, None).err();
