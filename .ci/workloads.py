@@ -1,6 +1,7 @@
-"""The scripts that .ci/costs and .ci/growth count, each a function of its size, and how instructions and memory are counted.
+"""The scripts that .ci/costs and .ci/growth count, each a function of its size, and how instructions and memory are
+counted.
 
-Instructions are the same from run to run, whatever else the machine does, and peak memory nearly so.
+Instructions are the same in every run, whatever else the machine does, and peak memory nearly so.
 """
 import fcntl
 import hashlib
@@ -19,7 +20,7 @@ PROGRAMS = [os.path.join(ROOT, "crates", name, "out", name) for name in ("couch_
 
 
 def digest(*parts):
-    """32 hexadecimal digits that look like a signature, and are the same in each run."""
+    """32 hexadecimal digits that look like a signature, the same in every run."""
     return hashlib.md5("/".join(map(str, parts)).encode()).hexdigest()
 
 
@@ -37,14 +38,14 @@ def small(i):
 
 
 def made(parent, body):
-    """The revision that an edit makes, behind its parent, a text that is empty where it has none."""
+    """The revision of an edit, with its parent, which is empty if there is none."""
     text = json.dumps(body, sort_keys=True, separators=(",", ":"), ensure_ascii=False)
     generation = int(parent.split("-")[0]) + 1 if parent else 1
     return "%d-%s" % (generation, hashlib.md5((parent + "\nlive\n" + text).encode()).hexdigest())
 
 
 def load(db, name, revs, /, **body):
-    """A load of a document by the signatures of its ancestry, head first."""
+    """A load of a document with the signatures of its ancestry, newest first."""
     return {"do": "load", "db": db, "doc": {
         "_id": name, "_rev": "%d-%s" % (len(revs), revs[0]), "_revisions": {"start": len(revs), "ids": revs}, **body}}
 
@@ -63,7 +64,7 @@ def loads(n):
 
 
 def reads(n):
-    """n documents, each asked for by `show`, `doc` and with all others by `changes`."""
+    """n documents, each printed by `show`, `doc` and together by `changes`."""
     return loads(n) + [{"do": do, "db": "a", "id": "doc-%d" % i} for i in range(n) for do in ("show", "doc")] + [
         {"do": "changes", "db": "a"}]
 
@@ -87,12 +88,12 @@ def plain(n):
 
 
 def carried(n):
-    """n documents, carried once by one thread, and an audit."""
+    """n documents, replicated once by one thread, and an audit."""
     return pair() + loads(n)[1:] + [session("a", "b", 1), audit("a", "b")]
 
 
 def pooled(n):
-    """n documents, carried once by the pool."""
+    """n documents, replicated once by the pool."""
     by_threads = session("a", "b", 1)
     del by_threads["alone"]
     return pair() + loads(n)[1:] + [by_threads, audit("a", "b")]
@@ -107,7 +108,7 @@ def daily(n):
 
 
 def deep(n):
-    """One document's chain of n revisions, loaded a hundred at a time and carried."""
+    """One document's chain of n revisions, loaded a hundred at a time and replicated."""
     revs = [digest(g) for g in range(n)]
     loaded = [{"do": "load", "db": "a", "doc": {"_id": "d", "_rev": "%d-%s" % (g + 100, revs[g + 99]), "_revisions": {
         "start": g + 100, "ids": revs[max(0, g - 1):g + 100][::-1]}}} for g in range(0, n, 100)]
@@ -115,13 +116,13 @@ def deep(n):
 
 
 def wide(n):
-    """One document of n leaves, carried and shown."""
+    """One document of n leaves, replicated and shown."""
     return pair() + [load("a", "d", [digest(i), "r"], n=i) for i in range(n)] + [
         session("a", "b", 1), {"do": "show", "db": "b", "id": "d"}]
 
 
 def widening(n):
-    """A document that grows to n leaves, and is asked for each time."""
+    """A document that grows to n leaves, and is shown each time."""
     lines = [database("a", 1)]
     for i in range(n):
         lines += [load("a", "d", [digest(i), "r"], n=i), {"do": "doc", "db": "a", "id": "d"}]
@@ -129,17 +130,17 @@ def widening(n):
 
 
 def chosen(n):
-    """n replications of one choice of two documents."""
+    """n replications of one selection of two documents."""
     return pair() + loads(10)[1:] + [session("a", "b", i + 1, doc_ids=["doc-1", "doc-2"]) for i in range(n)]
 
 
 def scanned(n):
-    """A replication for each of n choices of two documents, each over a feed of a thousand."""
+    """A replication for each of n selections of two documents, each over a feed of a thousand."""
     return pair() + loads(1000)[1:] + [session("a", "b", i + 1, doc_ids=["doc-%d" % (2 * i), "doc-%d" % (2 * i + 1)]) for i in range(n)]
 
 
 def copied(n):
-    """Four backups of n documents, of which the last is put back."""
+    """Four backups of n documents, of which the last is restored."""
     return loads(n) + [{"do": "backup", "db": "a", "name": "k%d" % k} for k in range(4)] + [
         {"do": "restore", "db": "a", "name": "k3"}]
 
@@ -151,7 +152,8 @@ def logged(n):
 
 
 def edited(n):
-    """A document that is edited and carried n times. Each time it comes with its whole ancestry, as the protocol has it."""
+    """A document that is edited and replicated n times. Each time it is sent with its complete ancestry, as the protocol
+    requires."""
     lines, parent = pair(), ""
     for i in range(n):
         lines += [{"do": "edit", "db": "a", "id": "d", "body": {"n": i}, **({"parent": parent} if parent else {})},
@@ -166,7 +168,7 @@ def idle(n):
 
 
 def hub(n):
-    """Sessions of ten sources, each with n of them, into one target."""
+    """Sessions of ten sources, n each, into one target."""
     lines = [database("hub", 99)]
     for k in range(10):
         lines += [database("p%d" % k, k + 1), load("p%d" % k, "doc-%d" % k, [digest(k)])]
@@ -174,7 +176,7 @@ def hub(n):
 
 
 def refused(n):
-    """n documents that contradict the target's, each kept in the ledger, which is asked for."""
+    """n documents that contradict the target's, each stored in the ledger, which is printed."""
     lines = pair()
     for i in range(n):
         lines += [load("a", "doc-%d" % i, [digest(i), "x"]), load("b", "doc-%d" % i, [digest(i), "y"])]
@@ -182,7 +184,7 @@ def refused(n):
 
 
 def asked(n):
-    """n documents, of which a tenth is in conflict, and half stands in another database: all words that ask of them."""
+    """n documents, of which a tenth is in conflict, and half is in another database: all read-only commands for them."""
     lines = loads(n)
     lines += [load("a", "doc-%d" % i, [digest(i, "other"), digest(i, 2), digest(i, 1)], n=i) for i in range(0, n, 10)]
     lines += [database("b", 2), session("a", "b", 1, doc_ids=["doc-%d" % i for i in range(0, n, 2)])]
@@ -209,14 +211,14 @@ def compared(n):
 
 
 def drawn(n):
-    """What `show` answers of n documents of three leaves, for the pictures of `couch_lines trees`."""
+    """The output of `show` for n documents of three leaves, for `couch_lines trees`."""
     leaf = "leaf 3-%s live 3-%s,2-%s,1-%s"
     return [text for i in range(n) for text in ['doc "doc-%d" winner 3-%s leaves 3 revs 5' % (i, digest(i, 2))] + [
         leaf % (digest(i, k), digest(i, k), digest(i, "b"), digest(i, "a")) for k in (2, 1, 0)]]
 
 
 def read_in(n):
-    """An answer of CouchDB with n documents, for `couch_lines load`."""
+    """A CouchDB response with n documents, for `couch_lines load`."""
     return ['{"results":['] + [json.dumps({"id": "doc-%d" % i, "docs": [{"ok": load(
         "a", "doc-%d" % i, [digest(i, g) for g in (3, 2, 1)], **small(i))["doc"]}]}) + "," * (i < n - 1) for i in range(n)] + ["]}"]
 
@@ -227,7 +229,7 @@ def written(lines):
 
 
 def counted(words, lines, name, folder):
-    """The instructions of a program over some lines, and the MD5 of what it printed."""
+    """The instructions of a program on some lines, and the MD5 of its output."""
     script = os.path.join(folder, name)
     with open(script, "w") as file:
         file.write(written(lines))
@@ -242,10 +244,11 @@ def counted(words, lines, name, folder):
 
 
 def kept_at_most(words, lines, name, folder):
-    """The peak memory of a program over some lines, in KB, as the system tells it before the run's input ends: when a line behind
-    them is refused, or when couch_lines has taken all that it was given.
+    """The peak memory of a program on some lines, in KB, as the system reports it before the run's input ends: when a line
+    after them fails, or when couch_lines has read all of its input.
 
-    What a child's `rusage` says has the memory of this script in it, from which the child came."""
+    A child's `rusage` would include the memory of this script, from which the child was forked.
+    """
     is_script = len(words) == 1
     last = "refused %d BadLine\n" % (len(lines) + 1)
     text = written(lines) + ("none\n" if is_script else "")
@@ -270,5 +273,5 @@ def kept_at_most(words, lines, name, folder):
 
 
 def named(make, words):
-    """The name of a workload, with the words of couch_lines where it is one of it."""
+    """The name of a workload, with the arguments of couch_lines if it is one of its."""
     return "-".join([make.__name__, *(word.strip("-") for word in words)])

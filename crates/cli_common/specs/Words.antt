@@ -1,29 +1,29 @@
--- The parts of a command line, and what is found of its words: docs/PROFILE.md, "Options" and "Options of `couch_lines`".
+-- The parts of a command line, and their parsed values: docs/PROFILE.md, "Options" and "Options of `couch_lines`".
 use Rattle.std.specs.Prelude.{◌≡◌, ℕ, List, Bool, Option, Some, None, codes, true, false}
 use Rattle.clap.specs.Words.{App, Rule, first_of, first_value, found_of, matches_of, new_app, new_rule, one_of, one_text}
 use Rattle.clap.specs.Simple.{on_top}
 use Rattle.clap.specs.declared.builder.action.ArgAction.TheVariants.{Set, SetTrue}
 use Rattle.clap.specs.declared.parser.matches.ArgMatches.{ArgMatches}
 
--- a program without words; it has a version
+-- a program without arguments; it has a version
 abbrev pub program_app : List ℕ → App
 program_app name = on_top (λ s. record s { has_version = true }) (new_app name)
 
--- an option that is there or not
+-- an option without a value
 abbrev pub flag_option : List ℕ → Rule
 flag_option name = record (new_rule name) { long = Some name; action = Some SetTrue }
 
--- a word that is no option
+-- a positional argument
 abbrev pub hidden_option : List ℕ → Rule
 hidden_option name = record (new_rule name) { action = Some Set }
 
--- the text of a flag that is set or not
+-- the value of an option without a value, from its text
 abbrev pub IsFlag : Option (List ℕ) → Bool → Type 0
 IsFlag text flag =
     ((text ≡ None) → flag ≡ false) × ((text ≡ Some (codes "true")) → flag ≡ true)
     × ((text ≡ Some (codes "false")) → flag ≡ false)
 
--- the first texts of the command line's parts, and their only ones, are as the words are read
+-- the first values and the single values of all arguments are those that the command line gives them
 abbrev pub IsFound : App → List (List ℕ) → ArgMatches → Type 0
 IsFound line words m =
     (first_value (found_of m) ≡ λ id. first_of id (matches_of line words))

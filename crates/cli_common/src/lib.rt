@@ -1,6 +1,6 @@
-//! The shell of a program: the words of its command line, and its exit status where they ask for nothing.
+//! Command-line parsing and exit status, shared by both programs.
 //!
-//! A program says which words it takes and what they ask for; what all programs have alike is told here.
+//! Each program defines its own options and what they do.
 #![tactic(auto)]
 
 mod status;

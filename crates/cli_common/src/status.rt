@@ -1,4 +1,4 @@
-//! How a program begins and ends: its words, and its exit status where they ask for nothing.
+//! The arguments of a program, and its exit status if it has nothing to run.
 ghost use Rattle.std.specs.Prelude.{◌≡◌, ◌≤◌};
 ghost use Rattle.clap.specs.Words.{kind_of};
 ghost use Rattle.cli_common.specs.Status.{kind_status};
@@ -10,16 +10,20 @@ use std::env::Env;
 use std::io::{Eprint, Print};
 use std::{env, io};
 
-/// The exit status for words that ask for nothing.
+/// The exit status for a usage error.
 pub const BAD_COMMAND_LINE: u8 = 2;
 
-/// The words of the command line, the program's name first. An error is `OutOfMemory`, or a word is no text.
+/// Returns the command-line arguments, the program's name first.
+///
+/// # Errors
+///
+/// `OutOfMemory`, or an argument that is not valid Unicode.
 pub fn words_of<H: AllocGlobal + Env>(rt: &H) -> io::Result<Vec<String>> {
     let words = env::args(rt)?.collect(rt.alloc())?;
     Ok(words)
 }
 
-/// Tells why there are no words, and gives the exit status.
+/// Reports why the arguments cannot be read, and returns the exit status.
 pub fn report_bad_arguments(rt: &impl Eprint, error: &io::Error) -> u8
     ensures { result ≤ 3 }
 {
@@ -32,7 +36,7 @@ pub fn report_bad_arguments(rt: &impl Eprint, error: &io::Error) -> u8
     }
 }
 
-/// Tells what `clap` says of the command line, and gives the exit status: 0 where it is the help that was asked for.
+/// Prints `clap`'s message, and returns the exit status: 0 for help and version, 3 if memory ran out, 2 otherwise.
 pub fn report_arguments<H: Print + Eprint>(rt: &H, error: &Error) -> u8
     ensures { result ≡ kind_status (kind_of error.now) }
 {
@@ -47,7 +51,7 @@ pub fn report_arguments<H: Print + Eprint>(rt: &H, error: &Error) -> u8
     }
 }
 
-/// Tells that memory was wanting before anything was read, and gives the exit status.
+/// Reports that an allocation failed before anything was read, and returns the exit status.
 pub fn report_out_of_memory(rt: &impl Eprint) -> u8
     ensures { result ≡ 3 }
 {

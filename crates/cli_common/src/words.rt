@@ -1,4 +1,4 @@
-//! The command line: its parts, and what is found of them.
+//! The parts of a command line, and their parsed values.
 ghost use Rattle.std.specs.Prelude.{◌≡◌, IfOk, IfErr, map, string_bytes, true, false};
 ghost use Rattle.clap.specs.Words.{HasKind, app_of, fault_of, is_simple_and_free, rule_of};
 ghost use Rattle.cli_common.specs.Words.{IsFound, flag_option, hidden_option, program_app};
@@ -6,7 +6,7 @@ ghost use Rattle.cli_common.specs.Words.{IsFound, flag_option, hidden_option, pr
 use clap::{Arg, ArgAction, ArgMatches, Command, Error};
 use std::alloc::Global;
 
-/// A program by its name, without words: what it says of itself, and what stands behind its help.
+/// Defines a program without arguments: its name, its description, and the text after its help.
 pub fn program<'a>(alloc: Global, name: &'a str, about: &'a str, help: &'a str) -> Command<'a>
     ensures { app_of result ≡ program_app name.entry.now }
 {
@@ -16,7 +16,7 @@ pub fn program<'a>(alloc: Global, name: &'a str, about: &'a str, help: &'a str) 
         .after_help(help)
 }
 
-/// An option that is there or not.
+/// Defines an option without a value.
 pub fn flag<'a>(alloc: Global, name: &'a str, help: &'a str) -> Arg<'a>
     ensures rule { rule_of result ≡ flag_option name.entry.now }
     ensures local { result.global ≡ false }
@@ -27,8 +27,8 @@ pub fn flag<'a>(alloc: Global, name: &'a str, help: &'a str) -> Arg<'a>
         .help(help)
 }
 
-/// A word too many, which may be the name of a file: it is taken, so that the program can say what it wants, and stands
-/// in no help.
+/// Defines a positional argument that does not appear in the help. The program accepts it and can then print its own
+/// error, for example about a file name.
 pub fn hidden_word<'a>(alloc: Global, name: &'a str) -> Arg<'a>
     ensures rule { rule_of result ≡ hidden_option name.entry.now }
     ensures local { result.global ≡ false }
@@ -36,8 +36,11 @@ pub fn hidden_word<'a>(alloc: Global, name: &'a str) -> Arg<'a>
     Arg::new(alloc, name).hide(true).action(ArgAction::Set)
 }
 
-/// What is found of the words of a command line, the program's name first; or what `clap` says of them, the help that
-/// was asked for too, or that memory was wanting.
+/// Parses the command line.
+///
+/// # Errors
+///
+/// `clap`'s error, which includes requests for help and version, or out of memory.
 pub fn find<'a>(command: Command<'a>, words: &'a [String]) -> Result<ArgMatches<'a>, Error>
     requires free { is_simple_and_free (app_of command) ≡ true }
     ensures ok { IfOk result (IsFound (app_of command.entry) (map string_bytes words.entry.now)) }

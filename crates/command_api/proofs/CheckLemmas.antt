@@ -1,4 +1,4 @@
--- Checks, one behind the other, and what a line leaves that is refused at one of them.
+-- Checks in order, and the state after a line fails at one of them.
 use Rattle.proof_prelude.proofs.{◌≡◌, ℕ, List, Option, Some, None, Result, Ok, Err, refl, sym, ap, subst}
 use Rattle.repl_peer.specs.{PeerValue}
 use Rattle.script_engine.specs.{Told}
@@ -9,7 +9,7 @@ use Rattle.command_api.specs.{Does, database_of}
 use Rattle.script_databases.proofs.{same_Ok}
 use Rattle.script_databases.specs.declared.refusal.Refusal.TheVariants as why
 
--- where a check is passed, and what stands behind it
+-- a check that passes, and the next one
 pub bound : {A B : Type 0} (r : Result A Refusal) (f : A → Result B Refusal) (y : B) → (r >>= f) ≡ Ok y → (x : A) × (r ≡ Ok x) × (f x ≡ Ok y)
 bound (Ok x) f y e = (x, refl, e)
 bound (Err refusal) f y e = cc
@@ -22,7 +22,7 @@ found s name p e = go (peer_at s name) e
     go None k = cc
     go (Some q) k = ap Some (same_Ok q p k)
 
--- a line that does something, or is refused
+-- a line that has an effect, or fails
 pub does_tied : (r : Result (List ℕ × State) Refusal) (old : State) (told : Told) (new : State) → AllTied old → ((done : List ℕ × State) → r ≡ Ok done → AllTied done.1) → Does r old told new → AllTied new
 does_tied (Ok done) old told new h f d = subst AllTied (sym d.1) (f done refl)
 does_tied (Err refusal) old told new h f d = subst AllTied (sym d.1) h

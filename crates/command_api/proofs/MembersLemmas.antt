@@ -3,7 +3,7 @@ use Rattle.proof_prelude.proofs.{◌≡◌, ℕ, List, [], ◌∷◌, ◌&&◌, 
 use Rattle.json_values.specs.{line_members, LineValue}
 use Rattle.command_api.specs.{is_among, all_among}
 
--- a test of the references is the test of what they point to
+-- testing references is testing what they refer to
 pub is_among-refs : (key : List ℕ) (ks : List (Bor (List ℕ))) → list_any (λ k. bytes_eq key k.now) ks ≡ is_among (map (λ k. k.now) ks) key
 is_among-refs key [] = refl
 is_among-refs key (k ∷ ks) = ap (λ b. bytes_eq key k.now || b) (is_among-refs key ks)

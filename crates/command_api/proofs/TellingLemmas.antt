@@ -1,4 +1,4 @@
--- From checks that pass, or don't, to what a word is told.
+-- From checks to the result of a command.
 use Rattle.proof_prelude.proofs.{◌≡◌, ◌⊎◌, inl, inr, ℕ, Bool, true, false, List, [], ◌++◌, Option, Some, None, Result, Ok, Err, IsErrAnd, refl, sym, ap, subst, ◌∙◌, is_some, contains_key, true≢false}
 use Rattle.rev_tree.specs.{TreeValue}
 use Rattle.couch_base.specs.{DatabaseValue, tree_in}
@@ -11,21 +11,21 @@ use Rattle.command_api.specs.{hushed, told_hushed, told_by, told_of, Reads, Does
 
 -- ---- checks
 
--- one that passes, and one that doesn't
+-- a check that passes, and one that fails
 pub passes : {A B : Type 0} {r : Result A Refusal} {x : A} (f : A → Result B Refusal) → r ≡ Ok x → (r >>= f) ≡ f x
 passes f e = ap (λ s. s >>= f) e
 
 pub stops : {A B : Type 0} {r : Result A Refusal} {refusal : Refusal} (f : A → Result B Refusal) → r ≡ Err refusal → (r >>= f) ≡ Err refusal
 stops f e = ap (λ s. s >>= f) e
 
--- what is there, and what isn't
+-- something exists, or not
 pub is_found : {A : Type 0} {o : Option A} {x : A} (refusal : Refusal) → o ≡ Some x → or_refused refusal o ≡ Ok x
 is_found refusal e = ap (or_refused refusal) e
 
 pub is_missing : {A : Type 0} {o : Option A} (refusal : Refusal) → o ≡ None → or_refused refusal o ≡ Err refusal
 is_missing refusal e = ap (or_refused refusal) e
 
--- ---- what is told
+-- ---- results
 
 pub reads : {text : Result (List ℕ) Refusal} {old : State} (r : Result (List ℕ) Refusal) → text ≡ r → Reads text old (told_of r) old
 reads r e = (ap told_of (sym e), refl)
@@ -36,45 +36,45 @@ does {done} {new} old text e = subst (λ d. Does d old (Ok text) new) (sym e) (r
 pub does_nothing : {done : Result (List ℕ × State) Refusal} {old new : State} (refusal : Refusal) → done ≡ Err refusal → new ≡ old → Does done old (Err (name_of refusal)) new
 does_nothing {done} {old} {new} refusal e s = subst (λ d. Does d old (Err (name_of refusal)) new) (sym e) (refl, s)
 
--- the text that was told, and the state that was left
+-- the output, and the state after it
 pub both : {text text' : List ℕ} {s s' : State} → text' ≡ text → s' ≡ s → ◌≡◌ {A = Result (List ℕ × State) Refusal} (Ok (text, s)) (Ok (text', s'))
 both e f = λ i. Ok (sym e i, sym f i)
 
--- memory was wanting, and nothing was changed
+-- an allocation failed, and nothing changed
 pub gave_up_at : {L : Type 0} {answers : Answering State L} {old new : State} {ask : L} → new ≡ old → MayTell answers old ask (Err (name_of why.Memory)) new
 gave_up_at {answers = answers} {old = old} {ask = ask} s = subst (λ (x : State). MayTell answers old ask (Err (name_of why.Memory)) x) (sym s) gave_up
 
--- what was put into a buffer that was empty
+-- what was written into an empty buffer
 pub printed : {items old text expected : List ℕ} → items ≡ old ++ text → old ≡ [] → text ≡ expected → items ≡ expected
 printed {text = text} e none is = e ∙ ap (λ x. x ++ text) none ∙ is
 
--- the refusal is the expected one, or memory was wanting before a change
+-- the error is the expected one, or an allocation failed before a change
 pub unless_memory : {L A : Type 0} {answers : Answering State L} {old new : State} {ask : L} {refusal : Refusal} (expected : Result A Refusal) → (expected ≡ Err refusal) ⊎ (refusal ≡ why.Memory) → new ≡ old →
     (expected ≡ Err refusal → answers old ask (Err (name_of refusal)) new) → MayTell answers old ask (Err (name_of refusal)) new
 unless_memory expected (inl e) s f = in_full (f e)
 unless_memory {answers = answers} {old = old} {new = new} {ask = ask} {refusal = refusal} expected (inr m) s f =
     subst (λ r. MayTell answers old ask (Err (name_of r)) new) (sym m) (subst (λ (x : State). MayTell answers old ask (Err (name_of why.Memory)) x) (sym s) gave_up)
 
--- a refusal that is handed on is told by its name
+-- an error that is passed on keeps its name
 pub handed_on : {L A : Type 0} {answers : Answering State L} {old new : State} {ask : L} (refusal : Refusal) (r : Result A Refusal) (text : List ℕ) → IsErrAnd r (λ e. e ≡ refusal) → MayTell answers old ask (Err (name_of refusal)) new →
     MayTell answers old ask (told_by r text) new
 handed_on refusal (Ok done) text h told = absurd h
 handed_on {answers = answers} {old = old} {new = new} {ask = ask} refusal (Err e) text h told = subst (λ r. MayTell answers old ask (Err (name_of r)) new) (sym h) told
 
--- an allocation was refused, and that is told
+-- an allocation failed, which is the error
 pub refused_memory : {L A : Type 0} {answers : Answering State L} {old new : State} {ask : L} (r : Result A Refusal) (text : List ℕ) → IsErrAnd r (λ refusal. refusal ≡ why.Memory) → MayTell answers old ask (Err (name_of why.Memory)) new →
     MayTell answers old ask (told_by r text) new
 refused_memory r text h told = handed_on why.Memory r text h told
 
--- what a part may be told, the whole may
+-- a result of a part is a result of the complete command
 pub may_tell : {K L : Type 0} {part : Answering State K} {whole : Answering State L} {old new : State} {k : K} {l : L} {told : Told} → ((t : Told) → part old k t new → whole old l t new) → MayTell part old k told new → MayTell whole old l told new
 may_tell f (in_full a) = in_full (f _ a)
 may_tell f gave_up = gave_up
 may_tell f (served_only text a) = served_only text (f _ a)
 
--- ---- where the program is quiet
+-- ---- a quiet program
 
--- what may be told aloud, or nothing in its place
+-- a possible result, or an empty output instead
 pub unless_quiet : {L : Type 0} {answers : Answering State L} {old new : State} {ask : L} {told : Told} (quiet : Bool) → quiet ≡ old.program.quiet → MayTell answers old ask told new → MayTell (UnlessQuiet answers) old ask (told_hushed quiet told) new
 unless_quiet quiet e (in_full {told = told} a) = in_full (told, a, ap (λ q. told_hushed q told) e)
 unless_quiet quiet e gave_up = gave_up
@@ -84,14 +84,14 @@ pub hushed_by : {A : Type 0} (quiet : Bool) (r : Result A Refusal) (text : List 
 hushed_by quiet (Ok done) text = refl
 hushed_by quiet (Err refusal) text = refl
 
--- what a call tells aloud, and its text is taken back
+-- the result of a call whose output is cleared
 pub taken_back : {L A : Type 0} {answers : Answering State L} {old new : State} {ask : L} (quiet : Bool) (r : Result A Refusal) (text left : List ℕ) → quiet ≡ old.program.quiet → left ≡ hushed quiet text → MayTell answers old ask (told_by r text) new → MayTell (UnlessQuiet answers) old ask (told_by r left) new
 taken_back {answers = answers} {old = old} {new = new} {ask = ask} quiet r text left q l h =
     subst (λ told. MayTell (UnlessQuiet answers) old ask told new) (hushed_by quiet r text ∙ ap (told_by r) (sym l)) (unless_quiet quiet q h)
 
 -- ---- documents
 
--- the document's tree, where the database and the id are known
+-- the document's tree, if the database and the id are known
 pub tree_is : (base : DatabaseValue) (l : PeerValue) (id : List ℕ) (o : Option TreeValue) → base ≡ l.db → o ≡ tree_in base.docs id → tree_in l.db.docs id ≡ o
 tree_is base l id o e h = sym (h ∙ ap (λ (d : DatabaseValue). tree_in d.docs id) e)
 
@@ -111,6 +111,6 @@ is_absent s name h = by (peer_at s name) refl
     by None e = e
     by (Some l) e = absurd (true≢false (sym (ap is_some e) ∙ h))
 
--- a change of one that is there
+-- changing an existing one
 pub changed_is : (s new : State) (name : List ℕ) (f : PeerValue → PeerValue) (l : PeerValue) → peer_at s name ≡ Some l → new ≡ changed_at s name f → new ≡ with_peer s name (f l)
 changed_is s new name f l e is = is ∙ ap (with_changed s name f) e

@@ -1,14 +1,14 @@
--- Checks, one behind the other: docs/PROFILE.md, "Order of checks".
+-- Checks in sequence: docs/PROFILE.md, "Order of checks".
 use Rattle.std.specs.Prelude.{Option, Result, Ok, Err}
 use Rattle.rev_core.specs.Checks.{or_refused}
 use Rattle.script_databases.specs.declared.refusal.Refusal.{Refusal}
 use Rattle.script_databases.specs.declared.refusal.Refusal.TheVariants as why
 
--- what an object has to have to be a command
+-- a required part; without it the object is not a command
 abbrev pub needed : {A : Type 0} → Option A → Result A Refusal
 needed x = or_refused why.BadCommand x
 
--- what has passed, seen in another way
+-- a successful result, converted by f
 abbrev pub seen_as : {A B : Type 0} → (A → B) → Result A Refusal → Result B Refusal
 seen_as f (Ok x) = Ok (f x)
 seen_as f (Err why) = Err why

@@ -1,4 +1,4 @@
--- What a word is told, and what it leaves: docs/PROFILE.md, "Order of checks" and "Answers".
+-- The result of a command, and the state after it: docs/PROFILE.md, "Order of checks" and "Answers".
 use Rattle.std.specs.Prelude.{◌≡◌, ℕ, Bool, List, [], if◌then◌else◌, Result, Ok, Err}
 use Rattle.repl_peer.specs.peer.Peer.{PeerValue}
 use Rattle.script_engine.specs.Serving.{Told, Answering}
@@ -12,30 +12,30 @@ use Rattle.rev_core.specs.Checks.{or_refused}
 abbrev pub database_of : State → List ℕ → Result PeerValue Refusal
 database_of s name = or_refused why.NoDatabase (peer_at s name)
 
--- a text is told as it is, and a refusal by its name
+-- the result of a line: the output, or the name of the error
 abbrev pub told_of : Result (List ℕ) Refusal → Told
 told_of (Ok text) = Ok text
 told_of (Err refusal) = Err (name_of refusal)
 
--- the line is refused, and everything stays
+-- the line fails with this error, and changes nothing
 abbrev pub Refuses : Refusal → State → Told → State → Type 0
 Refuses refusal old told new = (told ≡ Err (name_of refusal)) × (new ≡ old)
 
--- what is asked is answered so, or refused and everything stays
+-- a valid request has one of its results; an invalid one fails and changes nothing
 abbrev pub AnswersIn : {L : Type 0} → Answering State L → Answering State (Result L Refusal)
 AnswersIn answers old (Ok ask) told new = answers old ask told new
 AnswersIn answers old (Err refusal) told new = Refuses refusal old told new
 
--- the line is told this, and everything stays
+-- the line has this result, and changes nothing
 abbrev pub Reads : Result (List ℕ) Refusal → State → Told → State → Type 0
 Reads text old told new = (told ≡ told_of text) × (new ≡ old)
 
--- the line is told a text and leaves a state, or is refused
+-- the line has this output and leaves this state, or fails and changes nothing
 abbrev pub Does : Result (List ℕ × State) Refusal → State → Told → State → Type 0
 Does (Ok done) old told new = (told ≡ Ok done.0) × (new ≡ done.1)
 Does (Err refusal) old told new = Refuses refusal old told new
 
--- where the program is quiet, nothing is told of what is done; a refusal is told all the same
+-- a quiet program prints nothing for a success
 abbrev pub hushed : Bool → List ℕ → List ℕ
 hushed quiet text = if quiet then [] else text
 
@@ -43,12 +43,12 @@ abbrev pub told_hushed : Bool → Told → Told
 told_hushed quiet (Ok text) = Ok (hushed quiet text)
 told_hushed quiet (Err name) = Err name
 
--- what is asked is answered so, unless the program is quiet
+-- a request has one of its results, without the output if the program is quiet
 abbrev pub UnlessQuiet : {L : Type 0} → Answering State L → Answering State L
 UnlessQuiet answers old ask told new =
     (loud : Told) × answers old ask loud new × (told ≡ told_hushed old.program.quiet loud)
 
--- what a call tells that puts its text into a buffer
+-- the result of a call that writes its output into a buffer
 abbrev pub told_by : {A : Type 0} → Result A Refusal → List ℕ → Told
 told_by (Ok done) text = Ok text
 told_by (Err refusal) text = Err (name_of refusal)

@@ -1,4 +1,4 @@
--- Parts of answers that several words print: docs/PROFILE.md, "Answers".
+-- Text that several commands print: docs/PROFILE.md, "Answers".
 use Rattle.std.specs.Prelude.{ℕ, ◌==◌, List, [], ◌∷◌, ◌++◌, length, codes, decimal, map, if◌then◌else◌, Option}
 use Rattle.std.specs.List.{join_with_byte}
 use Rattle.std.specs.Option.{option_map_or}
@@ -7,30 +7,30 @@ use Rattle.serde_json.specs.Written.{compact_text}
 use Rattle.rev_core.specs.Rev.{RevId}
 use Rattle.rev_core.specs.Text.{rev_text}
 
--- with the line's end
+-- a text with a line end
 abbrev pub ended : List ℕ → List ℕ
 ended text = text ++ 10 ∷ []
 
--- the text as JSON, in quotation marks
+-- a string as JSON
 abbrev pub quoted : List ℕ → List ℕ
 quoted text = compact_text (string text)
 
--- the text of a revision, where there is one
+-- the text of an optional revision
 abbrev pub text_of_any : Option RevId → List ℕ
 text_of_any rev = option_map_or rev_text rev []
 
--- their texts, joined by commas
+-- the texts of revisions, separated by commas
 abbrev pub texts_of_revs : List RevId → List ℕ
 texts_of_revs revs = join_with_byte 44 (map rev_text revs)
 
--- a line of a document's revisions
+-- a line with a keyword, a document id and revisions
 abbrev pub line_of_revs : List ℕ → List ℕ → List RevId → List ℕ
 line_of_revs word id revs = ended (word ++ codes " " ++ quoted id ++ codes " " ++ texts_of_revs revs)
 
--- none where there are none
+-- empty if there are no revisions
 abbrev pub revs_line : List ℕ → List ℕ → List RevId → List ℕ
 revs_line word id revs = if length revs == 0 then [] else line_of_revs word id revs
 
--- the sequence up to which a feed was listed
+-- the last sequence of a feed
 abbrev pub last_line : ℕ → List ℕ
 last_line last = ended (codes "last " ++ decimal last)

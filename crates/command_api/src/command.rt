@@ -1,4 +1,4 @@
-//! A word's room: what a word asks, what it does, and what it is answered. A line is served in the room of its word.
+//! The trait of commands, and the function that runs a line as a command.
 ghost use Rattle.std.specs.Prelude.{◌≡◌, [], option_map};
 ghost use Rattle.script_engine.specs.Serving.{MayTell};
 ghost use Rattle.command_api.specs.Checks.{needed};
@@ -9,7 +9,8 @@ use std::alloc::Global;
 use std::sync::Wait;
 use std::thread::Threads;
 
-/// A word's room. The type that has it is what a line asks by the word, as it stands in the line, which is borrowed.
+/// A command: reads its parameters from a line, runs, and prints its output. The implementing type holds the parameters
+/// and borrows from the line.
 pub trait Command<L>: Sized + Drop {
     ghost use Rattle.std.specs.Prelude.{Result};
     ghost use Rattle.std.specs.Thread.{IsSync};
@@ -21,23 +22,24 @@ pub trait Command<L>: Sized + Drop {
     // The value of a line.
     ghost seen: { L → Data };
 
-    // What the word asks, apart from where it stands.
+    // The parameters of the command, independent of where they are stored.
     ghost Ask: { Type 0 };
 
     ghost asked: { Self → Ask };
 
-    // What an object asks by the word: its members, of their kinds, and no others.
+    // The parameters that an object gives: all members have their types, and there are no other members.
     ghost asked_in: { Data → Result Ask Refusal };
 
-    // What it is answered, and the state that it leaves.
+    // The possible results, and the states that they leave.
     ghost answers: { Answering State Ask };
 
-    /// What an object asks by the word. `None` where it asks nothing: the line is `BadCommand`.
+    /// Reads the parameters from an object. Returns `None` if it is not such a command; the line then fails with
+    /// `BadCommand`.
     fn read(line: L) -> Option<Self>
         ensures { needed (option_map asked result) ≡ asked_in (seen line) };
 
-    /// Does what is asked, and puts the text of its answer into the buffer. `Memory` may come in the place of any answer;
-    /// what is asked is done then, or nothing is.
+    /// Runs the command, and writes its output into the buffer. Every line may fail with `Memory`; the command then had
+    /// its complete effect or no effect.
     fn serve<H: Threads + Wait + Sync>(
         &self,
         rt: &H,
@@ -50,7 +52,7 @@ pub trait Command<L>: Sized + Drop {
         ensures { MayTell answers databases.old (asked self.now) (told_by result answer.new.items) databases.new };
 }
 
-/// Serves what an object asks by a word, in the word's room.
+/// Reads and runs a line as one command.
 #[inline(never)]
 pub fn serve_in<L, A: Command<L>, H: Threads + Wait + Sync>(
     rt: &H,

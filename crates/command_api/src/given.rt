@@ -1,4 +1,5 @@
-//! What a line gives: ids, revisions, bodies and documents, each read where its turn among the checks has come.
+//! Parsing the values of a line: ids, revisions, bodies and documents. Commands call these functions in the order of
+//! checks.
 ghost use Rattle.std.specs.Prelude.{◌≡◌, option_map};
 ghost use Rattle.std.specs.Option.{option_copied};
 ghost use Rattle.json_values.specs.LineView.{line_view, line_items};
@@ -13,7 +14,7 @@ use rev_core::Rev;
 use script_databases::Refusal;
 use std::alloc::Global;
 
-/// The document's id that a text spells.
+/// Parses a document id.
 pub fn read_id(alloc: Global, text: &str) -> Result<DocId, Refusal>
     ensures { GivesOrMemory result (id_given text.now) }
 {
@@ -23,7 +24,7 @@ pub fn read_id(alloc: Global, text: &str) -> Result<DocId, Refusal>
     }
 }
 
-/// The ids that texts spell, the items of a list, in their order.
+/// Parses a list of document ids, in order.
 fn read_ids(alloc: Global, texts: &Vec<LineValue<'_>>) -> Result<Vec<DocId>, Refusal>
     ensures { GivesOrMemory (seen_as (λ ids. ids.items) result) (ids_given (texts_of (line_items texts.now.items))) }
 {
@@ -41,7 +42,7 @@ fn read_ids(alloc: Global, texts: &Vec<LineValue<'_>>) -> Result<Vec<DocId>, Ref
     Ok(ids)
 }
 
-/// The choice of some ids.
+/// Builds the selection of some ids.
 fn choose(ids: Vec<DocId>) -> Result<Option<Chosen>, Refusal>
     ensures { GivesOrMemory result (chosen_given ids.items) }
 {
@@ -51,8 +52,11 @@ fn choose(ids: Vec<DocId>) -> Result<Option<Chosen>, Refusal>
     }
 }
 
-/// The choice that a line's ids make, none where it gives no list of them: `NoId`, `ReservedId` in the order of the ids,
-/// then `NoneChosen`, `TooManyChosen`.
+/// Parses the selection of a line; `None` if the line has no list of ids.
+///
+/// # Errors
+///
+/// Checked in this order: `NoId` or `ReservedId` for the first invalid id, `NoneChosen`, `TooManyChosen`.
 pub fn read_choice(
     alloc: Global,
     ids: Option<&Vec<LineValue<'_>>>,
@@ -68,7 +72,7 @@ pub fn read_choice(
     }
 }
 
-/// The revision that a text spells, where there is one.
+/// Parses an optional revision id.
 pub fn read_rev(text: Option<&str>) -> Result<Option<Rev>, Refusal>
     ensures { result ≡ rev_given (option_copied text.entry) }
 {
@@ -81,7 +85,7 @@ pub fn read_rev(text: Option<&str>) -> Result<Option<Rev>, Refusal>
     }
 }
 
-/// The body that a value is.
+/// Parses a body.
 fn read_content(alloc: Global, part: &LinePart<'_, '_>) -> Result<Body, Refusal>
     ensures { GivesOrMemory result (body_given (line_view part.now)) }
 {
@@ -91,7 +95,7 @@ fn read_content(alloc: Global, part: &LinePart<'_, '_>) -> Result<Body, Refusal>
     }
 }
 
-/// The body that a line gives, an object without members where it gives none.
+/// Parses an optional body; an empty object if absent.
 pub fn read_content_or_empty(
     alloc: Global,
     body: &Option<LinePart<'_, '_>>,
@@ -104,7 +108,7 @@ pub fn read_content_or_empty(
     }
 }
 
-/// The document that a line gives, where it gives one.
+/// Parses an optional document.
 pub fn read_document(alloc: Global, doc: &Option<LinePart<'_, '_>>) -> Result<Option<Doc>, Refusal>
     ensures { GivesOrMemory result (document_given (option_map line_view doc.now)) }
 {

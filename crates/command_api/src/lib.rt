@@ -1,5 +1,5 @@
-//! What the room of each word of a script is made of: the members of a line (`members`), what they give (`given`), the
-//! texts of answers (`texts`), and what a room is (`command`).
+//! The interface of commands (`command`), and what they share: reading the members of a line (`members`), parsing their
+//! values (`given`), and printing (`texts`).
 #![tactic(auto)]
 
 mod command;

@@ -1,4 +1,4 @@
-//! The members of a line's object, each of its kind.
+//! Reading typed members of a line's object.
 ghost use Rattle.std.specs.Prelude.{◌≡◌, map, option_map};
 ghost use Rattle.std.specs.List.{list_all, list_any};
 ghost use Rattle.std.specs.Str.{bytes_eq};
@@ -10,7 +10,7 @@ ghost use Rattle.command_api.specs.Members.{are_texts, as_texts, as_uuid, as_who
 use json_values::{LineValue, is_same_text};
 use uuid::Uuid;
 
-/// A text that has to be there.
+/// Reads a required string.
 pub fn text_member<'v>(value: &'v LineValue<'_>, key: &str) -> Option<&'v str>
     ensures { option_map (λ s. s.now) result ≡ text_at key.now (line_view value.now) }
 {
@@ -20,7 +20,7 @@ pub fn text_member<'v>(value: &'v LineValue<'_>, key: &str) -> Option<&'v str>
     }
 }
 
-/// The name of a database, which has to be there: 1 to 32 ASCII letters, digits, `-` or `_`.
+/// Reads a required name of a database: 1 to 32 ASCII letters, digits, `-` or `_`.
 pub fn name_member<'v>(value: &'v LineValue<'_>, key: &str) -> Option<&'v str>
     ensures { option_map (λ s. s.now) result ≡ name_at key.now (line_view value.now) }
 {
@@ -30,7 +30,7 @@ pub fn name_member<'v>(value: &'v LineValue<'_>, key: &str) -> Option<&'v str>
     }
 }
 
-/// A flag that may be left out: none inside where it is, and none at all where it is of another kind.
+/// Reads an optional Boolean. Returns `Some(None)` if it is absent, and `None` if it has another type.
 pub fn optional_flag(value: &LineValue<'_>, key: &str) -> Option<Option<bool>>
     ensures { result ≡ optional as_bool key.now (line_view value.now) }
 {
@@ -43,7 +43,7 @@ pub fn optional_flag(value: &LineValue<'_>, key: &str) -> Option<Option<bool>>
     }
 }
 
-/// A text that may be left out.
+/// Reads an optional string.
 pub fn optional_text<'v>(value: &'v LineValue<'_>, key: &str) -> Option<Option<&'v str>>
     ensures { option_map option_copied result ≡ optional as_str key.now (line_view value.now) }
 {
@@ -56,7 +56,7 @@ pub fn optional_text<'v>(value: &'v LineValue<'_>, key: &str) -> Option<Option<&
     }
 }
 
-/// A list of texts that may be left out.
+/// Reads an optional list of strings.
 pub fn optional_texts<'v, 'a>(
     value: &'v LineValue<'a>,
     key: &str,
@@ -76,7 +76,7 @@ pub fn optional_texts<'v, 'a>(
     Some(Some(items))
 }
 
-/// Whether each item is a text.
+/// Whether every item is a string.
 fn are_texts(items: &Vec<LineValue<'_>>) -> bool
     ensures { result ≡ are_texts (line_items items.now.items) }
 {
@@ -88,7 +88,7 @@ fn are_texts(items: &Vec<LineValue<'_>>) -> bool
     true
 }
 
-/// A whole number from 0 to 2^64 - 1 that may be left out.
+/// Reads an optional integer from 0 to 2^64 - 1.
 pub fn optional_whole(value: &LineValue<'_>, key: &str) -> Option<Option<u64>>
     ensures { result ≡ optional as_whole key.now (line_view value.now) }
 {
@@ -101,7 +101,7 @@ pub fn optional_whole(value: &LineValue<'_>, key: &str) -> Option<Option<u64>>
     }
 }
 
-/// The number of a UUID that may be left out.
+/// Reads an optional UUID as a number.
 pub fn optional_uuid(value: &LineValue<'_>, key: &str) -> Option<Option<u128>>
     ensures { result ≡ optional as_uuid key.now (line_view value.now) }
 {
@@ -114,7 +114,7 @@ pub fn optional_uuid(value: &LineValue<'_>, key: &str) -> Option<Option<u128>>
     }
 }
 
-/// The number of the UUID that a value spells.
+/// Parses a UUID as a number.
 fn as_uuid(value: &LineValue<'_>) -> Option<u128>
     ensures { result ≡ as_uuid (line_view value.now) }
 {
@@ -127,7 +127,7 @@ fn as_uuid(value: &LineValue<'_>) -> Option<u128>
     }
 }
 
-/// Whether a value is an object with no other members than these.
+/// Whether a value is an object without members other than these.
 #[inline(always)]
 pub fn has_only_members(value: &LineValue<'_>, keys: &[&str]) -> bool
     ensures { result ≡ has_only (map (λ x. x.now) keys.now) (line_view value.now) }

@@ -1,4 +1,4 @@
-//! Parts of answers that several words print (docs/PROFILE.md, "Answers").
+//! Printing values that several commands print (docs/PROFILE.md, "Answers").
 ghost use Rattle.std.specs.Prelude.{◌≡◌, ◌<◌, ◌≤◌, ◌++◌, ◌∷◌, length, IfOk, OnOk, decimal, string_bytes};
 ghost use Rattle.rev_core.specs.Text.{rev_text};
 ghost use Rattle.repl_log.specs.Text.{id_digits};
@@ -10,7 +10,7 @@ use itoa::Buffer;
 use rev_core::Rev;
 use std::alloc::{AllocError, Global};
 
-/// Adds a number. Mostly it has four digits, and there is room for them: then they are copied as a whole.
+/// Appends a number. A number of four digits, the usual case, is copied in one step if there is capacity for it.
 #[inline(never)]
 pub fn push_number(text: &mut Vec<u8>, number: u64) -> Result<(), AllocError>
     ensures { OnOk result (text.new.items ≡ text.old.items ++ decimal number) }
@@ -21,7 +21,7 @@ pub fn push_number(text: &mut Vec<u8>, number: u64) -> Result<(), AllocError>
     text.extend_from_slice(&four_digits(number as u32))
 }
 
-/// The digits of a number that has four.
+/// Formats a number of four digits.
 #[inline(always)]
 fn four_digits(number: u32) -> [u8; 4]
     requires { (1000 ≤ number) × (number < 10000) }
@@ -37,7 +37,7 @@ fn four_digits(number: u32) -> [u8; 4]
     ]
 }
 
-/// Adds a number of any length.
+/// Appends a number of any length.
 #[inline(never)]
 fn push_any_number(text: &mut Vec<u8>, number: u64) -> Result<(), AllocError>
     ensures { OnOk result (text.new.items ≡ text.old.items ++ decimal number) }
@@ -46,7 +46,7 @@ fn push_any_number(text: &mut Vec<u8>, number: u64) -> Result<(), AllocError>
     text.extend_from_slice(digits.format(number).as_bytes())
 }
 
-/// Adds a count. Mostly it has one digit.
+/// Appends a count. A count of one digit, the usual case, has a short path.
 #[inline(always)]
 pub fn push_count(text: &mut Vec<u8>, count: usize) -> Result<(), AllocError>
     ensures { OnOk result (text.new.items ≡ text.old.items ++ decimal count) }
@@ -58,8 +58,8 @@ pub fn push_count(text: &mut Vec<u8>, count: usize) -> Result<(), AllocError>
     push_number(text, count as u64)
 }
 
-/// Adds the text of a revision. Mostly it has one digit, or three in a long history, and 32 bytes, and there is room for
-/// it: then it is copied as a whole.
+/// Appends a revision. A signature of 32 bytes with a generation of one or three digits, the usual case, is copied in
+/// one step if there is capacity for it.
 #[inline(never)]
 pub fn push_rev(text: &mut Vec<u8>, rev: &Rev) -> Result<(), AllocError>
     ensures { OnOk result (text.new.items ≡ text.old.items ++ rev_text rev.now) }
@@ -77,7 +77,7 @@ pub fn push_rev(text: &mut Vec<u8>, rev: &Rev) -> Result<(), AllocError>
     push_parts(text, generation, sig)
 }
 
-/// The text of a revision of a generation of one digit and a signature of 32 bytes.
+/// Formats a revision with a generation of one digit and a signature of 32 bytes.
 #[inline(always)]
 fn short_text(generation: u32, sig: &[u8]) -> [u8; 34]
     requires generation { generation < 10 }
@@ -91,7 +91,7 @@ fn short_text(generation: u32, sig: &[u8]) -> [u8; 34]
     text
 }
 
-/// The text of a revision of a generation of three digits and a signature of 32 bytes.
+/// Formats a revision with a generation of three digits and a signature of 32 bytes.
 #[inline(always)]
 fn three_digit_text(generation: u32, sig: &[u8]) -> [u8; 36]
     requires generation { (100 ≤ generation) × (generation < 1000) }
@@ -108,7 +108,7 @@ fn three_digit_text(generation: u32, sig: &[u8]) -> [u8; 36]
     text
 }
 
-/// Adds the text of a revision, part by part.
+/// Appends a revision, part by part.
 #[inline(never)]
 fn push_parts(text: &mut Vec<u8>, generation: u32, sig: &[u8]) -> Result<(), AllocError>
     ensures { OnOk result (text.new.items ≡ text.old.items ++ (decimal generation ++ 45 ∷ sig.now)) }
@@ -118,7 +118,7 @@ fn push_parts(text: &mut Vec<u8>, generation: u32, sig: &[u8]) -> Result<(), All
     text.extend_from_slice(sig)
 }
 
-/// Adds a generation. Mostly it has one digit.
+/// Appends a generation. A generation of one digit, the usual case, has a short path.
 #[inline(always)]
 fn push_generation(text: &mut Vec<u8>, generation: u32) -> Result<(), AllocError>
     ensures { OnOk result (text.new.items ≡ text.old.items ++ decimal generation) }
@@ -130,7 +130,7 @@ fn push_generation(text: &mut Vec<u8>, generation: u32) -> Result<(), AllocError
     push_number(text, u64::from(generation))
 }
 
-/// Adds the texts of revisions, joined by commas.
+/// Appends revisions, separated by commas.
 pub fn push_revs(text: &mut Vec<u8>, revs: &[Rev]) -> Result<(), AllocError>
     ensures { OnOk result (text.new.items ≡ text.old.items ++ texts_of_revs revs.now) }
 {
@@ -143,7 +143,7 @@ pub fn push_revs(text: &mut Vec<u8>, revs: &[Rev]) -> Result<(), AllocError>
     Ok(())
 }
 
-/// Adds a text as JSON, in quotation marks.
+/// Appends a string as JSON.
 #[inline(always)]
 pub fn push_json(text: &mut Vec<u8>, string: &str) -> Result<(), AllocError>
     ensures { OnOk result (text.new.items ≡ text.old.items ++ quoted string.now) }
@@ -151,7 +151,7 @@ pub fn push_json(text: &mut Vec<u8>, string: &str) -> Result<(), AllocError>
     push_text(text, string)
 }
 
-/// Adds a line of a word, a document's id and revisions of it; no line where there are no revisions.
+/// Appends a line with a keyword, a document id and revisions. Appends nothing if there are no revisions.
 pub fn push_revs_line(
     text: &mut Vec<u8>,
     word: &[u8],
@@ -166,7 +166,7 @@ pub fn push_revs_line(
     push_line_of_revs(text, word, id, revs)
 }
 
-/// Adds a line of a word, a document's id and revisions of it.
+/// Appends a line with a keyword, a document id and revisions.
 fn push_line_of_revs(
     text: &mut Vec<u8>,
     word: &[u8],
@@ -184,7 +184,7 @@ fn push_line_of_revs(
     Ok(())
 }
 
-/// Adds the line of the sequence up to which a feed was listed.
+/// Appends the line with the last sequence of a feed.
 pub fn push_last(text: &mut Vec<u8>, last: u64) -> Result<(), AllocError>
     ensures { OnOk result (text.new.items ≡ text.old.items ++ last_line last) }
 {
@@ -194,7 +194,7 @@ pub fn push_last(text: &mut Vec<u8>, last: u64) -> Result<(), AllocError>
     Ok(())
 }
 
-/// Takes the answer back, where the program is quiet.
+/// Clears the output if the program is quiet.
 pub fn hush(text: &mut Vec<u8>, quiet: bool)
     ensures { text.new.items ≡ hushed quiet text.old.items }
 {
@@ -203,7 +203,7 @@ pub fn hush(text: &mut Vec<u8>, quiet: bool)
     }
 }
 
-/// The 32 lower case hexadecimal digits of an id.
+/// Formats an id as 32 lowercase hexadecimal digits.
 #[tactic(auto, unfolding(repl_log::specs::Text::id_digits))]
 pub fn id_text(alloc: Global, id: u128) -> Result<String, AllocError>
     ensures { IfOk result (λ text. string_bytes text ≡ id_digits id) }

@@ -1,4 +1,4 @@
--- A script that was run on databases that are there, and the names of refusals.
+-- A script that was run on existing databases, and the names of errors.
 use Rattle.proof_prelude.proofs.{◌≡◌, ◌≤◌, ℕ, List, length, Bool, Option, Result, Ok, Err, subst, arith, IfOk, IfErr, Appends, Consumes}
 use Rattle.script_engine.specs.{Gives, IsFaultOf, IsToldUntil, AnswersEnded, IsAnswered, ScriptFault}
 use Rattle.script_engine.specs.declared.fault.ScriptFault.TheVariants.{Read}
@@ -8,27 +8,27 @@ use Rattle.script_databases.specs.AllTied.{AllTied}
 use Rattle.commands.specs.{LinesAnswer, TrustedLines}
 use Rattle.commands.proofs.trust.Lines.{answered_trusted, ended_trusted, until_trusted}
 
--- the state that is left is one
+-- the final state is some state
 pub some_state : (old s new : State) (l h h' : Option (List ℕ)) (r : Result Bool ScriptFault) → old ≡ s → IfOk r (λ clean. (input : List ℕ) × (text : List ℕ) × Gives l input × Appends h h' text × IsAnswered LinesAnswer old input clean text new) →
     IfOk r (λ clean. (input : List ℕ) × (text : List ℕ) × (state : State) × Gives l input × Appends h h' text × IsAnswered LinesAnswer s input clean text state)
 some_state old s new l h h' (Ok clean) e (input, text, gives, written, answered) = (input, text, new, gives, written, subst (λ s. IsAnswered LinesAnswer s input clean text new) e answered)
 some_state old s new l h h' (Err fault) e x = tt
 
--- and the fault is of the same beginning
+-- the error concerns the same initial state
 pub same_start : (old s : State) (l h h' : Option (List ℕ)) (k k' r r' w w' : ℕ) (x : Result Bool ScriptFault) → old ≡ s →
     IfErr x (λ fault. (input : List ℕ) × (text : List ℕ) × Gives l input × Appends h h' text × IsToldUntil fault LinesAnswer old input text × IsFaultOf fault k k' r r' w w') →
     IfErr x (λ fault. (input : List ℕ) × (text : List ℕ) × Gives l input × Appends h h' text × IsToldUntil fault LinesAnswer s input text × IsFaultOf fault k k' r r' w w')
 same_start old s l h h' k k' r r' w w' (Ok clean) e x = tt
 same_start old s l h h' k k' r r' w w' (Err fault) e (input, text, gives, written, answered, is) = (input, text, gives, written, subst (λ s. IsToldUntil fault LinesAnswer s input text) e answered, is)
 
--- and so are the answers to all lines that were read in
+-- so does the output of all complete lines
 pub some_end : (old s new : State) (l l' h h' : Option (List ℕ)) (r : Result Bool ScriptFault) → AllTied old → old ≡ s →
     IfErr r (λ fault. fault ≡ Read → (taken : List ℕ) × (text : List ℕ) × Consumes l l' taken × Appends h h' text × AnswersEnded LinesAnswer old taken text new) →
     IfErr r (λ fault. fault ≡ Read → (taken : List ℕ) × (text : List ℕ) × (state : State) × Consumes l l' taken × Appends h h' text × AnswersEnded TrustedLines s taken text state)
 some_end old s new l l' h h' (Ok clean) tied e x = tt
 some_end old s new l l' h h' (Err fault) tied e x = λ is. let y = x is in (y.0, y.1, new, y.2, y.3, ended_trusted s y.0 y.1 new (subst AllTied e tied) (subst (λ s. AnswersEnded LinesAnswer s y.0 y.1 new) e y.4))
 
--- where all databases are tied at first, the answers may be trusted, up to a fault too
+-- if all databases are tied at first, the output has its guarantees, also up to an error
 pub some_trust : (old s new : State) (l h h' : Option (List ℕ)) (r : Result Bool ScriptFault) → AllTied old → old ≡ s → IfOk r (λ clean. (input : List ℕ) × (text : List ℕ) × Gives l input × Appends h h' text × IsAnswered LinesAnswer old input clean text new) →
     IfOk r (λ clean. (input : List ℕ) × (text : List ℕ) × (state : State) × Gives l input × Appends h h' text × IsAnswered TrustedLines s input clean text state)
 some_trust old s new l h h' (Ok clean) tied e (input, text, gives, written, answered) = (input, text, new, gives, written, answered_trusted s input clean text new (subst AllTied e tied) (subst (λ s. IsAnswered LinesAnswer s input clean text new) e answered))
@@ -40,7 +40,7 @@ pub same_trust : (old s : State) (l h h' : Option (List ℕ)) (k k' r r' w w' : 
 same_trust old s l h h' k k' r r' w w' (Ok clean) tied e x = tt
 same_trust old s l h h' k k' r r' w w' (Err fault) tied e (input, text, gives, written, answered, is) = (input, text, gives, written, until_trusted fault s input text (subst AllTied e tied) (subst (λ s. IsToldUntil fault LinesAnswer s input text) e answered))
 
--- the name of a refusal is short
+-- an error name is short
 pub name_short : (r : Refusal) → length (name_of r) ≤ 64
 name_short whys.BadLine = omega arith
 name_short refusal = omega arith

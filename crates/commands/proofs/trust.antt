@@ -1,3 +1,3 @@
--- Why the answers of a script may be trusted: by words, then by lines.
+-- The guarantees for the output of scripts: by command, then by line.
 pub mod Words
 pub mod Lines

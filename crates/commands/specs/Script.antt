@@ -1,5 +1,5 @@
--- What a line may be answered: docs/PROFILE.md, "Command lines" and "Answers". What each word is told stands in its
--- room, in `words`.
+-- The possible results of a line: docs/PROFILE.md, "Command lines" and "Answers". The results of each command are in
+-- its crate; `words` collects them.
 use Rattle.std.specs.Prelude.{◌≡◌, ◌⊎◌, ℕ, List, Some, Result, Ok, Err}
 use Rattle.std.specs.Str.{IsUtf8}
 use Rattle.serde_json.specs.Data.{object, Members}
@@ -15,19 +15,19 @@ use Rattle.commands.specs.words.{Asked, asked_in, WordsAnswer}
 abbrev pub IsObject : List ℕ → Members → Type 0
 IsObject line ms = IsUtf8 line × (read line ≡ Some (object ms))
 
--- it is none
+-- the line is not a JSON object
 abbrev pub IsNoObject : List ℕ → Type 0
 IsNoObject line = (ms : Members) → IsObject line ms → ⊥
 
--- what a line asks, or why it asks nothing
+-- the request of a line, or why it is not a command
 abbrev pub Asks : List ℕ → Result Asked Refusal → Type 0
 Asks line asked =
     ((ms : Members) × IsObject line ms × (asked ≡ asked_in (object ms))) ⊎ (IsNoObject line × (asked ≡ Err why.BadLine))
 
--- what is asked is answered, or refused and everything stays
+-- a valid request has one of its results; an invalid one fails and changes nothing
 abbrev pub AnswersAsked : Answering State (Result Asked Refusal)
 AnswersAsked old asked told new = AnswersIn WordsAnswer old asked told new
 
--- what lines may be told
+-- the possible results of lines
 abbrev pub LinesAnswer : Answering State (List ℕ)
 LinesAnswer old line told new = (asked : Result Asked Refusal) × Asks line asked × AnswersAsked old asked told new

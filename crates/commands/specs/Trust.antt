@@ -1,4 +1,4 @@
--- What the answers of a script may be trusted for, whatever its lines are: docs/PROFILE.md, "Tied databases".
+-- The guarantees for the output of a script, independent of its lines: docs/PROFILE.md, "Tied databases".
 use Rattle.std.specs.Prelude.{ℕ, List, Result, IfOk}
 use Rattle.script_engine.specs.Serving.{Told, Answering}
 use Rattle.script_databases.specs.AllTied.{AllTied}
@@ -10,14 +10,15 @@ use Rattle.read_commands.specs.Audit.{IsClean}
 use Rattle.write_commands.specs.Replicate.{IsCovered}
 use Rattle.write_commands.specs.Sync.{IsMet}
 
--- what is told to an audit, to a replication, and to one each way
+-- the guarantee for the output of an audit, a replication and a sync
 abbrev pub IsTrusted : Asked → Told → State → Type 0
 IsTrusted (audit ask) told new = IsClean told
 IsTrusted (replicate ask) told new = IsCovered new ask told
 IsTrusted (sync ask) told new = IsMet new ask told
 IsTrusted ask told new = Unit {0}
 
--- what lines may be told: all databases are tied before a line and behind it, and its answer may be trusted
+-- the possible results of lines: in addition, all databases are tied before and after a line, and its output has the
+-- guarantee
 abbrev pub TrustedLines : Answering State (List ℕ)
 TrustedLines old line told new =
     (asked : Result Asked Refusal) × Asks line asked × AnswersAsked old asked told new × AllTied old × AllTied new

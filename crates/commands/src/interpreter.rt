@@ -1,4 +1,4 @@
-//! The interpreter of a script of commands on databases in memory.
+//! Runs scripts of commands on in-memory databases.
 ghost use Rattle.std.specs.Prelude.{◌≡◌, ◌⊎◌, ℕ, List, [], IfOk, IfErr, OnOk};
 ghost use Rattle.serde_json.specs.Data.{Members, object};
 ghost use Rattle.json_values.specs.LineView.{line_view};
@@ -27,8 +27,7 @@ use std::mem;
 use std::sync::Wait;
 use std::thread::Threads;
 
-/// The databases that a script's lines are served by, what they run on, what reads the lines' values, and who hears what
-/// lines are told.
+/// The server of a script: its databases, the runtime, the JSON reader, and the observer.
 #[derive(Drop)]
 struct Interpreter<'a, H, L> {
     rt: &'a H,
@@ -88,7 +87,7 @@ impl<'a, H: Threads + Wait + Sync, L: ObserveAnswers> Serve for Interpreter<'a, 
     }
 }
 
-/// Answers a line that is not blank: gives the text of its answer, or the first piece of it, and what is left.
+/// Runs a line that is not blank: returns its output, or the first piece of its output and the rest.
 fn answer_line<H: Threads + Wait + Sync>(
     rt: &H,
     alloc: Global,
@@ -109,7 +108,11 @@ fn answer_line<H: Threads + Wait + Sync>(
     words::serve(rt, alloc, databases, &value, answer)
 }
 
-/// The JSON object that a line is. `BadLine` where it is none; want of memory may come in the place of any answer.
+/// Parses a line as a JSON object.
+///
+/// # Errors
+///
+/// `BadLine` if the line is not a JSON object, or `Memory`, which may be returned for any line.
 pub fn read_object<'a>(
     values: &'a mut ValueReader,
     alloc: Global,
@@ -129,21 +132,24 @@ pub fn read_object<'a>(
     Ok(value)
 }
 
-/// Runs a script: reads lines to the reader's end, each of which is one command, and writes the answers in their
-/// order (docs/PROFILE.md, "Command lines" and "Answers"). `true` where no line was refused. Before each read it passes
-/// on the answers to all lines that were read in.
+/// Runs a script: reads lines to the end of the input, runs each as one command, and writes their output in order
+/// (docs/PROFILE.md, "Command lines" and "Answers"). Returns whether no line failed.
 ///
-/// Where memory is wanting within a line, the line is answered as refused and the script goes on. `Read` and `Write`
-/// come only where that device failed in this call, but that `Read` also comes in the place of a further read after
-/// 4,294,967,295 reads, each of at most 65,536 bytes. `Memory` comes before anything is read, or while a line is read
-/// in; `Cut` where memory is wanting behind the first piece of an answer.
+/// Before each read, the output of all lines read so far is flushed. A line that runs out of memory fails with
+/// `Memory`, and the script continues. The observer learns the result of each line and the start of its output; it does
+/// not affect the output.
 ///
-/// The databases of the script are left in memory, since to let go of each document takes long: a program ends behind
-/// it.
+/// The call blocks on the threads of `replicate` and `sync` lines; that it returns is not proved. The databases are not
+/// freed, because freeing takes long and a program ends after this call.
 ///
-/// The listener hears what each line is told, and how its answer begins, and changes nothing of it.
+/// # Errors
 ///
-/// It waits for the threads of a `replicate` line. That it ends is not proved.
+/// - `Read`: the reader failed in this call, or 4,294,967,295 reads of at most 65,536 bytes were made.
+/// - `Write`: the writer failed in this call.
+/// - `Memory`: an allocation failed before anything was read, or while a line was read. All lines before it are
+///   complete.
+/// - `Cut`: an allocation failed after the first piece of a line's output. The contract says of this case only that the
+///   text is a prefix of the script's output.
 pub fn run_script<H, R: ScriptRead, W: ScriptWrite, L: ObserveAnswers>(
     rt: &H,
     reader: &mut R,
@@ -153,13 +159,13 @@ pub fn run_script<H, R: ScriptRead, W: ScriptWrite, L: ObserveAnswers>(
 ) -> Result<bool, ScriptFault>
 where
     H: AllocGlobal + Threads + Wait + Sync,
-    // What is written is the answers to the lines of what was read, to its end.
+    // The written text is the output of the lines of the complete input.
     ensures answers { IfOk result
         (λ clean. (input : List ℕ) × (text : List ℕ) × (state : State) × Gives (R.left reader.old) input
         × Appends (W.held writer.old) (W.held writer.new) text
         × IsAnswered LinesAnswer (no_databases (program_of settings.now)) input clean text state) }
-    // All databases are tied, each to each, before every line and behind it. So no audit is told a hole, and a session that
-    // is told to have come to its goal has covered all of the source that was chosen.
+    // All databases are tied to each other before and after every line. So no audit reports a hole, and if a session
+    // prints that it reached its goal, the target covers the source's selected feed.
     ensures trust { IfOk result
         (λ clean. (input : List ℕ) × (text : List ℕ) × (state : State) × Gives (R.left reader.old) input
         × Appends (W.held writer.old) (W.held writer.new) text
@@ -167,19 +173,19 @@ where
     ensures end { OnOk result (IsAtEnd (R.left reader.new)) }
     ensures counted { OnOk result ((R.failures reader.new ≡ R.failures reader.old)
         × (W.failures writer.new ≡ W.failures writer.old)) }
-    // After a fault it is a beginning of such answers, and the device that is named has failed. `Memory` comes before
-    // anything is read, or while a line is read in: the lines before it are answered whole.
+    // After an error, the text is a prefix of such output, and the named device has failed. `Memory` occurs before
+    // anything is read, or while a line is read; the output of all lines before it is complete.
     ensures fault { IfErr result (λ fault. (input : List ℕ) × (text : List ℕ) × Gives (R.left reader.old) input
         × Appends (W.held writer.old) (W.held writer.new) text
         × IsToldUntil fault LinesAnswer (no_databases (program_of settings.now)) input text
         × IsFaultOf fault (R.reads reader.old) (R.reads reader.new) (R.failures reader.old) (R.failures reader.new)
         (W.failures writer.old) (W.failures writer.new)) }
-    // So it is up to a fault.
+    // The same guarantee up to an error.
     ensures trust_until { IfErr result (λ fault. (input : List ℕ) × (text : List ℕ) × Gives (R.left reader.old) input
         × Appends (W.held writer.old) (W.held writer.new) text
         × IsToldUntil fault TrustedLines (no_databases (program_of settings.now)) input text) }
-    // Where a read fails, all lines that were read in before are answered, and wherever no write failed, their answers
-    // have been passed on. So it is at each read, since each of them may fail.
+    // If a read fails, the output of all lines read before is complete; and unless a write failed, that output has been
+    // flushed. Each read may fail, so this is the state before each read.
     ensures read { IfErr result (λ fault. fault ≡ Read → (taken : List ℕ) × (text : List ℕ) × (state : State)
         × Consumes (R.left reader.old) (R.left reader.new) taken × Appends (W.held writer.old) (W.held writer.new) text
         × AnswersEnded TrustedLines (no_databases (program_of settings.now)) taken text state) }
@@ -194,7 +200,7 @@ where
     ended
 }
 
-/// Runs a script on databases that are there, and gives them back: the last state of the script.
+/// Runs a script on existing databases, and returns the databases after the script.
 fn run_on<H: Threads + Wait + Sync, R: ScriptRead, W: ScriptWrite, L: ObserveAnswers>(
     rt: &H,
     alloc: Global,

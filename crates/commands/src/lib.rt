@@ -1,8 +1,8 @@
-//! Scripts of commands on document databases in memory: what their lines ask, what is done, and what is answered.
+//! Scripts of commands on in-memory document databases.
 //!
-//! What a script is stands in docs/PROFILE.md, "Command lines" and "Answers". A line is read as an object and asks for a
-//! word (`words`), whose room serves it: the rooms of words that change nothing stand in `read_commands`, those of the
-//! others in `write_commands`, and what all rooms are made of in `command_api`. `interpreter` runs a whole script.
+//! docs/PROFILE.md, "Command lines" and "Answers", defines scripts. A line is parsed as an object that names a command
+//! (`words`). The read-only commands are in `read_commands`, the others in `write_commands`; `command_api` has what
+//! they share. `interpreter` runs a script.
 #![tactic(auto)]
 
 mod interpreter;

@@ -1,11 +1,11 @@
-//! Who hears the answers of a script beside whoever reads them.
+//! Observers of output.
 
 use script_engine::{Nobody, Observe};
 
-/// Whoever hears, beside what lines are told (`Observe`), how answers begin.
+/// An observer of the results of lines (`Observe`) and of the start of their output.
 pub trait ObserveAnswers: Observe {
-    /// Hears the answer to a line that was accepted, or the first piece of it, before `observe` tells of the line. What is
-    /// answered doesn't hang on it.
+    /// Notes the output of a successful line, or its first piece, before `observe` is called for the line. It does not
+    /// affect the output.
     fn observe_answer(&mut self, answer: &[u8]);
 }
 

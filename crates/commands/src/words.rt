@@ -1,5 +1,4 @@
-//! The words of a script, each in a room of its own: what it asks, what it does, and what it prints (docs/PROFILE.md,
-//! "Command lines", "Order of checks" and "Answers").
+//! The commands of a script, by name (docs/PROFILE.md, "Command lines", "Order of checks" and "Answers").
 ghost use Rattle.std.specs.Prelude.{◌≡◌, [], IfOk};
 ghost use Rattle.json_values.specs.LineView.{line_view};
 ghost use Rattle.script_engine.specs.Serving.{Fits, MayTell};
@@ -18,7 +17,7 @@ use std::sync::Wait;
 use std::thread::Threads;
 use write_commands::{Backup, BothWays, Edit, Load, Replicate, Restore};
 
-/// The words.
+/// The names of the commands.
 #[derive(Clone, Copy, Drop)]
 enum CommandName {
     Load,
@@ -39,7 +38,7 @@ enum CommandName {
     Sync,
 }
 
-/// The word of an object, by its member `do`.
+/// Reads the command name from the member `do` of an object.
 fn command_name_of(value: &LineValue<'_>) -> Option<CommandName>
     ensures { asked_in (line_view value.now) ≡ asked_if result (line_view value.now) }
 {
@@ -64,8 +63,8 @@ fn command_name_of(value: &LineValue<'_>) -> Option<CommandName>
     }
 }
 
-/// Serves what an object asks, in the room of its word: gives the text of its answer, or the first piece of it, and what
-/// is left. It waits, where the word is `replicate` or `sync`.
+/// Runs the command of an object: returns its output, or the first piece of its output and the rest. Blocks if the
+/// command is `replicate` or `sync`.
 pub fn serve<H: Threads + Wait + Sync>(
     rt: &H,
     alloc: Global,

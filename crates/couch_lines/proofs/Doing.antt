@@ -1,4 +1,4 @@
--- What a task does, by what its reading and its wording do.
+-- The guarantees of a task, by those of its parser and its formatter.
 use Rattle.proof_prelude.proofs.{◌≡◌, ℕ, List, true, false, Option, Some, Result, Ok, Err, IfOk, IfErr, refl, subst, true≢false}
 use Rattle.response_parser.specs.{wants_documents, is_strict, Piece, IsAnswered, IsChangeScript}
 use Rattle.response_parser.specs.LineGrammar.{IsScript}

@@ -1,4 +1,4 @@
--- How the words of a command line are run, over any reader and writer: docs/PROFILE.md, "CouchDB's answers".
+-- Running the program over any reader and writer: docs/PROFILE.md, "CouchDB's answers".
 use Rattle.std.specs.Prelude.{◌≡◌, ℕ, List, Bool, true, false, Option, Some, Result, Ok, Err, IfOk, String, string_bytes, option_map, ⊤}
 use Rattle.std.specs.declared.alloc.Global.{Global}
 use Rattle.response_parser.specs.Reading.{Piece}
@@ -19,7 +19,7 @@ use Rattle.couch_lines.specs.declared.tasks.Task.TheVariants.{Load, Ids, Diff, L
 use Rattle.couch_lines.specs.declared.run.Ended.{Ended}
 use Rattle.couch_lines.specs.declared.run.Ended.TheVariants.{NotRun, Ran, Drawn}
 
--- what is read for a task
+-- what a task looks for in its input
 abbrev pub wanted_of : Task → Wanted
 wanted_of (Load db false) = Documents
 wanted_of (Load db true) = Enveloped
@@ -30,7 +30,7 @@ wanted_of (Bulk n false) = Bodies
 wanted_of (Bulk n true) = Unfolded
 wanted_of (Trees db svg) = Documents
 
--- how what was read is written
+-- the formatter of a task
 abbrev pub words_of_task : Task → Words
 words_of_task (Load db whole) = loads_of (string_bytes db)
 words_of_task (Ids n) = asked_of n
@@ -39,24 +39,24 @@ words_of_task (Leaves db) = docs_of (string_bytes db)
 words_of_task (Bulk n whole) = bodies_of n
 words_of_task (Trees db svg) = bodies_of 0
 
--- whether pictures are drawn, and no lines made
+-- whether the task draws instead of converting
 abbrev pub is_drawn : Task → Bool
 is_drawn (Trees db svg) = true
 is_drawn task = false
 
--- what pictures are drawn as
+-- the format of the picture
 abbrev pub form_of : Bool → Form
 form_of true = Svg
 form_of false = Text
 
--- First what the reader has left, then what the writer holds, before and after.
+-- The arguments are what the reader has left, and what the writer has accepted, before and after.
 abbrev pub IsDone : Task → Option (List ℕ) → Option (List ℕ) → Option (List ℕ) → Result ℕ AnswerFault → Type 0
 IsDone task left held held' (Ok passed) = Answered (wanted_of task) (words_of_task task) left held held' passed
 IsDone task left held held' (Err fault) = Stopped (wanted_of task) (words_of_task task) left held held' fault
 
--- What CouchDB's answers hold stands in `load` lines of the database, one for each document, in order, and nothing else,
--- by its own text or in its envelope; and the documents among a script's answers stand in bodies, each leaf of its
--- changes in a `doc` line. None is refused.
+-- The guarantees for input with known contents: each document in CouchDB responses gives a `load` line, in order, by
+-- its text or in its envelope; the documents in a script's output are written into bodies, and each leaf of its changes
+-- into a `doc` line. The input is not rejected.
 abbrev pub Makes : Task → Option (List ℕ) → Option (List ℕ) → Option (List ℕ) → Result ℕ AnswerFault → Type 0
 Makes (Load db whole) left held held' result = (answers : List ℕ) → (documents : List Piece) → left ≡ Some answers
     → IsAnswered (wanted_of (Load db whole)) answers documents → ReadsAnswers (loads_of (string_bytes db)) documents held held' result
@@ -68,8 +68,8 @@ Makes (Bulk n whole) left held held' result = (answers : List ℕ) → (document
     → IsScript (wanted_of (Bulk n whole)) answers documents → ReadsAnswers (bodies_of n) documents held held' result
 Makes (Trees db svg) left held held' result = ⊥
 
--- words that ask for nothing: nothing is read or written, as where memory was wanting; else what they ask for is done,
--- and pictures are drawn for `trees` alone
+-- arguments without a task, or a failed allocation: nothing is read or written; otherwise the task is run, and only
+-- `trees` draws
 abbrev pub RunsWords : List (List ℕ) → Option (List ℕ) → Option (List ℕ) → Option (List ℕ) → Option (List ℕ) → Ended → Type 0
 RunsWords words left left' held held' (NotRun why) = Refuses words why × (left' ≡ left) × (held' ≡ held)
 RunsWords words left left' held held' (Ran run) =

@@ -11,18 +11,18 @@ use Rattle.couch_lines.specs.declared.options.NoTask.TheVariants.{Words, Unknown
 use Rattle.couch_lines.specs.declared.run.Ended.{Ended}
 use Rattle.couch_lines.specs.declared.run.Ended.TheVariants.{NotRun, Ran, Drawn}
 
--- of what was done: whether something was passed over
+-- of a conversion: whether something was skipped
 abbrev pub status_of : Result ℕ AnswerFault → ℕ
 status_of (Ok passed) = cond (passed == 0) 0 1
 status_of (Err fault) = 3
 
--- of what was drawn: whether memory was wanting for a line
+-- of a drawing: whether memory was insufficient for a line
 abbrev pub drawn_status : Result Bool ScriptFault → ℕ
 drawn_status (Ok true) = 0
 drawn_status (Ok false) = 1
 drawn_status (Err fault) = 3
 
--- of words that ask for nothing
+-- of arguments without a task
 abbrev pub words_status : NoTask → ℕ
 words_status (Words error) = kind_status (kind_of error)
 words_status Unknown = 2
@@ -34,7 +34,7 @@ ended_status (NotRun why) = words_status why
 ended_status (Ran run) = status_of run.ended
 ended_status (Drawn ended) = drawn_status ended
 
--- what a run ended with whose last texts could not be written; a fault before stands
+-- the result of a conversion whose last output could not be flushed; an earlier error stays
 abbrev pub unwritten : Result ℕ AnswerFault → Result ℕ AnswerFault
 unwritten (Ok passed) = Err (Device faults.Write)
 unwritten (Err fault) = Err fault

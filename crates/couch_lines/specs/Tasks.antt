@@ -1,4 +1,4 @@
--- What the words of the command line ask for: docs/PROFILE.md, "Options of `couch_lines`".
+-- The task of a command line: docs/PROFILE.md, "Options of `couch_lines`".
 use Rattle.std.specs.Prelude.{◌≡◌, ◌^◌, ◌<◌, ℕ, ◌&&◌, ◌||◌, ◌==◌, nat_lt, nat_le, length, List, Bool, Option, Some, None, option_map, codes, string_bytes, true, false}
 use Rattle.std.specs.List.{list_all}
 use Rattle.std.specs.Str.Parse.{without_leading_plus, IsNumeral, digits_value}
@@ -21,7 +21,7 @@ is_name_byte b =
 abbrev pub is_name : List ℕ → Bool
 is_name text = nat_lt 0 (length text) && nat_le (length text) 32 && list_all is_name_byte text
 
--- how many texts a body holds: so many where no word says so
+-- the number of items per body, or the default
 abbrev pub IsSize : ℕ → Option (List ℕ) → ℕ → Type 0
 IsSize absent None n = n ≡ absent
 IsSize absent (Some text) n =
@@ -31,7 +31,7 @@ IsSize absent (Some text) n =
 abbrev pub IsNamed : Option (List ℕ) → List ℕ → Type 0
 IsNamed word db = (word ≡ Some db) × (is_name db ≡ true)
 
--- the word of a task
+-- the name of a task
 abbrev pub word_of : Named → List ℕ
 word_of named.Load = codes "load"
 word_of named.Ids = codes "ids"
@@ -40,12 +40,12 @@ word_of named.Leaves = codes "leaves"
 word_of named.Bulk = codes "bulk"
 word_of named.Trees = codes "trees"
 
--- the name of a database, or no word
+-- the name of a database, or no argument
 abbrev pub IsNamedOrNone : Option (List ℕ) → Option (List ℕ) → Type 0
 IsNamedOrNone word None = word ≡ None
 IsNamedOrNone word (Some db) = IsNamed word db
 
--- what a task is, done with a word, with documents in envelopes or not, and drawn in SVG or not
+-- the task of this name, with this argument and these flags
 abbrev pub Fits : Named → Option (List ℕ) → Bool → Bool → Task → Type 0
 Fits named.Load word whole svg (Load db w) = IsNamed word (string_bytes db) × (w ≡ whole) × (svg ≡ false)
 Fits named.Load word whole svg (Ids n) = ⊥
@@ -84,27 +84,27 @@ Fits named.Trees word whole svg (Leaves db) = ⊥
 Fits named.Trees word whole svg (Bulk n w) = ⊥
 Fits named.Trees word whole svg (Trees db s) = IsNamedOrNone word (option_map string_bytes db) × (whole ≡ false) × (s ≡ svg)
 
--- what the words ask for: the first one names a task, and none stands behind the second one
+-- the task of the arguments: the first names it, and there is no third
 abbrev pub Asks : Option (List ℕ) → Option (List ℕ) → Option (List ℕ) → Bool → Bool → Task → Type 0
 Asks word second third whole svg task = (n : Named) × (word ≡ Some (word_of n)) × (third ≡ None) × Fits n second whole svg task
 
--- ---- words that ask for nothing
+-- ---- arguments without a task
 
--- the task takes other words than these, or memory was wanting
+-- the task does not take these arguments, or an allocation failed
 abbrev pub FitsNone : Named → Option (List ℕ) → Bool → Bool → NoTask → Type 0
 FitsNone n word whole svg (Words error) = ⊥
 FitsNone n word whole svg Unknown = ⊥
 FitsNone n word whole svg (Wrong m) = (m ≡ n) × ((t : Task) → Fits n word whole svg t → ⊥)
 FitsNone n word whole svg Memory = Unit {0}
 
--- no name is what the word is, or memory was wanting
+-- the argument is not a database name, or an allocation failed
 abbrev pub NamesNone : Named → Option (List ℕ) → NoTask → Type 0
 NamesNone n word (Words error) = ⊥
 NamesNone n word Unknown = ⊥
 NamesNone n word (Wrong m) = (m ≡ n) × ((db : List ℕ) → IsNamed word db → ⊥)
 NamesNone n word Memory = Unit {0}
 
--- the first word names no task; or it names one that takes other words; or memory was wanting
+-- the first argument is not a task; or the task does not take the others; or an allocation failed
 abbrev pub AskNothing : Option (List ℕ) → Option (List ℕ) → Option (List ℕ) → Bool → Bool → NoTask → Type 0
 AskNothing word second third whole svg (Words error) = ⊥
 AskNothing word second third whole svg Unknown = (n : Named) → word ≡ Some (word_of n) → ⊥
@@ -114,47 +114,47 @@ AskNothing word second third whole svg Memory = Unit {0}
 
 -- ---- the command line
 
--- the first word, which is wanted
+-- the first argument, which is required
 abbrev pub task_word : Rule
 task_word = record (new_rule (codes "task")) { action = Some Set; value_names = 1; required = true }
 
--- the second one
+-- the second argument
 abbrev pub second_word : Rule
 second_word = record (new_rule (codes "of")) { action = Some Set; value_names = 1 }
 
--- a word too many stands third
+-- a third argument is accepted, so that the program can reject it with its own message
 abbrev pub command_line : App
 command_line =
     with_rule (with_rule (with_rule (with_rule (with_rule (program_app (codes "couch_lines")) task_word) second_word)
     (hidden_option (codes "further"))) (flag_option (codes "whole"))) (flag_option (codes "svg"))
 
--- what the words ask for, by the texts of the command line's parts and of its flags
+-- the task, by the texts of the arguments and flags
 abbrev pub SaysBy : (List ℕ → Option (List ℕ)) → Option (List ℕ) → Option (List ℕ) → Task → Type 0
 SaysBy text flag drawn task =
     (whole : Bool) × (svg : Bool) × IsFlag flag whole × IsFlag drawn svg
     × Asks (text (codes "task")) (text (codes "of")) (text (codes "further")) whole svg task
 
--- they ask for nothing, or memory was wanting
+-- there is no task, or an allocation failed
 abbrev pub RefusesBy : (List ℕ → Option (List ℕ)) → Option (List ℕ) → Option (List ℕ) → NoTask → Type 0
 RefusesBy text flag drawn why =
     (whole : Bool) × (svg : Bool) × IsFlag flag whole × IsFlag drawn svg
     × AskNothing (text (codes "task")) (text (codes "of")) (text (codes "further")) whole svg why
 
--- the text of a part of the command line, and that of a flag
+-- the text of an argument, and of a flag
 abbrev pub text_said : List (List ℕ) → List ℕ → Option (List ℕ)
 text_said words id = first_of id (matches_of command_line words)
 
 abbrev pub flag_said : List (List ℕ) → List ℕ → Option (List ℕ)
 flag_said words id = one_of id (matches_of command_line words)
 
--- the same of the words, as the command line is read
+-- the same for the arguments of a command line
 abbrev pub Says : List (List ℕ) → Task → Type 0
 Says words task = SaysBy (text_said words) (flag_said words (codes "whole")) (flag_said words (codes "svg")) task
 
 abbrev pub Refused : List (List ℕ) → NoTask → Type 0
 Refused words why = RefusesBy (text_said words) (flag_said words (codes "whole")) (flag_said words (codes "svg")) why
 
--- what `clap` says of the words, or they ask for nothing, or memory was wanting
+-- `clap`'s error for the arguments, or they name no task, or an allocation failed
 abbrev pub Refuses : List (List ℕ) → NoTask → Type 0
 Refuses words (Words error) = HasKind (fault_of command_line words) error
 Refuses words Unknown = Refused words Unknown

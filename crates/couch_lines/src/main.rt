@@ -1,7 +1,8 @@
-//! A program that turns answers of CouchDB into lines of a script, and answers of a script into requests to CouchDB.
+//! A program that converts CouchDB responses to scripts, and script output to CouchDB requests and to diagrams.
 //!
-//! What it reads and writes stands in docs/PROFILE.md, "CouchDB's answers" and "Lines of documents". The reading and
-//! the writing is that of `response_parser`; here stand the command line, the standard streams and the exit status.
+//! docs/PROFILE.md, "CouchDB's answers" and "Lines of documents", defines the formats. `response_parser` and
+//! `response_output` convert them, and `diagrams` draws. This crate has the command line, the standard streams and the
+//! exit status.
 #![tactic(auto)]
 
 mod options;

@@ -1,4 +1,4 @@
-//! The command line: what its words ask for, or why they ask for nothing.
+//! The command line.
 ghost use Rattle.std.specs.Prelude.{◌≡◌, IfOk, IfErr, map, string_bytes, codes, false};
 ghost use Rattle.clap.specs.Words.{app_of, found_of, first_value, one_text, rule_of};
 ghost use Rattle.couch_lines.specs.declared.options.NoTask.TheVariants.{Memory};
@@ -9,11 +9,11 @@ use clap::{Arg, ArgAction, ArgMatches, Command, Error};
 use cli_common::{find, flag, hidden_word, program};
 use std::alloc::{AllocError, Global};
 
-/// What the program says of itself.
+/// The description of the program.
 const ABOUT: &str =
     "Turns answers of CouchDB into lines of a script, and documents into requests to CouchDB.";
 
-/// What the tasks are, for `--help`.
+/// The description of the tasks for `--help`.
 const TASKS_HELP: &str = "Standard input is read, and what is made of it goes to standard output.
 `DB` is a name of 1 to 32 letters, digits, `-` or `_`; N a whole number.
 
@@ -56,16 +56,16 @@ Exit status: 0; 1 where something was passed over; 2 for a bad command line; 3 w
 input is CouchDB's own error, none of these or cut off, or reading, writing or memory
 failed.";
 
-/// Why the words of a command line ask for nothing.
+/// Why a command line names no task.
 #[derive(Drop)]
 pub enum NoTask {
-    /// What `clap` says of them, the help that was asked for too.
+    /// `clap`'s error, which includes requests for help.
     Words(Error),
-    /// They name no task.
+    /// The task is unknown.
     Unknown,
-    /// They name a task, with what it does not take.
+    /// The task does not take these arguments.
     Wrong(Named),
-    /// An allocation was refused.
+    /// An allocation failed.
     Memory,
 }
 
@@ -77,7 +77,7 @@ impl From<AllocError> for NoTask {
     }
 }
 
-/// What the words of a command line ask for, the program's name first.
+/// Parses the arguments, the program's name first.
 pub fn read_words<'a>(alloc: Global, words: &'a [String]) -> Result<Task, NoTask>
     ensures ok { IfOk result (λ task. Says (map string_bytes words.entry.now) task) }
     ensures err { IfErr result (λ why. Refuses (map string_bytes words.entry.now) why) }
@@ -89,7 +89,7 @@ pub fn read_words<'a>(alloc: Global, words: &'a [String]) -> Result<Task, NoTask
     }
 }
 
-/// What the words ask for.
+/// Reads the task and its arguments.
 fn task_said(alloc: Global, matches: &ArgMatches<'_>) -> Result<Task, NoTask>
     ensures ok { IfOk result (λ task. SaysBy (first_value (found_of matches.now))
         (one_text (found_of matches.now) (codes "whole")) (one_text (found_of matches.now) (codes "svg")) task) }
@@ -107,7 +107,7 @@ fn task_said(alloc: Global, matches: &ArgMatches<'_>) -> Result<Task, NoTask>
     }
 }
 
-/// The command line: three words, `--whole`, `--svg`, `--help` and `--version`.
+/// Defines the command line: three positional arguments, `--whole`, `--svg`, `--help` and `--version`.
 fn command<'a>(alloc: Global) -> Result<Command<'a>, AllocError>
     ensures { IfOk result (λ c. app_of c ≡ command_line) }
 {
@@ -124,7 +124,7 @@ fn command<'a>(alloc: Global) -> Result<Command<'a>, AllocError>
     Ok(command)
 }
 
-/// The word that names the task.
+/// Defines the argument that names the task.
 fn first_word<'a>(alloc: Global) -> Arg<'a>
     ensures rule { rule_of result ≡ task_word }
     ensures local { result.global ≡ false }
@@ -136,7 +136,7 @@ fn first_word<'a>(alloc: Global) -> Arg<'a>
         .help("`load`, `ids`, `diff`, `leaves`, `bulk` or `trees`")
 }
 
-/// What the task is done with.
+/// Defines the argument of the task.
 fn second_word<'a>(alloc: Global) -> Arg<'a>
     ensures rule { rule_of result ≡ second_word }
     ensures local { result.global ≡ false }

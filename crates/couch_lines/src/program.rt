@@ -1,4 +1,4 @@
-//! The program: its words, its standard input and output, and its exit status.
+//! The program: its arguments, standard input and output, and exit status.
 ghost use Rattle.std.specs.Prelude.{◌≡◌, ◌≤◌};
 ghost use Rattle.couch_lines.specs.Status.{drawn_status, ended_status, status_of, undrawn, unflushed, unwritten};
 
@@ -15,8 +15,8 @@ use std::env::Env;
 use std::io::{Eprint, Input, Print};
 use std::{io, str};
 
-/// Runs the program, and gives its exit status: 0; 1 where something was passed over; 2 for a bad command line; 3 where
-/// what was read is no answer, or reading, writing or memory failed.
+/// Runs the program. Returns the exit status: 0; 1 if something was skipped; 2 for a usage error; 3 if the input is not
+/// a response, or reading, writing or an allocation failed.
 pub fn run_program<H: AllocGlobal + Env + Input + Print + Eprint>(rt: &H) -> u8
     ensures { result ≤ 3 }
 {
@@ -26,7 +26,7 @@ pub fn run_program<H: AllocGlobal + Env + Input + Print + Eprint>(rt: &H) -> u8
     }
 }
 
-/// Does what the words ask for over standard input and output. Texts go out once the buffer is full, and at the end.
+/// Runs the program on standard input and output. Output is buffered, and flushed at the end.
 fn run_standard<H: AllocGlobal + Input + Print>(rt: &H, words: &[String]) -> Ended {
     let Ok(mut writer) = OverWrite::new(rt.alloc(), io::writer(rt)) else {
         return Ended::NotRun(NoTask::Memory);
@@ -39,7 +39,7 @@ fn run_standard<H: AllocGlobal + Input + Print>(rt: &H, words: &[String]) -> End
     }
 }
 
-/// How a run ended whose last texts could not be written. A fault before stands.
+/// The result of a run whose last output could not be flushed. An earlier error stays.
 fn unflushed(ended: Ended) -> Ended
     ensures { result ≡ unflushed ended }
 {
@@ -54,7 +54,7 @@ fn unflushed(ended: Ended) -> Ended
     }
 }
 
-/// The same, of what was drawn.
+/// The same for a drawing.
 fn undrawn(ended: Result<bool, ScriptFault>) -> Result<bool, ScriptFault>
     ensures { result ≡ undrawn ended }
 {
@@ -64,7 +64,7 @@ fn undrawn(ended: Result<bool, ScriptFault>) -> Result<bool, ScriptFault>
     }
 }
 
-/// The same, of what it ended with.
+/// The same for a conversion.
 fn unwritten(ended: Result<u64, AnswerFault>) -> Result<u64, AnswerFault>
     ensures { result ≡ unwritten ended }
 {
@@ -76,7 +76,7 @@ fn unwritten(ended: Result<u64, AnswerFault>) -> Result<u64, AnswerFault>
     }
 }
 
-/// Tells on standard error how a run ended, where it isn't well, and gives the exit status.
+/// Reports how a run ended, unless it succeeded, and returns the exit status.
 fn tell<H: Print + Eprint>(rt: &H, ended: &Ended) -> u8
     ensures { result ≡ ended_status ended.now }
 {
@@ -99,7 +99,7 @@ fn tell<H: Print + Eprint>(rt: &H, ended: &Ended) -> u8
     }
 }
 
-/// Tells why pictures were not drawn to their end, and gives the exit status.
+/// Reports why drawing stopped early, and returns the exit status.
 fn tell_drawn(rt: &impl Eprint, ended: &Result<bool, ScriptFault>) -> u8
     ensures { result ≡ drawn_status ended.now }
 {
@@ -113,7 +113,7 @@ fn tell_drawn(rt: &impl Eprint, ended: &Result<bool, ScriptFault>) -> u8
     }
 }
 
-/// The words that a task wants.
+/// The usage of a task.
 fn usage_of(named: Named) -> &'static str {
     match named {
         Named::Load => "load DB [--whole]",
@@ -125,7 +125,7 @@ fn usage_of(named: Named) -> &'static str {
     }
 }
 
-/// Tells what was passed over, or why what was asked for was not done to its end, and gives the exit status.
+/// Reports what was skipped, or why the conversion stopped early, and returns the exit status.
 fn tell_run(rt: &impl Eprint, run: &Run) -> u8
     ensures { result ≡ status_of run.now.ended }
 {
@@ -143,7 +143,7 @@ fn tell_run(rt: &impl Eprint, run: &Run) -> u8
     }
 }
 
-/// Tells why what was read is no answer, and gives the exit status.
+/// Reports why the input is not a response, and returns the exit status.
 fn tell_refused(rt: &impl Eprint, run: &Run, why: Refusal, at: u64) -> u8
     ensures { result ≡ 3 }
 {
@@ -163,7 +163,7 @@ fn tell_refused(rt: &impl Eprint, run: &Run, why: Refusal, at: u64) -> u8
     3
 }
 
-/// What the first bytes are, and what is to be done.
+/// Explains what the input is, and what to do.
 fn hint_of(why: Refusal) -> &'static str {
     match why {
         Refusal::Gzip => "this is gzip (curl --compressed)",
@@ -175,7 +175,7 @@ fn hint_of(why: Refusal) -> &'static str {
     }
 }
 
-/// Bytes as a text, or none where they are no UTF-8.
+/// Bytes as a string; empty if they are not UTF-8.
 fn text_of(bytes: &[u8]) -> &str {
     match str::from_utf8(bytes) {
         Ok(text) => text,
@@ -183,7 +183,7 @@ fn text_of(bytes: &[u8]) -> &str {
     }
 }
 
-/// The text of a string without its quotation marks.
+/// A JSON string without its quotation marks.
 fn unquoted(bytes: &[u8]) -> &str {
     let end = if bytes.len() > 1 { bytes.len() - 1 } else { 1 };
     if bytes.is_empty() {

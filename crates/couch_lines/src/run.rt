@@ -1,4 +1,4 @@
-//! A run of the program over any reader and writer: its words, and what they ask for.
+//! A run of the program over any reader and writer.
 ghost use Rattle.std.specs.Prelude.{◌≡◌, IfOk, false, map, option_map, string_bytes};
 ghost use Rattle.response_output.specs.Stored.{words_of_wording};
 ghost use Rattle.diagrams.specs.Drawing.{IsPictured};
@@ -15,26 +15,26 @@ use std::alloc::{AllocError, Global};
 /// How a run ended.
 #[derive(Drop)]
 pub enum Ended {
-    /// The words ask for nothing, and nothing was read.
+    /// The arguments name no task, and nothing was read.
     NotRun(NoTask),
-    /// What they ask for was done, or begun.
+    /// The input was converted, or the conversion stopped early.
     Ran(Run),
-    /// Pictures were drawn, or begun; `false` where memory was wanting for a line.
+    /// The input was drawn, or drawing stopped early; `false` if memory was insufficient for a line.
     Drawn(Result<bool, ScriptFault>),
 }
 
-/// What was done.
+/// A conversion.
 #[derive(Drop)]
 pub struct Run {
-    /// How many documents were passed over; or why it was not done to its end.
+    /// The number of skipped documents, or why the conversion stopped early.
     pub(crate) ended: Result<u64, AnswerFault>,
-    /// How far was read.
+    /// The parser.
     pub(crate) reading: Reading,
-    /// What was written last.
+    /// The formatter.
     pub(crate) wording: Wording,
 }
 
-/// Reads the words of a command line, the program's name first, and does what they ask for.
+/// Parses the arguments, the program's name first, and runs the task.
 pub fn run_words<'a, R: ScriptRead, W: ScriptWrite>(
     alloc: Global,
     words: &'a [String],
@@ -57,7 +57,7 @@ pub fn run_words<'a, R: ScriptRead, W: ScriptWrite>(
     }
 }
 
-/// Draws pictures of a script's answers.
+/// Draws the output of a script.
 fn draw<R: ScriptRead, W: ScriptWrite>(
     alloc: Global,
     db: &Option<String>,
@@ -75,14 +75,14 @@ fn draw<R: ScriptRead, W: ScriptWrite>(
     }
 }
 
-/// What pictures are drawn as.
+/// The format of the picture.
 fn form_of(svg: bool) -> Form
     ensures { result ≡ form_of svg }
 {
     if svg { Form::Svg } else { Form::Text }
 }
 
-/// What is read for a task.
+/// What a task looks for in its input.
 fn wanted_of(task: &Task) -> Wanted
     ensures { result ≡ wanted_of task.now }
 {
@@ -97,7 +97,7 @@ fn wanted_of(task: &Task) -> Wanted
     }
 }
 
-/// How what was read for a task is written.
+/// The formatter of a task.
 fn wording_of(alloc: Global, task: &Task) -> Result<Wording, AllocError>
     ensures { IfOk result (λ wording. words_of_wording wording ≡ words_of_task task.now) }
 {
@@ -111,7 +111,7 @@ fn wording_of(alloc: Global, task: &Task) -> Result<Wording, AllocError>
     }
 }
 
-/// Does a task.
+/// Runs a conversion.
 fn run_task<R: ScriptRead, W: ScriptWrite>(
     alloc: Global,
     task: &Task,

@@ -1,4 +1,4 @@
-//! What the program can be asked for.
+//! The tasks of the program.
 ghost use Rattle.std.specs.Prelude.{◌≡◌, ℕ, IfOk, IfErr, IfSome, IfNone, option_map, string_bytes};
 ghost use Rattle.std.specs.List.{list_all};
 ghost use Rattle.couch_lines.specs.declared.tasks.Named.{Named};
@@ -8,27 +8,27 @@ ghost use Rattle.couch_lines.specs.Tasks.{Asks, AskNothing, Fits, FitsNone, Name
 use crate::options::NoTask;
 use std::alloc::Global;
 
-/// What the program is asked for.
+/// A task with its arguments.
 #[derive(Drop)]
 pub enum Task {
-    /// `load` lines of a database, of the documents in CouchDB's answers; in envelopes where the flag is set.
+    /// Writes `load` lines for the documents in CouchDB responses; with `true`, wrapped in envelopes.
     Load(String, bool),
-    /// Bodies of requests that ask for each leaf in CouchDB's changes feed, or in its answer of what is missing; so many
-    /// in each, or all in one where the number is 0.
+    /// Writes request bodies that ask for each leaf in a changes feed or a `_revs_diff` response, N per body, or all in
+    /// one if N is 0.
     Ids(u64),
-    /// Bodies of requests for what is missing of the leaves in CouchDB's changes feed, of so many documents each, or all
-    /// in one where the number is 0.
+    /// Writes request bodies that ask which leaves of a changes feed are missing, N documents per body, or all in one
+    /// if N is 0.
     Diff(u64),
-    /// `doc` lines of a database, one for each leaf in the `change` lines of a script's answers.
+    /// Writes a `doc` line for each leaf in the `change` lines of a script's output.
     Leaves(String),
-    /// Bodies of requests that store documents, so many in each; taken out of envelopes where the flag is set.
+    /// Writes request bodies that store documents, N per body; with `true`, unwrapped from envelopes.
     Bulk(u64, bool),
-    /// Pictures of a script's answers; with the lines that end a conflict where their database is named, and in SVG where
-    /// the flag is set.
+    /// Draws the output of a script; with a database name, adds the commands that resolve conflicts; with `true`, in
+    /// SVG.
     Trees(Option<String>, bool),
 }
 
-/// A task that is named by a word.
+/// The name of a task.
 #[derive(Clone, Copy, Debug, PartialEq, Eq)]
 pub enum Named {
     Load,
@@ -39,13 +39,13 @@ pub enum Named {
     Trees,
 }
 
-/// How many documents a body holds where no word says so.
+/// The default number of documents per body.
 const SIZE: u64 = 1000;
 
-/// How many bytes the name of a database has at most.
+/// The maximum number of bytes of a database name.
 const MAX_NAME: usize = 32;
 
-/// Whether a byte may stand in the name of a database.
+/// Whether a byte is allowed in a database name.
 fn is_name_byte(byte: u8) -> bool
     ensures { result ≡ is_name_byte byte }
 {
@@ -56,14 +56,14 @@ fn is_name_byte(byte: u8) -> bool
         || byte == b'_'
 }
 
-/// Whether all bytes may.
+/// Whether all bytes are allowed in a database name.
 fn are_name_bytes(bytes: &[u8]) -> bool
     ensures { result ≡ list_all is_name_byte bytes.now }
 {
     bytes.iter().all(|b| is_name_byte(*b))
 }
 
-/// Whether a text is the name of a database.
+/// Whether a string is a valid database name.
 fn is_name(text: &str) -> bool
     ensures { result ≡ is_name text.now }
 {
@@ -74,7 +74,7 @@ fn is_name(text: &str) -> bool
     are_name_bytes(bytes)
 }
 
-/// The task that a word names.
+/// Parses the name of a task.
 fn named_by(word: &str) -> Option<Named>
     ensures some { IfSome result (λ n. word.now ≡ word_of n) }
     ensures none { IfNone result ((n : Named) → word.now ≡ word_of n → ⊥) }
@@ -96,10 +96,11 @@ fn named_by(word: &str) -> Option<Named>
     }
 }
 
-/// What the words ask for: the task's name, what it is done with, a word too many, whether documents stand in envelopes,
-/// and whether pictures are drawn in SVG.
+/// Builds a task from its name, its argument, an argument that is not allowed, and the two flags.
 ///
-/// `Unknown` where the first one names no task, and `Wrong` where the task takes other words.
+/// # Errors
+///
+/// `Unknown` if the task is unknown; `Wrong` if it does not take these arguments.
 pub fn task_of(
     alloc: Global,
     word: Option<&str>,
@@ -128,8 +129,11 @@ pub fn task_of(
     }
 }
 
-/// The task of a name, done with a word, with documents in envelopes or not, and drawn in SVG or not. `Wrong` where it
-/// takes other ones.
+/// Builds a named task from its argument and flags.
+///
+/// # Errors
+///
+/// `Wrong` if the task does not take them.
 fn fitting(
     alloc: Global,
     named: Named,
@@ -167,7 +171,11 @@ fn fitting(
     }
 }
 
-/// The task that draws, done with a word or none. `Wrong` where the word is no name, or documents stand in envelopes.
+/// Builds the task `trees`.
+///
+/// # Errors
+///
+/// `Wrong` if the argument is not a database name, or `--whole` is given.
 fn drawing(alloc: Global, word: Option<&str>, whole: bool, svg: bool) -> Result<Task, NoTask>
     ensures ok { IfOk result (λ task. Fits named.Trees (option_map (λ s. s.now) word.entry) whole svg task) }
     ensures err { IfErr result (λ why. FitsNone named.Trees (option_map (λ s. s.now) word.entry) whole svg why) }
@@ -184,9 +192,11 @@ fn drawing(alloc: Global, word: Option<&str>, whole: bool, svg: bool) -> Result<
     }
 }
 
-/// The name of a database that a word is.
+/// Parses a database name.
 ///
-/// `Wrong` where it is none, or there is no word.
+/// # Errors
+///
+/// `Wrong` if the argument is missing or not a database name.
 fn name_of(alloc: Global, named: Named, word: Option<&str>) -> Result<String, NoTask>
     ensures ok { IfOk result (λ db. IsNamed (option_map (λ s. s.now) word.entry) (string_bytes db)) }
     ensures err { IfErr result (λ why. NamesNone named (option_map (λ s. s.now) word.entry) why) }
@@ -201,7 +211,7 @@ fn name_of(alloc: Global, named: Named, word: Option<&str>) -> Result<String, No
     Ok(db)
 }
 
-/// The number that a word is, which is not 0, or another one where there is no word.
+/// Parses a number greater than 0; returns the default if the argument is absent.
 fn size_of(word: Option<&str>, absent: u64) -> Option<u64>
     ensures some { IfSome result (λ n. IsSize absent (option_map (λ s. s.now) word.entry) n) }
     ensures none { IfNone result ((n : ℕ) → IsSize absent (option_map (λ s. s.now) word.entry) n → ⊥) }

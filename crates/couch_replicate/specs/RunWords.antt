@@ -1,4 +1,4 @@
--- How the words of a command line end, over any reader and writer: docs/PROFILE.md, "Options" and "Answers".
+-- How a run over any reader and writer ends: docs/PROFILE.md, "Options" and "Answers".
 use Rattle.std.specs.Prelude.{◌≡◌, ℕ, List, Bool, Option, Result, Ok, Err}
 use Rattle.std.specs.Io.KnownBytes.{Appends, Consumes}
 use Rattle.script_engine.specs.Device.{Gives}
@@ -14,9 +14,9 @@ use Rattle.couch_replicate.specs.declared.options.Options.{Options}
 use Rattle.couch_replicate.specs.declared.run.Ended.{Ended}
 use Rattle.couch_replicate.specs.declared.run.Ended.TheVariants.{NotRun, Ran}
 
--- What a script was answered, of a program that is set so, and may be trusted for: all of it, or a beginning, which a
--- fault of a read or of memory cuts between two answers; where a read failed, the answers to all lines that were read in
--- before. First what the reader has left, before and after, then what the writer was given, before and after.
+-- The output of a script with these settings, and its guarantees. After an error it is a prefix of the output. If the
+-- error is `Read` or `Memory`, the prefix ends between two lines' outputs; after `Read` it is the output of all lines
+-- read before. The arguments are what the reader has left and what the writer was given, each before and after.
 abbrev pub Answered : Program → Option (List ℕ) → Option (List ℕ) → Option (List ℕ) → Option (List ℕ)
     → Result Bool ScriptFault → Type 0
 Answered program left left' held held' (Ok clean) =
@@ -28,8 +28,8 @@ Answered program left left' held held' (Err fault) =
     × (fault ≡ Read → (taken : List ℕ) × (text : List ℕ) × (state : State) × Consumes left left' taken
     × Appends held held' text × AnswersEnded TrustedLines (no_databases program) taken text state)
 
--- Words that give no settings: nothing is read or written. Else a script is run with the settings that they give, and
--- what the writer was given has been passed on, unless a write failed.
+-- Arguments without settings: nothing is read or written. Otherwise a script is run with the settings, and what the
+-- writer was given has been passed on, unless a write failed.
 abbrev pub RunsWords : List (List ℕ) → Option (List ℕ) → Option (List ℕ) → Option (List ℕ) → Option (List ℕ)
     → Option (List ℕ) → Ended → Type 0
 RunsWords words left left' held held' sent (NotRun why) = Refuses words why × (left' ≡ left) × (held' ≡ held)

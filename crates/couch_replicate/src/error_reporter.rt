@@ -1,5 +1,4 @@
-//! What is told on standard error beside the answers, for people: a sentence for each refusal, and how far the run came
-//! (docs/PROFILE.md, "Options").
+//! The messages on standard error: explanations of errors, and progress (docs/PROFILE.md, "Options").
 
 use crate::seen::Seen;
 use commands::ObserveAnswers;
@@ -13,36 +12,36 @@ use std::rt::Clock;
 use std::time::Instant;
 use std::{io, str};
 
-/// How many refusals are told with a sentence.
+/// The maximum number of explained errors.
 const MOST_TOLD: u64 = 20;
 
-/// The most workers, the most documents of a batch, and the last second of the year 9999 (docs/PROFILE.md, "Limits").
+/// The limits of workers, batch size and timestamp (docs/PROFILE.md, "Limits").
 const MOST_WORKERS: u64 = 64;
 
 const MOST_BATCH: u64 = 10000;
 
 const LAST_MOMENT: u64 = 253402300799;
 
-/// The seconds between two tellings of how far a run came.
+/// The time between two progress messages, in seconds.
 const PAUSE: u64 = 1;
 
-/// Tells on standard error what lines are told.
+/// Reports errors and progress on standard error.
 #[derive(Drop)]
 pub struct ErrorReporter<'a, H> {
     rt: &'a H,
-    /// Whether refusals are told.
+    /// Whether errors are explained.
     explains: bool,
-    /// When it was last told how far the run came, where that is told.
+    /// The time of the last progress message; `None` if progress is not shown.
     told_at: Option<Instant>,
-    /// What the answers say of that.
+    /// The progress so far.
     seen: Seen,
-    /// How many refusals were told with a sentence.
+    /// The number of explained errors.
     told: u64,
-    /// The names of refusals that came, and how often.
+    /// The number of errors by name.
     counts: Vec<(&'static str, u64)>,
-    /// What reads the lines' values.
+    /// The JSON reader for lines.
     values: ValueReader,
-    /// Room for what is told.
+    /// The buffer for messages.
     text: Vec<u8>,
     alloc: Global,
 }
@@ -60,7 +59,7 @@ impl<'a, H: Eprint + Clock> Observe for ErrorReporter<'a, H> {
         }
     }
 
-    /// Tells how often each name came.
+    /// Reports the number of errors by name.
     fn close(&mut self) {
         if self.told_at.is_some() {
             let _ = eprint!(self.rt; "\r\x1b[K");
@@ -81,7 +80,7 @@ impl<'a, H: Eprint + Clock> ObserveAnswers for ErrorReporter<'a, H> {
 }
 
 impl<'a, H: Eprint + Clock> ErrorReporter<'a, H> {
-    /// Tells refusals where `explains` is true, and how far a run came where `shows` is.
+    /// Creates a reporter. It explains errors if `explains`, and shows progress if `shows`.
     pub(crate) fn new(
         rt: &'a H,
         alloc: Global,
@@ -102,8 +101,8 @@ impl<'a, H: Eprint + Clock> ErrorReporter<'a, H> {
         }
     }
 
-    /// Tells, before the first line, which numbers of the options each `replicate` line without one of its own is refused
-    /// for (docs/PROFILE.md, "Limits").
+    /// Warns before the first line about options whose values make `replicate` commands fail (docs/PROFILE.md,
+    /// "Limits").
     pub(crate) fn warn(&self, settings: &Settings) {
         if !self.explains {
             return;
@@ -125,7 +124,7 @@ impl<'a, H: Eprint + Clock> ErrorReporter<'a, H> {
         }
     }
 
-    /// Tells of a refusal. Where memory is wanting it is passed over.
+    /// Explains an error. Prints nothing if an allocation fails.
     #[inline(never)]
     fn tell(&mut self, number: u64, line: &[u8], name: &'static str) {
         let _ = self.count(name);
@@ -149,7 +148,7 @@ impl<'a, H: Eprint + Clock> ErrorReporter<'a, H> {
         }
     }
 
-    /// Counts a name.
+    /// Counts an error name.
     fn count(&mut self, name: &'static str) -> Result<(), AllocError> {
         for row in self.counts.iter_mut() {
             if is_same_text(row.0, name) {
@@ -161,7 +160,7 @@ impl<'a, H: Eprint + Clock> ErrorReporter<'a, H> {
         Ok(())
     }
 
-    /// Tells how far the run came, if it was not told within a second.
+    /// Shows progress, at most once per second.
     #[inline(never)]
     fn show(&mut self, number: u64, told_at: Instant) {
         let Ok(now) = Instant::now(self.rt) else {

@@ -1,8 +1,7 @@
-//! A program that runs scripts of commands on document databases in memory.
+//! A program that runs scripts of commands on in-memory document databases.
 //!
-//! What a script is stands in docs/PROFILE.md, "Command lines" and "Answers". Its lines are taken in by
-//! `script_engine`, and served by `commands` over `script_databases`; here stand the command line, the standard
-//! streams and the exit status.
+//! docs/PROFILE.md, "Command lines" and "Answers", defines scripts. `script_engine` reads lines, and `commands` runs
+//! them on `script_databases`. This crate has the command line, the standard streams and the exit status.
 #![tactic(auto)]
 
 mod error_reporter;

@@ -1,4 +1,4 @@
-//! The command line: what its words set, or why they set nothing (docs/PROFILE.md, "Options").
+//! The command line: its options, and usage errors (docs/PROFILE.md, "Options").
 ghost use Rattle.std.specs.Prelude.{◌≡◌, ℕ, IfOk, IfErr, map, string_bytes, false};
 ghost use Rattle.clap.specs.Words.{app_of, found_of, first_value, one_text, rule_of};
 ghost use Rattle.couch_replicate.specs.declared.options.NoSettings.TheVariants.{NoNumber, Memory};
@@ -9,11 +9,11 @@ use cli_common::{find, flag, hidden_word, program};
 use script_databases::Settings;
 use std::alloc::{AllocError, Global};
 
-/// What the program says of itself.
+/// The description of the program.
 const ABOUT: &str =
     "Runs a script of commands on document databases in memory, and prints the answers.";
 
-/// What a script is, for `--help`.
+/// The description of scripts for `--help`.
 const SCRIPT_HELP: &str =
     "Each line of standard input is a JSON object, and is answered on standard output.
 `db` and `name` are names of 1 to 32 letters, digits, `-` or `_`.
@@ -74,27 +74,27 @@ docs/PROFILE.md, \"Names of refusals\", has a sentence for each NAME.
 Exit status: 0; 1 where a line was refused; 2 for a bad command line; 3 where reading,
 writing or memory failed.";
 
-/// What the words of a command line say.
+/// The options of a command line.
 #[derive(Drop)]
 pub struct Options {
-    /// What the script is run with.
+    /// The settings for the script.
     pub settings: Settings,
-    /// Whether refusals are told on standard error, each with a sentence.
+    /// Whether errors are explained on standard error.
     pub explain: bool,
-    /// Whether it is told on standard error how far the run came.
+    /// Whether progress is shown on standard error.
     pub progress: bool,
 }
 
-/// Why the words of a command line give no settings.
+/// Why a command line gives no settings.
 #[derive(Drop)]
 pub enum NoSettings {
-    /// What `clap` says of them, the help that was asked for too.
+    /// `clap`'s error, which includes requests for help.
     Words(Error),
-    /// An option's text is no number, which `clap` has seen before.
+    /// The value of an option is not a number. `clap` has already checked this.
     NoNumber,
-    /// There is a word that is no option.
+    /// There is a positional argument.
     File,
-    /// An allocation was refused.
+    /// An allocation failed.
     Memory,
 }
 
@@ -106,7 +106,7 @@ impl From<AllocError> for NoSettings {
     }
 }
 
-/// The options that the words of a command line give, the program's name first.
+/// Parses the arguments, the program's name first.
 pub fn read_words<'a>(alloc: Global, words: &'a [String]) -> Result<Options, NoSettings>
     ensures ok { IfOk result (λ o. Says (map string_bytes words.entry.now) o) }
     ensures err { IfErr result (λ why. Refuses (map string_bytes words.entry.now) why) }
@@ -118,7 +118,7 @@ pub fn read_words<'a>(alloc: Global, words: &'a [String]) -> Result<Options, NoS
     }
 }
 
-/// What the options say.
+/// Reads the options.
 fn options_of(alloc: Global, matches: &ArgMatches<'_>) -> Result<Options, NoSettings>
     ensures ok { IfOk result
         (λ o. AreOptions (first_value (found_of matches.now)) (one_text (found_of matches.now)) o) }
@@ -134,7 +134,7 @@ fn options_of(alloc: Global, matches: &ArgMatches<'_>) -> Result<Options, NoSett
     }
 }
 
-/// The settings that the options give.
+/// Reads the settings.
 fn settings_of(alloc: Global, matches: &ArgMatches<'_>) -> Result<Settings, NoSettings>
     ensures ok { IfOk result
         (λ s. AreSettings (first_value (found_of matches.now)) (one_text (found_of matches.now)) s) }
@@ -174,7 +174,11 @@ fn settings_of(alloc: Global, matches: &ArgMatches<'_>) -> Result<Settings, NoSe
     })
 }
 
-/// The number of an option, or its default. `NoNumber` where its text is none.
+/// Reads a numeric option, or its default.
+///
+/// # Errors
+///
+/// `NoNumber` if the value is not a number.
 fn number_of(matches: &ArgMatches<'_>, name: &str, default: u64) -> Result<u64, NoSettings>
     ensures ok { IfOk result (λ n. IsNumber (one_text (found_of matches.now) name.now) default n) }
     ensures err { IfErr result
@@ -187,7 +191,7 @@ fn number_of(matches: &ArgMatches<'_>, name: &str, default: u64) -> Result<u64, 
     }
 }
 
-/// The command line: the eight options, each at most once, and a word that is none.
+/// Defines the command line: eight options, each allowed at most once, and a positional argument.
 fn command<'a>(alloc: Global) -> Result<Command<'a>, AllocError>
     ensures { IfOk result (λ c. app_of c ≡ options) }
 {
@@ -236,7 +240,7 @@ fn command<'a>(alloc: Global) -> Result<Command<'a>, AllocError>
     Ok(command)
 }
 
-/// The option `--deny`.
+/// Defines the option `--deny`.
 fn deny<'a>(alloc: Global) -> Arg<'a>
     ensures rule { rule_of result ≡ deny_option }
     ensures local { result.global ≡ false }
@@ -248,7 +252,7 @@ fn deny<'a>(alloc: Global) -> Arg<'a>
         .help("A target of replications refuses each document whose id begins with this")
 }
 
-/// An option that takes a whole number from 0 to 2^64 - 1.
+/// Defines an option with an integer value from 0 to 2^64 - 1.
 fn number<'a>(alloc: Global, name: &'a str, value: &'a str, help: &'a str) -> Arg<'a>
     ensures rule { rule_of result ≡ number_option name.entry.now }
     ensures local { result.global ≡ false }

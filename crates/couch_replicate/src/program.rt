@@ -1,4 +1,4 @@
-//! The program: its words, its standard input and output, and its exit status.
+//! The program: its arguments, standard input and output, and exit status.
 ghost use Rattle.std.specs.Prelude.{◌≡◌, ◌≤◌};
 ghost use Rattle.couch_replicate.specs.Status.{ended_status, status_of};
 
@@ -15,10 +15,10 @@ use std::rt::Clock;
 use std::sync::Wait;
 use std::thread::Threads;
 
-/// Runs the program, and gives its exit status: 0; 1 where a line was refused; 2 for a bad command line; 3 where
-/// reading, writing or memory failed.
+/// Runs the program. Returns the exit status: 0; 1 if a line failed; 2 for a usage error; 3 if reading, writing or an
+/// allocation failed.
 ///
-/// `is_watched` says whether standard error is a terminal, where `--progress` shows how far a run came.
+/// `is_watched` is whether standard error is a terminal, which `--progress` requires.
 pub fn run_program<H>(rt: &H, is_watched: bool) -> u8
 where
     H: AllocGlobal + Env + Input + Print + Eprint + Clock + Threads + Wait + Sync,
@@ -30,7 +30,7 @@ where
     }
 }
 
-/// Runs the words over standard input and output.
+/// Runs the program on standard input and output.
 fn run_standard<H>(rt: &H, words: &[String], is_watched: bool) -> Ended
 where
     H: AllocGlobal + Input + Print + Eprint + Clock + Threads + Wait + Sync,
@@ -42,7 +42,7 @@ where
     run_words(rt, words, is_watched, &mut reader, &mut writer)
 }
 
-/// Tells on standard error how a run ended, where it isn't well, and gives the exit status.
+/// Reports how a run ended, unless it succeeded, and returns the exit status.
 fn tell<H: Print + Eprint>(rt: &H, ended: &Ended) -> u8
     ensures { result ≡ ended_status ended.now }
 {
@@ -58,7 +58,7 @@ fn tell<H: Print + Eprint>(rt: &H, ended: &Ended) -> u8
     }
 }
 
-/// Tells a fault, and gives the exit status.
+/// Reports an error of a script, and returns the exit status.
 fn tell_fault(rt: &impl Eprint, ended: &Result<bool, ScriptFault>) -> u8
     ensures { result ≡ status_of ended.now }
 {
@@ -68,7 +68,7 @@ fn tell_fault(rt: &impl Eprint, ended: &Result<bool, ScriptFault>) -> u8
     status_of(ended)
 }
 
-/// The exit status of a script that ended so.
+/// The exit status of a script.
 fn status_of(ended: &Result<bool, ScriptFault>) -> u8
     ensures { result ≡ status_of ended.now }
 {

@@ -1,4 +1,4 @@
-//! A run of the program over any reader and writer: its words, and the script that they have it run.
+//! A run of the program over any reader and writer.
 ghost use Rattle.std.specs.Prelude.{map, string_bytes};
 ghost use Rattle.couch_replicate.specs.RunWords.{RunsWords};
 
@@ -14,15 +14,15 @@ use std::thread::Threads;
 /// How a run ended.
 #[derive(Drop)]
 pub enum Ended {
-    /// The words give no settings, and no script was run.
+    /// No script was run, because the arguments give no settings.
     NotRun(NoSettings),
-    /// A script was run; whether no line of it was refused, or why it was not run to its end.
+    /// A script was run: whether no line failed, or why it stopped early.
     Ran(Result<bool, ScriptFault>),
 }
 
-/// Reads the words of a command line, the program's name first, and runs the script of the reader.
+/// Parses the arguments, the program's name first, and runs the script of the reader.
 ///
-/// The databases are left in memory, since the program ends behind it.
+/// The databases are not freed, because the program ends after this call.
 pub fn run_words<'a, H, R: ScriptRead, W: ScriptWrite>(
     rt: &H,
     words: &'a [String],

@@ -1,22 +1,22 @@
-//! What the answers of a script say of how far it came.
+//! Reads the progress of a script from its output.
 
 use std::str;
 
-/// How far a script came, as its answers say.
+/// The progress of a script.
 #[derive(Clone, Copy, Drop)]
 pub(crate) struct Seen {
-    /// How many lines of `load` and `edit` were accepted.
+    /// The number of successful `load` and `edit` lines.
     pub(crate) writes: u64,
-    /// How many sessions came to an end, at their goal or where their plan stopped them.
+    /// The number of sessions that ended, at their goal or because their plan stopped them.
     pub(crate) sessions: u64,
-    /// How many documents those that came to their goal have read.
+    /// The number of documents read by the sessions that reached their goal.
     pub(crate) read: u64,
-    /// How many of these they have written.
+    /// The number of documents that these sessions wrote.
     pub(crate) written: u64,
 }
 
 impl Seen {
-    /// Nothing was answered yet.
+    /// No progress.
     pub(crate) fn nothing() -> Seen {
         Seen {
             writes: 0,
@@ -26,7 +26,8 @@ impl Seen {
         }
     }
 
-    /// Adds what an answer says, or its first piece: that of a `load` or an `edit` is empty where the program is quiet.
+    /// Counts the output of a line, or its first piece. The output of `load` and `edit` is empty if the program is
+    /// quiet.
     pub(crate) fn note(&mut self, answer: &[u8]) {
         let Ok(text) = str::from_utf8(answer) else {
             return;
@@ -41,7 +42,7 @@ impl Seen {
         }
     }
 
-    /// Adds what the answer to a replication says, or to one each way.
+    /// Counts the output of a `replicate` or a `sync` line.
     fn note_sessions(&mut self, text: &str) {
         let mut before = "";
         for word in text.split_whitespace() {

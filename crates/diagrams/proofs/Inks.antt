@@ -1,4 +1,4 @@
--- Drawing one thing behind another.
+-- Drawing several things in order.
 use Rattle.proof_prelude.proofs.{◌≡◌, ℕ, List, [], ◌∷◌, ◌++◌, sym, ap, subst, ◌∙◌, append_assoc, Result, Ok, Err, OnOk, flat_map-append, flat_map, append-nil}
 use Rattle.diagrams.specs.{Draws, Piece, Sign, ink_of, sign, sign_in, sign_ink}
 
@@ -10,7 +10,7 @@ drawn p old new h = record {
   drawn = append-nil (sign_in p);
 }
 
--- one behind another
+-- two drawings in order
 pub drawn_then : (a b c : List ℕ) (xs ys : List Sign) → Draws a b xs → Draws b c ys → Draws a c (xs ++ ys)
 drawn_then a b c xs ys p q = record {
   pieces = p.pieces ++ q.pieces;
@@ -27,12 +27,12 @@ pub drawn_by : {T E : Type 0} (r : Result T E) (p : Piece) (old new : List ℕ) 
 drawn_by (Ok x) p old new h = drawn p old new h
 drawn_by (Err e) p old new h = tt
 
--- and behind another
+-- and after another drawing
 pub then_by : {T E : Type 0} (r : Result T E) (a b c : List ℕ) (xs ys : List Sign) → Draws a b xs → OnOk r (Draws b c ys) → OnOk r (Draws a c (xs ++ ys))
 then_by (Ok x) a b c xs ys p q = drawn_then a b c xs ys p q
 then_by (Err e) a b c xs ys p q = tt
 
--- and where nothing is a leaf
+-- and without a sign
 pub drawn_plain : (a b c : List ℕ) (xs : List Sign) → Draws a b xs → Draws b c [] → Draws a c xs
 drawn_plain a b c xs p q = subst (λ (ys : List Sign). Draws a c ys) (append-nil xs) (drawn_then a b c xs [] p q)
 
@@ -40,7 +40,7 @@ pub plain_by : {T E : Type 0} (r : Result T E) (a b c : List ℕ) (xs : List Sig
 plain_by (Ok x) a b c xs p q = drawn_plain a b c xs p q
 plain_by (Err e) a b c xs p q = tt
 
--- a text that several texts make, one behind another
+-- a text from several texts in order
 pub then_text : (a b c x y : List ℕ) → b ≡ a ++ x → c ≡ b ++ y → c ≡ a ++ (x ++ y)
 then_text a b c x y p q = q ∙ (ap (λ t. t ++ y) p ∙ append_assoc a x y)
 

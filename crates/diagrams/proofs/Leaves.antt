@@ -24,7 +24,7 @@ picture_by (Ok x) form db d s a b e each same h = record {
 }
 picture_by (Err x) form db d s a b e each same h = tt
 
--- where something is whole, no document is open
+-- if an item is complete, no document is open
 pub none_open : (old new : Option Document) (t : Told) (w : Whole) → IsNext old t new (Some w) → new ≡ None
 none_open old new t w (whole r h k n low) = refl
 none_open old new t w _ = refl

@@ -1,4 +1,4 @@
--- Drawing one row behind another.
+-- Drawing rows in order.
 use Rattle.proof_prelude.proofs.{◌≡◌, ℕ, zero, suc, ◌+◌, ◌<◌, ◌≤◌, List, [], ◌∷◌, ◌++◌, length, get_or, take, map, refl, sym, ap, subst, ◌∙◌, arith, map-append, take_more, flat_map-append, flat_map, append-nil}
 use Rattle.output_parser.specs.{Column}
 use Rattle.diagrams.specs.{Draws, Sign, count, counts_of}

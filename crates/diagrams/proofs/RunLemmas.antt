@@ -1,4 +1,4 @@
--- A run of whoever draws, by the document that is open alone.
+-- A run of drawing, by the open document only.
 use Rattle.proof_prelude.proofs.{ℕ, List, [], ◌∷◌, ap, Bool}
 use Rattle.script_engine.specs.{Answering, MayTell, Told, gave_up, in_full, served_only, IsAnswered, Run, Step, blank, served}
 

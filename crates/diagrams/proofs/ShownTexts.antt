@@ -1,4 +1,4 @@
--- A text that is shown has no hidden character, and in XML none that is markup.
+-- An escaped text has no hidden character, and in XML no markup.
 use Rattle.proof_prelude.proofs.{◌≡◌, ℕ, ◌/◌, ◌%◌, ◌<◌, ◌≤◌, ◌==◌, ◌||◌, nat_le, Bool, true, false, if◌then◌else◌, List, [], ◌∷◌, ◌++◌, refl, sym, ap, ◌∙◌, append_assoc, arith, encode_utf8_all, codes, list_any, digit_char, lt-leb, or_from, and_left, and_right, nat_tests, list_any-append, flat_map-append, encodes-append, append-nil}
 use Rattle.diagrams.specs.{Form, IsEscaped, IsSafe, IsSeen, done, entity_of, escape_of, is_hidden, is_markup, named, plain, shown, shown_char}
 use Rattle.diagrams.specs.declared.form.Form.TheVariants.{Text, Svg}
@@ -7,7 +7,7 @@ by_if : {X : Type 0} (P : X → Type 0) (b : Bool) (x y : X) → (b ≡ true →
 by_if P true x y f g = f refl
 by_if P false x y f g = g refl
 
--- a printable character of ASCII is seen
+-- a printable ASCII character is not hidden
 printable : (n : ℕ) → 32 ≤ n → n ≤ 126 → is_hidden n ≡ false
 printable n low high =
     let a : nat_le n 31 ≡ false = lt-leb n 31 (omega arith) in
@@ -95,7 +95,7 @@ pub safe_shown : (form : Form) (cs : List ℕ) → IsSafe form (shown form cs)
 safe_shown Text cs = seen_shown Text cs
 safe_shown Svg cs = escaped_shown cs
 
--- one character more
+-- one more character
 pub shown_more : (form : Form) (old a b : List ℕ) (cs : List ℕ) (c : ℕ) → a ≡ old ++ encode_utf8_all (shown form cs) → b ≡ a ++ encode_utf8_all (shown_char form c) → b ≡ old ++ encode_utf8_all (shown form (cs ++ c ∷ []))
 shown_more form old a b cs c before step =
     step ∙ (ap (λ t. t ++ encode_utf8_all (shown_char form c)) before

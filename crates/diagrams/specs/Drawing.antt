@@ -1,4 +1,4 @@
--- What is drawn of a script's answers: docs/PROFILE.md, "Pictures".
+-- The pictures of a script's output: docs/PROFILE.md, "Pictures".
 use Rattle.std.specs.Prelude.{◌≡◌, ℕ, ◌<◌, ◌≤◌, Bool, true, false, List, [], ◌∷◌, ◌++◌, Option, Some, None, Ok, Err, IsPermutation, map, codes, option_map, String, string_bytes, Vec, vec_len, chars}
 use Rattle.std.specs.declared.alloc.Global.{Global}
 use Rattle.std.specs.Borrow.{Bor}
@@ -24,7 +24,7 @@ use Rattle.diagrams.specs.Ink.{Draws, signs_of, signs_of_found, signs_of_log, si
 
 -- ---- documents, line by line
 
--- a leaf as it was read: its revision, whether it wins, and whether it is live
+-- a leaf: its revision, whether it is the winner, and whether it is live
 abbrev pub State : Type 0
 State = RevId × Bool × Bool
 
@@ -34,12 +34,12 @@ state_of l = (l.rev, l.wins, l.live)
 abbrev pub states : Document → List State
 states d = map state_of d.leaves.items
 
--- with a leaf more, of which the first wins
+-- with another leaf; the first one is the winner
 abbrev pub with_leaf : List State → RevId → Bool → List State
 with_leaf [] r live = (r, true, live) ∷ []
 with_leaf (s ∷ rest) r live = (s ∷ rest) ++ (r, false, live) ∷ []
 
--- with several more, which are live
+-- with several other leaves, which are live
 abbrev pub with_all : List State → List RevId → List State
 with_all leaves [] = leaves
 with_all leaves (r ∷ revs) = with_all (with_leaf leaves r true) revs
@@ -49,43 +49,43 @@ pub record Holds (d : Document) (id : List ℕ) (leaves : List State) : Type 0 w
   pub named : string_bytes d.id ≡ id
   pub read : states d ≡ leaves
 
--- What a line tells leaves open this document, and makes that whole.
+-- After a line, this document is open, and this item is complete.
 pub data IsNext : Option Document → Told → Option Document → Option Whole → Type 0 where
   -- a document begins
   opened : {old : Option Document} {id : String Global} {count : ℕ} {d : Document} → Holds d (string_bytes id) [] → d.count ≡ count
       → IsNext old (told.Document id count) (Some d) None
-  -- a leaf comes, and others are to come
+  -- a leaf comes, and more are expected
   more : {d e : Document} {live : Bool} {revs : Vec RevId Global} (r : RevId) → head_of revs.items ≡ Some r
       → Holds e (string_bytes d.id) (with_leaf (states d) r live) → e.count ≡ d.count → vec_len e.leaves < e.count
       → IsNext (Some d) (told.Leaf live revs) (Some e) None
-  -- the last one comes
+  -- the last leaf comes
   whole : {d e : Document} {live : Bool} {revs : Vec RevId Global} (r : RevId) → head_of revs.items ≡ Some r
       → Holds e (string_bytes d.id) (with_leaf (states d) r live) → e.count ≡ d.count → e.count ≤ vec_len e.leaves
       → IsNext (Some d) (told.Leaf live revs) None (Some (wholes.Tree e))
-  -- a leaf of no document
+  -- a leaf without a document
   loose : {live : Bool} {revs : Vec RevId Global} → IsNext None (told.Leaf live revs) None None
-  -- no line tells an empty list
+  -- a leaf with an empty list; no line is parsed as one
   empty : {old : Option Document} {live : Bool} {revs : Vec RevId Global} → head_of revs.items ≡ None → IsNext old (told.Leaf live revs) None None
-  -- a document of which the live leaves are told alone
+  -- a document with its live leaves in one line
   conflict : {old : Option Document} {id : String Global} {revs : Vec RevId Global} {e : Document} → Holds e (string_bytes id) (with_all [] revs.items)
       → IsNext old (told.Conflict id revs) None (Some (wholes.Tree e))
-  -- what `compare` finds of a document, and a row of numbers
+  -- a line of `compare` about a document, and a line of numbers
   found : {old : Option Document} {f : Found} → IsNext old (told.Found f) None (Some (wholes.Found f))
   row : {old : Option Document} {r : Row} → IsNext old (told.Row r) None (Some (wholes.Row r))
   -- a log
   log : {old : Option Document} {l : Log} → IsNext old (told.Log l) None (Some (wholes.Log l))
-  -- another line
+  -- any other line
   other : {old : Option Document} → IsNext old told.Other None None
 
 -- ---- pictures
 
--- a picture of the document: its id and each of its leaves once, in some order, and the lines that end its conflict
+-- a picture of the document: its id, each leaf once, in some order, and the commands that resolve its conflict
 pub record IsPicture (form : Form) (db : Option (List ℕ)) (d : Document) (text : List ℕ) : Type 0 where
   pub leaves : List Leaf
   pub each : IsPermutation (states d) (map state_of leaves)
   pub draws : Draws [] text (signs_of form db (string_bytes d.id) leaves)
 
--- what is drawn: what is whole, or nothing
+-- the drawing of a complete item, or nothing
 abbrev pub IsDrawn : Form → Option (List ℕ) → Option Whole → List ℕ → Type 0
 IsDrawn form db None text = text ≡ []
 IsDrawn form db (Some (wholes.Tree d)) text = IsPicture form db d text
@@ -93,7 +93,7 @@ IsDrawn form db (Some (wholes.Found f)) text = Draws [] text (signs_of_found for
 IsDrawn form db (Some (wholes.Row r)) text = Draws [] text (signs_of_row form r.table (string_bytes r.name) r.numbers.items)
 IsDrawn form db (Some (wholes.Log l)) text = Draws [] text (signs_of_log form (string_bytes l.id) l.entries.items)
 
--- what is drawn as, for which database, and the document that is open
+-- the format, the database, and the open document
 pub record Sketch : Type 0 where
   pub form : Form
   pub db : Option (List ℕ)
@@ -102,7 +102,7 @@ pub record Sketch : Type 0 where
 abbrev pub sketch_of : Form → Option (Bor (List ℕ)) → Option Document → Sketch
 sketch_of form db begun = record { form = form; db = option_map (λ (s : Bor (List ℕ)). s.now) db; begun = begun }
 
--- the picture of what a line makes whole, or nothing
+-- the drawing of what a line completes, or nothing
 pub record Takes (old : Sketch) (line : List ℕ) (new : Sketch) (text : List ℕ) : Type 0 where
   pub told : Told
   pub whole : Option Whole
@@ -112,14 +112,14 @@ pub record Takes (old : Sketch) (line : List ℕ) (new : Sketch) (text : List �
   pub form : new.form ≡ old.form
   pub db : new.db ≡ old.db
 
--- what a line is told: the picture of what it makes whole; or memory was wanting, and none is open
+-- the result of a line: the drawing of what it completes; or an allocation failed, and no document is open
 abbrev pub Pictures : Answering Sketch (List ℕ)
 Pictures old line (Ok text) new = Takes old line new text
 Pictures old line (Err name) new =
     (name ≡ codes "Memory") × (new.begun ≡ None) × (new.form ≡ old.form) × (new.db ≡ old.db)
 
--- What is written of what the reader has left: a beginning, what its lines are told, and an end. No character of a text of
--- an answer is hidden in it, and in SVG none is markup.
+-- The picture of what the reader has left: a start, the drawings for its lines, and an end. No character of an input
+-- text in it is hidden, and in SVG none is markup.
 pub record IsPictured (form : Form) (db : Option (List ℕ)) (left held held' : Option (List ℕ)) (clean : Bool) : Type 0 where
   pub input : List ℕ
   pub gives : Gives left input

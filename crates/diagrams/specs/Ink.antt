@@ -1,4 +1,4 @@
--- What pictures are drawn of: docs/PROFILE.md, "Pictures".
+-- The contents of pictures: docs/PROFILE.md, "Pictures".
 use Rattle.std.specs.Prelude.{◌≡◌, ◌==◌, ◌&&◌, ◌*◌, ◌/◌, ◌-◌, nat_le, drop, get_or, ℕ, Bool, true, false, not, if◌then◌else◌, List, [], ◌∷◌, ◌++◌, Option, Some, None, map, codes, chars, decimal, encode_utf8_all, max, string_bytes, take}
 use Rattle.std.specs.List.{flat_map}
 use Rattle.rev_core.specs.Rev.{RevId}
@@ -51,13 +51,13 @@ markup_text own.NodeEnd = codes "</text></g>\n"
 markup_text own.Line = codes ")\"><text x=\"20\" y=\"18\">"
 markup_text own.Numbers = codes "</text>\n<text x=\"20\" y=\"40\">"
 
--- a revision by its generation and the first six characters of its signature
+-- a revision as its generation and the first six characters of its signature
 abbrev pub short_text : RevId → List ℕ
 short_text r = decimal r.generation ++ 45 ∷ take 6 r.sig
 
--- ---- what a picture tells
+-- ---- the signs of a picture
 
--- what stands beside a leaf, and how it looks: whether it wins, and whether it is live
+-- the label and the shape of a leaf: whether it is the winner, and whether it is live
 abbrev pub label_text : Bool → Bool → List ℕ
 label_text true true = codes "  wins, live\n"
 label_text true false = codes "  wins, deleted\n"
@@ -76,32 +76,32 @@ node_label true false = codes "</text><text x=\"14\" y=\"4\">wins, deleted</text
 node_label false true = codes "</text><text x=\"14\" y=\"4\">live</text></g>\n"
 node_label false false = codes "</text><text x=\"14\" y=\"4\">deleted</text></g>\n"
 
--- a text of an answer, in UTF-8
+-- an input text, in UTF-8
 abbrev pub shown_text : Form → List ℕ → List ℕ
 shown_text form text = encode_utf8_all (shown form (chars text))
 
 pub data Sign : Type 0 where
-  -- a document's id
+  -- a document id
   title : Form → List ℕ → Sign
-  -- a leaf, whether it wins, and whether it is live
+  -- a leaf, whether it is the winner, and whether it is live
   leaf : Form → RevId → Bool → Bool → Sign
-  -- the line that ends a leaf's part of a conflict: its database, its id and its revision
+  -- the command that resolves a leaf's conflict: its database, document id and revision
   edit : List ℕ → List ℕ → RevId → Sign
-  -- what `compare` finds of a document, by its id
+  -- a finding of `compare`, and the document id
   found : Form → Finding → List ℕ → Sign
-  -- a revision of which that is so
+  -- a revision of a finding
   listed : RevId → Sign
-  -- what a row of numbers tells of, by its name
+  -- the kind and the name of a line of numbers
   heading : Form → Table → List ℕ → Sign
   -- the number of a column
   count : Column → ℕ → Sign
-  -- how much of a whole is there
+  -- the part of a whole
   bar : Form → ℕ → ℕ → Sign
-  -- a log, by the id of its replication
+  -- a log, by its replication id
   log : Form → List ℕ → Sign
-  -- when a session began
+  -- the start time of a session
   moment : Form → List ℕ → Sign
-  -- how many documents it wrote, and how many it read, beside the most that a session of its log read
+  -- the numbers of documents written and read, and the largest number read in the log
   chart : Form → ℕ → ℕ → ℕ → Sign
 
 abbrev pub leaf_ink : Form → RevId → Bool → Bool → List ℕ
@@ -113,7 +113,7 @@ edit_ink db id r =
     codes "  to keep the winner alone: {\"do\":\"edit\",\"db\":\"" ++ (shown_text forms.Text db ++ (codes "\",\"id\":"
     ++ (shown_text forms.Text id ++ (codes ",\"parent\":\"" ++ (rev_text r ++ codes "\",\"deleted\":true}\n")))))
 
--- how a column is called
+-- the caption of a column
 abbrev pub caption : Column → List ℕ
 caption columns.ComparedDocuments = codes "documents"
 caption columns.ComparedLeaves = codes "leaves"
@@ -136,13 +136,13 @@ caption columns.Read = codes "read"
 caption columns.Written = codes "written"
 caption columns.Failed = codes "failed"
 
--- what a row of numbers tells of
+-- the kind of a line of numbers
 abbrev pub table_text : Table → List ℕ
 table_text tables.Compared = codes "compare"
 table_text tables.Info = codes "database "
 table_text tables.Session = codes "session "
 
--- how much of a whole is there, in parts of 400
+-- the part of a whole, on a scale of 400
 abbrev pub share : ℕ → ℕ → ℕ
 share part all = if all == 0 then 400 else (if nat_le 400 (part * 400 / all) then 400 else part * 400 / all)
 
@@ -159,7 +159,7 @@ bar_ink forms.Svg part all =
     ++ decimal (share part all)) ++ codes "\" height=\"10\" class=\"w\"/><text x=\"432\" y=\"63\">") ++ ratio part all)
     ++ codes "</text>\n"
 
--- how far a chart is filled, and how far it reaches, in 40 characters
+-- the filled part of a bar of 40 characters, and its length
 abbrev pub filled : ℕ → ℕ → ℕ
 filled written most = share written most / 10
 
@@ -189,9 +189,9 @@ sign_ink (log form id) = codes "log " ++ shown_text form id
 sign_ink (moment form text) = shown_text form text
 sign_ink (chart form written read most) = chart_ink form written read most
 
--- ---- what it is drawn of
+-- ---- the pieces of a picture
 
--- all that may stand in a picture: markup, numbers, ancestors, and what it tells
+-- the pieces of a picture: markup, numbers, ancestors, and signs
 pub data Piece : Type 0 where
   mark : Markup → Piece
   number : ℕ → Piece
@@ -207,7 +207,7 @@ ink_of (whole r) = rev_text r
 ink_of (short r) = short_text r
 ink_of (sign s) = sign_ink s
 
--- what a piece tells
+-- the sign of a piece
 abbrev pub sign_in : Piece → List Sign
 sign_in (mark m) = []
 sign_in (number n) = []
@@ -215,18 +215,18 @@ sign_in (whole r) = []
 sign_in (short r) = []
 sign_in (sign s) = s ∷ []
 
--- from one text to the next such pieces were drawn, which tell this, in order
+-- the new text is the old one and some pieces, with these signs, in order
 pub record Draws (old new : List ℕ) (signs : List Sign) : Type 0 where
   pub pieces : List Piece
   pub ink : new ≡ old ++ flat_map ink_of pieces
   pub drawn : flat_map sign_in pieces ≡ signs
 
--- ---- what is told of a document
+-- ---- the signs of a document
 
 abbrev pub leaf_sign : Form → Leaf → Sign
 leaf_sign form l = leaf form l.rev l.wins l.live
 
--- a leaf that is live and loses has a line that ends its part of the conflict, where the database is named
+-- if the database is named, a live leaf that is not the winner has a command that resolves its conflict
 abbrev pub edit_of : List ℕ → List ℕ → Leaf → List Sign
 edit_of db id l = if not l.wins && l.live then edit db id l.rev ∷ [] else []
 
@@ -234,24 +234,23 @@ abbrev pub edits_of : Option (List ℕ) → List ℕ → List Leaf → List Sign
 edits_of None id leaves = []
 edits_of (Some db) id leaves = flat_map (edit_of db id) leaves
 
--- its id, its leaves, and in a text the lines that end its conflict
+-- its id, its leaves, and in text the commands that resolve its conflict
 abbrev pub signs_of : Form → Option (List ℕ) → List ℕ → List Leaf → List Sign
 signs_of forms.Text db id leaves = title forms.Text id ∷ (map (leaf_sign forms.Text) leaves ++ edits_of db id leaves)
 signs_of forms.Svg db id leaves = title forms.Svg id ∷ map (leaf_sign forms.Svg) leaves
 
--- ---- what is told of other lines
+-- ---- the signs of other lines
 
--- what `compare` finds of a document, and of which revisions
+-- a finding of `compare`, and its revisions
 abbrev pub signs_of_found : Form → Finding → List ℕ → List RevId → List Sign
 signs_of_found form finding id revs = found form finding id ∷ map listed revs
 
--- each number by its column
+-- each number with its column
 abbrev pub counts_of : List Column → List ℕ → List Sign
 counts_of (c ∷ cs) (n ∷ ns) = count c n ∷ counts_of cs ns
 counts_of cs ns = []
 
--- of what `compare` counts, how many leaves are at the target; of a session, how many of the documents that were read were
--- written
+-- for `compare`, the leaves that the target has; for a session, the documents that were written among those read
 abbrev pub bars_of : Form → Table → List ℕ → List Sign
 bars_of form tables.Compared ns = bar form (get_or ns 1 0 - get_or ns 2 0) (get_or ns 1 0) ∷ []
 bars_of form tables.Info ns = []
@@ -261,12 +260,12 @@ bars_of form tables.Session ns = bar form (get_or ns 5 0) (get_or ns 4 0) ∷ []
 abbrev pub signs_of_row : Form → Table → List ℕ → List ℕ → List Sign
 signs_of_row form table name ns = heading form table name ∷ (counts_of (columns_of table) ns ++ bars_of form table ns)
 
--- the most documents that a session of these read, or this many
+-- the largest number of documents that these sessions read, at least `most`
 abbrev pub most_from : ℕ → List Entry → ℕ
 most_from most [] = most
 most_from most (e ∷ es) = most_from (max most e.read) es
 
--- of a session of a log: when it began, its documents, and its id
+-- for a session of a log: its start time, its documents, and its id
 abbrev pub signs_of_session : Form → ℕ → Entry → List Sign
 signs_of_session form most e =
     moment form (string_bytes e.begun) ∷ chart form e.written e.read most ∷ count columns.Read e.read ∷ count columns.Written e.written

@@ -1,20 +1,21 @@
-//! The columns of a picture: generations that matter stand alone, and those between are folded.
+//! The columns of a diagram. A generation with a fork or an end has a column of its own; the generations between two
+//! such columns share one.
 
 use crate::document::Leaf;
 use crate::rows::Row;
 use crate::sheet::{digits, short_len};
 use std::alloc::{AllocError, Global};
 
-/// A column: the generations from `low` to `high`.
+/// A column for the generations from `low` to `high`.
 #[derive(Clone, Copy, Debug)]
 pub struct Cell {
     pub low: u32,
     pub high: u32,
-    /// How many characters the widest text in it has.
+    /// The number of characters of its widest text.
     pub width: usize,
 }
 
-/// The columns of leaves that stand in rows.
+/// Computes the columns for leaves and their rows.
 pub fn axis_of(alloc: Global, leaves: &[Leaf], rows: &[Row]) -> Result<Vec<Cell>, AllocError> {
     let kept = kept_of(alloc, leaves, rows)?;
     let mut cells = cells_of(alloc, kept.as_slice())?;
@@ -24,7 +25,7 @@ pub fn axis_of(alloc: Global, leaves: &[Leaf], rows: &[Row]) -> Result<Vec<Cell>
     Ok(cells)
 }
 
-/// The generations that stand alone, rising: where a row begins and ends, and from where something hangs.
+/// The generations with columns of their own, rising: where a row begins, ends or forks.
 fn kept_of(alloc: Global, leaves: &[Leaf], rows: &[Row]) -> Result<Vec<u32>, AllocError> {
     let mut kept = Vec::new(alloc);
     for (leaf, row) in leaves.iter().zip(rows) {
@@ -39,7 +40,7 @@ fn kept_of(alloc: Global, leaves: &[Leaf], rows: &[Row]) -> Result<Vec<u32>, All
     Ok(kept)
 }
 
-/// The generation with which a row begins.
+/// The first generation of a row.
 pub fn start_of(leaf: &Leaf, row: &Row) -> u32 {
     if row.hang == 0 || row.hang == u32::MAX {
         return leaf.oldest();
@@ -47,7 +48,7 @@ pub fn start_of(leaf: &Leaf, row: &Row) -> u32 {
     row.hang + 1
 }
 
-/// A column for each kept generation, and one for those between two.
+/// Builds a column for each kept generation, and one for the generations between two of them.
 fn cells_of(alloc: Global, kept: &[u32]) -> Result<Vec<Cell>, AllocError> {
     let mut cells = Vec::new(alloc);
     let mut next = kept.first().copied().unwrap_or(0);
@@ -69,7 +70,7 @@ fn cells_of(alloc: Global, kept: &[u32]) -> Result<Vec<Cell>, AllocError> {
     Ok(cells)
 }
 
-/// How many characters the widest text has that stands in a column.
+/// The number of characters of the widest text in a column.
 fn width_of(leaves: &[Leaf], low: u32, high: u32) -> usize {
     let mut width = 0;
     for leaf in leaves {
@@ -84,12 +85,12 @@ fn width_of(leaves: &[Leaf], low: u32, high: u32) -> usize {
     width
 }
 
-/// How many generations stand in a column.
+/// The number of generations in a column.
 pub fn folded(low: u32, high: u32) -> u64 {
     u64::from(high).saturating_sub(u64::from(low)) + 1
 }
 
-/// How many characters the text of a folded column has.
+/// The number of characters of the text of a shared column.
 pub fn folded_len(count: u64) -> usize {
     digits(count) + 5
 }

@@ -1,4 +1,4 @@
-//! A document as an answer of `show` tells it.
+//! A document, from the output of `show` or `conflicts`.
 ghost use Rattle.std.specs.Prelude.{◌≡◌, ◌==◌, [], OnOk, IsPermutation, length, nat_le, string_bytes, vec_len};
 ghost use Rattle.diagrams.specs.Drawing.{Holds, states, with_leaf};
 
@@ -7,15 +7,16 @@ use std::alloc::{AllocError, Global};
 
 /// A leaf with its known ancestry.
 ///
-/// Leaves are ordered as they are drawn: first by how many revisions they share with the winner, most first, then by
-/// their ancestors, the oldest first. So whatever hangs from one revision stands together.
+/// The order of leaves is the order of drawing: first by the number of revisions shared with the winner, descending,
+/// then by the ancestors, the oldest first. So all leaves that share a revision are adjacent.
 #[derive(Debug, PartialEq, Eq, PartialOrd, Ord, Drop)]
 pub struct Leaf {
-    /// How many revisions it does not share with the winner, of all that there may be; 0 for the winner.
+    /// A maximum minus the number of revisions shared with the winner; 0 for the winner.
     pub apart: usize,
-    /// Its known ancestors, the oldest first: each generation is one above that before, and the leaf's above the last.
+    /// The known ancestors, the oldest first. Each generation is one above the previous one, and the leaf's is one
+    /// above the last.
     pub before: Vec<Rev>,
-    /// Its revision.
+    /// The revision.
     pub rev: Rev,
     /// Whether it is the winner.
     pub wins: bool,
@@ -24,12 +25,12 @@ pub struct Leaf {
 }
 
 impl Leaf {
-    /// Its generation.
+    /// The generation.
     pub fn generation(&self) -> u32 {
         self.rev.generation()
     }
 
-    /// The generation of its oldest known ancestor, or its own.
+    /// The generation of the oldest known ancestor, or of the leaf itself.
     pub fn oldest(&self) -> u32 {
         match self.before.as_slice().first() {
             Some(rev) => rev.generation(),
@@ -37,7 +38,7 @@ impl Leaf {
         }
     }
 
-    /// Its ancestor of a generation.
+    /// The ancestor of a generation.
     pub fn ancestor(&self, generation: u32) -> Option<&Rev> {
         let oldest = self.oldest();
         if generation < oldest {
@@ -47,7 +48,7 @@ impl Leaf {
     }
 }
 
-/// How many revisions two lists share, from their beginning on.
+/// The length of the common prefix of two lists.
 pub fn shared(a: &[Rev], b: &[Rev]) -> usize {
     for i in 0..a.len() {
         if i >= b.len() || a[i] != b[i] {
@@ -57,19 +58,19 @@ pub fn shared(a: &[Rev], b: &[Rev]) -> usize {
     a.len()
 }
 
-/// A document, and its leaves as far as they were read.
+/// A document and those of its leaves that were read.
 #[derive(Drop)]
 pub struct Document {
-    /// Its id, as JSON writes it.
+    /// The id in JSON.
     pub id: String,
-    /// How many leaves it has.
+    /// The number of leaves.
     pub count: u64,
-    /// Those that were read: the winner first, or as they are drawn.
+    /// The leaves that were read: in the order of reading, the winner first, or sorted for drawing.
     pub leaves: Vec<Leaf>,
 }
 
 impl Document {
-    /// A document of which no leaf was read.
+    /// Creates a document without leaves.
     pub fn new(alloc: Global, id: String, count: u64) -> Document
         ensures holds { Holds result (string_bytes id) [] }
         ensures id { result.id ≡ id }
@@ -82,14 +83,14 @@ impl Document {
         }
     }
 
-    /// Whether all its leaves were read.
+    /// Whether all leaves were read.
     pub fn is_whole(&self) -> bool
         ensures { result ≡ nat_le self.now.count (vec_len self.now.leaves) }
     {
         self.leaves.len() as u64 >= self.count
     }
 
-    /// Adds a leaf, of which the first is the winner.
+    /// Adds a leaf. The first leaf is the winner.
     pub fn add(&mut self, leaf: Leaf) -> Result<(), AllocError>
         ensures holds { OnOk result (Holds self.new (string_bytes self.old.id) (with_leaf (states self.old) leaf.rev leaf.live)) }
         ensures count { OnOk result (self.new.count ≡ self.old.count) }
@@ -99,7 +100,7 @@ impl Document {
         Ok(())
     }
 
-    /// A leaf with its place among the others.
+    /// Computes a leaf's position relative to the others.
     fn placed(&self, leaf: Leaf) -> Leaf
         ensures rev { result.rev ≡ leaf.rev }
         ensures live { result.live ≡ leaf.live }
@@ -121,7 +122,7 @@ impl Document {
         }
     }
 
-    /// Puts the leaves into the order in which they are drawn.
+    /// Sorts the leaves for drawing.
     pub fn sort(&mut self) -> Result<(), AllocError>
         ensures leaves { IsPermutation (states self.old) (states self.new) }
         ensures id { self.new.id ≡ self.old.id }

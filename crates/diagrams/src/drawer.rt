@@ -1,4 +1,4 @@
-//! A run over a script's answers.
+//! Draws the output of a script.
 ghost use Rattle.std.specs.Prelude.{◌≡◌, [], Some, None, IfOk, OnOk, OnErr, option_map, string_bytes};
 ghost use Rattle.std.specs.Io.KnownBytes.{Keeps};
 ghost use Rattle.diagrams.specs.Ink.{Draws, signs_of, signs_of_found, signs_of_log, signs_of_row};
@@ -15,16 +15,16 @@ use output_parser::{Found, Log, Row, read_line};
 use script_engine::{NoRest, ScriptFault, ScriptRead, ScriptWrite, Serve, run_lines, write_all};
 use std::alloc::{AllocError, Global};
 
-/// Whoever draws.
+/// The state of drawing.
 #[derive(Drop)]
 struct Drawer<'a> {
     alloc: Global,
     form: Form,
-    /// The database of the answers, where it was named.
+    /// The database of the output, if it was named.
     db: Option<&'a str>,
     /// The document whose leaves are being read.
     begun: Option<Document>,
-    /// How wide and high the picture is.
+    /// The size of the picture.
     extent: Extent,
 }
 
@@ -50,7 +50,7 @@ impl Serve for Drawer<'_> {
 }
 
 impl Drawer<'_> {
-    /// Takes in a line, and draws the document that it makes whole. Where memory is wanting, none is open.
+    /// Reads a line, and draws what it completes. If an allocation fails, the current document is dropped.
     fn take_in(&mut self, line: &[u8], answer: &mut Vec<u8>) -> Result<(), AllocError>
         requires { answer.old.items ≡ [] }
         ensures ok { OnOk result (Takes (sketch_of self.old.form self.old.db self.old.begun) line.now
@@ -71,7 +71,7 @@ impl Drawer<'_> {
         }
     }
 
-    /// Draws what is whole.
+    /// Draws a complete item.
     fn draw_whole(&mut self, whole: Whole, answer: &mut Vec<u8>) -> Result<(), AllocError>
         requires { answer.old.items ≡ [] }
         ensures draws { OnOk result (IsDrawn self.old.form (option_map (λ s. s.now) self.old.db) (Some whole) answer.new.items) }
@@ -87,7 +87,7 @@ impl Drawer<'_> {
         }
     }
 
-    /// Draws what `compare` finds of a document.
+    /// Draws a line of `compare` about a document.
     fn draw_found(&mut self, found: &Found, answer: &mut Vec<u8>) -> Result<(), AllocError>
         ensures draws { OnOk result (Draws answer.old.items answer.new.items (signs_of_found self.old.form
             found.now.finding (string_bytes found.now.id) found.now.revs.items)) }
@@ -100,7 +100,7 @@ impl Drawer<'_> {
         Ok(())
     }
 
-    /// Draws a row of numbers.
+    /// Draws a line of numbers.
     fn draw_row(&mut self, row: &Row, answer: &mut Vec<u8>) -> Result<(), AllocError>
         ensures draws { OnOk result (Draws answer.old.items answer.new.items (signs_of_row self.old.form
             row.now.table (string_bytes row.now.name) row.now.numbers.items)) }
@@ -138,7 +138,7 @@ impl Drawer<'_> {
         self.draw_sorted(&document, answer)
     }
 
-    /// Draws a document whose leaves stand in their order.
+    /// Draws a document with sorted leaves.
     fn draw_sorted(&mut self, document: &Document, answer: &mut Vec<u8>) -> Result<(), AllocError>
         ensures draws { OnOk result (Draws answer.old.items answer.new.items (signs_of self.old.form
             (option_map (λ s. s.now) self.old.db) (string_bytes document.now.id) document.now.leaves.items)) }
@@ -157,12 +157,16 @@ impl Drawer<'_> {
     }
 }
 
-/// Reads a script's answers, and writes a picture of each document that an answer of `show` or `conflicts` tells, of what
-/// `compare` finds and counts, of the numbers of `info` and of sessions, and of logs (docs/PROFILE.md, "Pictures"): as text, or all of
-/// them as one picture in SVG. Where the database is named, a text has the lines that end the conflicts.
+/// Reads the output of a script, and draws the documents of `show` and `conflicts`, the lines of `compare`, the numbers
+/// of `info` and of sessions, and logs (docs/PROFILE.md, "Pictures"): as text, or as one SVG picture. If the database
+/// is named, the text includes the commands that resolve conflicts.
 ///
-/// `true` where memory was wanting for no line. `Read` and `Write` where that device failed, `Memory` where memory was
-/// wanting between lines: then a beginning was written.
+/// Returns whether memory was sufficient for every line.
+///
+/// # Errors
+///
+/// `Read` or `Write` if that device failed; `Memory` if an allocation failed between lines. A prefix of the output was
+/// written. The contract says nothing about errors.
 pub fn draw_answers<R: ScriptRead, W: ScriptWrite>(
     alloc: Global,
     form: Form,
@@ -191,7 +195,7 @@ pub fn draw_answers<R: ScriptRead, W: ScriptWrite>(
     Ok(clean)
 }
 
-/// Passes on what was written.
+/// Flushes the output.
 fn pass_on<W: ScriptWrite>(writer: &mut W) -> Result<(), ScriptFault>
     ensures { OnOk result (Keeps (W.held writer.old) (W.held writer.new)) }
 {
@@ -201,7 +205,7 @@ fn pass_on<W: ScriptWrite>(writer: &mut W) -> Result<(), ScriptFault>
     }
 }
 
-/// The beginning of a picture.
+/// The start of a picture.
 fn head_of(form: Form) -> &'static str
     ensures { Draws [] result.now [] }
 {

@@ -1,10 +1,10 @@
-//! What a picture is drawn as.
+//! The format of a picture.
 
-/// What a picture is drawn as.
+/// The format of a picture.
 #[derive(Clone, Copy, Debug, PartialEq, Eq)]
 pub enum Form {
     /// Lines of text, for a terminal or a mail.
     Text,
-    /// One picture in SVG.
+    /// One SVG picture.
     Svg,
 }

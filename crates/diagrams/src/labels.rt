@@ -1,8 +1,8 @@
-//! What stands beside a leaf, and how it looks. Nothing else that is drawn looks so.
+//! The labels and shapes of leaves. No other part of a picture has them.
 ghost use Rattle.std.specs.Prelude.{◌≡◌};
 ghost use Rattle.diagrams.specs.Ink.{label_text, node_label, shape_text};
 
-/// What stands behind a leaf in a text.
+/// The text label of a leaf.
 pub fn label_text(wins: bool, live: bool) -> &'static str
     ensures { result.now ≡ label_text wins live }
 {
@@ -14,7 +14,7 @@ pub fn label_text(wins: bool, live: bool) -> &'static str
     }
 }
 
-/// What stands between a leaf's whole id and its short one in SVG: its mark.
+/// The SVG shape of a leaf, between its full and its short id.
 pub fn shape_text(wins: bool, live: bool) -> &'static str
     ensures { result.now ≡ shape_text wins live }
 {
@@ -30,7 +30,7 @@ pub fn shape_text(wins: bool, live: bool) -> &'static str
     }
 }
 
-/// What stands behind a leaf in SVG.
+/// The SVG label of a leaf.
 pub fn node_label(wins: bool, live: bool) -> &'static str
     ensures { result.now ≡ node_label wins live }
 {

@@ -1,6 +1,6 @@
-//! Pictures of a script's answers, as text and as SVG: revision trees, what `compare` finds, and rows of numbers.
+//! Draws the output of a script as text or SVG: revision trees, comparisons, numbers and logs.
 //!
-//! What is read and drawn stands in docs/PROFILE.md, "Pictures".
+//! docs/PROFILE.md, "Pictures", defines the input and the pictures.
 #![tactic(auto)]
 
 mod axis;

@@ -1,4 +1,4 @@
-//! What `compare` finds of documents, and rows of numbers, as text and as SVG.
+//! Drawing lines of `compare` and lines of numbers.
 
 ghost use Rattle.std.specs.Prelude.{◌≡◌, ◌≤◌, ◌++◌, ◌∷◌, [], OnOk, get_or, map, string_bytes};
 ghost use Rattle.diagrams.specs.declared.form.Form.TheVariants.{Svg, Text};
@@ -12,7 +12,7 @@ use output_parser::{Column, Finding, Found, Row, Table};
 use rev_core::Rev;
 use std::alloc::AllocError;
 
-/// Draws what `compare` finds of a document, in SVG at a height.
+/// Draws a line of `compare` about a document; in SVG, at a height.
 pub fn draw_found(
     out: &mut Vec<u8>,
     form: Form,
@@ -38,7 +38,7 @@ fn draw_listed(out: &mut Vec<u8>, revs: &[Rev]) -> Result<(), AllocError>
     Ok(())
 }
 
-/// Draws a row of numbers, in SVG at a height.
+/// Draws a line of numbers; in SVG, at a height.
 pub fn draw_numbers(out: &mut Vec<u8>, form: Form, height: u64, row: &Row) -> Result<(), AllocError>
     ensures { OnOk result (Draws out.old.items out.new.items
         (signs_of_row form row.now.table (string_bytes row.now.name) row.now.numbers.items)) }
@@ -53,7 +53,7 @@ pub fn draw_numbers(out: &mut Vec<u8>, form: Form, height: u64, row: &Row) -> Re
     end(out, form)
 }
 
-/// Draws each number by its column.
+/// Draws each number with the caption of its column.
 fn draw_counts(out: &mut Vec<u8>, columns: &[Column], numbers: &[u64]) -> Result<(), AllocError>
     ensures { OnOk result (Draws out.old.items out.new.items (counts_of columns.now numbers.now)) }
 {
@@ -66,7 +66,7 @@ fn draw_counts(out: &mut Vec<u8>, columns: &[Column], numbers: &[u64]) -> Result
     Ok(())
 }
 
-/// Draws how much of a whole is there, where a row tells that.
+/// Draws a progress bar, if the table has one.
 fn draw_bar(out: &mut Vec<u8>, form: Form, table: Table, numbers: &[u64]) -> Result<(), AllocError>
     ensures { OnOk result (Draws out.old.items out.new.items (bars_of form table numbers.now)) }
 {
@@ -85,7 +85,7 @@ fn draw_bar(out: &mut Vec<u8>, form: Form, table: Table, numbers: &[u64]) -> Res
     }
 }
 
-/// The number at a place, or 0.
+/// The number at an index, or 0.
 fn number_at(numbers: &[u64], place: usize) -> u64
     ensures { result ≡ get_or numbers.now place 0 }
 {
@@ -96,9 +96,9 @@ fn number_at(numbers: &[u64], place: usize) -> u64
     }
 }
 
-// ---- where it stands
+// ---- positions
 
-/// How wide and high such a line is.
+/// The size of a line of `compare`.
 pub fn extent_of_found(found: &Found) -> Extent {
     Extent {
         width: width_of(found.id.as_str()).saturating_add(
@@ -108,7 +108,7 @@ pub fn extent_of_found(found: &Found) -> Extent {
     }
 }
 
-/// How wide and high a row of numbers is.
+/// The size of a line of numbers.
 pub fn extent_of_row(row: &Row) -> Extent {
     Extent {
         width: width_of(row.name.as_str()).max(900),
@@ -116,7 +116,7 @@ pub fn extent_of_row(row: &Row) -> Extent {
     }
 }
 
-/// Draws where something stands, in SVG.
+/// Draws the position of an item in SVG.
 pub fn begin(out: &mut Vec<u8>, form: Form, height: u64, behind: Markup) -> Result<(), AllocError>
     ensures { OnOk result (Draws out.old.items out.new.items []) }
 {
@@ -128,7 +128,7 @@ pub fn begin(out: &mut Vec<u8>, form: Form, height: u64, behind: Markup) -> Resu
     mark(out, behind)
 }
 
-/// Draws what stands between a name and the numbers.
+/// Draws the markup between a name and the numbers.
 fn between(out: &mut Vec<u8>, form: Form) -> Result<(), AllocError>
     ensures { OnOk result (Draws out.old.items out.new.items []) }
 {
@@ -138,7 +138,7 @@ fn between(out: &mut Vec<u8>, form: Form) -> Result<(), AllocError>
     }
 }
 
-/// Draws what stands behind the numbers.
+/// Draws the markup after the numbers.
 fn behind_numbers(out: &mut Vec<u8>, form: Form) -> Result<(), AllocError>
     ensures { OnOk result (Draws out.old.items out.new.items []) }
 {
@@ -148,7 +148,7 @@ fn behind_numbers(out: &mut Vec<u8>, form: Form) -> Result<(), AllocError>
     }
 }
 
-/// Draws the end of a row.
+/// Draws the end of a line of numbers.
 fn end(out: &mut Vec<u8>, form: Form) -> Result<(), AllocError>
     ensures { OnOk result (Draws out.old.items out.new.items []) }
 {
@@ -169,9 +169,9 @@ pub fn end_line(out: &mut Vec<u8>, form: Form) -> Result<(), AllocError>
     mark(out, Markup::GroupEnd)
 }
 
-// ---- what it tells
+// ---- contents
 
-/// Draws what is so of a document, and its id.
+/// Draws a finding and a document id.
 fn put_found(out: &mut Vec<u8>, form: Form, finding: Finding, id: &str) -> Result<(), AllocError>
     ensures { OnOk result (Draws out.old.items out.new.items (found form finding id.now ∷ [])) }
 {
@@ -179,7 +179,7 @@ fn put_found(out: &mut Vec<u8>, form: Form, finding: Finding, id: &str) -> Resul
     put_text(out, form, id)
 }
 
-/// Draws a revision of which it is so.
+/// Draws a revision of a finding.
 fn put_listed(out: &mut Vec<u8>, rev: &Rev) -> Result<(), AllocError>
     ensures { OnOk result (Draws out.old.items out.new.items (listed rev.now ∷ [])) }
 {
@@ -187,7 +187,7 @@ fn put_listed(out: &mut Vec<u8>, rev: &Rev) -> Result<(), AllocError>
     push_short(out, rev)
 }
 
-/// Draws what a row tells of, and its name.
+/// Draws the kind and the name of a line of numbers.
 pub fn put_heading(
     out: &mut Vec<u8>,
     form: Form,
@@ -200,7 +200,7 @@ pub fn put_heading(
     put_text(out, form, name)
 }
 
-/// What a row tells of.
+/// The kind of a line of numbers.
 fn table_text(table: Table) -> &'static str
     ensures { result.now ≡ table_text table }
 {
@@ -221,7 +221,7 @@ pub fn put_count(out: &mut Vec<u8>, column: Column, number: u64) -> Result<(), A
     put_number(out, number)
 }
 
-/// How a column is called.
+/// The caption of a column.
 fn caption(column: Column) -> &'static str
     ensures { result.now ≡ caption column }
 {
@@ -249,7 +249,7 @@ fn caption(column: Column) -> &'static str
     }
 }
 
-/// Draws how much of a whole is there.
+/// Draws a bar for a part of a whole.
 fn put_bar(out: &mut Vec<u8>, form: Form, part: u64, whole: u64) -> Result<(), AllocError>
     ensures { OnOk result (Draws out.old.items out.new.items (bar form part whole ∷ [])) }
 {
@@ -259,7 +259,7 @@ fn put_bar(out: &mut Vec<u8>, form: Form, part: u64, whole: u64) -> Result<(), A
     }
 }
 
-/// Draws it in 40 characters.
+/// Draws a bar of 40 characters.
 fn put_text_bar(out: &mut Vec<u8>, part: u64, whole: u64) -> Result<(), AllocError>
     ensures { OnOk result (Draws out.old.items out.new.items (bar Text part whole ∷ [])) }
 {
@@ -274,7 +274,7 @@ fn put_text_bar(out: &mut Vec<u8>, part: u64, whole: u64) -> Result<(), AllocErr
     out.extend_from_slice(b"\n")
 }
 
-/// Draws it 400 wide.
+/// Draws a bar that is 400 wide.
 fn put_svg_bar(out: &mut Vec<u8>, part: u64, whole: u64) -> Result<(), AllocError>
     ensures { OnOk result (Draws out.old.items out.new.items (bar Svg part whole ∷ [])) }
 {
@@ -287,7 +287,7 @@ fn put_svg_bar(out: &mut Vec<u8>, part: u64, whole: u64) -> Result<(), AllocErro
     out.extend_from_slice(b"</text>\n")
 }
 
-/// Puts a part and its whole.
+/// Appends a part and its whole.
 fn put_ratio(out: &mut Vec<u8>, part: u64, whole: u64) -> Result<(), AllocError>
     ensures { OnOk result (out.new.items ≡ out.old.items ++ ratio part whole) }
 {
@@ -296,7 +296,7 @@ fn put_ratio(out: &mut Vec<u8>, part: u64, whole: u64) -> Result<(), AllocError>
     put_number(out, whole)
 }
 
-/// How much of a whole is there, in parts of 400.
+/// The part of a whole, on a scale of 400.
 pub fn share(part: u64, whole: u64) -> u64
     ensures share { result ≡ share part whole }
     ensures most { result ≤ 400 }

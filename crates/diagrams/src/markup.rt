@@ -1,4 +1,4 @@
-//! The program's own markup: all that a picture holds beside numbers and what its answers name.
+//! The markup of pictures: everything except numbers and texts of the input.
 ghost use Rattle.std.specs.Prelude.{◌≡◌};
 ghost use Rattle.diagrams.specs.Ink.{markup_text};
 
@@ -9,33 +9,33 @@ pub enum Markup {
     Space,
     /// The end of a line.
     LineEnd,
-    /// What stands before each row of a text.
+    /// The indentation of a row of text.
     Indent,
-    /// An edge of a text where nothing stands.
+    /// An empty edge in text.
     Blank,
-    /// An edge that passes by.
+    /// An edge that passes a row.
     Bar,
     /// An edge to the next revision.
     Step,
-    /// The same, from where something hangs.
+    /// An edge to the next revision, with a branch below it.
     Fork,
-    /// An edge from above, behind which it goes on.
+    /// An edge from above that continues below.
     Branch,
-    /// An edge from above, the last one.
+    /// The last edge from above.
     Corner,
-    /// Behind the number of folded revisions.
+    /// The text after the number of folded revisions.
     More,
-    /// The beginning of a picture in SVG.
+    /// The start of an SVG picture.
     Head,
-    /// Its end, around its width and height.
+    /// The end of an SVG picture, with its width and height.
     TailWidth,
     TailHeight,
     Tail,
-    /// A document, before its place.
+    /// The start of a document, before its position.
     Group,
-    /// Before its id.
+    /// The text before the document id.
     Title,
-    /// Behind its id.
+    /// The text after the document id.
     TitleEnd,
     GroupEnd,
     /// An edge, its points, and its end.
@@ -43,25 +43,25 @@ pub enum Markup {
     Comma,
     Curve,
     PathEnd,
-    /// A revision, before its place.
+    /// A revision, before its position.
     Node,
-    /// Before its whole id.
+    /// The text before the full revision id.
     NodeTitle,
-    /// Behind its whole id, before its short one.
+    /// The text between the full and the short id of an ancestor.
     Ancestor,
     Folded,
-    /// Where there is none.
+    /// A position without a known revision.
     NodeNone,
-    /// Behind its short id.
+    /// The text after the short id.
     NodeEnd,
-    /// Before what a line tells.
+    /// The text before the contents of a line.
     Line,
-    /// Between the name of a row and its numbers.
+    /// The text between the name and the numbers of a line.
     Numbers,
 }
 
 impl Markup {
-    /// Its text.
+    /// The text of the markup.
     pub fn text(self) -> &'static str
         ensures { result.now ≡ markup_text self }
     {

@@ -1,4 +1,4 @@
-//! Documents, as the lines of a script's answers tell them.
+//! Assembling documents from lines.
 ghost use Rattle.std.specs.Prelude.{◌≡◌, [], Some, None, true, IfOk, IfSome, IfNone, string_bytes};
 ghost use Rattle.rev_core.specs.Ancestry.{head_of};
 ghost use Rattle.output_parser.specs.declared.told.Told.TheVariants as lines;
@@ -9,20 +9,20 @@ use output_parser::{Found, Log, Row, Told};
 use rev_core::Rev;
 use std::alloc::{AllocError, Global};
 
-/// What a line makes whole, so that it is drawn.
+/// A complete item, which is drawn.
 #[derive(Drop)]
 pub enum Whole {
-    /// A document, with each of its leaves.
+    /// A document with all its leaves.
     Tree(Document),
-    /// What `compare` finds of a document.
+    /// A line of `compare` about a document.
     Found(Found),
-    /// A row of numbers.
+    /// A line of numbers.
     Row(Row),
     /// A log.
     Log(Log),
 }
 
-/// The document that is open behind what a line tells, and what it makes whole.
+/// The current document after a line, and the item that the line completes.
 pub fn next(
     alloc: Global,
     begun: Option<Document>,
@@ -47,7 +47,7 @@ pub fn next(
     }
 }
 
-/// The same, of a leaf of a document.
+/// The same for a leaf of a document.
 fn read_leaf(
     mut document: Document,
     live: bool,
@@ -66,7 +66,7 @@ fn read_leaf(
     }
 }
 
-/// The leaf of an ancestry, newest first; none of an empty list.
+/// Builds a leaf from an ancestry, newest first; `None` if it is empty.
 fn leaf_of(live: bool, mut revs: Vec<Rev>) -> Option<Leaf>
     ensures some { IfSome result (λ l. (head_of revs.items ≡ Some l.rev) × (l.live ≡ live)) }
     ensures none { IfNone result (head_of revs.items ≡ None) }
@@ -86,7 +86,7 @@ fn leaf_of(live: bool, mut revs: Vec<Rev>) -> Option<Leaf>
     })
 }
 
-/// The document of these live leaves, whose ancestors are not known.
+/// Builds a document from live leaves whose ancestors are unknown.
 fn conflict_of(alloc: Global, id: String, revs: &[Rev]) -> Result<Document, AllocError>
     ensures { IfOk result (λ d. Holds d (string_bytes id) (with_all [] revs.now)) }
 {
@@ -97,7 +97,7 @@ fn conflict_of(alloc: Global, id: String, revs: &[Rev]) -> Result<Document, Allo
     Ok(document)
 }
 
-/// A live leaf whose ancestors are not known.
+/// Builds a live leaf whose ancestors are unknown.
 fn alone(alloc: Global, rev: Rev) -> Leaf
     ensures rev { result.rev ≡ rev }
     ensures live { result.live ≡ true }

@@ -1,31 +1,31 @@
-//! How the leaves of a document hang together: each has a row, and hangs from a row before.
+//! The layout of leaves: each has a row, and branches off an earlier row.
 
 ghost use Rattle.std.specs.Prelude.{◌≡◌, IfOk, length, vec_len};
 
 use crate::document::{Leaf, shared};
 use std::alloc::{AllocError, Global};
 
-/// A leaf's row.
+/// The row of a leaf.
 #[derive(Drop)]
 pub struct Row {
-    /// The generation of the revision that it hangs from, or 0 where it hangs from none.
+    /// The generation of the revision from which it branches off; 0 if it does not branch off.
     pub hang: u32,
-    /// The row in which that one is drawn.
+    /// The row in which that revision is drawn.
     pub parent: usize,
     /// The generation of the leaf's oldest known ancestor.
     pub first: u32,
-    /// The generations from which something hangs below this row, rising: of this row, or of rows before.
+    /// The generations at which branches go below this row, rising; of this row or of earlier rows.
     pub below: Vec<u32>,
 }
 
 impl Row {
-    /// Whether something below hangs from this generation.
+    /// Whether a branch at this generation goes below the row.
     pub fn is_open(&self, generation: u32) -> bool {
         self.below.contains(&generation)
     }
 }
 
-/// The rows of leaves that stand in their order.
+/// Computes the rows of sorted leaves.
 pub fn rows_of(alloc: Global, leaves: &[Leaf]) -> Result<Vec<Row>, AllocError>
     ensures { IfOk result (λ rows. vec_len rows ≡ length leaves.now) }
 {
@@ -48,7 +48,7 @@ pub fn rows_of(alloc: Global, leaves: &[Leaf]) -> Result<Vec<Row>, AllocError>
     Ok(rows)
 }
 
-/// The generation of the last revision that a leaf shares with the one before, or 0.
+/// The generation of the last revision that a leaf shares with the previous one, or 0.
 fn hang_of(before: &Leaf, leaf: &Leaf) -> u32 {
     let count = shared(before.before.as_slice(), leaf.before.as_slice());
     if count == 0 {
@@ -60,7 +60,7 @@ fn hang_of(before: &Leaf, leaf: &Leaf) -> u32 {
         .map_or(0, |rev| rev.generation())
 }
 
-/// The last row in which a revision of this generation is drawn: one that hangs from an older one.
+/// The last row in which a revision of this generation is drawn.
 fn parent_of(rows: &[Row], hang: u32) -> usize {
     for i in (0..rows.len()).rev() {
         if rows[i].hang < hang {
@@ -70,7 +70,7 @@ fn parent_of(rows: &[Row], hang: u32) -> usize {
     0
 }
 
-/// Tells each row what hangs below it.
+/// Computes the branches below each row.
 fn open_below(alloc: Global, rows: &mut [Row]) -> Result<(), AllocError> {
     let mut open: Vec<u32> = Vec::new(alloc);
     for i in (0..rows.len()).rev() {
@@ -80,7 +80,7 @@ fn open_below(alloc: Global, rows: &mut [Row]) -> Result<(), AllocError> {
     Ok(())
 }
 
-/// What is open above a row that hangs from this generation.
+/// Updates the open branches above a row that branches off at a generation.
 fn close(open: &mut Vec<u32>, hang: u32) -> Result<(), AllocError> {
     open.retain(|generation| *generation < hang);
     if hang > 0 {

@@ -1,4 +1,4 @@
-//! Logs as charts of their sessions, as text and as SVG.
+//! Drawing logs as bar charts of their sessions.
 
 ghost use Rattle.std.specs.Prelude.{◌≡◌, ◌++◌, ◌∷◌, [], OnOk, string_bytes};
 ghost use Rattle.std.specs.List.{flat_map};
@@ -13,10 +13,10 @@ use crate::svg::{Extent, width_of};
 use output_parser::{Column, Entry, Log, Table};
 use std::alloc::AllocError;
 
-/// How high the row of a session is, and that of the log's own id.
+/// The height of a session's row, and of the row of the log's id.
 const ROW: u64 = 24;
 
-/// Draws a log, in SVG at a height.
+/// Draws a log; in SVG, at a height.
 pub fn draw_log(out: &mut Vec<u8>, form: Form, height: u64, log: &Log) -> Result<(), AllocError>
     ensures { OnOk result (Draws out.old.items out.new.items (signs_of_log form (string_bytes log.now.id) log.now.entries.items)) }
 {
@@ -44,7 +44,7 @@ fn draw_sessions(
     Ok(())
 }
 
-/// The most documents that a session read, and 1 at least.
+/// The largest number of documents that a session read, at least 1.
 fn most_read(entries: &[Entry]) -> u64
     ensures { result ≡ most_from 1 entries.now }
 {
@@ -76,9 +76,9 @@ fn draw_session(
     end_line(out, form)
 }
 
-// ---- where it stands
+// ---- positions
 
-/// How wide and high a log is.
+/// The size of a log.
 pub fn extent_of(log: &Log) -> Extent {
     Extent {
         width: width_of(log.id.as_str()).max(1240),
@@ -86,12 +86,12 @@ pub fn extent_of(log: &Log) -> Extent {
     }
 }
 
-/// Where the session at a place stands, in a log at a height.
+/// The height of the session at an index, in a log at a height.
 fn height_of(height: u64, place: usize) -> u64 {
     height.saturating_add((place as u64).min(1 << 32) * ROW + ROW)
 }
 
-/// Draws what stands before a session.
+/// Draws the markup before a session.
 fn begin_session(out: &mut Vec<u8>, form: Form, height: u64) -> Result<(), AllocError>
     ensures { OnOk result (Draws out.old.items out.new.items []) }
 {
@@ -111,7 +111,7 @@ fn end_log(out: &mut Vec<u8>, form: Form) -> Result<(), AllocError>
     }
 }
 
-// ---- what it tells
+// ---- contents
 
 /// Draws the id of a log.
 fn put_log(out: &mut Vec<u8>, form: Form, id: &str) -> Result<(), AllocError>
@@ -121,14 +121,14 @@ fn put_log(out: &mut Vec<u8>, form: Form, id: &str) -> Result<(), AllocError>
     put_text(out, form, id)
 }
 
-/// Draws when a session began.
+/// Draws the start time of a session.
 fn put_moment(out: &mut Vec<u8>, form: Form, begun: &str) -> Result<(), AllocError>
     ensures { OnOk result (Draws out.old.items out.new.items (moment form begun.now ∷ [])) }
 {
     put_text(out, form, begun)
 }
 
-/// Draws how many documents a session wrote, and how many it read, beside the most that one read.
+/// Draws a bar with the numbers of documents written and read, relative to the largest number read.
 fn put_chart(
     out: &mut Vec<u8>,
     form: Form,
@@ -144,7 +144,7 @@ fn put_chart(
     }
 }
 
-/// Draws it in 40 characters.
+/// Draws a bar of 40 characters.
 fn put_text_chart(out: &mut Vec<u8>, written: u64, read: u64, most: u64) -> Result<(), AllocError>
     ensures { OnOk result (Draws out.old.items out.new.items (chart Text written read most ∷ [])) }
 {
@@ -160,7 +160,7 @@ fn put_text_chart(out: &mut Vec<u8>, written: u64, read: u64, most: u64) -> Resu
     out.extend_from_slice(b"]")
 }
 
-/// Draws it 400 wide.
+/// Draws a bar that is 400 wide.
 fn put_svg_chart(out: &mut Vec<u8>, written: u64, read: u64, most: u64) -> Result<(), AllocError>
     ensures { OnOk result (Draws out.old.items out.new.items (chart Svg written read most ∷ [])) }
 {

@@ -1,4 +1,4 @@
-//! What a picture is drawn on: each thing that may stand in it.
+//! The drawing operations for each kind of thing in a picture.
 ghost use Rattle.std.specs.Prelude.{◌≡◌, ◌++◌, ◌∷◌, ◌<◌, [], OnOk, string_bytes, decimal, encode_utf8_all, chars, take};
 ghost use Rattle.std.specs.Char.{digit_char};
 ghost use Rattle.rev_core.specs.Text.{rev_text};
@@ -29,7 +29,7 @@ pub fn number(out: &mut Vec<u8>, number: u64) -> Result<(), AllocError>
     put_number(out, number)
 }
 
-/// Puts a number.
+/// Appends a number.
 pub fn put_number(out: &mut Vec<u8>, number: u64) -> Result<(), AllocError>
     ensures { OnOk result (out.new.items ≡ out.old.items ++ decimal number) }
 {
@@ -47,7 +47,7 @@ pub fn blanks(out: &mut Vec<u8>, count: usize) -> Result<(), AllocError>
     Ok(())
 }
 
-/// Puts a text of an answer, so that no character of it is markup and each is seen.
+/// Appends a text of the input, with markup characters and hidden characters (`is_hidden`) escaped.
 pub fn put_text(out: &mut Vec<u8>, form: Form, text: &str) -> Result<(), AllocError>
     ensures text { OnOk result (out.new.items ≡ out.old.items ++ shown_text form text.now) }
     ensures seen { IsSeen (shown form (chars text.now)) }
@@ -58,7 +58,7 @@ pub fn put_text(out: &mut Vec<u8>, form: Form, text: &str) -> Result<(), AllocEr
     out.extend_from_slice(shown.as_bytes())
 }
 
-/// Draws a document's id.
+/// Draws a document id.
 pub fn title(out: &mut Vec<u8>, form: Form, id: &str) -> Result<(), AllocError>
     ensures { OnOk result (Draws out.old.items out.new.items (title form id.now ∷ [])) }
 {
@@ -73,7 +73,7 @@ pub fn leaf_row(out: &mut Vec<u8>, rev: &Rev, wins: bool, live: bool) -> Result<
     out.extend_from_slice(label_text(wins, live).as_bytes())
 }
 
-/// Draws a leaf in SVG, behind its place.
+/// Draws a leaf in SVG, after its position.
 pub fn leaf_node(out: &mut Vec<u8>, rev: &Rev, wins: bool, live: bool) -> Result<(), AllocError>
     ensures { OnOk result (Draws out.old.items out.new.items (leaf Svg rev.now wins live ∷ [])) }
 {
@@ -83,7 +83,7 @@ pub fn leaf_node(out: &mut Vec<u8>, rev: &Rev, wins: bool, live: bool) -> Result
     out.extend_from_slice(node_label(wins, live).as_bytes())
 }
 
-/// Draws the line that ends a leaf's part of a conflict.
+/// Draws the command that resolves a leaf's conflict.
 pub fn edit_line(out: &mut Vec<u8>, db: &str, id: &str, rev: &Rev) -> Result<(), AllocError>
     ensures { OnOk result (Draws out.old.items out.new.items (edit db.now id.now rev.now ∷ [])) }
 {
@@ -96,7 +96,7 @@ pub fn edit_line(out: &mut Vec<u8>, db: &str, id: &str, rev: &Rev) -> Result<(),
     out.extend_from_slice(b"\",\"deleted\":true}\n")
 }
 
-/// Draws a revision by its whole id.
+/// Draws the full id of a revision.
 pub fn whole_rev(out: &mut Vec<u8>, rev: &Rev) -> Result<(), AllocError>
     ensures text { OnOk result (out.new.items ≡ out.old.items ++ rev_text rev.now) }
     ensures draws { OnOk result (Draws out.old.items out.new.items []) }
@@ -104,10 +104,10 @@ pub fn whole_rev(out: &mut Vec<u8>, rev: &Rev) -> Result<(), AllocError>
     push_rev(out, rev.generation(), rev.sig_bytes())
 }
 
-/// How many characters of a signature are drawn.
+/// The number of characters of a short signature.
 const SHORT: usize = 6;
 
-/// Draws a revision by the beginning of its id.
+/// Draws the short id of a revision.
 pub fn short_rev(out: &mut Vec<u8>, rev: &Rev) -> Result<(), AllocError>
     ensures text { OnOk result (out.new.items ≡ out.old.items ++ short_text rev.now) }
     ensures draws { OnOk result (Draws out.old.items out.new.items []) }
@@ -115,14 +115,14 @@ pub fn short_rev(out: &mut Vec<u8>, rev: &Rev) -> Result<(), AllocError>
     push_short(out, rev)
 }
 
-/// Puts a revision by the beginning of its id.
+/// Appends the short id of a revision.
 pub fn push_short(out: &mut Vec<u8>, rev: &Rev) -> Result<(), AllocError>
     ensures { OnOk result (out.new.items ≡ out.old.items ++ short_text rev.now) }
 {
     push_rev(out, rev.generation(), short_sig(rev))
 }
 
-/// The beginning of a revision's signature.
+/// The start of a revision's signature.
 fn short_sig(rev: &Rev) -> &[u8]
     ensures { result.now ≡ take 6 rev.now.sig }
 {
@@ -130,12 +130,12 @@ fn short_sig(rev: &Rev) -> &[u8]
     &sig[..sig.len().min(SHORT)]
 }
 
-/// How many characters the beginning of a revision's id has.
+/// The number of characters of a short id.
 pub fn short_len(rev: &Rev) -> usize {
     digits(u64::from(rev.generation())) + 1 + short_sig(rev).len()
 }
 
-/// How many digits a number has.
+/// The number of digits of a number.
 pub fn digits(mut number: u64) -> usize
     ensures { result < 21 }
 {
@@ -149,7 +149,7 @@ pub fn digits(mut number: u64) -> usize
     count
 }
 
-/// Puts a generation, a dash and a signature, or its beginning.
+/// Appends a generation, a hyphen, and a full or short signature.
 fn push_rev(out: &mut Vec<u8>, generation: u32, sig: &[u8]) -> Result<(), AllocError>
     ensures { OnOk result (out.new.items ≡ out.old.items ++ (decimal generation ++ 45 ∷ sig.now)) }
 {
@@ -159,7 +159,7 @@ fn push_rev(out: &mut Vec<u8>, generation: u32, sig: &[u8]) -> Result<(), AllocE
     out.extend_from_slice(sig)
 }
 
-/// Puts a text so that no character of it is markup and each is seen.
+/// Appends a text with markup characters and hidden characters escaped.
 fn push_shown(out: &mut String, form: Form, text: &str) -> Result<(), AllocError>
     ensures { OnOk result
         (string_bytes out.new ≡ string_bytes out.old ++ encode_utf8_all (shown form (chars text.now))) }
@@ -170,7 +170,7 @@ fn push_shown(out: &mut String, form: Form, text: &str) -> Result<(), AllocError
     Ok(())
 }
 
-/// Whether a character isn't seen, moves others, or may not stand in XML.
+/// Whether a character is escaped because it is invisible, moves other characters, or is not allowed in XML.
 fn is_hidden(c: char) -> bool
     ensures { result ≡ is_hidden c }
 {
@@ -182,7 +182,7 @@ fn is_hidden(c: char) -> bool
     }
 }
 
-/// Puts a character.
+/// Appends a character, escaped if necessary.
 fn push_char(out: &mut String, form: Form, c: char) -> Result<(), AllocError>
     ensures { OnOk result (string_bytes out.new ≡ string_bytes out.old ++ encode_utf8_all (shown_char form c)) }
 {
@@ -195,7 +195,7 @@ fn push_char(out: &mut String, form: Form, c: char) -> Result<(), AllocError>
     }
 }
 
-/// Puts a character of XML's markup by its name, and any other as it is.
+/// Appends a character, or its XML entity.
 fn push_entity(out: &mut String, c: char) -> Result<(), AllocError>
     ensures { OnOk result (string_bytes out.new ≡ string_bytes out.old ++ encode_utf8_all (entity_of c)) }
 {
@@ -208,7 +208,7 @@ fn push_entity(out: &mut String, c: char) -> Result<(), AllocError>
     }
 }
 
-/// Puts a hidden character as `\u` and four hexadecimal digits.
+/// Appends a hidden character as `\u` and four hexadecimal digits.
 fn push_escape(out: &mut String, c: char) -> Result<(), AllocError>
     requires { c < 65536 }
     ensures { OnOk result (string_bytes out.new ≡ string_bytes out.old ++ encode_utf8_all (escape_of c)) }

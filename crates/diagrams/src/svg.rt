@@ -1,4 +1,4 @@
-//! A document as a picture in SVG.
+//! Drawing a document in SVG.
 
 ghost use Rattle.std.specs.Prelude.{◌≡◌, ◌∷◌, [], None, OnOk, length, map, string_bytes};
 ghost use Rattle.diagrams.specs.declared.form.Form.TheVariants.{Svg};
@@ -13,7 +13,7 @@ use crate::sheet::{leaf_node, mark, number, short_rev, title, whole_rev};
 use rev_core::Rev;
 use std::alloc::{AllocError, Global};
 
-/// How far columns, rows and the first of each stand apart.
+/// The distances between columns, between rows, and to the first of each.
 const COLUMN: u64 = 110;
 
 const ROW: u64 = 44;
@@ -22,7 +22,7 @@ const LEFT: u64 = 60;
 
 const TOP: u64 = 52;
 
-/// How wide and high a document is, or all of them.
+/// The size of a document, or of a picture.
 #[derive(Clone, Copy, Debug)]
 pub struct Extent {
     pub width: u64,
@@ -30,7 +30,7 @@ pub struct Extent {
 }
 
 impl Extent {
-    /// Both, one under the other.
+    /// The combined size of two items, one below the other.
     pub fn with_below(self, below: Extent) -> Extent {
         Extent {
             width: self.width.max(below.width),
@@ -39,22 +39,22 @@ impl Extent {
     }
 }
 
-/// How wide a text is at most.
+/// The maximum width of a text.
 pub fn width_of(text: &str) -> u64 {
     (text.len() as u64).min(1 << 32) * 9
 }
 
-/// Where the middle of a column is.
+/// The center of a column.
 fn x_of(place: usize) -> u64 {
     (place as u64).min(1 << 32) * COLUMN + LEFT
 }
 
-/// Where the middle of a row is.
+/// The center of a row.
 fn y_of(place: usize) -> u64 {
     (place as u64).min(1 << 32) * ROW + TOP
 }
 
-/// Draws a document whose leaves stand in their order, at a height, and gives how wide and high it is.
+/// Draws a document with sorted leaves at a height, and returns its size.
 pub fn draw_document(
     alloc: Global,
     out: &mut Vec<u8>,
@@ -75,7 +75,7 @@ pub fn draw_document(
     })
 }
 
-/// Draws where a document stands, and its id.
+/// Draws the position of a document, and its id.
 fn draw_head(out: &mut Vec<u8>, height: u64, document: &Document) -> Result<(), AllocError>
     ensures { OnOk result (Draws out.old.items out.new.items (title Svg (string_bytes document.now.id) ∷ [])) }
 {
@@ -126,7 +126,7 @@ fn column_of(cells: &[Cell], leaf: &Leaf) -> usize {
     cells.len()
 }
 
-/// Draws the columns of a row before the leaf's, and the edge before it.
+/// Draws the columns of a row before the leaf's, and the edge to the leaf.
 fn draw_cells(
     out: &mut Vec<u8>,
     cells: &[Cell],
@@ -142,7 +142,7 @@ fn draw_cells(
     Ok(())
 }
 
-/// Draws what a row has in a column, if that isn't behind its leaf: the edge to it, and the column before a leaf's own.
+/// Draws a column of a row, unless it is after the leaf: the edge to it, and its contents if it is before the leaf's.
 fn draw_column(
     out: &mut Vec<u8>,
     cell: &Cell,
@@ -163,8 +163,8 @@ fn draw_column(
     Ok(())
 }
 
-/// Draws the edge to a column that begins with a generation: from the column before it, of its row, or of the row that it
-/// hangs from.
+/// Draws the edge to a column that begins with a generation. It starts at the previous column of the row, or of the row
+/// from which this one branches off.
 fn draw_edge(
     out: &mut Vec<u8>,
     low: u32,
@@ -185,7 +185,7 @@ fn draw_edge(
     draw_curve(out, x_of(i - 1), y_of(from), x_of(i), y_of(place))
 }
 
-/// Draws a curve from one point to another.
+/// Draws a curve between two points.
 fn draw_curve(out: &mut Vec<u8>, x: u64, y: u64, to_x: u64, to_y: u64) -> Result<(), AllocError>
     ensures { OnOk result (Draws out.old.items out.new.items []) }
 {
@@ -209,7 +209,7 @@ fn draw_point(out: &mut Vec<u8>, x: u64, y: u64) -> Result<(), AllocError>
     number(out, y)
 }
 
-/// Draws what stands in a column before a leaf's own.
+/// Draws the contents of a column before the leaf's.
 fn draw_cell(
     out: &mut Vec<u8>,
     cell: &Cell,
@@ -230,7 +230,7 @@ fn draw_cell(
     }
 }
 
-/// Draws so many folded revisions.
+/// Draws the number of folded revisions.
 fn draw_fold(out: &mut Vec<u8>, count: u64) -> Result<(), AllocError>
     ensures { OnOk result (Draws out.old.items out.new.items []) }
 {
@@ -240,7 +240,7 @@ fn draw_fold(out: &mut Vec<u8>, count: u64) -> Result<(), AllocError>
     mark(out, Markup::NodeEnd)
 }
 
-/// Draws an ancestor, behind its place.
+/// Draws an ancestor, after its position.
 fn draw_ancestor(out: &mut Vec<u8>, rev: &Rev) -> Result<(), AllocError>
     ensures { OnOk result (Draws out.old.items out.new.items []) }
 {
@@ -251,7 +251,7 @@ fn draw_ancestor(out: &mut Vec<u8>, rev: &Rev) -> Result<(), AllocError>
     mark(out, Markup::NodeEnd)
 }
 
-/// Draws a leaf, and what it is.
+/// Draws a leaf with its label.
 fn draw_leaf(out: &mut Vec<u8>, leaf: &Leaf, i: usize, place: usize) -> Result<(), AllocError>
     ensures { OnOk result (Draws out.old.items out.new.items (leaf_sign Svg leaf.now ∷ [])) }
 {

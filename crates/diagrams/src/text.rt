@@ -1,4 +1,4 @@
-//! A document as lines of text.
+//! Drawing a document as text.
 
 ghost use Rattle.std.specs.Prelude.{◌≡◌, ◌∷◌, [], OnOk, length, map, option_map, string_bytes};
 ghost use Rattle.std.specs.List.{flat_map};
@@ -14,7 +14,7 @@ use crate::sheet::{blanks, edit_line, leaf_row, mark, number, short_len, short_r
 use rev_core::Rev;
 use std::alloc::{AllocError, Global};
 
-/// Draws a document whose leaves stand in their order.
+/// Draws a document with sorted leaves.
 pub fn draw_document(
     alloc: Global,
     out: &mut Vec<u8>,
@@ -50,7 +50,7 @@ fn draw_rows(
     Ok(())
 }
 
-/// Draws the lines that end the conflicts, where the database is known.
+/// Draws the commands that resolve the conflict, if the database is known.
 fn draw_edits(
     out: &mut Vec<u8>,
     db: Option<&str>,
@@ -66,7 +66,7 @@ fn draw_edits(
     draw_edits_of(out, db, id, leaves)
 }
 
-/// Draws the lines that end the conflicts.
+/// Draws the commands that resolve the conflict.
 fn draw_edits_of(out: &mut Vec<u8>, db: &str, id: &str, leaves: &[Leaf]) -> Result<(), AllocError>
     ensures { OnOk result (Draws out.old.items out.new.items (flat_map (edit_of db.now id.now) leaves.now)) }
 {
@@ -85,7 +85,7 @@ fn draw_row(out: &mut Vec<u8>, cells: &[Cell], leaf: &Leaf, row: &Row) -> Result
     draw_leaf(out, leaf)
 }
 
-/// Draws the columns before a leaf's, and the edge before it.
+/// Draws the columns before the leaf's, and the edge to the leaf.
 fn draw_cells(out: &mut Vec<u8>, cells: &[Cell], leaf: &Leaf, row: &Row) -> Result<(), AllocError>
     ensures { OnOk result (Draws out.old.items out.new.items []) }
 {
@@ -95,7 +95,7 @@ fn draw_cells(out: &mut Vec<u8>, cells: &[Cell], leaf: &Leaf, row: &Row) -> Resu
     Ok(())
 }
 
-/// Draws what a row has in a column, if that isn't behind its leaf: the edge before it, and the column before a leaf's own.
+/// Draws a column of a row, unless it is after the leaf: the edge to it, and its contents if it is before the leaf's.
 fn draw_column(
     out: &mut Vec<u8>,
     cell: &Cell,
@@ -115,7 +115,7 @@ fn draw_column(
     Ok(())
 }
 
-/// Draws the edge before a column, unless it is the first one.
+/// Draws the edge to a column, unless it is the first one.
 fn draw_edge(
     out: &mut Vec<u8>,
     cell: &Cell,
@@ -131,7 +131,7 @@ fn draw_edge(
     mark(out, edge_of(leaf, row, cell.low))
 }
 
-/// The edge before the column that begins with a generation.
+/// The edge to the column that begins with a generation.
 fn edge_of(leaf: &Leaf, row: &Row, low: u32) -> Markup {
     let before = low.saturating_sub(1);
     let open = row.is_open(before);
@@ -144,7 +144,7 @@ fn edge_of(leaf: &Leaf, row: &Row, low: u32) -> Markup {
     if open { Markup::Bar } else { Markup::Blank }
 }
 
-/// Draws what stands in a column before a leaf's own.
+/// Draws the contents of a column before the leaf's.
 fn draw_cell(out: &mut Vec<u8>, cell: &Cell, leaf: &Leaf, row: &Row) -> Result<(), AllocError>
     ensures { OnOk result (Draws out.old.items out.new.items []) }
 {
@@ -160,7 +160,7 @@ fn draw_cell(out: &mut Vec<u8>, cell: &Cell, leaf: &Leaf, row: &Row) -> Result<(
     }
 }
 
-/// Draws so many folded revisions in a column.
+/// Draws the number of folded revisions in a column.
 fn draw_fold(out: &mut Vec<u8>, count: u64, width: usize) -> Result<(), AllocError>
     ensures { OnOk result (Draws out.old.items out.new.items []) }
 {
@@ -177,14 +177,14 @@ fn draw_ancestor(out: &mut Vec<u8>, rev: &Rev, width: usize) -> Result<(), Alloc
     blanks(out, width.saturating_sub(short_len(rev)))
 }
 
-/// Draws a leaf, and what it is.
+/// Draws a leaf with its label.
 fn draw_leaf(out: &mut Vec<u8>, leaf: &Leaf) -> Result<(), AllocError>
     ensures { OnOk result (Draws out.old.items out.new.items (leaf_sign Text leaf.now ∷ [])) }
 {
     leaf_row(out, &leaf.rev, leaf.wins, leaf.live)
 }
 
-/// Draws the line that ends a conflict, where a leaf is live and loses.
+/// Draws the command that resolves a leaf's conflict, if the leaf is live and not the winner.
 fn draw_edit(out: &mut Vec<u8>, db: &str, id: &str, leaf: &Leaf) -> Result<(), AllocError>
     ensures { OnOk result (Draws out.old.items out.new.items (edit_of db.now id.now leaf.now)) }
 {

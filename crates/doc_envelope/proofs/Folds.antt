@@ -5,7 +5,7 @@ use Rattle.json.specs.Print.{quoted}
 use Rattle.doc_envelope.proofs.Splits.{members_first, members_none}
 use Rattle.doc_envelope.specs.declared.members.Mode.TheVariants.{Outside}
 
--- each has more than blanks
+-- no member is blank
 abbrev pub Filled : List (List ℕ) → Type 0
 Filled [] = Unit {0}
 Filled (m ∷ ms) = (is_blank m ≡ false) × Filled ms
@@ -32,7 +32,7 @@ filled_among p (m ∷ ms) h = among (p m) (filled_among p ms h.1) where
   among true k = (h.0, k)
   among false k = k
 
--- ---- one member more
+-- ---- one more member
 
 pub joined_more : (f : List ℕ) (fs : List (List ℕ)) (m : List ℕ) → joined ((f ∷ fs) ++ m ∷ []) ≡ joined (f ∷ fs) ++ 44 ∷ m
 joined_more f [] m = refl
@@ -51,9 +51,9 @@ added_joined [] m h = refl
 added_joined (f ∷ fs) m h =
     ap (λ c. cond c ((123 ∷ joined (f ∷ fs)) ++ 44 ∷ m) ((123 ∷ joined (f ∷ fs)) ++ m)) (long f fs h.0) ∙ ap (λ z. 123 ∷ z) (sym (joined_more f fs m))
 
--- ---- in front
+-- ---- outside of the string
 
--- what is to be shown of the members behind, whichever stand in front
+-- what is to be shown of the remaining members, for all members before them
 abbrev TextsOf : List (List ℕ) → Type 0
 TextsOf ms = (fs : List (List ℕ)) → Filled fs → texts_with (123 ∷ joined fs) ms ≡ 123 ∷ joined (fs ++ filter stays (filter is_filled ms))
 
@@ -144,9 +144,9 @@ fold_enveloped x text held e f =
       b,
     )
 
--- ---- out of it
+-- ---- unwrapping
 
--- what is taken of a text, by its first member
+-- what is unwrapped of a text, by its first member
 pub taken_first : (t rest first : List ℕ) (o : Option (List ℕ)) → (length rest == 0) ≡ false → first ≡ take (first_length rest) rest → taken_with t first ≡ o
     → all_taken t (members_in Outside 0 [] rest) ≡ option_and_then (λ u. all_taken u (members_in Outside 0 [] (behind_comma rest (first_length rest)))) o
 taken_first t rest first o some is one = unfold all_taken in

@@ -3,7 +3,7 @@ use Rattle.proof_prelude.proofs.{◌≡◌, ℕ, List, Bool, true, false, ◌&&�
 use Rattle.json.specs.Json.{Json, document}
 use Rattle.doc_envelope.specs.{is_json}
 
--- bytes that are no UTF-8 are no JSON
+-- bytes that are not UTF-8 are not JSON
 pub no_utf8 : (text : List ℕ) → (IsUtf8 text → ⊥) → false ≡ is_json text
 no_utf8 text h = sym (ap (λ b. b && is_some (document text)) (false_from_ne_true (is_utf8 text) (λ e. h (IsUtf8-from_is_utf8 text e))))
 
@@ -13,7 +13,7 @@ same_test true (Some x) h = refl
 same_test false None h = refl
 same_test false (Some x) h = h.1 refl
 
--- bytes that are UTF-8 are JSON where they are a JSON text
+-- UTF-8 bytes are JSON if they are a JSON text
 pub utf8 : {E : Type 0} (bytes text : List ℕ) (r : Result Bool E) → text ≡ bytes → IsUtf8 bytes
     → IfOk r (λ b. IsTrue b ↔ IsSome (document text)) → IfOk r (λ b. b ≡ is_json bytes)
 utf8 bytes text (Ok b) same u h =

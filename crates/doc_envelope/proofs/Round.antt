@@ -1,4 +1,4 @@
--- What goes into an envelope comes out of it, member by member.
+-- Wrapped members are unwrapped, member by member.
 use Rattle.proof_prelude.proofs.{◌≡◌, ℕ, ◌+◌, ◌-◌, ◌&&◌, ◌||◌, ◌==◌, ◌/◌, ◌%◌, nat_lt, List, [], ◌∷◌, ◌++◌, Bool, true, false, not, cond, refl, sym, ap, subst, ◌∙◌, append_assoc, append-nil, arith, Option, Some, None, option_map, option_and_then, is_utf8, and_right, or_parts, IsUtf8-from_is_utf8, is_utf8-from_IsUtf8, digit_char, filter}
 use Rattle.json.specs.Json.{document, value, items, members, if_last, max_depth}
 use Rattle.json.specs.Token.{string as json_string}
@@ -12,7 +12,7 @@ use Rattle.doc_envelope.specs.Carried.{IsByte, Paired, nothing, byte, string, ob
 use Rattle.doc_envelope.specs.declared.members.Mode.TheVariants.{Outside, Quoted}
 use Rattle.doc_envelope.proofs.Folds.{is_filled}
 
--- ---- the members of a text are those that it was made of
+-- ---- the members of a text are those from which it was made
 
 no_end : (z c k : Bool) → (z && c) ≡ false → k ≡ false → (z && (c || k)) ≡ false
 no_end true true k h e = h
@@ -25,7 +25,7 @@ some_more n = grind arith
 less_one : (n : ℕ) → (n + 1) - 1 ≡ n
 less_one n = omega arith
 
--- a text that a reading passes over leaves the rest of it
+-- a text that is skipped leaves the rest
 abbrev Passes : Mode → ℕ → List ℕ → Mode → Type 0
 Passes m n t m' = (u rest : List ℕ) → members_in m n u (t ++ rest) ≡ members_in m' n (u ++ t) rest
 
@@ -111,7 +111,7 @@ members_among p (m ∷ ms) h = among (p m) (members_among p ms h.1) where
   among true k = (h.0, k)
   among false k = k
 
--- ---- into an envelope
+-- ---- wrapping
 
 -- the escapes of a string
 clash : (x : ℕ) → (x == 34 || x == 92) ≡ true → nat_lt 0 x ≡ false → ⊥
@@ -184,7 +184,7 @@ envelops x ms h u =
         carries = subst (λ z. Carries (whole_of z) z) (sym e) (whole_carries o os (ap (λ z. is_utf8 (joined z)) (sym e) ∙ v));
       }
 
--- ---- out of it
+-- ---- unwrapping
 
 others_stay : (fs : List (List ℕ)) (ws : List (List ℕ)) → AreOthers fs → unfolded_members (fs ++ ws) ≡ option_map (λ ts. fs ++ ts) (unfolded_members ws)
 others_stay [] ws h = same (unfolded_members ws) where
@@ -198,7 +198,7 @@ others_stay (f ∷ fs) ws h =
       twice None = refl
       twice (Some ts) = refl
 
--- members with commas between them are more than blanks
+-- members with commas between them are not blank
 blank_more : (f : List ℕ) (t : List ℕ) → is_blank f ≡ false → is_blank (f ++ t) ≡ false
 blank_more [] t h = absurd (cc)
 blank_more (b ∷ f) t h = by (b == 32) refl (blank_more f t) where
@@ -225,7 +225,7 @@ carried ws os (whole {w} o more named says) a fs h =
     ∙ ap (λ b. option_and_then (λ t. option_map (λ ts. t ∷ ts) (Some [])) (cond b None (Some s))) (joined_blank o more a.0.filled) in
     (fs ++ s ∷ [], others_stay fs (w ∷ []) h ∙ ap (option_map (λ ts. fs ++ ts)) one, joined_two fs o more)
 
--- what comes out, where it is JSON, has the members in front and those that were carried
+-- the unwrapped document, if it is JSON, has the unwrapped members and the wrapped ones
 pub gives_back : (y : List ℕ) (fs ws os : List (List ℕ)) → HasMembers y (fs ++ ws) → AreOthers fs → Carries ws os → AreMembers os → (made : List ℕ) → unfolded y ≡ Some made → HasMembers made (fs ++ os)
 gives_back y fs ws os h others carrying are made e =
     let c = carried ws os carrying are fs others in

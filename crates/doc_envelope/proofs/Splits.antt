@@ -1,4 +1,4 @@
--- The members of a text, one after another.
+-- The members of a text, in order.
 use Rattle.proof_prelude.proofs.{◌≡◌, ℕ, ◌+◌, ◌<◌, ◌==◌, get_or, take, drop, length, List, [], ◌∷◌, ◌++◌, Bool, true, false, cond, refl, sym, ap, ◌∙◌, append_assoc, append-nil, add-one, drop-cons, arith, common_steps}
 use Rattle.doc_envelope.specs.{ends_member, mode_behind, nesting_behind, length_in, first_length, members_in, behind_comma, Mode}
 use Rattle.doc_envelope.specs.declared.members.Mode.TheVariants.{Outside}
@@ -13,7 +13,7 @@ comma_members : (c : Bool) (t : List ℕ) → cond c (members_in Outside 0 [] t)
 comma_members true t = unfold members_in in refl
 comma_members false t = unfold members_in in refl
 
--- of a text of which so much was read, the member is that and what follows of it, and the others stand behind its comma
+-- if this much of a text was read, the first member is that and what follows of it, and the others come after its comma
 abbrev FirstBy : Mode → ℕ → List ℕ → List ℕ → Type 0
 FirstBy m n u t = members_in m n u t ≡ (u ++ take (length_in m n t) t) ∷ members_in Outside 0 [] (behind_comma t (length_in m n t))
 
@@ -44,7 +44,7 @@ members_first t some = first_by Outside 0 [] t some
 pub members_none : members_in Outside 0 [] [] ≡ []
 members_none = unfold members_in in refl
 
--- ---- one byte more of the first member
+-- ---- one more byte of the first member
 
 length_more : (m : Mode) (n : ℕ) (b : ℕ) (t : List ℕ) → ends_member m n b ≡ false → length_in m n (b ∷ t) ≡ length_in (mode_behind m b) (nesting_behind m n b) t + 1
 length_more m n b t h = unfold length_in in rw h

@@ -1,4 +1,4 @@
--- The round trip of a document by its envelope, over texts: docs/PROFILE.md, "Documents in envelopes".
+-- Wrapping and unwrapping a document, over texts: docs/PROFILE.md, "Documents in envelopes".
 use Rattle.std.specs.Prelude.{◌≡◌, ℕ, ◌+◌, ◌&&◌, ◌||◌, ◌==◌, List, [], ◌∷◌, ◌++◌, true, false, Some}
 use Rattle.std.specs.List.{filter}
 use Rattle.doc_envelope.specs.Texts.{EndsString}
@@ -6,14 +6,14 @@ use Rattle.doc_envelope.specs.Members.{is_blank, joined, object_of}
 use Rattle.doc_envelope.specs.Names.{has_name, value_of}
 use Rattle.doc_envelope.specs.Envelopes.{whole_name, stays, goes, string_of}
 
--- within so many brackets, a byte that is no quotation mark or bracket, and outside of all no comma
+-- within `nesting` brackets, a byte that is not a quotation mark or a bracket, and not a comma if `nesting` is 0
 pub record IsByte (nesting b : ℕ) : Type 0 where
   pub comma : (nesting == 0 && b == 44) ≡ false
   pub quote : (b == 34) ≡ false
   pub opens : (b == 123 || b == 91) ≡ false
   pub closes : (b == 125 || b == 93) ≡ false
 
--- strings are closed, and brackets paired, within so many others
+-- strings are closed, and brackets are paired, within `n` other brackets
 pub data Paired : ℕ → List ℕ → Type 0 where
   nothing : {n : ℕ} → Paired n []
   byte : {n b : ℕ} {t : List ℕ} → IsByte n b → Paired n t → Paired n (b ∷ t)
@@ -21,7 +21,7 @@ pub data Paired : ℕ → List ℕ → Type 0 where
   object : {n : ℕ} {m t : List ℕ} → Paired (n + 1) m → Paired n t → Paired n (123 ∷ (m ++ 125 ∷ t))
   list : {n : ℕ} {m t : List ℕ} → Paired (n + 1) m → Paired n t → Paired n (91 ∷ (m ++ 93 ∷ t))
 
--- a member's own text, which is more than blanks
+-- the text of a member; it has more than blanks
 pub record IsMember (m : List ℕ) : Type 0 where
   pub paired : Paired 0 m
   pub filled : is_blank m ≡ false
@@ -30,25 +30,25 @@ abbrev pub AreMembers : List (List ℕ) → Type 0
 AreMembers [] = Unit {0}
 AreMembers (m ∷ ms) = IsMember m × AreMembers ms
 
--- the text of an object with these members, each by its own text, in order
+-- the text of an object with these members, in order
 pub record HasMembers (x : List ℕ) (ms : List (List ℕ)) : Type 0 where
   pub members : AreMembers ms
   pub text : x ≡ object_of ms
 
--- One member named `whole` stands for these others with commas between them, by whichever spelling of its string; or
--- there are none, and no such member.
+-- One member `whole` holds these other members with commas between them, in any spelling of its string; or there are no
+-- other members and no member `whole`.
 pub data Carries : List (List ℕ) → List (List ℕ) → Type 0 where
   none : Carries [] []
   whole : {w : List ℕ} (o : List ℕ) (os : List (List ℕ)) → has_name w whole_name ≡ true
       → string_of (value_of w whole_name) ≡ Some (joined (o ∷ os)) → Carries (w ∷ []) (o ∷ os)
 
--- none of these members is named `whole`
+-- no member has the name `whole`
 abbrev pub AreOthers : List (List ℕ) → Type 0
 AreOthers [] = Unit {0}
 AreOthers (m ∷ ms) = (has_name m whole_name ≡ false) × AreOthers ms
 
--- A text is an envelope of a document with these members: those in front by their own texts, in order, and behind them
--- what carries the others.
+-- A text is an envelope of a document with these members: first the members that stay outside, unchanged and in order,
+-- and then the one that holds the others.
 pub record Envelops (ms : List (List ℕ)) (t : List ℕ) : Type 0 where
   pub carrier : List (List ℕ)
   pub members : HasMembers t (filter stays ms ++ carrier)

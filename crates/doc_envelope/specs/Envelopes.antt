@@ -13,9 +13,9 @@ use Rattle.doc_envelope.specs.Names.{has_name, value_of}
 abbrev pub whole_name : List ℕ
 whole_name = codes "\"whole\""
 
--- ---- into an envelope
+-- ---- wrapping
 
--- a member that stays in front
+-- a member that stays outside of the string
 abbrev pub stays : List ℕ → Bool
 stays m =
     has_name m (codes "\"_id\"") || has_name m (codes "\"_rev\"") || has_name m (codes "\"_revisions\"")
@@ -24,7 +24,7 @@ stays m =
 abbrev pub goes : List ℕ → Bool
 goes m = not (stays m)
 
--- the member that holds others, where there are some: their texts, with commas between them, as one string
+-- the member that holds the others, if there are any: their texts with commas between them, as one string
 abbrev pub whole_of : List (List ℕ) → List (List ℕ)
 whole_of [] = []
 whole_of (m ∷ ms) = (whole_name ++ 58 ∷ quoted (joined (m ∷ ms))) ∷ []
@@ -32,7 +32,7 @@ whole_of (m ∷ ms) = (whole_name ++ 58 ∷ quoted (joined (m ∷ ms))) ∷ []
 abbrev pub envelope_of : List ℕ → List ℕ
 envelope_of x = object_of (filter stays (members_of x) ++ whole_of (filter goes (members_of x)))
 
--- What stands in an envelope: nothing in it is looked into, but that a deletion is true or false.
+-- The members that an envelope may have. Only the types of `_deleted` and `whole` are checked.
 abbrev pub may_stand : List ℕ → Json → Bool
 may_stand name j =
     cond (bytes_eq name (codes "_id") || bytes_eq name (codes "_rev") || bytes_eq name (codes "_revisions")) true
@@ -61,17 +61,17 @@ is_enveloped x = is_utf8 (joined (filter goes (members_of x))) && is_envelope (e
 abbrev pub enveloped : List ℕ → Option (List ℕ)
 enveloped x = cond (is_enveloped x) (Some (envelope_of x)) None
 
--- ---- out of an envelope
+-- ---- unwrapping
 
--- a text that holds something
+-- a text that is not blank
 abbrev pub if_any : List ℕ → Option (List ℕ)
 if_any t = cond (is_blank t) None (Some t)
 
--- what a string of JSON stands for
+-- the value of a JSON string
 abbrev pub string_of : List ℕ → Option (List ℕ)
 string_of t = cond (is_utf8 t) (option_and_then as_str (document t)) None
 
--- what a member is taken for: itself, or the members that it holds
+-- a member, or the members that it holds
 abbrev pub unfolded_member : List ℕ → Option (List ℕ)
 unfolded_member m = cond (has_name m whole_name) (option_and_then if_any (string_of (value_of m whole_name))) (Some m)
 

@@ -1,4 +1,4 @@
--- The members of an object's text, each by its own text: docs/PROFILE.md, "Documents in envelopes".
+-- The members of an object, by their texts: docs/PROFILE.md, "Documents in envelopes".
 use Rattle.std.specs.Prelude.{ℕ, ◌+◌, ◌-◌, ◌&&◌, ◌||◌, ◌==◌, length, drop, List, [], ◌∷◌, ◌++◌, Bool, false, not, cond}
 use Rattle.std.specs.List.{list_all, filter}
 use Rattle.doc_envelope.specs.declared.members.Mode.{Mode}
@@ -12,7 +12,7 @@ opens b = b == 123 || b == 91
 abbrev pub closes : ℕ → Bool
 closes b = b == 125 || b == 93
 
--- a byte stands behind a member, within which so many brackets are open: a comma, or a bracket that closes the object
+-- a byte that ends a member, with `n` open brackets in the member: a comma, or the bracket that closes the object
 abbrev pub ends_member : Mode → ℕ → ℕ → Bool
 ends_member Outside n b = n == 0 && (b == 44 || closes b)
 ends_member Quoted n b = false
@@ -30,16 +30,17 @@ nesting_behind Escaped n b = n
 
 -- ---- members
 
--- how many bytes the member has that is being read
+-- the number of bytes that are left of the current member
 unfoldable pub length_in : Mode → ℕ → List ℕ → ℕ
 length_in m n [] = 0
 length_in m n (b ∷ t) = cond (ends_member m n b) 0 (length_in (mode_behind m b) (nesting_behind m n b) t + 1)
 
--- how many bytes the first member of a text has
+-- the number of bytes of the first member
 abbrev pub first_length : List ℕ → ℕ
 first_length t = length_in Outside 0 t
 
--- the members of a text up to the bracket that closes the object, of the first one of which so much was read
+-- the members of a text up to the bracket that closes the object; u is the part of the first member that is already
+-- read
 unfoldable pub members_in : Mode → ℕ → List ℕ → List ℕ → List (List ℕ)
 members_in m n u [] = cond (length u == 0) [] (u ∷ [])
 members_in m n u (b ∷ t) =
@@ -49,7 +50,7 @@ members_in m n u (b ∷ t) =
 abbrev pub is_blank : List ℕ → Bool
 is_blank m = list_all (λ b. b == 32) m
 
--- the members of an object's text, without white space that is none
+-- the members of an object, without blank ones
 abbrev pub members_of : List ℕ → List (List ℕ)
 members_of x = filter (λ m. not (is_blank m)) (members_in Outside 0 [] (drop 1 x))
 

@@ -1,14 +1,14 @@
--- What one member does to the texts of an envelope that is made, or opened.
+-- The effect of one member on the text of an envelope that is built or unwrapped.
 use Rattle.std.specs.Prelude.{ℕ, ◌==◌, nat_lt, length, get_or, drop, ◌+◌, List, [], ◌∷◌, ◌++◌, cond, Option, Some, option_map, option_and_then}
 use Rattle.json.specs.Print.{quoted}
 use Rattle.doc_envelope.specs.Members.{is_blank}
 use Rattle.doc_envelope.specs.Envelopes.{whole_name, stays, unfolded_member}
 
--- behind the members of a text that begins with a brace
+-- appended to the members of a text that begins with a brace
 abbrev pub added : List ℕ → List ℕ → List ℕ
 added t m = cond (nat_lt 1 (length t)) (t ++ 44 ∷ m) (t ++ m)
 
--- behind those that go into a string
+-- appended to the members in the string
 abbrev pub held_with : List ℕ → List ℕ → List ℕ
 held_with h m = cond (length h == 0) (h ++ m) (h ++ 44 ∷ m)
 
@@ -21,11 +21,11 @@ held_by h m = cond (is_blank m) h (cond (stays m) h (held_with h m))
 abbrev pub taken_with : List ℕ → List ℕ → Option (List ℕ)
 taken_with t m = cond (is_blank m) (Some t) (option_map (added t) (unfolded_member m))
 
--- behind a member of so many bytes, where a comma stands there
+-- after a member of n bytes and its comma
 abbrev pub behind_comma : List ℕ → ℕ → List ℕ
 behind_comma t n = cond (get_or t n 0 == 44) (drop (n + 1) t) []
 
--- ---- one after another
+-- ---- in order
 
 unfoldable pub texts_with : List ℕ → List (List ℕ) → List ℕ
 texts_with t [] = t
@@ -39,6 +39,6 @@ unfoldable pub all_taken : List ℕ → List (List ℕ) → Option (List ℕ)
 all_taken t [] = Some t
 all_taken t (m ∷ ms) = option_and_then (λ u. all_taken u ms) (taken_with t m)
 
--- the member that holds those of a string, behind the others
+-- the member that holds those of a string, appended to the others
 abbrev pub with_held : List ℕ → List ℕ → List ℕ
 with_held t h = cond (length h == 0) t (added t (whole_name ++ 58 ∷ []) ++ quoted h)

@@ -1,4 +1,4 @@
--- An envelope's room as it is stored: the text that was made last, and the members that go into the string.
+-- The values that the stored envelope buffers stand for.
 use Rattle.std.specs.Prelude.{ℕ, List}
 use Rattle.doc_envelope.specs.declared.envelope.Envelope.{Envelope}
 

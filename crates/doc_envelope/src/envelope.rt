@@ -1,4 +1,4 @@
-//! Envelopes: documents whose other members stand in one text.
+//! Envelopes: documents whose other members are stored in one string.
 ghost use Rattle.std.specs.Prelude.{◌≡◌, ◌++◌, ◌∷◌, [], ◌<◌, ◌≤◌, ℕ, List, length, drop, cond, Some, None, option_map, option_and_then, true, IfOk, OnOk};
 ghost use Rattle.std.specs.Str.{is_utf8};
 ghost use Rattle.doc_envelope.specs.Texts.{is_json};
@@ -15,22 +15,22 @@ use crate::values::{is_envelope, quote, string_of};
 use json::Scratch;
 use std::alloc::{AllocError, Global};
 
-/// The name of the member that holds the others.
+/// The name of the member that holds the other members.
 const WHOLE: &[u8] = b"\"whole\"";
 
-/// Puts documents into envelopes and takes them out, and keeps its room from one to the next.
+/// Wraps and unwraps documents, and reuses its buffers.
 #[derive(Drop)]
 pub struct Envelope {
     alloc: Global,
-    /// The text that was made last.
+    /// The last result.
     text: Vec<u8>,
-    /// The members that go into one, as the text of a string.
+    /// The members that go into the string.
     held: Vec<u8>,
     scratch: Scratch,
 }
 
 impl Envelope {
-    /// No text is made yet.
+    /// Creates an empty result.
     pub fn new(alloc: Global) -> Envelope
         ensures { made_of result ≡ [] }
     {
@@ -42,15 +42,14 @@ impl Envelope {
         }
     }
 
-    /// The text that was made last.
+    /// The last result.
     pub fn text(&self) -> &[u8]
         ensures { result.now ≡ made_of self.now }
     {
         self.text.as_slice()
     }
 
-    /// Puts a document into an envelope. False where it is no object, or is deleted in another way than by true or
-    /// false.
+    /// Wraps a document. Returns `false` if it is not an object, or if its `_deleted` is not a Boolean.
     pub fn put(&mut self, document: &[u8]) -> Result<bool, AllocError>
         ensures text { IfOk result (λ ok. enveloped document.now ≡ cond ok (Some (made_of self.new)) None) }
         ensures envelops { (ms : List (List ℕ)) → HasMembers document.now ms
@@ -62,7 +61,7 @@ impl Envelope {
         }
     }
 
-    /// Puts a document into an envelope.
+    /// Wraps a document.
     fn envelop(&mut self, document: &[u8]) -> Result<bool, AllocError>
         ensures { IfOk result (λ ok. enveloped document.now ≡ cond ok (Some (made_of self.new)) None) }
     {
@@ -73,7 +72,7 @@ impl Envelope {
         is_envelope(self.alloc, self.text.as_slice(), &mut self.scratch)
     }
 
-    /// Takes a document out of its envelope. False where it is no object, or a member `whole` of it holds none.
+    /// Unwraps a document. Returns `false` if it is not an object, or if one of its members `whole` holds no members.
     pub fn take(&mut self, document: &[u8]) -> Result<bool, AllocError>
         ensures text { IfOk result (λ ok. unfolded document.now ≡ cond ok (Some (made_of self.new)) None) }
         ensures gives_back { (fs ws os : List (List ℕ)) → HasMembers document.now (fs ++ ws) → AreOthers fs
@@ -86,7 +85,7 @@ impl Envelope {
         }
     }
 
-    /// Takes a document out of its envelope.
+    /// Unwraps a document.
     fn release(&mut self, document: &[u8]) -> Result<bool, AllocError>
         ensures { IfOk result (λ ok. unfolded document.now ≡ cond ok (Some (made_of self.new)) None) }
     {
@@ -97,7 +96,7 @@ impl Envelope {
         self.is_json()
     }
 
-    /// Whether the text is JSON.
+    /// Whether the result is JSON.
     fn is_json(&mut self) -> Result<bool, AllocError>
         ensures value { IfOk result (λ json. json ≡ is_json (made_of self.old)) }
         ensures same { made_of self.new ≡ made_of self.old }
@@ -108,7 +107,7 @@ impl Envelope {
         json::is_valid(text, &mut self.scratch)
     }
 
-    /// Begins a text.
+    /// Starts a new result.
     fn begin(&mut self) -> Result<(), AllocError>
         ensures made { OnOk result (made_of self.new ≡ 123 ∷ []) }
         ensures held { OnOk result (held_of self.new ≡ []) }
@@ -119,7 +118,7 @@ impl Envelope {
         Ok(())
     }
 
-    /// Each member in front, or in the text of a string.
+    /// Copies each member, either to the result or to the string.
     fn fold(&mut self, document: &[u8]) -> Result<(), AllocError>
         ensures made { OnOk result
             (made_of self.new ≡ texts_with (123 ∷ []) (members_in Outside 0 [] (drop 1 document.now))) }
@@ -136,7 +135,7 @@ impl Envelope {
         Ok(())
     }
 
-    /// Ends an envelope, with the member that holds the others. False where they are no UTF-8.
+    /// Ends an envelope with the member `whole`. Returns `false` if the string is not UTF-8.
     fn end_fold(&mut self) -> Result<bool, AllocError>
         ensures is { IfOk result (λ ok. ok ≡ is_utf8 (held_of self.old)) }
         ensures made { IfOk result (λ ok. ok ≡ true
@@ -149,7 +148,7 @@ impl Envelope {
         Ok(true)
     }
 
-    /// Each member by its own text, or those that it holds. False where one should hold some, and does not.
+    /// Copies each member, or the members that it holds. Returns `false` if a member `whole` holds no members.
     fn unfold(&mut self, document: &[u8]) -> Result<bool, AllocError>
         ensures { IfOk result (λ ok. all_taken (123 ∷ []) (members_in Outside 0 [] (drop 1 document.now))
             ≡ cond ok (Some (made_of self.new)) None) }
@@ -166,7 +165,7 @@ impl Envelope {
         Ok(true)
     }
 
-    /// A member that stays in front, or goes into the text of a string.
+    /// Copies a member, either to the result or to the string.
     fn put_member(&mut self, member: &[u8]) -> Result<(), AllocError>
         ensures made { OnOk result (made_of self.new ≡ text_with (made_of self.old) member.now) }
         ensures held { OnOk result (held_of self.new ≡ held_by (held_of self.old) member.now) }
@@ -180,7 +179,7 @@ impl Envelope {
         self.hold(member)
     }
 
-    /// A member of the text.
+    /// Appends a member to the result.
     fn add(&mut self, member: &[u8]) -> Result<(), AllocError>
         ensures made { OnOk result (made_of self.new ≡ added (made_of self.old) member.now) }
         ensures held { held_of self.new ≡ held_of self.old }
@@ -191,7 +190,7 @@ impl Envelope {
         self.text.extend_from_slice(member)
     }
 
-    /// A member as a part of the string.
+    /// Appends a member to the string.
     fn hold(&mut self, member: &[u8]) -> Result<(), AllocError>
         ensures held { OnOk result (held_of self.new ≡ held_with (held_of self.old) member.now) }
         ensures made { made_of self.new ≡ made_of self.old }
@@ -202,7 +201,7 @@ impl Envelope {
         self.held.extend_from_slice(member)
     }
 
-    /// The member that holds the others, where there are some. False where they are no UTF-8.
+    /// Appends the member `whole`, if the string is not empty. Returns `false` if the string is not UTF-8.
     fn end_held(&mut self) -> Result<bool, AllocError>
         ensures is { IfOk result (λ ok. ok ≡ is_utf8 (held_of self.old)) }
         ensures made { IfOk result (λ ok. ok ≡ true
@@ -215,7 +214,7 @@ impl Envelope {
         quote(self.alloc, self.held.as_slice(), &mut self.text)
     }
 
-    /// A member by its own text, or those that it holds. False where it should hold some, and does not.
+    /// Appends a member, or the members that it holds. Returns `false` if a member `whole` holds no members.
     fn take_member(&mut self, member: &[u8]) -> Result<bool, AllocError>
         ensures { IfOk result (λ ok. taken_with (made_of self.old) member.now
             ≡ cond ok (Some (made_of self.new)) None) }
@@ -230,7 +229,7 @@ impl Envelope {
         Ok(true)
     }
 
-    /// The members that a string stands for.
+    /// Appends the members in a JSON string.
     fn take_held(&mut self, value: &[u8]) -> Result<bool, AllocError>
         ensures { IfOk result (λ ok. option_map (added (made_of self.old))
             (option_and_then if_any (string_of value.now)) ≡ cond ok (Some (made_of self.new)) None) }
@@ -251,7 +250,7 @@ impl Envelope {
     }
 }
 
-/// The text behind the brace that opens an object.
+/// Returns the text after an object's opening brace.
 fn behind_brace(document: &[u8]) -> &[u8]
     ensures { result.now ≡ drop 1 document.now }
 {
@@ -262,7 +261,7 @@ fn behind_brace(document: &[u8]) -> &[u8]
     }
 }
 
-/// The text behind a member of so many bytes, where a comma stands there; else nothing.
+/// Returns the text after a member of `count` bytes and its comma; empty if there is no comma.
 fn behind_comma(text: &[u8], count: usize) -> &[u8]
     requires { count ≤ length text.now }
     ensures value { result.now ≡ behind_comma text.now count }
@@ -275,14 +274,14 @@ fn behind_comma(text: &[u8], count: usize) -> &[u8]
     }
 }
 
-/// Whether there are blanks and nothing else.
+/// Whether a text has only blanks.
 fn is_blank(text: &[u8]) -> bool
     ensures { result ≡ is_blank text.now }
 {
     text.iter().all(|b| *b == b' ')
 }
 
-/// Whether a member stands in front of an envelope.
+/// Whether a member stays outside of the string.
 fn stays(member: &[u8]) -> bool
     ensures { result ≡ stays member.now }
 {

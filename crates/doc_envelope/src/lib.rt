@@ -1,6 +1,7 @@
-//! The text of a document: its members, each by its own text, and the envelope that holds those which are not looked at.
+//! Processes the text of a document: splits it into its members without parsing their values, and wraps members into an
+//! envelope.
 //!
-//! What an envelope is stands in docs/PROFILE.md, "Documents in envelopes".
+//! docs/PROFILE.md, "Documents in envelopes", defines envelopes.
 #![tactic(auto)]
 
 mod envelope;

@@ -1,15 +1,15 @@
-//! The members of an object, by their texts.
+//! Splits an object into the texts of its members.
 ghost use Rattle.std.specs.Prelude.{◌≡◌, ◌+◌, ◌<◌, ◌≤◌, length};
 ghost use Rattle.doc_envelope.specs.Members.{opens, closes, ends_member, mode_behind, nesting_behind, first_length};
 
-/// Where in a text a byte stands.
+/// Whether the next byte is in a string.
 #[derive(Clone, Copy, Debug, PartialEq, Eq)]
 pub enum Mode {
-    /// Outside of strings.
+    /// Outside of a string.
     Outside,
     /// In a string.
     Quoted,
-    /// Behind a backslash of a string.
+    /// After a backslash in a string.
     Escaped,
 }
 
@@ -27,7 +27,7 @@ fn closes(byte: u8) -> bool
     byte == b'}' || byte == b']'
 }
 
-/// Whether a byte stands behind a member, within which so many brackets are open.
+/// Whether a byte ends a member, with `nesting` brackets open in the member.
 #[inline(always)]
 fn ends(mode: Mode, nesting: usize, byte: u8) -> bool
     ensures { result ≡ ends_member mode nesting byte }
@@ -38,7 +38,7 @@ fn ends(mode: Mode, nesting: usize, byte: u8) -> bool
     }
 }
 
-/// Where the byte behind a byte stands.
+/// The mode after a byte.
 #[inline(always)]
 fn mode_behind(mode: Mode, byte: u8) -> Mode
     ensures { result ≡ mode_behind mode byte }
@@ -53,7 +53,7 @@ fn mode_behind(mode: Mode, byte: u8) -> Mode
     }
 }
 
-/// How many brackets are open behind a byte.
+/// The number of open brackets after a byte.
 #[inline(always)]
 fn nesting_behind(mode: Mode, nesting: usize, byte: u8) -> usize
     requires { nesting < 9223372036854775808 }
@@ -67,7 +67,7 @@ fn nesting_behind(mode: Mode, nesting: usize, byte: u8) -> usize
     }
 }
 
-/// How many bytes the first member of a text has, up to the comma or the bracket behind it.
+/// The number of bytes of the first member, up to its comma or closing bracket.
 pub(crate) fn first_length(text: &[u8]) -> usize
     ensures value { result ≡ first_length text.now }
     ensures within { result ≤ length text.now }

@@ -1,10 +1,10 @@
-//! The names of members, and what stands behind them.
+//! The names and the values of members.
 ghost use Rattle.std.specs.Prelude.{◌≡◌, drop};
 ghost use Rattle.doc_envelope.specs.Names.{trimmed, has_name, value_of, first_member, id_of, is_log};
 
 use crate::members::first_length;
 
-/// A text without the blanks before it.
+/// Returns a text without leading blanks.
 pub(crate) fn trimmed(text: &[u8]) -> &[u8]
     ensures { result.now ≡ trimmed text.now }
 {
@@ -15,14 +15,14 @@ pub(crate) fn trimmed(text: &[u8]) -> &[u8]
     rest
 }
 
-/// Whether a member has a name, which is given with its quotation marks.
+/// Whether a member has this name, which includes its quotation marks.
 pub(crate) fn has_name(member: &[u8], name: &[u8]) -> bool
     ensures { result ≡ has_name member.now name.now }
 {
     trimmed(member).starts_with(name)
 }
 
-/// A text without its first bytes.
+/// Returns a text without its first `count` bytes.
 fn behind(text: &[u8], count: usize) -> &[u8]
     ensures { result.now ≡ drop count text.now }
 {
@@ -33,7 +33,7 @@ fn behind(text: &[u8], count: usize) -> &[u8]
     }
 }
 
-/// What stands behind a member's name, which is given with its quotation marks, and behind its colon.
+/// Returns a member's value: the text after its name, which includes its quotation marks, and its colon.
 pub(crate) fn value_of<'a>(member: &'a [u8], name: &[u8]) -> &'a [u8]
     ensures { result.now ≡ value_of member.now name.now }
 {
@@ -49,7 +49,7 @@ fn first_member(document: &[u8]) -> &[u8]
     &members[..first_length(members)]
 }
 
-/// The text of a document's id, where its first member is that; else nothing.
+/// The text of a document's id, if it is the first member; otherwise empty.
 pub fn id_of(document: &[u8]) -> &[u8]
     ensures { result.now ≡ id_of document.now }
 {
@@ -61,7 +61,7 @@ pub fn id_of(document: &[u8]) -> &[u8]
     }
 }
 
-/// Whether a text is that of a replication's log, which is no document.
+/// Whether a text is a replication log instead of a document.
 pub fn is_log(document: &[u8]) -> bool
     ensures { result ≡ is_log document.now }
 {

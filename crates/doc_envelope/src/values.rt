@@ -1,4 +1,4 @@
-//! What the values of members are, by the kit's own reader.
+//! Parsing and printing member values with the kit's JSON reader.
 ghost use Rattle.std.specs.Prelude.{◌≡◌, ◌++◌, true, Some, IfOk, option_map};
 ghost use Rattle.std.specs.Str.{is_utf8};
 ghost use Rattle.json.specs.Print.{quoted};
@@ -10,7 +10,7 @@ use json::{Error, Scratch, Value, Writer};
 use std::alloc::{AllocError, Global};
 use std::mem;
 
-/// What a string of JSON stands for. None where the text is no such one.
+/// Parses a JSON string. Returns `None` if the text is not a JSON string.
 pub(crate) fn string_of<'a>(
     alloc: Global,
     text: &'a [u8],
@@ -27,7 +27,7 @@ pub(crate) fn string_of<'a>(
     }
 }
 
-/// Writes a text as a string of JSON, behind another. False where it is no UTF-8.
+/// Appends a text as a JSON string. Returns `false` if the text is not UTF-8.
 pub(crate) fn quote(alloc: Global, text: &[u8], made: &mut Vec<u8>) -> Result<bool, AllocError>
     ensures is { IfOk result (λ ok. ok ≡ is_utf8 text.now) }
     ensures made { IfOk result (λ ok. ok ≡ true → made.new.items ≡ made.old.items ++ quoted text.now) }
@@ -41,7 +41,7 @@ pub(crate) fn quote(alloc: Global, text: &[u8], made: &mut Vec<u8>) -> Result<bo
     Ok(true)
 }
 
-/// Whether a text is that of an envelope.
+/// Whether a text is an envelope.
 pub(crate) fn is_envelope(
     alloc: Global,
     text: &[u8],
@@ -58,7 +58,7 @@ pub(crate) fn is_envelope(
     }
 }
 
-/// Whether a value is that of an envelope.
+/// Whether a value is an envelope.
 fn is_envelope_value(value: &Value<'_>) -> bool
     ensures { result ≡ is_envelope_value (Some (value_view value.now)) }
 {
@@ -68,14 +68,14 @@ fn is_envelope_value(value: &Value<'_>) -> bool
     }
 }
 
-/// Whether all members may stand in an envelope.
+/// Whether an envelope may have all these members.
 fn all_may_stand(members: &[(&str, Value<'_>)]) -> bool
     ensures { result ≡ list_all (λ m. may_stand m.0.now (value_view m.1)) members.now }
 {
     members.iter().all(|m| may_stand(m.0, &m.1))
 }
 
-/// Whether a member may stand in an envelope.
+/// Whether an envelope may have this member.
 fn may_stand(name: &str, value: &Value<'_>) -> bool
     ensures { result ≡ may_stand name.now (value_view value.now) }
 {

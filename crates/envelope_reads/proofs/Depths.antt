@@ -1,9 +1,9 @@
--- What is read within so many brackets is read within one more.
+-- What is parsed within a number of brackets is parsed within one more.
 use Rattle.proof_prelude.proofs.{◌≡◌, ℕ, zero, suc, List, [], ◌∷◌, length, refl, ap, ◌∙◌, Option, Some, None, option_and_then}
 use Rattle.json.specs.Token.{Token}
 use Rattle.json.specs.Json.{Json, Items, Members, Parse, parse_map, item, member, array, object, items, members, items_step, members_step, after_end_array, read_key, value, value_with}
 
--- where one reads something, so does the other
+-- if one parses something, so does the other
 abbrev Within : {A : Type 0} → Parse A → Parse A → Type 0
 Within {A} f g = (ts : List Token) (p : A × List Token) → f ts ≡ Some p → g ts ≡ Some p
 

@@ -1,4 +1,4 @@
--- The data of an envelope, and what reading it as a document refuses.
+-- The data of an envelope, and the errors of reading it as a document.
 use Rattle.proof_prelude.proofs.{◌≡◌, ℕ, List, [], ◌∷◌, ◌&&◌, ◌||◌, Bool, true, false, cond, codes, not, refl, sym, ap, subst, ◌∙◌, Option, Some, None, option_map, option_and_then, is_some, if◌then◌else◌, Result, Ok, Err, IfErr, inl, inr, length, ◌==◌, bytes_eq, nat_cmp, match_ordering, is_eq, slice_cmp, bytes_eq-Decides, is_eq-slice_cmp, is_utf8, Ordering, Less, Equal, Greater, filter}
 use Rattle.json.specs.Json as json
 use Rattle.json.specs.Token.{Token}
@@ -54,7 +54,7 @@ text_of (json.object ms) d e = by (of_members ms no_members) e where
   by None e = absurd (cc)
   by (Some n) e = ap as_str (sym (same_some (object n) d e))
 
--- a member that may stand as JSON may be as data
+-- a member that is allowed as JSON is allowed as data
 may_by : (k : List ℕ) (b c : Option Bool) (s t : Option (List ℕ)) → b ≡ c → s ≡ t
     → cond (bytes_eq k (codes "_id") || bytes_eq k (codes "_rev") || bytes_eq k (codes "_revisions")) true (cond (bytes_eq k (codes "_deleted")) (is_some b) (cond (bytes_eq k (codes "whole")) (is_some s) false))
     ≡ cond (bytes_eq k (codes "_id") || bytes_eq k (codes "_rev") || bytes_eq k (codes "_revisions")) true (cond (bytes_eq k (codes "_deleted")) (is_some c) (cond (bytes_eq k (codes "whole")) (is_some t) false))
@@ -63,7 +63,7 @@ may_by k b c s t e f = cc
 may_same : (k : List ℕ) (j : json.Json) (d : Data) → of_json j ≡ Some d → may_be k d ≡ may_stand k j
 may_same k j d e = may_by k (as_bool d) (jfind.as_bool j) (as_str d) (jfind.as_str j) (bool_of j d e) (text_of j d e)
 
--- what is put in takes the place of one of its name
+-- a member replaces one with the same name
 equal_names : (k l : List ℕ) → slice_cmp nat_cmp k l ≡ Equal → k ≡ l
 equal_names k l e = (bytes_eq-Decides k l).0 (sym (is_eq-slice_cmp k l) ∙ ap is_eq e)
 
@@ -101,7 +101,7 @@ spared (json.object ms) d h e = by (of_members ms no_members) refl e where
   by None is e = absurd (cc)
   by (Some r) is e = subst IsSpared (same_some (object r) d e) (members_may ms no_members r h tt is)
 
--- what is read as data within 127 brackets is the JSON text within 128
+-- data that is parsed within 127 brackets is the JSON text within 128
 pub read_spared : (t : List ℕ) (d : Data) → is_envelope_value (json.document t) ≡ true → read t ≡ Some d → IsSpared d
 read_spared t d h e = by (json.value 127 (tokens t)) refl e where
   last : (j : json.Json) (ts : List Token) → is_envelope_value (json.if_last j ts) ≡ true → option_and_then of_json (json.if_last j ts) ≡ Some d → IsSpared d
@@ -156,7 +156,7 @@ none_attached (member l e ms) m = at_name (slice_cmp nat_cmp (codes "_attachment
   at_name Equal is more = absurd (true_not_false (sym (ap is_eq is) ∙ is_eq-slice_cmp (codes "_attachments") l ∙ no_attachments l e (is_one l e m.0)))
   at_name Greater is more = more
 
--- ---- a flag that is one
+-- ---- Booleans
 
 abbrev Flag : Option Data → Type 0
 Flag None = Unit {0}
@@ -177,7 +177,7 @@ flag_good (member l e ms) m = at_name (slice_cmp nat_cmp (codes "_deleted") l) r
   at_name Equal is more = flag_at l e (is_one l e m.0) (sym (is_eq-slice_cmp (codes "_deleted") l) ∙ ap is_eq is)
   at_name Greater is more = more
 
--- ---- no special member that is not known, and no fraction
+-- ---- no unknown special member, and no fraction
 
 known_one : (k : List ℕ) (d : Data) → IsOne k d → is_unknown k ≡ false
 known_one k d (of_id h) = ap is_unknown h
@@ -211,7 +211,7 @@ all_whole (member l e ms) m = by (is_one l e m.0) (all_whole ms m.1) where
   by (of_deleted h f) more = hidden (ap is_special h) more
   by (of_whole h f) more = ap (λ b. members_have_float (if b then plain_members ms else member l e (plain_members ms))) (ap is_special h) ∙ ap (λ b. b || members_have_float (plain_members ms)) (no_float e f) ∙ more
 
--- ---- the checks, one behind the other
+-- ---- the checks in order
 
 abbrev pub Spares : {A : Type 0} → Result A DocFault → Type 0
 Spares (Ok x) = Unit {0}
@@ -292,13 +292,13 @@ doc_spares (object ms) h =
     then_spares (revs_read d) _ (revs_spares d) (λ ancestry.
     then_spares (refused_if (members_have_float (plain_members ms)) faults.Fraction) _ (test_spares (members_have_float (plain_members ms)) faults.Fraction (all_whole ms h)) (λ f. tt))))))
 
--- what a call answers that may find no memory
+-- the result of a call that may run out of memory
 pub given_spares : {A : Type 0} (r : Result A DocFault) (expected : Result A DocFault) → Spares expected → GivesUnlessMemory r expected → IfErr r (λ why. looks_into why ≡ false)
 given_spares (Ok x) expected h g = tt
 given_spares (Err e) expected h (inl is) = subst Spares is h
 given_spares (Err e) expected h (inr p) = ap looks_into p.0
 
--- the text of an envelope is what was made
+-- the text of an envelope is the result
 pub made_envelope : (x made : List ℕ) → enveloped x ≡ Some made → is_envelope_value (json.document made) ≡ true
 made_envelope x made e = by (is_utf8 (joined (filter goes (members_of x)))) (is_envelope (envelope_of x)) refl e where
   second : (b c : Bool) → (b && c) ≡ true → c ≡ true

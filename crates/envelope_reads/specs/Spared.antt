@@ -1,4 +1,4 @@
--- What an envelope is for: docs/PROFILE.md, "Documents in envelopes" and "What `read_doc` accepts".
+-- The purpose of an envelope: docs/PROFILE.md, "Documents in envelopes" and "What `read_doc` accepts".
 use Rattle.std.specs.Prelude.{◌≡◌, ℕ, ◌||◌, List, Bool, true, false, cond, codes, is_some}
 use Rattle.std.specs.Str.{bytes_eq}
 use Rattle.serde_json.specs.Data.{Data, null, boolean, number, string, array, object, Members, no_members, member}
@@ -6,7 +6,7 @@ use Rattle.serde_json.specs.Find.{as_str, as_bool}
 use Rattle.doc_json.specs.declared.fault.DocFault.{DocFault}
 use Rattle.doc_json.specs.declared.fault.DocFault.TheVariants as faults
 
--- a refusal for what an envelope hides
+-- an error about something that an envelope wraps
 abbrev pub looks_into : DocFault → Bool
 looks_into faults.NotObject = false
 looks_into faults.NoId = false
@@ -21,7 +21,7 @@ looks_into faults.NoneChosen = false
 looks_into faults.TooManyChosen = false
 looks_into faults.Memory = false
 
--- a member that may stand in an envelope
+-- a member that an envelope may have
 abbrev pub may_be : List ℕ → Data → Bool
 may_be k d =
     cond (bytes_eq k (codes "_id") || bytes_eq k (codes "_rev") || bytes_eq k (codes "_revisions")) true

@@ -1,4 +1,4 @@
-//! What `couch_replicate` says of an envelope: nothing in it is looked into.
+//! A theorem: `doc_json` does not reject an envelope for the members that it wraps.
 #![tactic(auto)]
 
 mod read;

@@ -1,4 +1,4 @@
-//! Envelopes, read as documents.
+//! Reading envelopes as documents.
 ghost use Rattle.std.specs.Prelude.{◌≡◌, false, IfErr};
 ghost use Rattle.envelope_reads.specs.Spared.{looks_into, IsSpared};
 ghost use Rattle.json_values.specs.LineView.{line_view};
@@ -8,11 +8,11 @@ use doc_json::{Doc, DocFault, read_line_doc};
 use json_values::{LinePart, ReadFault, ValueReader};
 use std::alloc::Global;
 
-/// Puts a document into its envelope, and reads that as `couch_replicate` reads the document of a `load` line. None
-/// where no envelope holds it, or it is nothing that is read as JSON there.
+/// Wraps a document, and reads the envelope in the way `couch_replicate` reads the document of a `load` line. Returns
+/// `None` if the document cannot be wrapped, or the envelope is not read as JSON.
 ///
-/// It may be refused, as for its id or its revisions, but neither for attachments nor for special members nor for
-/// fractions.
+/// The contract says only which errors do not occur: `Attachments`, `SpecialMember` and `Fraction`. Other errors may,
+/// for example for the id or the revisions. A successful result may be any value.
 pub fn read_envelope(
     alloc: Global,
     envelope: &mut Envelope,

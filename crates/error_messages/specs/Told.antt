@@ -1,15 +1,15 @@
--- What is told of a refused line, for people: docs/PROFILE.md, "Options".
+-- The explanation of a failed line: docs/PROFILE.md, "Options".
 use Rattle.std.specs.Prelude.{◌≡◌, ℕ, List, ◌++◌, codes, decimal}
 
--- the text is the one before, with more behind it
+-- the new text is the old one with an addition
 abbrev pub AddsTo : List ℕ → List ℕ → Type 0
 AddsTo old new = (more : List ℕ) × (new ≡ old ++ more)
 
--- how it begins: the number of the line, and the name of its refusal
+-- its start: the number of the line, and the error name
 abbrev pub beginning : ℕ → List ℕ → List ℕ
 beginning number name = codes "line " ++ decimal number ++ codes ": " ++ name ++ codes ": "
 
--- behind what stood there is one line: its beginning, a reason, and a line end
+-- the addition is a start, a reason and a line end; the reason may be any text
 abbrev pub IsTold : ℕ → List ℕ → List ℕ → List ℕ → Type 0
 IsTold number name old new =
     (reason : List ℕ) × (new ≡ old ++ beginning number name ++ reason ++ codes "\n")

@@ -1,22 +1,23 @@
-//! Why an object is no command: a word, a member or its kind is wrong (docs/PROFILE.md, "Command lines").
+//! Finds out why an object is not a command: an unknown command or member, or a wrong type (docs/PROFILE.md, "Command
+//! lines").
 
 use json_values::{LineValue, is_same_text};
 use uuid::Uuid;
 
-/// What a member's value has to be.
+/// The type of a member's value.
 #[derive(Drop)]
 pub(crate) enum Kind {
     /// 1 to 32 ASCII letters, digits, `-` or `_`.
     Name,
-    /// Any text.
+    /// A string.
     Text,
-    /// A list of texts.
+    /// A list of strings.
     Texts,
-    /// A whole number from 0 to 2^64 - 1.
+    /// An integer from 0 to 2^64 - 1.
     Whole,
-    /// True or false.
+    /// A Boolean.
     Flag,
-    /// The text of a UUID.
+    /// A UUID.
     Uuid,
     /// `source` or `target`.
     Side,
@@ -24,10 +25,10 @@ pub(crate) enum Kind {
     Any,
 }
 
-/// A member of a word: its name, its kind, and whether a line must have it.
+/// A member of a command: its name, its type, and whether it is required.
 type Member = (&'static str, Kind, bool);
 
-/// Each word with its members beside `do`.
+/// The commands and their members other than `do`.
 static WORDS: &[(&str, &[Member])] = &[
     (
         "load",
@@ -141,24 +142,24 @@ static WORDS: &[(&str, &[Member])] = &[
     ),
 ];
 
-/// Why an object is no command: the first that is seen.
+/// Why an object is not a command. The first reason that is found.
 #[derive(Drop)]
 pub(crate) enum CommandFault<'v> {
-    /// No member `do` is a text.
+    /// There is no member `do` that is a string.
     NoWord,
-    /// No word is called so.
+    /// The command is unknown.
     UnknownWord(&'v str),
-    /// The word has no such member.
+    /// The command has no such member.
     UnknownMember(&'v str),
-    /// A member of the word is missing.
+    /// A required member is missing.
     Missing(&'static str),
-    /// A member is not what it has to be.
+    /// A member has a wrong type.
     WrongKind(&'static str, &'static str),
-    /// Nothing is seen.
+    /// No reason was found.
     NoneSeen,
 }
 
-/// Why an object is no command.
+/// Finds out why an object is not a command.
 pub(crate) fn fault_of<'v>(object: &'v LineValue<'_>) -> CommandFault<'v> {
     let word = match object.get("do") {
         Some(value) => value.as_str(),
@@ -173,7 +174,7 @@ pub(crate) fn fault_of<'v>(object: &'v LineValue<'_>) -> CommandFault<'v> {
     }
 }
 
-/// The members of a word, if there is one of that name.
+/// The members of a command, if it exists.
 fn members_of(word: &str) -> Option<&'static [Member]> {
     for row in WORDS {
         if is_same_text(word, row.0) {
@@ -183,7 +184,7 @@ fn members_of(word: &str) -> Option<&'static [Member]> {
     None
 }
 
-/// Why an object is no command of the word with these members.
+/// Finds out why an object is not this command.
 fn fault_among<'v>(object: &'v LineValue<'_>, members: &'static [Member]) -> CommandFault<'v> {
     for member in members {
         match object.get(member.0) {
@@ -197,7 +198,7 @@ fn fault_among<'v>(object: &'v LineValue<'_>, members: &'static [Member]) -> Com
     unknown_member(object, members)
 }
 
-/// The first member that a word hasn't, if there is one.
+/// Finds the first member that the command does not have.
 fn unknown_member<'v>(object: &'v LineValue<'_>, members: &'static [Member]) -> CommandFault<'v> {
     let Some(given) = object.as_object() else {
         return CommandFault::NoWord;
@@ -210,7 +211,7 @@ fn unknown_member<'v>(object: &'v LineValue<'_>, members: &'static [Member]) -> 
     CommandFault::NoneSeen
 }
 
-/// Whether a member of that name is among these.
+/// Whether one of these members has the name.
 fn is_among(name: &str, members: &'static [Member]) -> bool {
     for member in members {
         if is_same_text(name, member.0) {
@@ -220,7 +221,7 @@ fn is_among(name: &str, members: &'static [Member]) -> bool {
     false
 }
 
-/// Whether a value is what the kind asks for.
+/// Whether a value has the type.
 fn is_of_kind(value: &LineValue<'_>, kind: &Kind) -> bool {
     match kind {
         Kind::Name => is_text_where(value, is_name),
@@ -234,7 +235,7 @@ fn is_of_kind(value: &LineValue<'_>, kind: &Kind) -> bool {
     }
 }
 
-/// Whether a value is a text of which this holds.
+/// Whether a value is a string for which `holds` is true.
 fn is_text_where(value: &LineValue<'_>, holds: fn(&str) -> bool) -> bool
     requires { IsAlwaysCallable holds }
 {
@@ -244,7 +245,7 @@ fn is_text_where(value: &LineValue<'_>, holds: fn(&str) -> bool) -> bool
     }
 }
 
-/// Whether a value is a list of texts.
+/// Whether a value is a list of strings.
 fn are_texts(value: &LineValue<'_>) -> bool {
     let Some(items) = value.as_array() else {
         return false;
@@ -257,7 +258,7 @@ fn are_texts(value: &LineValue<'_>) -> bool {
     true
 }
 
-/// Whether a text is the name of a database.
+/// Whether a string is a valid name of a database.
 fn is_name(text: &str) -> bool {
     let bytes = text.as_bytes();
     !bytes.is_empty()
@@ -265,17 +266,17 @@ fn is_name(text: &str) -> bool {
         && bytes.iter().all(|b| matches!(*b, b'0'..=b'9' | b'A'..=b'Z' | b'a'..=b'z' | b'-' | b'_'))
 }
 
-/// Whether a text spells a UUID.
+/// Whether a string is a UUID.
 fn is_uuid(text: &str) -> bool {
     Uuid::parse_str(text).is_ok()
 }
 
-/// Whether a text names a side.
+/// Whether a string names a side.
 fn is_side(text: &str) -> bool {
     is_same_text("source", text) || is_same_text("target", text)
 }
 
-/// What a kind asks for, in words.
+/// Describes a type.
 fn wanted(kind: &Kind) -> &'static str {
     match kind {
         Kind::Name => "is to be a name, 1 to 32 letters, digits, - or _",

@@ -1,7 +1,7 @@
-//! What a refusal says, for people: which word, member or document of the line it means, and why.
+//! Explains why a line failed: which command, member or document is wrong, and what the error name means.
 //!
-//! The names of refusals stand in docs/PROFILE.md, "Names of refusals", what a line must have in "Command lines". Nothing
-//! here knows databases: what is told is read off the line and the name alone.
+//! docs/PROFILE.md lists the error names ("Names of refusals") and the members of commands ("Command lines"). The
+//! explanation uses only the line and the error name, not the databases.
 #![tactic(auto)]
 
 mod commands;

@@ -1,4 +1,4 @@
-//! What is told of a refused line.
+//! Writes the explanation of a failed line.
 ghost use Rattle.std.specs.Prelude.{◌≡◌, ℕ, ◌++◌, List, OnOk};
 ghost use Rattle.error_messages.specs.Told.{AddsTo, IsTold, beginning};
 
@@ -10,9 +10,11 @@ use itoa::Buffer;
 use json_values::{ValueReader, is_same_text};
 use std::alloc::{AllocError, Global};
 
-/// Adds one line for people to the text: the number of a refused line, the name of its refusal, which word, member,
-/// document or database of the line it means, where that can be read off the line, and what the name says
-/// (docs/PROFILE.md, "Names of refusals"). Texts of the line stand in it as JSON has them.
+/// Appends one explanation: the number of the line, the error name, the command, member, document or database at fault
+/// if the line shows it, and the meaning of the name (docs/PROFILE.md, "Names of refusals"). Strings of the line are
+/// printed as JSON.
+///
+/// The contract allows any reason between the start of the text and its line end.
 pub fn explain(
     values: &mut ValueReader,
     alloc: Global,
@@ -28,7 +30,7 @@ pub fn explain(
     push_words(text, "\n")
 }
 
-/// Adds the number of the line and the name.
+/// Appends the number of the line and the error name.
 fn push_beginning(text: &mut Vec<u8>, number: u64, name: &str) -> Result<(), AllocError>
     ensures { OnOk result (text.new.items ≡ text.old.items ++ beginning number name.now) }
 {
@@ -40,7 +42,7 @@ fn push_beginning(text: &mut Vec<u8>, number: u64, name: &str) -> Result<(), All
     push_words(text, ": ")
 }
 
-/// Adds what is meant, and the sentence of the name.
+/// Appends what is at fault, and the meaning of the error name.
 fn push_reason(
     values: &mut ValueReader,
     alloc: Global,
@@ -59,7 +61,7 @@ fn push_reason(
     push_words(text, sentence_of(name))
 }
 
-/// Adds why an object is no command.
+/// Appends why an object is not a command.
 fn push_fault(text: &mut Vec<u8>, fault: &CommandFault<'_>) -> Result<(), AllocError>
     ensures { OnOk result (AddsTo text.old.items text.new.items) }
 {

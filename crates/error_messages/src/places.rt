@@ -1,4 +1,4 @@
-//! Where in a line a refusal stands: the document, its member, or the databases.
+//! Finds the document, member or databases at fault in a line.
 ghost use Rattle.std.specs.Prelude.{OnOk};
 ghost use Rattle.error_messages.specs.Told.{AddsTo};
 
@@ -7,7 +7,7 @@ use doc_json::has_fraction;
 use json_values::{LineValue, is_same_text};
 use std::alloc::AllocError;
 
-/// Adds where the refusal stands, with a colon behind it; nothing where that is not known.
+/// Appends what is at fault and a colon. Appends nothing if that is unknown.
 pub(crate) fn push_place(
     text: &mut Vec<u8>,
     name: &str,
@@ -38,7 +38,7 @@ pub(crate) fn push_place(
     Ok(())
 }
 
-/// The id of the document that a line names, if it names one by a text.
+/// The document id that a line names, if it is a string.
 fn id_of<'v>(object: &'v LineValue<'_>) -> Option<&'v str> {
     match object.get("doc") {
         Some(doc) => text_of(doc, "_id"),
@@ -46,7 +46,7 @@ fn id_of<'v>(object: &'v LineValue<'_>) -> Option<&'v str> {
     }
 }
 
-/// The text that a member is.
+/// The string value of a member.
 fn text_of<'v>(object: &'v LineValue<'_>, name: &str) -> Option<&'v str> {
     match object.get(name) {
         Some(value) => value.as_str(),
@@ -54,7 +54,7 @@ fn text_of<'v>(object: &'v LineValue<'_>, name: &str) -> Option<&'v str> {
     }
 }
 
-/// The member of the line's document or body for which the line is refused.
+/// The member of the line's document or body that caused the error.
 fn member_at_fault<'v>(name: &str, object: &'v LineValue<'_>) -> Option<&'v str> {
     let document = match object.get("doc") {
         Some(doc) => doc,
@@ -68,7 +68,7 @@ fn member_at_fault<'v>(name: &str, object: &'v LineValue<'_>) -> Option<&'v str>
     None
 }
 
-/// Whether a document is refused by this name for such a member.
+/// Whether this member causes this error.
 fn is_at_fault(name: &str, member: &str, value: &LineValue<'_>) -> bool {
     if is_same_text("Fraction", name) {
         return has_fraction(value);
@@ -82,7 +82,8 @@ fn is_at_fault(name: &str, member: &str, value: &LineValue<'_>) -> bool {
     false
 }
 
-/// Whether a document may not have such a member: it begins with `_` and is none of the four, or `_deleted` is no flag.
+/// Whether a document must not have this member: it begins with `_` and is not one of the four known ones, or it is a
+/// `_deleted` that is not a Boolean.
 fn is_odd(member: &str, value: &LineValue<'_>) -> bool {
     if is_same_text("_deleted", member) {
         return value.as_bool().is_none();

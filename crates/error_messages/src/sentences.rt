@@ -1,8 +1,8 @@
-//! A sentence for each name of a refusal (docs/PROFILE.md, "Names of refusals").
+//! The meaning of each error name (docs/PROFILE.md, "Names of refusals").
 
 use json_values::is_same_text;
 
-/// The names that a line is answered, each with its sentence. Names that no line is answered have none.
+/// The error names of lines and their meanings. Names that are not expected for a line are not in the table.
 static SENTENCES: &[(&str, &str)] = &[
     (
         "Attachments",
@@ -111,7 +111,7 @@ static SENTENCES: &[(&str, &str)] = &[
     ("UuidTaken", "another database has the UUID"),
 ];
 
-/// The sentence of a refusal, or that it has none.
+/// The meaning of an error name, or a text that it has none.
 pub(crate) fn sentence_of(name: &str) -> &'static str {
     for row in SENTENCES {
         if is_same_text(name, row.0) {

@@ -1,18 +1,18 @@
-//! Parts of what is told.
+//! Parts of the explanation.
 ghost use Rattle.std.specs.Prelude.{◌≡◌, ◌++◌, OnOk};
 ghost use Rattle.json.specs.Print.{quoted};
 
 use doc_json::push_text;
 use std::alloc::AllocError;
 
-/// Adds words, as they are.
+/// Appends a text unchanged.
 pub(crate) fn push_words(text: &mut Vec<u8>, words: &str) -> Result<(), AllocError>
     ensures { OnOk result (text.new.items ≡ text.old.items ++ words.now) }
 {
     text.extend_from_slice(words.as_bytes())
 }
 
-/// Adds words, and a text of the line behind them in quotation marks, in which no control character stands.
+/// Appends a text, and a string of the line as JSON. JSON escapes only the control characters below U+0020.
 pub(crate) fn push_named(text: &mut Vec<u8>, words: &str, name: &str) -> Result<(), AllocError>
     ensures { OnOk result (text.new.items ≡ text.old.items ++ words.now ++ quoted name.now) }
 {

@@ -1,4 +1,4 @@
--- A text ends in columns in one way.
+-- The columns at the end of a text are unique.
 use Rattle.proof_prelude.proofs.{◌≡◌, ℕ, List, ◌++◌, sym, ap, subst, ◌∙◌, codes, append_cancel_left, decimal_is_IsNumeral, digits_value}
 use Rattle.output_parser.specs.{IsNumber, EndsIn, IsFront, column_text, Table}
 use Rattle.output_parser.specs.declared.told.Table.TheVariants as tables

@@ -1,4 +1,4 @@
--- The parts of a line are what they are in one way.
+-- The parts of a line are unique.
 use Rattle.proof_prelude.proofs.{◌≡◌, ℕ, Bool, true, false, List, [], ◌∷◌, ◌++◌, sym, ap, ◌∙◌, append_assoc, codes, Option, Some, None, IfNone, IfSome, arith, subst, is_none, false≢true, append_cancel_left, append_cancel_right}
 use Rattle.output_parser.specs.{lacks, IsDocLine, LeafParts, ListedParts, NoFinding, NoRow, state_text, Finding, Table}
 use Rattle.output_parser.specs.declared.told.Finding.TheVariants as findings
@@ -13,7 +13,7 @@ pub none_map : {T : Type 0} (o : Option T) (P Q : Type 0) → (P → Q) → IfNo
 none_map None P Q f h = f h
 none_map (Some x) P Q f h = tt
 
--- behind one beginning
+-- after a prefix
 pub after : (a line x y : List ℕ) → line ≡ a ++ x → line ≡ a ++ y → x ≡ y
 after a line x y p q = append_cancel_left a x y (sym p ∙ q)
 
@@ -43,7 +43,7 @@ state_list false false x y e = append_cancel_left (codes "deleted ") x y e
 state_list true false x y e = absurd (first_apart 108 100 _ _ (λ h. omega (arith, h)) e)
 state_list false true x y e = absurd (first_apart 100 108 _ _ (λ h. omega (arith, h)) e)
 
--- a line has one list, and one text of the leaf
+-- the list and the leaf's text of a line are unique
 pub leaf_list : (line own o : List ℕ) (live l : Bool) (list x : List ℕ) → LeafParts line own live list → LeafParts line o l x → (own ≡ o) × (list ≡ x)
 leaf_list line own o live l list x p q =
     let u = first_unique 32 own o (state_text live ++ list) (state_text l ++ x) p.word q.word (after (codes "leaf ") line _ _ p.form q.form) in
@@ -72,7 +72,7 @@ some_at o Q x e h = subst (λ z. IfSome z Q) e h
 pub listed_unique : (word line rest id list : List ℕ) → line ≡ word ++ rest → rest ≡ id ++ 32 ∷ list → lacks 32 list ≡ true → (i l : List ℕ) → ListedParts word line i l → (id ≡ i) × (list ≡ l)
 listed_unique word line rest id list a b h i l p = last_unique 32 id i list l h p.lacks_blank (sym b ∙ after word line rest _ a p.form)
 
--- what stands before ` revs N`, before ` leaves N` and before ` winner REV`
+-- the text before ` revs N`, before ` leaves N` and before ` winner REV`
 module _ (line id : List ℕ) (count : ℕ) (d : IsDocLine line id count) where
   abbrev one : List ℕ
   one = id ++ (codes " winner" ++ 32 ∷ d.winner)

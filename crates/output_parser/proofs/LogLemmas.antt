@@ -1,4 +1,4 @@
--- A log is read in one way.
+-- The contents of a log are unique.
 use Rattle.proof_prelude.proofs.{◌≡◌, ℕ, ◌<◌, ◌≤◌, true, List, [], ◌∷◌, ◌++◌, length, refl, sym, ap, subst, ◌∙◌, append_assoc, codes, map, arith, append_cancel_left, map-append, IsUtf8, append-nil, length-append}
 use Rattle.output_parser.specs.{lacks, InTurn, AreEntries, AreFurther, IsEntry, IsHead, IsHistory, IsMember, Logged, Values, all_members, logged, member_end, member_text, Entry, Member}
 use Rattle.output_parser.proofs.ColumnLemmas.{number_unique}
@@ -6,7 +6,7 @@ use Rattle.output_parser.proofs.LineLemmas.{after, first_apart}
 use Rattle.output_parser.proofs.TurnLemmas.{OneWay, turns_unique}
 use Rattle.output_parser.proofs.WordLemmas.{first_unique}
 
--- ---- the beginning
+-- ---- the start
 
 abbrev front : List ℕ
 front = codes "{\"_id\":\"_local/"
@@ -56,7 +56,7 @@ entry_unique e f a b text p q =
     let u = values_same text (125 ∷ a) (125 ∷ b) p.values q.values p.listed q.listed in
     (append_cancel_left (125 ∷ []) a b u.0, told_same q.values e f (subst (λ vs. Values vs e) u.1 p.tells) q.tells)
 
--- ---- what is left grows shorter
+-- ---- the rest becomes shorter
 
 behind_shorter : (x y : List ℕ) → length y ≤ length (x ++ y)
 behind_shorter x y = let l = length-append x y in omega (arith, l)
@@ -81,7 +81,7 @@ turns_shorter (m ∷ ms) (v ∷ vs) a text p =
 pub entry_shorter : (e : Logged) (a text : List ℕ) → IsEntry e a text → length a < length text
 entry_shorter e a text p = let s = turns_shorter all_members p.values (125 ∷ a) text p.listed in omega (arith, s)
 
--- ---- sessions behind one another
+-- ---- sessions in order
 
 abbrev close : List ℕ
 close = codes "],\"replication_id_version\":3,\"session_id\":\""
@@ -89,7 +89,7 @@ close = codes "],\"replication_id_version\":3,\"session_id\":\""
 no_comma : (begins tail : List ℕ) → close ++ tail ≡ 44 ∷ begins → ⊥
 no_comma begins tail e = first_apart 93 44 _ begins (λ h. omega (arith, h)) e
 
--- These were read of a text, and others may be read of the rest.
+-- These sessions were parsed, and others may follow in the rest.
 pub record ReadsEntries (text rest : List ℕ) (done : List Logged) : Type 0 where
   pub yes : (last : List ℕ) (more : List Logged) → AreFurther more last rest → AreEntries (done ++ more) last text
   pub only : (tail : List ℕ) (es : List Logged) → AreEntries es (close ++ tail) text → (more : List Logged) × (es ≡ done ++ more) × AreFurther more (close ++ tail) rest
@@ -124,7 +124,7 @@ next_entry text rest begins after done e r comma p = record {
   only = λ tail es h. let k = r.only tail es h in only_next rest begins after tail e done k.0 es comma p k.1 k.2;
 }
 
--- a session more
+-- one more session
 pub entries_more : (text rest begins after : List ℕ) (done new : List Entry) (e : Entry) → ReadsEntries text rest (map logged done) → rest ≡ 44 ∷ begins → IsEntry (logged e) after begins → new ≡ done ++ e ∷ [] → ReadsEntries text after (map logged new)
 entries_more text rest begins after done new e r comma p added =
     subst (λ es. ReadsEntries text after es) (sym (ap (map logged) added ∙ map-append logged done (e ∷ [])))
@@ -135,7 +135,7 @@ none_further rest begins tail [] comma bad h = no_comma begins tail (sym h ∙ c
 none_further rest begins tail (f ∷ more) comma bad h =
     bad f h.0 (subst (λ b. IsEntry f h.0 b) (same_begins rest h.1.begins begins h.1.comma comma) h.1.entry)
 
--- no session stands behind the comma
+-- no session follows the comma
 pub entries_none : (text rest begins : List ℕ) (done es : List Logged) → ReadsEntries text rest done → rest ≡ 44 ∷ begins → ((e : Logged) (after : List ℕ) → IsEntry e after begins → ⊥) → IsHistory text es → ⊥
 entries_none text rest begins done es r comma bad h =
     let k = r.only h.tail es h.listed in none_further rest begins h.tail k.0 comma bad k.2
@@ -151,7 +151,7 @@ unclosed : (rest tail : List ℕ) (more : List Logged) → ((x : List ℕ) → r
 unclosed rest tail [] comma end h = end tail h
 unclosed rest tail (f ∷ more) comma end h = comma h.1.begins h.1.comma
 
--- neither a comma nor the end of the list comes
+-- neither a comma nor the end of the list follows
 pub entries_unclosed : (text rest : List ℕ) (done es : List Logged) → ReadsEntries text rest done → ((x : List ℕ) → rest ≡ 44 ∷ x → ⊥) → ((x : List ℕ) → rest ≡ close ++ x → ⊥) → IsHistory text es → ⊥
 entries_unclosed text rest done es r comma end h =
     let k = r.only h.tail es h.listed in unclosed rest h.tail k.0 comma end k.2

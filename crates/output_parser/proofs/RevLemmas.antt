@@ -1,4 +1,4 @@
--- Joined lists, and lists whose generations fall by one.
+-- Lists with commas, and lists whose generations fall by one.
 use Rattle.proof_prelude.proofs.{◌≡◌, ℕ, suc, zero, ◌+◌, ◌-◌, ◌<◌, ◌==◌, true, false, not, List, [], ◌∷◌, ◌++◌, length, get_or, drop, map, refl, sym, ap, subst, ◌∙◌, append_assoc, arith, Result, Ok, Err, AllByRecursion, slice_split, and_parts, false≢true, nat_tests, map-append, All-cons, All-nil, slice_split_at, slice_split_none, is_ok, eq_by_cmp, All}
 use Rattle.rev_core.specs.{IsRev, RevId, rev_cmp, rev_tie_is, rev_tie_self, FallsByOne, rev_read, rev_text, rev_read-text}
 use Rattle.output_parser.specs.{IsRevs, lacks, BeginsWith}
@@ -24,7 +24,7 @@ pieces_last w h = slice_split_none (λ b. b == 44) w (all_other w h)
 pub pieces_first : (rest w more : List ℕ) → rest ≡ w ++ 44 ∷ more → lacks 44 w ≡ true → pieces rest ≡ w ∷ pieces more
 pieces_first rest w more e h = ap pieces e ∙ slice_split_at (λ b. b == 44) w 44 more (all_other w h) refl
 
--- one piece more was read
+-- one more piece was parsed
 pub read_more : (all tail : List (List ℕ)) (done : List RevId) (r : RevId) (w : List ℕ) → all ≡ map rev_text done ++ w ∷ tail → rev_text r ≡ w → all ≡ map rev_text (done ++ r ∷ []) ++ tail
 read_more all tail done r w e is =
     e ∙ (ap (λ t. map rev_text done ++ t ∷ tail) (sym is)
@@ -38,7 +38,7 @@ abbrev first_of_texts : List ℕ → List (List ℕ) → List ℕ
 first_of_texts w [] = w
 first_of_texts w (t ∷ ts) = t
 
--- a piece that is no revision stands in no list of revisions
+-- a piece that is not a revision is in no list of revisions
 pub no_piece : (done revs : List RevId) (w : List ℕ) (tail : List (List ℕ)) → map rev_text revs ≡ map rev_text done ++ w ∷ tail → AllByRecursion IsRev revs → ((r : RevId) → IsRev r → rev_text r ≡ w → ⊥) → ⊥
 no_piece [] [] w tail e h bad = absurd (omega (arith, ap length e))
 no_piece [] (z ∷ zs) w tail e h bad = let same : rev_text z ≡ w = ap (first_of_texts w) e in bad z h.0 same

@@ -1,13 +1,13 @@
--- Things that stand one behind another in a text are read in one way.
+-- Things in order in a text are unique.
 use Rattle.proof_prelude.proofs.{◌≡◌, ℕ, zero, suc, ◌+◌, ◌<◌, ◌≤◌, List, [], ◌∷◌, ◌++◌, length, get_or, drop, refl, sym, ap, ap₂, subst, ◌∙◌, append_assoc, arith, append-nil}
 use Rattle.std.proofs.Math.Seq.{drop-cons}
 use Rattle.output_parser.specs.{InTurn}
 
--- a thing has one value, and one text stands behind it
+-- a thing has a unique value, and a unique text after it
 abbrev pub OneWay : {T V : Type 0} → (T → V → List ℕ → List ℕ → Type 0) → Type 0
 OneWay {T} {V} Step = (t : T) (v w : V) (a b text : List ℕ) → Step t v a text → Step t w b text → (a ≡ b) × (v ≡ w)
 
--- These values were read of a text, and these things are to be read of the rest.
+-- These values were parsed, and these things are still to be parsed from the rest.
 pub record Reads {T V : Type 0} (Step : T → V → List ℕ → List ℕ → Type 0) (all : List T) (text rest : List ℕ) (left : List T) (done : List V) : Type 0 where
   pub yes : (last : List ℕ) (more : List V) → InTurn Step left more last rest → InTurn Step all (done ++ more) last text
   pub only : (last : List ℕ) (values : List V) → InTurn Step all values last text → (more : List V) × (values ≡ done ++ more) × InTurn Step left more last rest
@@ -60,7 +60,7 @@ module _ {T V : Type 0} (Step : T → V → List ℕ → List ℕ → Type 0) wh
       let s = subst (λ ls. Reads Step all text rest ls done) e r in
       subst (λ vs. InTurn Step all vs rest text) (append-nil done) (s.yes rest [] refl)
 
-  -- all values are what they are in one way, and so is what stands behind the last thing
+  -- all values are unique, and so is the text after the last thing
   pub turns_unique : OneWay Step → (all : List T) (xs ys : List V) (a b text : List ℕ) → InTurn Step all xs a text → InTurn Step all ys b text → (a ≡ b) × (xs ≡ ys)
   turns_unique way [] [] [] a b text p q = (sym p ∙ q, refl)
   turns_unique way [] [] (y ∷ ys) a b text p q = absurd q

@@ -1,4 +1,4 @@
--- A text is cut in one way at the first such byte, and at the last.
+-- A text is split in a unique way at the first such byte, and at the last.
 use Rattle.proof_prelude.proofs.{◌≡◌, ℕ, true, List, [], ◌∷◌, ◌++◌, refl, sym, ap, ap₂, ◌∙◌, arith, Option, Some, None, IfSome, IfNone, MatchOption, and_parts, nat_tests}
 use Rattle.output_parser.specs.{lacks}
 

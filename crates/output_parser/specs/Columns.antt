@@ -1,4 +1,4 @@
--- Lines that are a row of numbers: docs/PROFILE.md, "Answers".
+-- Lines of numbers: docs/PROFILE.md, "Answers".
 use Rattle.std.specs.Prelude.{◌≡◌, ℕ, List, [], ◌∷◌, ◌++◌, true, codes, reverse}
 use Rattle.std.specs.Str.{IsUtf8}
 use Rattle.output_parser.specs.Words.{lacks, named, InTurn, IsNumber}
@@ -7,7 +7,7 @@ use Rattle.output_parser.specs.declared.told.Column.TheVariants as columns
 use Rattle.output_parser.specs.declared.told.Table.{Table}
 use Rattle.output_parser.specs.declared.told.Table.TheVariants as tables
 
--- what stands before a column's number and the blank
+-- the text before a column's number, without the blank
 abbrev pub column_text : Column → List ℕ
 column_text columns.ComparedDocuments = codes "compared"
 column_text columns.ComparedLeaves = codes " documents"
@@ -40,18 +40,18 @@ columns_of tables.Info =
 columns_of tables.Session =
     columns.From ∷ columns.To ∷ columns.Checked ∷ columns.Found ∷ columns.Read ∷ columns.Written ∷ columns.Failed ∷ []
 
--- The text ends in a column with this number, and that is what stands before.
+-- The text ends with a column of this number; front is the text before it.
 pub record EndsIn (column : Column) (n : ℕ) (front text : List ℕ) : Type 0 where
   pub word : List ℕ
   pub lacks_blank : lacks 32 word ≡ true
   pub form : text ≡ front ++ named (column_text column) word
   pub number : IsNumber word n
 
--- The text ends in these columns with these numbers, the last one first, and that is what stands before.
+-- The text ends with these columns and numbers, the last one first; front is the text before them.
 abbrev pub Ends : List Column → List ℕ → List ℕ → List ℕ → Type 0
 Ends columns numbers front text = InTurn EndsIn columns numbers front text
 
--- what stands before the columns: `info DB uuid U`, `session S`, or nothing
+-- the text before the columns: `info DB uuid U`, `session S`, or empty
 abbrev pub IsFront : Table → List ℕ → List ℕ → Type 0
 IsFront tables.Compared name front = (front ≡ []) × (name ≡ [])
 IsFront tables.Info name front = (uuid : List ℕ) × (front ≡ (codes "info " ++ name) ++ named (codes " uuid") uuid) × (lacks 32 uuid ≡ true)

@@ -1,4 +1,4 @@
--- What lines of a script's answers tell: docs/PROFILE.md, "Answers" and "Pictures".
+-- The contents of the lines of a script's output: docs/PROFILE.md, "Answers" and "Pictures".
 use Rattle.std.specs.Prelude.{◌≡◌, ℕ, List, [], ◌∷◌, ◌++◌, Bool, true, false, codes, map, string_bytes}
 use Rattle.std.specs.Str.{IsUtf8}
 use Rattle.rev_core.specs.Rev.{RevId}
@@ -13,7 +13,7 @@ use Rattle.output_parser.specs.declared.told.Table.{Table}
 use Rattle.output_parser.specs.declared.told.Told.{Told}
 use Rattle.output_parser.specs.declared.told.Told.TheVariants as told
 
--- `doc ID winner REV leaves N revs N`: the last six words, and the id before them
+-- `doc ID winner REV leaves N revs N`: the id is the text before the last six words
 pub record IsDocLine (line id : List ℕ) (count : ℕ) : Type 0 where
   pub winner : List ℕ
   pub leaves : List ℕ
@@ -40,7 +40,7 @@ abbrev pub BeginsWith : List ℕ → List RevId → Type 0
 BeginsWith own [] = ⊥
 BeginsWith own (r ∷ rest) = own ≡ rev_text r
 
--- the list is the leaf's ancestry, which begins with itself
+-- the list is an ancestry that begins with the leaf
 pub record IsLeafLine (line : List ℕ) (live : Bool) (revs : List RevId) : Type 0 where
   pub own : List ℕ
   pub list : List ℕ
@@ -49,7 +49,7 @@ pub record IsLeafLine (line : List ℕ) (live : Bool) (revs : List RevId) : Type
   pub falls : FallsByOne revs
   pub begins : BeginsWith own revs
 
--- a word, an id and a joined list of revisions, by its texts; the word ends with a blank
+-- a word, an id and a list of revisions, by its texts; the word ends with a blank
 pub record ListedParts (word line id list : List ℕ) : Type 0 where
   pub lacks_blank : lacks 32 list ≡ true
   pub form : line ≡ word ++ (id ++ 32 ∷ list)
@@ -66,7 +66,7 @@ finding_text findings.Missing = codes "missing "
 finding_text findings.Contradicts = codes "contradicts "
 finding_text findings.Differs = codes "differs "
 
--- the line is none of these
+-- the line has no such finding
 abbrev pub NoFinding : List ℕ → Finding → Type 0
 NoFinding line finding = (id : List ℕ) (revs : List RevId) → IsListed (finding_text finding) line id revs → ⊥
 
@@ -76,7 +76,7 @@ NoRow line table = (name numbers : List ℕ) → IsRow table line name numbers �
 abbrev pub NoLog : List ℕ → Type 0
 NoLog line = (id : List ℕ) (entries : List Logged) → IsLog line id entries → ⊥
 
--- What a line tells that is of no tree.
+-- The contents of a line that does not describe a tree.
 abbrev pub TellsMore : List ℕ → Told → Type 0
 TellsMore line (told.Document id count) = ⊥
 TellsMore line (told.Leaf live revs) = ⊥
@@ -86,7 +86,7 @@ TellsMore line (told.Row r) = IsRow r.table line (string_bytes r.name) r.numbers
 TellsMore line (told.Log l) = IsLog line (string_bytes l.id) (map logged l.entries.items)
 TellsMore line told.Other = ((finding : Finding) → NoFinding line finding) × ((table : Table) → NoRow line table) × NoLog line
 
--- What a line tells; nothing, where it has none of the forms.
+-- The contents of a line; `Other` if it has none of the formats.
 abbrev pub Tells : List ℕ → Told → Type 0
 Tells line (told.Document id count) = IsDocLine line (string_bytes id) count
 Tells line (told.Leaf live revs) = IsLeafLine line live revs.items

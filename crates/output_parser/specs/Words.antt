@@ -4,11 +4,11 @@ use Rattle.std.specs.List.{AllByRecursion, list_all, slice_split}
 use Rattle.rev_core.specs.Rev.{IsRev, RevId}
 use Rattle.rev_core.specs.Text.{rev_text}
 
--- none of the bytes is this one
+-- the byte does not occur in the text
 abbrev pub lacks : ℕ → List ℕ → Bool
 lacks b text = list_all (λ x. not (x == b)) text
 
--- a name, a blank, and what is named
+-- a name, a blank, and a word
 abbrev pub named : List ℕ → List ℕ → List ℕ
 named name word = name ++ 32 ∷ word
 
@@ -16,12 +16,13 @@ named name word = name ++ 32 ∷ word
 abbrev pub IsNumber : List ℕ → ℕ → Type 0
 IsNumber text n = (text ≡ decimal n) × (n < 2 ^ 64)
 
--- a joined list of revisions: between its commas stand their texts
+-- a list of revisions with commas between them
 pub record IsRevs (text : List ℕ) (revs : List RevId) : Type 0 where
   pub listed : slice_split (λ b. b == 44) text ≡ map rev_text revs
   pub each : AllByRecursion IsRev revs
 
--- Things stand one behind another in a text, each with its value; a step says what is left of the text behind a thing.
+-- A text consists of things in order, each with its value, and a rest. `Step` relates a thing and its value to the text
+-- that follows it.
 abbrev pub InTurn : {T V : Type 0} → (T → V → List ℕ → List ℕ → Type 0) → List T → List V → List ℕ → List ℕ → Type 0
 InTurn Step [] [] rest text = text ≡ rest
 InTurn Step [] (v ∷ vs) rest text = ⊥

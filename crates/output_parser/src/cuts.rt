@@ -1,8 +1,8 @@
-//! Texts that are cut at a byte, or at a word.
+//! Splitting texts at a byte or a word.
 ghost use Rattle.std.specs.Prelude.{◌≡◌, ◌++◌, ◌∷◌, List, ℕ, [], IfSome, IfNone, true};
 ghost use Rattle.output_parser.specs.Words.{lacks};
 
-/// What stands before the first such byte, and behind it; `None` where there is none.
+/// Splits a text at the first occurrence of a byte; `None` if there is none.
 pub fn cut_first(text: &[u8], byte: u8) -> Option<(&[u8], &[u8])>
     ensures some { IfSome result (λ x. (text.now ≡ x.0.now ++ byte ∷ x.1.now) × (lacks byte x.0.now ≡ true)) }
     ensures none { IfNone result (lacks byte text.now ≡ true) }
@@ -15,7 +15,7 @@ pub fn cut_first(text: &[u8], byte: u8) -> Option<(&[u8], &[u8])>
     None
 }
 
-/// What stands before the last such byte, and behind it; `None` where there is none.
+/// Splits a text at the last occurrence of a byte; `None` if there is none.
 pub fn cut_last(text: &[u8], byte: u8) -> Option<(&[u8], &[u8])>
     ensures some { IfSome result (λ x. (text.now ≡ x.0.now ++ byte ∷ x.1.now) × (lacks byte x.1.now ≡ true)) }
     ensures none { IfNone result (lacks byte text.now ≡ true) }
@@ -28,7 +28,7 @@ pub fn cut_last(text: &[u8], byte: u8) -> Option<(&[u8], &[u8])>
     None
 }
 
-/// What stands behind a beginning; `None` where the text does not begin so.
+/// Removes a prefix; `None` if the text does not have it.
 pub fn behind<'a>(text: &'a [u8], beginning: &[u8]) -> Option<&'a [u8]>
     ensures some { IfSome result (λ x. text.now ≡ beginning.now ++ x.now) }
     ensures none { IfNone result ((rest : List ℕ) → text.now ≡ beginning.now ++ rest → ⊥) }
@@ -36,7 +36,7 @@ pub fn behind<'a>(text: &'a [u8], beginning: &[u8]) -> Option<&'a [u8]>
     text.strip_prefix(beginning)
 }
 
-/// What stands before an end; `None` where the text does not end so.
+/// Removes a suffix; `None` if the text does not have it.
 pub fn before<'a>(text: &'a [u8], end: &[u8]) -> Option<&'a [u8]>
     ensures some { IfSome result (λ x. text.now ≡ x.now ++ end.now) }
     ensures none { IfNone result ((front : List ℕ) → text.now ≡ front ++ end.now → ⊥) }
@@ -44,7 +44,7 @@ pub fn before<'a>(text: &'a [u8], end: &[u8]) -> Option<&'a [u8]>
     text.strip_suffix(end)
 }
 
-/// What stands before a name and the last word, and that word; `None` where the text does not end so.
+/// Splits off a name and the last word; `None` if the text does not end with the name and one word.
 pub fn cut_named<'a>(text: &'a [u8], name: &[u8]) -> Option<(&'a [u8], &'a [u8])>
     ensures some { IfSome result
         (λ x. (text.now ≡ x.0.now ++ (name.now ++ 32 ∷ x.1.now)) × (lacks 32 x.1.now ≡ true)) }

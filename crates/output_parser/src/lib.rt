@@ -1,6 +1,6 @@
-//! What the lines of a script's answers tell, as far as pictures are drawn of them.
+//! Parses the lines of a script's output, for diagrams.
 //!
-//! The forms of the lines stand in docs/PROFILE.md, "Answers" and "Pictures".
+//! docs/PROFILE.md, "Answers" and "Pictures", defines the formats.
 #![tactic(auto)]
 
 mod cuts;

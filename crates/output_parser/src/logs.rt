@@ -1,4 +1,4 @@
-//! Lines that are the text of a log.
+//! Parsing logs.
 ghost use Rattle.std.specs.Prelude.{◌≡◌, ◌∷◌, ℕ, List, IfOk, IfSome, IfNone, get_or, map, string_bytes, []};
 ghost use Rattle.std.specs.Str.{IsUtf8};
 ghost use Rattle.output_parser.specs.Words.{InTurn, IsNumber};
@@ -10,7 +10,7 @@ use crate::told::{Entry, Log, Member};
 use std::alloc::{AllocError, Global};
 use std::str;
 
-/// The log that a line is; `None` where it is none.
+/// Parses a log; `None` if the line is not a log.
 pub fn read_log(alloc: Global, line: &[u8]) -> Result<Option<Log>, AllocError>
     ensures some { IfOk result (λ o. IfSome o (λ l. IsLog line.now (string_bytes l.id) (map logged l.entries.items))) }
     ensures none { IfOk result (λ o. IfNone o ((id : List ℕ) (entries : List Logged) → IsLog line.now id entries → ⊥)) }
@@ -27,7 +27,7 @@ pub fn read_log(alloc: Global, line: &[u8]) -> Result<Option<Log>, AllocError>
     }))
 }
 
-/// The id of a log's replication, and what stands behind the beginning of its list; `None` where the line is no log.
+/// Parses the replication id, and returns the text after the start of the list; `None` if the line is not a log.
 fn log_head(line: &[u8]) -> Option<(&str, &[u8])>
     ensures some { IfSome result (λ x. IsHead line.now x.0.now x.1.now) }
     ensures none { IfNone result ((id text : List ℕ) → IsHead line.now id text → ⊥) }
@@ -41,7 +41,7 @@ fn log_head(line: &[u8]) -> Option<(&str, &[u8])>
     }
 }
 
-/// The sessions of a log's list; `None` where the text is none.
+/// Parses the sessions of a log; `None` if the text is not a list of sessions.
 fn read_entries(alloc: Global, text: &[u8]) -> Result<Option<Vec<Entry>>, AllocError>
     ensures some { IfOk result (λ o. IfSome o (λ v. IsHistory text.now (map logged v.items))) }
     ensures none { IfOk result (λ o. IfNone o ((entries : List Logged) → IsHistory text.now entries → ⊥)) }
@@ -64,7 +64,7 @@ fn read_entries(alloc: Global, text: &[u8]) -> Result<Option<Vec<Entry>>, AllocE
     }
 }
 
-/// The session that a text begins with, and what stands behind its closing brace; `None` where it begins with none.
+/// Parses a session at the start of a text, and returns the text after its closing brace; `None` if there is none.
 fn read_entry(alloc: Global, text: &[u8]) -> Result<Option<(Entry, &[u8])>, AllocError>
     ensures some { IfOk result (λ o. IfSome o (λ x. IsEntry (logged x.0) x.1.now text.now)) }
     ensures none { IfOk result (λ o. IfNone o ((e : Logged) (after : List ℕ) → IsEntry e after text.now → ⊥)) }
@@ -81,7 +81,8 @@ fn read_entry(alloc: Global, text: &[u8]) -> Result<Option<(Entry, &[u8])>, Allo
     }
 }
 
-/// The values of members that a text begins with, and what stands behind them; `None` where it does not begin so.
+/// Parses the values of members at the start of a text, and returns the text after them; `None` if the members are not
+/// there.
 fn read_values<'a>(
     alloc: Global,
     text: &'a [u8],
@@ -103,7 +104,8 @@ fn read_values<'a>(
     Ok(Some((values, rest)))
 }
 
-/// The value of a member that a text begins with, and what stands behind it; `None` where it does not begin so.
+/// Parses the value of a member at the start of a text, and returns the text after it; `None` if the member is not
+/// there.
 fn cut_member(text: &[u8], member: Member) -> Option<(&[u8], &[u8])>
     ensures some { IfSome result (λ x. IsMember member x.0.now x.1.now text.now) }
     ensures none { IfNone result ((value after : List ℕ) → IsMember member value after text.now → ⊥) }
@@ -112,7 +114,7 @@ fn cut_member(text: &[u8], member: Member) -> Option<(&[u8], &[u8])>
     cut_first(rest, member.end())
 }
 
-/// The members of a session, in their order.
+/// The members of a session, in order.
 fn members() -> &'static [Member]
     ensures { result.now ≡ all_members }
 {
@@ -131,7 +133,7 @@ fn members() -> &'static [Member]
     ]
 }
 
-/// What the values of its members tell of a session; `None` where they tell nothing.
+/// Builds a session from the values of its members; `None` if they are invalid.
 fn read_told(alloc: Global, values: &[&[u8]]) -> Result<Option<Entry>, AllocError>
     ensures some { IfOk result (λ o. IfSome o (λ e. Values (texts_of values.now) (logged e))) }
     ensures none { IfOk result (λ o. IfNone o ((e : Logged) → Values (texts_of values.now) e → ⊥)) }
@@ -151,7 +153,7 @@ fn read_told(alloc: Global, values: &[&[u8]]) -> Result<Option<Entry>, AllocErro
     }))
 }
 
-/// The id of a session, and when it began.
+/// The id of a session, and its start time.
 fn texts<'a>(values: &[&'a [u8]]) -> Option<(&'a str, &'a str)>
     ensures some { IfSome result (λ x. (get_or (texts_of values.now) 8 [] ≡ x.0.now) × (get_or (texts_of values.now) 10 [] ≡ x.1.now)
         × IsUtf8 x.0.now × IsUtf8 x.1.now) }
@@ -166,7 +168,7 @@ fn texts<'a>(values: &[&'a [u8]]) -> Option<(&'a str, &'a str)>
     }
 }
 
-/// How many writes failed, how many documents were read, and how many of them were written.
+/// The numbers of failed writes, of documents read, and of documents written.
 fn counts(values: &[&[u8]]) -> Option<(u64, u64, u64)>
     ensures some { IfSome result (λ x. IsNumber (get_or (texts_of values.now) 0 []) x.0 × IsNumber (get_or (texts_of values.now) 1 []) x.1
         × IsNumber (get_or (texts_of values.now) 2 []) x.2) }
@@ -179,7 +181,7 @@ fn counts(values: &[&[u8]]) -> Option<(u64, u64, u64)>
     Some((failed, read, written))
 }
 
-/// The value at a place, empty where there is none.
+/// The value at an index; empty if there is none.
 fn value_at<'a>(values: &[&'a [u8]], place: usize) -> &'a [u8]
     ensures { result.now ≡ get_or (texts_of values.now) place [] }
 {

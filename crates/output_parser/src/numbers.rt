@@ -1,11 +1,11 @@
-//! Numbers of a line.
+//! Parsing numbers.
 ghost use Rattle.std.specs.Prelude.{ℕ, IfSome, IfNone};
 ghost use Rattle.output_parser.specs.Words.{IsNumber};
 
 use itoa::Buffer;
 use std::str;
 
-/// The number that a text is, in decimal without leading zeros; `None` where it is none of at most 64 bits.
+/// Parses a number in decimal without leading zeros; `None` if the text is not such a number of at most 64 bits.
 pub fn number(text: &[u8]) -> Option<u64>
     ensures some { IfSome result (λ n. IsNumber text.now n) }
     ensures none { IfNone result ((n : ℕ) → IsNumber text.now n → ⊥) }

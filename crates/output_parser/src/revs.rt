@@ -1,4 +1,4 @@
-//! Lists of revisions in a line.
+//! Parsing lists of revisions.
 ghost use Rattle.std.specs.Prelude.{◌≡◌, List, IfOk, IfSome, IfNone, true, false};
 ghost use Rattle.rev_core.specs.Rev.{IsRev, RevId};
 ghost use Rattle.rev_core.specs.Text.{rev_text};
@@ -9,7 +9,7 @@ use crate::cuts::cut_first;
 use rev_core::Rev;
 use std::alloc::{AllocError, Global};
 
-/// The revision of this text; `None` where it is none's.
+/// Parses a revision; `None` if the text is not a revision.
 pub fn revision(text: &[u8]) -> Option<Rev>
     ensures some { IfSome result (λ r. (rev_text r ≡ text.now) × IsRev r) }
     ensures none { IfNone result ((r : RevId) → IsRev r → rev_text r ≡ text.now → ⊥) }
@@ -23,7 +23,7 @@ pub fn revision(text: &[u8]) -> Option<Rev>
     }
 }
 
-/// The revisions of a joined list; `None` where the text is none.
+/// Parses a comma-separated list of revisions; `None` if the text is not such a list.
 pub fn read_revs(alloc: Global, text: &[u8]) -> Result<Option<Vec<Rev>>, AllocError>
     ensures some { IfOk result (λ o. IfSome o (λ v. IsRevs text.now v.items)) }
     ensures none { IfOk result (λ o. IfNone o ((revs : List RevId) → IsRevs text.now revs → ⊥)) }

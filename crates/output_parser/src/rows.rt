@@ -1,4 +1,4 @@
-//! Lines that are a row of numbers.
+//! Parsing lines of numbers.
 ghost use Rattle.std.specs.Prelude.{◌≡◌, ℕ, List, IfOk, IfSome, IfNone, reverse, string_bytes};
 ghost use Rattle.std.specs.Str.{IsUtf8};
 ghost use Rattle.output_parser.specs.declared.told.Table.TheVariants as tables;
@@ -10,7 +10,7 @@ use crate::told::{Column, Row, Table};
 use std::alloc::{AllocError, Global};
 use std::str;
 
-/// The row of numbers of a table that a line is; `None` where it is none.
+/// Parses a line of numbers for a table; `None` if the line is not one.
 pub fn read_row(alloc: Global, line: &[u8], table: Table) -> Result<Option<Row>, AllocError>
     ensures some { IfOk result (λ o. IfSome o (λ r. (r.table ≡ table) × IsRow table line.now (string_bytes r.name) r.numbers.items)) }
     ensures none { IfOk result (λ o. IfNone o ((name numbers : List ℕ) → IsRow table line.now name numbers → ⊥)) }
@@ -63,8 +63,8 @@ fn columns_back(table: Table) -> &'static [Column]
     }
 }
 
-/// What stands before the columns that a text ends in, the last one first, and their numbers; `None` where it does not end
-/// so.
+/// Parses columns at the end of a text, the last one first, and returns the text before them; `None` if the columns are
+/// not there.
 fn read_columns<'a>(
     alloc: Global,
     text: &'a [u8],
@@ -85,7 +85,7 @@ fn read_columns<'a>(
     Ok(Some((rest, numbers)))
 }
 
-/// What stands before the column that a text ends in, and its number; `None` where it does not end so.
+/// Parses a column at the end of a text, and returns the text before it; `None` if the column is not there.
 fn cut_column(text: &[u8], column: Column) -> Option<(&[u8], u64)>
     ensures some { IfSome result (λ x. EndsIn column x.1 x.0.now text.now) }
     ensures none { IfNone result ((front : List ℕ) (n : ℕ) → EndsIn column n front text.now → ⊥) }
@@ -97,7 +97,7 @@ fn cut_column(text: &[u8], column: Column) -> Option<(&[u8], u64)>
     }
 }
 
-/// The name that a row of a table begins with; `None` where the text is no such beginning.
+/// Parses the name at the start of a line of numbers; `None` if it is invalid.
 fn name_of(front: &[u8], table: Table) -> Option<&str>
     ensures some { IfSome result (λ name. IsFront table name.now front.now × IsUtf8 name.now) }
     ensures none { IfNone result ((name : List ℕ) → IsFront table name front.now → IsUtf8 name → ⊥) }
@@ -109,7 +109,7 @@ fn name_of(front: &[u8], table: Table) -> Option<&str>
     }
 }
 
-/// The bytes of that name.
+/// The bytes of the name.
 fn name_in(front: &[u8], table: Table) -> Option<&[u8]>
     ensures some { IfSome result (λ name. IsFront table name.now front.now) }
     ensures none { IfNone result ((name : List ℕ) → IsFront table name front.now → ⊥) }
@@ -121,7 +121,7 @@ fn name_in(front: &[u8], table: Table) -> Option<&[u8]>
     }
 }
 
-/// No name, where nothing stands before the columns.
+/// The empty name, if there is no text before the columns.
 fn empty_name(front: &[u8]) -> Option<&[u8]>
     ensures some { IfSome result (λ name. IsFront tables.Compared name.now front.now) }
     ensures none { IfNone result ((name : List ℕ) → IsFront tables.Compared name front.now → ⊥) }

@@ -1,4 +1,4 @@
-//! What a line tells.
+//! The contents of a line.
 ghost use Rattle.std.specs.Prelude.{◌≡◌};
 ghost use Rattle.output_parser.specs.Lines.{finding_text};
 ghost use Rattle.output_parser.specs.Columns.{column_text, columns_of};
@@ -6,48 +6,48 @@ ghost use Rattle.output_parser.specs.Logs.{member_end, member_text};
 
 use rev_core::Rev;
 
-/// What a line of a script's answers tells, as far as pictures are drawn of it.
+/// The contents of a line of a script's output.
 #[derive(Drop)]
 pub enum Told {
-    /// A document of `show`: its id, as JSON writes it, and how many leaves it has, which stand in the lines behind it.
+    /// A document of `show`: its id in JSON, and its number of leaves, which are in the next lines.
     Document { id: String, count: u64 },
-    /// A leaf of `show`: whether it is live, and its known ancestry, newest first, which begins with itself.
+    /// A leaf of `show`: whether it is live, and its known ancestry, the leaf first.
     Leaf { live: bool, revs: Vec<Rev> },
-    /// A document of `conflicts`: its id, as JSON writes it, and its live leaves, winner first.
+    /// A document of `conflicts`: its id in JSON, and its live leaves, the winner first.
     Conflict { id: String, revs: Vec<Rev> },
-    /// What `compare` finds of a document.
+    /// A line of `compare` about a document.
     Found(Found),
-    /// A row of numbers.
+    /// A line of numbers.
     Row(Row),
     /// A log.
     Log(Log),
-    /// Nothing of these.
+    /// Any other line.
     Other,
 }
 
-/// What `compare` finds of a document.
+/// A line of `compare` about a document.
 #[derive(Drop)]
 pub struct Found {
     pub finding: Finding,
-    /// The document's id, as JSON writes it.
+    /// The document's id in JSON.
     pub id: String,
-    /// The revisions of which it is so.
+    /// The revisions that the line lists.
     pub revs: Vec<Rev>,
 }
 
-/// What is so of a document of the source.
+/// What `compare` says about a document.
 #[derive(Clone, Copy, Debug, PartialEq, Eq)]
 pub enum Finding {
     /// The target lacks these leaves.
     Missing,
-    /// The target knows another parent of this revision.
+    /// The target knows a different parent of this revision.
     Contradicts,
-    /// These leaves hold something else at the target.
+    /// These leaves have different contents in the target.
     Differs,
 }
 
 impl Finding {
-    /// How a line of it begins.
+    /// The start of such a line.
     pub fn text(self) -> &'static str
         ensures { result.now ≡ finding_text self }
     {
@@ -59,29 +59,29 @@ impl Finding {
     }
 }
 
-/// A row of numbers.
+/// A line of numbers.
 #[derive(Drop)]
 pub struct Row {
     pub table: Table,
-    /// The name of the database, or the id of the session; empty for what `compare` counts.
+    /// The name of the database, or the id of the session; empty for `compare`.
     pub name: String,
-    /// One number for each column of the table, in their order.
+    /// A number for each column of the table, in order.
     pub numbers: Vec<u64>,
 }
 
-/// What a row of numbers tells of.
+/// The kind of a line of numbers.
 #[derive(Clone, Copy, Debug, PartialEq, Eq)]
 pub enum Table {
-    /// What `compare` counts of the source, and of it at the target.
+    /// The counts of `compare`.
     Compared,
-    /// What `info` tells of a database.
+    /// The counts of a database, from `info`.
     Info,
-    /// What `replicate` tells of a session.
+    /// The counts of a session, from `replicate`.
     Session,
 }
 
 impl Table {
-    /// Its columns.
+    /// The columns of the table.
     pub fn columns(self) -> &'static [Column]
         ensures { result.now ≡ columns_of self }
     {
@@ -119,7 +119,7 @@ impl Table {
 /// A column of a table.
 #[derive(Clone, Copy, Debug, PartialEq, Eq)]
 pub enum Column {
-    /// Of `compare`: documents and leaves of the source, leaves that the target lacks, documents that contradict, and
+    /// Of `compare`: documents and leaves of the source, leaves that the target lacks, contradicting documents, and
     /// leaves that differ.
     ComparedDocuments,
     ComparedLeaves,
@@ -146,7 +146,7 @@ pub enum Column {
 }
 
 impl Column {
-    /// What stands before its number and the blank.
+    /// The text before the column's number, without the blank.
     pub fn text(self) -> &'static str
         ensures { result.now ≡ column_text self }
     {
@@ -178,26 +178,26 @@ impl Column {
 /// A log.
 #[derive(Drop)]
 pub struct Log {
-    /// The replication's id.
+    /// The replication id.
     pub id: String,
-    /// Its sessions, newest first.
+    /// The sessions, newest first.
     pub entries: Vec<Entry>,
 }
 
-/// What a log tells of a session.
+/// A session in a log.
 #[derive(Drop)]
 pub struct Entry {
-    /// The session's id.
+    /// The session id.
     pub session: String,
-    /// When it began, as the log writes it.
+    /// The start time, as the log prints it.
     pub begun: String,
-    /// How many documents it read, how many of them it wrote, and how many writes failed.
+    /// The numbers of documents read, of documents written, and of failed writes.
     pub read: u64,
     pub written: u64,
     pub failed: u64,
 }
 
-/// A member of a session in the text of a log, in their order.
+/// A member of a session in a log, in order.
 #[derive(Clone, Copy, Debug, PartialEq, Eq)]
 pub enum Member {
     Failed,
@@ -214,7 +214,7 @@ pub enum Member {
 }
 
 impl Member {
-    /// What stands before its value.
+    /// The text before the value.
     pub fn text(self) -> &'static str
         ensures { result.now ≡ member_text self }
     {
@@ -233,7 +233,7 @@ impl Member {
         }
     }
 
-    /// The byte behind its value: the comma, or the mark that ends a text.
+    /// The byte after the value: a comma, or the quotation mark that ends a string.
     pub fn end(self) -> u8
         ensures { result ≡ member_end self }
     {

@@ -1,4 +1,4 @@
--- Names of the standard library that proofs use, re-exported from one module. Declares nothing.
+-- The words of the standard library that proofs cite, passed on from one place. Declares nothing.
 pub use Rattle.std.proofs.Common.{All, Bool, Bor, Equal, Err, Fits, Global, Greater, HashMap, HashSet, IfErr, IfNone, IfOk, IfSome, IsAscii, IsCharBoundary, IsErrAnd, IsOk, IsPermutation, IsSome, IsSortedBy, IsTrue, IsUtf8, Less, List, MatchOption, MatchResult, None, Ok, OnErr, OnOk, Option, Ordering, Result, SFits, Some, String, T, Vec, [], add-one, add-zero, ap, append-nil, append_assoc, ap₂, arith, bytes_eq, chars, codes, cond, decimal, drop, drop-cons, drop-drop, encode_utf8, encode_utf8_all, eq-eqb, eqb, eqb-true, false, filter, find, flat_map, fold, get_or, get_or-append-add, get_or-drop, get_or-set_other, get_or-set_same, get_or-take, if◌then◌else◌, inl, inr, insert, int_lt, is_eq, is_lt, is_none, is_ok, is_some, le-leb, le-ltb, leb, leb-false, leb-true, length, length-append, length-drop, length-set, length-take, length-take-le, lt-ltb, lt_of_not-le, ltb, ltb-false, ltb-true, map, map-id, max, min, mul-le-mul_right, nat_cmp, nat_eq, nat_le, nat_lt, ne_eqb, negsuc, not, not-suc-le-zero, of_calls, of_z, option_and_then, option_copied, option_map, option_to_list, pos, position, pow-suc, refl, replicate, reverse, rules, set, slice_get, slice_index, slice_index_or, slice_set, string_bytes, string_cmp, string_eq, subst, subst₂, suc, sum, sum_by, swap, sym, take, take-add, take-append-drop, take-suc, take-take, take_all, take_at, to_z, to_z-of_z, true, true≢false, unwrap_or, vec_capacity, vec_items, vec_len, w32, w64, w8, zero, ℕ, ℤ, ⊎_elim, ◌%◌, ◌&&◌, ◌*◌, ◌++◌, ◌+◌, ◌-ℤ◌, ◌-◌, ◌/◌, ◌<◌, ◌==◌, ◌^◌, ◌||◌, ◌↔◌, ◌∙◌, ◌∷◌, ◌≡◌, ◌≢◌, ◌≤◌, ◌⊎◌}
 pub use Rattle.std.proofs.KnownBytes.{Appends-kept, Appends-nil, Appends-trans, Consumes-kept, Consumes-nil, Consumes-trans, Keeps-refl}
 pub use Rattle.std.proofs.Math.Bool.{and-false, and-true, and_assoc, beq, or-false, or_assoc}

@@ -1,2 +1,2 @@
-//! Names of the standard library that proofs use, re-exported from one module: `proofs/Lib.antt`. There is no code.
+//! The words of the standard library that proofs cite, passed on from one place: `proofs/Lib.antt`. There is no code.
 #![tactic(auto)]

@@ -73,7 +73,7 @@ end_from start (w ∷ ws) = end_from w.hi ws
 abbrev pub end_of : FrontValue → ℕ
 end_of f = end_from f.start f.windows
 
--- the end of the longest prefix of windows that are all done; the start if that prefix is empty
+-- the end of the longest prefix of windows that are all done; the start if the first is not done
 abbrev pub low_water : FrontValue → ℕ
 low_water f = end_from f.start (take_while (λ w. w.done) f.windows)
 

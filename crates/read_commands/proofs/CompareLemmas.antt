@@ -1,4 +1,4 @@
--- What is left of a comparison of two databases that are there.
+-- The rest of a comparison of two existing databases.
 use Rattle.proof_prelude.proofs.{◌≡◌, ℕ, List, ◌++◌, flat_map}
 use Rattle.couch_base.specs.{DatabaseValue, RowValue}
 use Rattle.repl_inspect.specs.{comparisons, total_of, Total}

@@ -1,4 +1,4 @@
--- What is left of an answer about databases that are there.
+-- The rest of an output about existing databases.
 use Rattle.proof_prelude.proofs.{◌≡◌, List, [], ℕ, ◌++◌, Option, Some, None, Result, Ok, Err, Bool, sym, ap, subst, ◌∙◌, IsErrAnd, if◌then◌else◌, IfOk, IfErr}
 use Rattle.repl_peer.specs.{PeerValue}
 use Rattle.script_engine.specs.{Answering, MayTell, gave_up, text_with}
@@ -19,21 +19,21 @@ holds_found s holds e f h = subst (λ n. holds_in (peer_at s n) holds) (sym e) (
 pub held_found : (s : State) {name db : List ℕ} {l : PeerValue} (holds : PeerValue → Type 0) → db ≡ name → peer_at s name ≡ Some l → holds_in (peer_at s db) holds → holds l
 held_found s holds e f h = subst (λ o. holds_in o holds) f (subst (λ n. holds_in (peer_at s n) holds) e h)
 
--- what was given of an answer that was begun, or memory was wanting
+-- the first piece of an output, or a failed allocation
 pub give_told : {K : Type 0} {command : Answering State K} (s : State) {ask : K} (rest : Rest) (r : Result (Option Rest) Refusal) (text : List ℕ) → IfOk r (λ left. text_with (rest_left s) text left ≡ rest_left s rest) → IfErr r (λ refusal. refusal ≡ why.Memory) → MayTell command s ask (Ok (rest_left s rest)) s → MayTell command s ask (told_begun s r text) s
 give_told {command = command} s {ask = ask} rest (Ok left) text e m h = subst (λ t. MayTell command s ask (Ok t) s) (sym e) h
 give_told {command = command} s {ask = ask} rest (Err why) text e m h = subst (λ x. MayTell command s ask (Err (name_of x)) s) (sym m) gave_up
 
--- a refusal that is handed on is told by its name
+-- an error that is passed on keeps its name
 pub handed_from : {K : Type 0} {command : Answering State K} (s : State) {ask : K} (refusal : Refusal) (r : Result Rest Refusal) → IsErrAnd r (λ e. e ≡ refusal) → MayTell command s ask (Err (name_of refusal)) s → MayTell command s ask (told_from s r) s
 handed_from s refusal (Ok rest) h told = absurd h
 handed_from {command = command} s {ask = ask} refusal (Err e) h told = subst (λ x. MayTell command s ask (Err (name_of x)) s) (sym h) told
 
--- an allocation was refused, and that is told
+-- an allocation failed, which is the error
 pub memory_from : {K : Type 0} {command : Answering State K} (s : State) {ask : K} (r : Result Rest Refusal) → IsErrAnd r (λ e. e ≡ why.Memory) → MayTell command s ask (told_from s r) s
 memory_from s r h = handed_from s why.Memory r h gave_up
 
--- a piece is given of a state that is seen so
+-- a piece is produced in a state with this view
 pub piece_given : {E : Type 0} (s view : State) (rest rest' : Rest) (old new : List ℕ) (r : Result Bool E) → s ≡ view → old ≡ [] → IfOk r (λ more. new ++ (if more then rest_left s rest' else []) ≡ old ++ rest_left s rest) → IfOk r (λ more. new ++ (if more then rest_left view rest' else []) ≡ rest_left view rest)
 piece_given s view rest rest' old new (Ok m) e n h = subst (λ (x : State). new ++ (if m then rest_left x rest' else []) ≡ rest_left x rest) e (h ∙ ap (λ t. t ++ rest_left s rest) n)
 piece_given s view rest rest' old new (Err x) e n h = h

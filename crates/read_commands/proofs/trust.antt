@@ -1,2 +1,2 @@
--- What an answer that changes nothing may be trusted for.
+-- The guarantees for the output of read-only commands.
 pub mod Audit

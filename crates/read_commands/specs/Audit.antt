@@ -19,9 +19,9 @@ use Rattle.command_api.specs.Telling.{database_of, Reads}
 use Rattle.command_api.specs.Texts.{ended, quoted}
 use Rattle.read_commands.specs.declared.audit.Audit.{Audit}
 
--- ---- what it asks
+-- ---- its parameters
 
--- whether the target covers what the two logs of a replication say is done, of some documents or of all
+-- whether the target covers what the common checkpoint claims, for a selection of documents
 pub record AuditAsk : Type 0 where
   pub source : List ℕ
   pub target : List ℕ
@@ -42,9 +42,9 @@ audit_in d = do
   needed (if_only (codes "do" ∷ codes "source" ∷ codes "target" ∷ codes "doc_ids" ∷ []) d
       (record { source = source; target = target; doc_ids = doc_ids }))
 
--- ---- what it prints
+-- ---- its output
 
--- a leaf that is not covered, at its sequence
+-- a leaf that is not covered, with its sequence
 abbrev pub hole_line : Leaf → List ℕ
 hole_line leaf =
     ended (codes "hole " ++ decimal leaf.seq ++ codes " " ++ quoted leaf.id ++ codes " " ++ rev_text leaf.rev)
@@ -53,7 +53,7 @@ abbrev pub audit_text : Option Leaf → List ℕ
 audit_text None = codes "clean\n"
 audit_text (Some leaf) = hole_line leaf
 
--- ---- what it does
+-- ---- its result
 
 abbrev pub audit_told : State → AuditAsk → Result (List ℕ) Refusal
 audit_told s ask = do
@@ -62,7 +62,7 @@ audit_told s ask = do
   chosen ← choice_given ask.doc_ids
   Ok (audit_text (audit_answer source target chosen))
 
--- where the two are tied, no leaf is found
+-- if the two peers are tied, the audit finds no leaf
 abbrev pub FindsNone : State → AuditAsk → Type 0
 FindsNone s ask =
     (p q : PeerValue) (chosen : Choice) → peer_at s ask.source ≡ Some p → peer_at s ask.target ≡ Some q
@@ -71,9 +71,9 @@ FindsNone s ask =
 abbrev pub Audits : Answering State AuditAsk
 Audits old ask told new = Reads (audit_told old ask) old told new × FindsNone old ask
 
--- ---- what it may be trusted for: docs/PROFILE.md, "Tied databases"
+-- ---- its guarantee: docs/PROFILE.md, "Tied databases"
 
--- an audit is answered `clean`, unless the line is refused
+-- an audit prints `clean`, or fails
 abbrev pub IsClean : Told → Type 0
 IsClean (Ok text) = text ≡ codes "clean\n"
 IsClean (Err name) = Unit {0}

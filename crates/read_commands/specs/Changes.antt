@@ -13,9 +13,9 @@ use Rattle.command_api.specs.Telling.{database_of, Reads}
 use Rattle.command_api.specs.Texts.{ended, last_line, quoted, texts_of_revs}
 use Rattle.read_commands.specs.declared.changes.Changes.{Changes}
 
--- ---- what it asks
+-- ---- its parameters
 
--- the changes above a sequence
+-- the changes after a sequence
 pub record ChangesAsk : Type 0 where
   pub db : List ℕ
   pub since : ℕ
@@ -29,15 +29,15 @@ changes_in d = do
   since ← needed (optional as_whole (codes "since") d)
   needed (if_only (codes "do" ∷ codes "db" ∷ codes "since" ∷ []) d (record { db = db; since = unwrap_or since 0 }))
 
--- ---- what it prints
+-- ---- its output
 
--- a document's latest change, and its leaves
+-- the latest change of a document, and its leaves
 abbrev pub row_line : RowValue → List ℕ
 row_line r = ended (codes "change " ++ decimal r.seq ++ codes " " ++ quoted r.id ++ codes " " ++ texts_of_revs r.leaves)
 
--- ---- what it does
+-- ---- its result
 
--- the feed above a sequence, and the update sequence
+-- the feed after a sequence, and the update sequence
 abbrev pub changes_told : State → ChangesAsk → Result (List ℕ) Refusal
 changes_told s ask = do
   l ← database_of s ask.db

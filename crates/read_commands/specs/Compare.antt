@@ -24,9 +24,9 @@ use Rattle.read_commands.specs.Walks.{left_in, holds_in, rows_left, rows_walked}
 use Rattle.read_commands.specs.declared.compare.Compare.{Compare}
 use Rattle.read_commands.specs.declared.compare.CompareRest.{CompareRest}
 
--- ---- what it asks
+-- ---- its parameters
 
--- what a target misses of a source's whole feed, of some documents or of all
+-- what a target lacks of the complete feed of a source, for a selection of documents
 pub record CompareAsk : Type 0 where
   pub source : List ℕ
   pub target : List ℕ
@@ -47,14 +47,14 @@ compare_in d = do
   needed (if_only (codes "do" ∷ codes "source" ∷ codes "target" ∷ codes "doc_ids" ∷ []) d
       (record { source = source; target = target; doc_ids = doc_ids }))
 
--- ---- what it prints
+-- ---- its output
 
--- the revision to which the target gives another parent
+-- the revision whose parent differs in the target
 abbrev pub contradicts_line : List ℕ → Option Contradiction → List ℕ
 contradicts_line id None = []
 contradicts_line id (Some c) = revs_line (codes "contradicts") id (c.child ∷ [])
 
--- what there is to say of a document
+-- the lines for a document
 abbrev pub comparison_lines : List ℕ → ComparisonValue → List ℕ
 comparison_lines id c =
     revs_line (codes "missing") id c.missing ++ contradicts_line id c.contradiction ++ revs_line (codes "differs") id c.differing
@@ -62,11 +62,11 @@ comparison_lines id c =
 abbrev pub compared_lines : DatabaseValue → DatabaseValue → RowValue → List ℕ
 compared_lines source target r = comparison_lines r.id (compared_at source target r.id)
 
--- how much was compared
+-- the numbers of compared documents and leaves
 abbrev pub compared_part : Total → List ℕ
 compared_part t = codes "compared " ++ decimal t.documents ++ codes " documents " ++ decimal t.leaves ++ codes " leaves"
 
--- what was found
+-- the numbers of differences
 abbrev pub found_part : Total → List ℕ
 found_part t =
     codes " missing " ++ decimal t.missing ++ codes " contradicting " ++ decimal t.contradicting ++ codes " differing "
@@ -75,27 +75,27 @@ found_part t =
 abbrev pub compared_line : Total → List ℕ
 compared_line t = ended (compared_part t ++ found_part t)
 
--- of each document of the source's chosen feed, and the total
+-- the lines for each document in the source's selected feed, and the totals
 abbrev pub compare_text : DatabaseValue → DatabaseValue → Choice → List ℕ
 compare_text source target chosen =
     flat_map (compared_lines source target) (chosen_feed chosen source 0 source.update_seq)
     ++ compared_line (total_of (comparisons source target (chosen_feed chosen source 0 source.update_seq)))
 
--- what is left of it: the total is that of all rows
+-- the remaining output; the totals are those of all rows
 abbrev pub compare_left : State → CompareRest → List ℕ
 compare_left s r =
     left_in (peer_at s (string_bytes r.source)) (λ source. left_in (peer_at s (string_bytes r.target)) (λ target.
     flat_map (compared_lines source.db target.db) (rows_left source.db r.walk)
     ++ compared_line (total_of (comparisons source.db target.db (rows_walked source.db r.walk)))))
 
--- what was added up is the total of the rows before those that are left
+-- the totals so far are those of the rows that are already printed
 abbrev pub FitsCompare : State → CompareRest → Type 0
 FitsCompare s r =
     holds_in (peer_at s (string_bytes r.source)) (λ source. holds_in (peer_at s (string_bytes r.target)) (λ target.
     (earlier : List RowValue) × (r.total ≡ total_of (comparisons source.db target.db earlier))
     × (earlier ++ rows_left source.db r.walk ≡ rows_walked source.db r.walk)))
 
--- ---- what it does
+-- ---- its result
 
 abbrev pub compare_told : State → CompareAsk → Result (List ℕ) Refusal
 compare_told s ask = do

@@ -20,9 +20,9 @@ use Rattle.read_commands.specs.Walks.{left_in, holds_in, rows_left, rows_walked}
 use Rattle.read_commands.specs.declared.conflicts.Conflicts.{Conflicts}
 use Rattle.read_commands.specs.declared.conflicts.ConflictsRest.{ConflictsRest}
 
--- ---- what it asks
+-- ---- its parameters
 
--- the documents that are in conflict
+-- the documents in conflict
 pub record ConflictsAsk : Type 0 where
   pub db : List ℕ
 
@@ -34,32 +34,32 @@ conflicts_in d = do
   db ← needed (name_at (codes "db") d)
   needed (if_only (codes "do" ∷ codes "db" ∷ []) d (record { db = db }))
 
--- ---- what it prints
+-- ---- its output
 
--- the leaves of a row's document that are not deleted, where they are two or more
+-- the live leaves of a row's document, if there are two or more
 abbrev pub conflict_line : DatabaseValue → RowValue → List ℕ
 conflict_line db r = option_map_or (λ tree. revs_line (codes "conflict") r.id (conflicting tree)) (tree_in db.docs r.id) []
 
--- how many documents are in conflict, of how many
+-- the number of documents in conflict, and of all documents
 abbrev pub conflicts_line : Census → List ℕ
 conflicts_line c = ended (codes "conflicts " ++ decimal c.conflicts ++ codes " of " ++ decimal c.documents ++ codes " documents")
 
 abbrev pub conflicts_text : DatabaseValue → List ℕ
 conflicts_text db = flat_map (conflict_line db) (feed db 0 db.update_seq) ++ conflicts_line (census_of (trees db))
 
--- what is left of it: the counts are those of all documents
+-- the remaining output; the counts are those of all documents
 abbrev pub conflicts_left : State → ConflictsRest → List ℕ
 conflicts_left s r =
     left_in (peer_at s (string_bytes r.db)) (λ l. flat_map (conflict_line l.db) (rows_left l.db r.walk) ++ conflicts_line (census_of (trees l.db)))
 
--- what was counted is of the documents before those that are left, which are all others
+-- the counts so far are those of the rows that are already printed, and no documents are selected
 abbrev pub FitsConflicts : State → ConflictsRest → Type 0
 FitsConflicts s r =
     holds_in (peer_at s (string_bytes r.db)) (λ l. (earlier : List RowValue)
     × (r.census ≡ census_of (map (λ x. tree_of l.db.docs x.id) earlier))
     × (earlier ++ rows_left l.db r.walk ≡ rows_walked l.db r.walk) × (r.walk.chosen ≡ None))
 
--- ---- what it does
+-- ---- its result
 
 abbrev pub conflicts_told : State → ConflictsAsk → Result (List ℕ) Refusal
 conflicts_told s ask = do

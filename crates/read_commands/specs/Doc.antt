@@ -21,9 +21,9 @@ use Rattle.command_api.specs.Telling.{database_of, Reads}
 use Rattle.command_api.specs.Texts.{ended}
 use Rattle.read_commands.specs.declared.doc.Doc.{Doc}
 
--- ---- what it asks
+-- ---- its parameters
 
--- a document at a revision, or at the winner where none is named
+-- a revision of a document; the winner if none is named
 pub record DocAsk : Type 0 where
   pub db : List ℕ
   pub id : List ℕ
@@ -39,9 +39,9 @@ doc_in d = do
   rev ← needed (optional as_str (codes "rev") d)
   needed (if_only (codes "do" ∷ codes "db" ∷ codes "id" ∷ codes "rev" ∷ []) d (record { db = db; id = id; rev = rev }))
 
--- ---- what it does
+-- ---- its result
 
--- the winner, where none is named
+-- the named revision, or the winner
 abbrev pub chosen : TreeValue → Option RevId → Option RevId
 chosen tree None = first_of (leaves tree)
 chosen tree (Some r) = Some r

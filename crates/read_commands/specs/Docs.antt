@@ -22,9 +22,9 @@ use Rattle.read_commands.specs.Walks.{left_in, rows_left}
 use Rattle.read_commands.specs.declared.docs.Docs.{Docs}
 use Rattle.read_commands.specs.declared.docs.DocsRest.{DocsRest}
 
--- ---- what it asks
+-- ---- its parameters
 
--- the documents that changed above a sequence, of some or of all
+-- the documents that changed after a sequence, for a selection of documents
 pub record DocsAsk : Type 0 where
   pub db : List ℕ
   pub since : ℕ
@@ -45,23 +45,23 @@ docs_in d = do
   needed (if_only (codes "do" ∷ codes "db" ∷ codes "since" ∷ codes "doc_ids" ∷ []) d
       (record { db = db; since = unwrap_or since 0; doc_ids = doc_ids }))
 
--- ---- what it prints
+-- ---- its output
 
 abbrev pub doc_line : Document → List ℕ
 doc_line d = ended (doc_text d)
 
--- a row's document at each of its leaves, the winner first
+-- every leaf of a row's document, the winner first
 abbrev pub leaf_lines : DatabaseValue → RowValue → List ℕ
 leaf_lines db r = flat_map doc_line (documents_at db r.id)
 
 abbrev pub docs_text : DatabaseValue → ℕ → Choice → List ℕ
 docs_text db since chosen = flat_map (leaf_lines db) (chosen_feed chosen db since db.update_seq) ++ last_line db.update_seq
 
--- what is left of it
+-- the remaining output
 abbrev pub docs_left : State → DocsRest → List ℕ
 docs_left s r = left_in (peer_at s (string_bytes r.db)) (λ l. flat_map (leaf_lines l.db) (rows_left l.db r.walk) ++ last_line l.db.update_seq)
 
--- ---- what it does
+-- ---- its result
 
 abbrev pub docs_told : State → DocsAsk → Result (List ℕ) Refusal
 docs_told s ask = do

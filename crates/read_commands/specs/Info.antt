@@ -16,9 +16,9 @@ use Rattle.command_api.specs.Telling.{database_of, Reads}
 use Rattle.command_api.specs.Texts.{ended}
 use Rattle.read_commands.specs.declared.info.Info.{Info}
 
--- ---- what it asks
+-- ---- its parameters
 
--- how much a database holds
+-- the identity and the counts of a database
 pub record InfoAsk : Type 0 where
   pub db : List ℕ
 
@@ -30,9 +30,9 @@ info_in d = do
   db ← needed (name_at (codes "db") d)
   needed (if_only (codes "do" ∷ codes "db" ∷ []) d (record { db = db }))
 
--- ---- what it prints
+-- ---- its output
 
--- which database it is, how far it has come, and in which life
+-- the name, UUID, update sequence and life of a database
 abbrev pub identity_part : List ℕ → DatabaseValue → List ℕ
 identity_part name db =
     codes "info " ++ name ++ codes " uuid " ++ id_digits db.uuid ++ codes " seq " ++ decimal db.update_seq ++ codes " life " ++ decimal db.life
@@ -54,7 +54,7 @@ sessions_part count = ended (codes " sessions " ++ decimal count)
 abbrev pub info_text : List ℕ → PeerValue → List ℕ
 info_text name l = identity_part name l.db ++ (census_part (census_of (trees l.db)) ++ sessions_part (length l.sessions))
 
--- ---- what it does
+-- ---- its result
 
 abbrev pub info_told : State → InfoAsk → Result (List ℕ) Refusal
 info_told s ask = do

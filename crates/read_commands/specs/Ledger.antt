@@ -19,9 +19,9 @@ use Rattle.command_api.specs.Telling.{database_of, Reads}
 use Rattle.command_api.specs.Texts.{ended, quoted, text_of_any}
 use Rattle.read_commands.specs.declared.ledger.Ledger.{Ledger}
 
--- ---- what it asks
+-- ---- its parameters
 
--- what a session of a target refused, by the number of the session's UUID
+-- the documents that a target refused in a session, which is given by the number of its UUID
 pub record LedgerAsk : Type 0 where
   pub target : List ℕ
   pub session : ℕ
@@ -36,21 +36,21 @@ ledger_in d = do
   session ← needed given
   needed (if_only (codes "do" ∷ codes "target" ∷ codes "session" ∷ []) d (record { target = target; session = session }))
 
--- ---- what it prints
+-- ---- its output
 
--- a document and a revision of it
+-- a keyword, a document id and a revision
 abbrev pub rev_part : List ℕ → List ℕ → List ℕ → List ℕ
 rev_part word id rev = word ++ codes " " ++ quoted id ++ codes " " ++ rev
 
--- the parents of a revision, as it was known and as it was given
+-- the known and the given parent of a revision
 abbrev pub parents_part : List ℕ → List ℕ → List ℕ
 parents_part known given = codes " known " ++ known ++ codes " given " ++ given
 
--- a document that the write filter refused, at its newest revision
+-- a document that the write filter refused, with its newest revision
 abbrev pub denied_line : List ℕ → List ℕ → List ℕ
 denied_line id rev = ended (rev_part (codes "denied") id rev)
 
--- a document that gives a revision another parent than was known
+-- a document that gives a revision a different parent
 abbrev pub contradicted_line : List ℕ → List ℕ → List ℕ → List ℕ → List ℕ
 contradicted_line id rev known given =
     ended (rev_part (codes "contradicted") id rev ++ parents_part known given)
@@ -69,9 +69,9 @@ ledger_line count = ended (codes "ledger " ++ decimal count)
 abbrev pub ledger_text : List RefusedValue → List ℕ
 ledger_text rows = flat_map refused_line rows ++ ledger_line (length rows)
 
--- ---- what it does
+-- ---- its result
 
--- the ledger of a session, where the peer holds it
+-- the ledger of a session, if the peer has the session
 abbrev pub ledger_of : PeerValue → ℕ → Option (List RefusedValue)
 ledger_of l session = option_map (λ s. s.ledger) (session_in l.sessions (record { 0 = session }))
 

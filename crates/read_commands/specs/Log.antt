@@ -23,9 +23,9 @@ use Rattle.read_commands.specs.declared.log.Log.{Log}
 use Rattle.read_commands.specs.declared.log.Side.{Side}
 use Rattle.read_commands.specs.declared.log.Side.TheVariants.{Source, Target}
 
--- ---- what it asks
+-- ---- its parameters
 
--- the log of the replication from one database into another, of some documents or of all, as one of its sides holds it
+-- the log on one side of the replication from one database to another, for a selection of documents
 pub record LogAsk : Type 0 where
   pub source : List ℕ
   pub target : List ℕ
@@ -57,9 +57,9 @@ log_in d = do
   needed (if_only (codes "do" ∷ codes "source" ∷ codes "target" ∷ codes "side" ∷ codes "doc_ids" ∷ []) d
       (record { source = source; target = target; side = side; doc_ids = doc_ids }))
 
--- ---- what it does
+-- ---- its result
 
--- the log that a side holds of the replication of the two
+-- the log of the replication on one side
 abbrev pub log_held : Side → PeerValue → PeerValue → Choice → List EntryValue
 log_held Source source target chosen = source_log source (rep_between source target chosen)
 log_held Target source target chosen = target_log target (rep_between source target chosen)

@@ -20,9 +20,9 @@ use Rattle.command_api.specs.Telling.{database_of, Reads}
 use Rattle.command_api.specs.Texts.{ended, quoted, text_of_any, texts_of_revs}
 use Rattle.read_commands.specs.declared.show.Show.{Show}
 
--- ---- what it asks
+-- ---- its parameters
 
--- a document's leaves
+-- the leaves of a document
 pub record ShowAsk : Type 0 where
   pub db : List ℕ
   pub id : List ℕ
@@ -36,7 +36,7 @@ show_in d = do
   id ← needed (text_at (codes "id") d)
   needed (if_only (codes "do" ∷ codes "db" ∷ codes "id" ∷ []) d (record { db = db; id = id }))
 
--- ---- what it prints
+-- ---- its output
 
 abbrev pub head_line : List ℕ → TreeValue → List ℕ
 head_line id tree =
@@ -51,11 +51,11 @@ leaf_text leaf deleted ancestry =
 abbrev pub leaf_line : TreeValue → RevId → List ℕ
 leaf_line tree leaf = leaf_text leaf (is_deleted tree leaf) (ancestors tree leaf)
 
--- the leaves in their order, the winner first
+-- the leaves in order, the winner first
 abbrev pub show_text : List ℕ → TreeValue → List ℕ
 show_text id tree = head_line id tree ++ flat_map (leaf_line tree) (leaves tree)
 
--- ---- what it does
+-- ---- its result
 
 abbrev pub show_told : State → ShowAsk → Result (List ℕ) Refusal
 show_told s ask = do

@@ -1,4 +1,4 @@
--- Walks over a changes feed: docs/PROFILE.md, "Changes feed".
+-- Positions in a changes feed: docs/PROFILE.md, "Changes feed".
 use Rattle.std.specs.Prelude.{ℕ, List, [], Option, Some, None}
 use Rattle.couch_base.specs.Database.{DatabaseValue}
 use Rattle.couch_base.specs.Feed.{RowValue, chosen_feed}
@@ -6,20 +6,20 @@ use Rattle.repl_peer.specs.peer.Peer.{PeerValue}
 use Rattle.script_databases.specs.Databases.{State, peer_at}
 use Rattle.read_commands.specs.declared.feed.Walk.{Walk}
 
--- the rows that are left, up to the update sequence
+-- the remaining rows, up to the update sequence
 abbrev pub rows_left : DatabaseValue → Walk → List RowValue
 rows_left db w = chosen_feed w.chosen db w.since db.update_seq
 
--- all the rows that the walk is over
+-- all rows of the feed
 abbrev pub rows_walked : DatabaseValue → Walk → List RowValue
 rows_walked db w = chosen_feed w.chosen db 0 db.update_seq
 
--- what is left of an answer about a database, nothing where it is not there
+-- the remaining output about a database; empty if the database does not exist
 abbrev pub left_in : Option PeerValue → (PeerValue → List ℕ) → List ℕ
 left_in None text = []
 left_in (Some l) text = text l
 
--- what holds of a database, where it is there
+-- a property of a database; true if the database does not exist
 abbrev pub holds_in : Option PeerValue → (PeerValue → Type 0) → Type 0
 holds_in None holds = Unit {0}
 holds_in (Some l) holds = holds l

@@ -1,4 +1,4 @@
-//! `audit`: whether the target covers what the two logs say is done.
+//! `audit`: checks that the target covers what the common checkpoint claims.
 ghost use Rattle.std.specs.Prelude.{◌≡◌, ◌++◌, OnOk};
 ghost use Rattle.repl_target.specs.Audit.{hole_of};
 ghost use Rattle.json_values.specs.LineView.{line_view};
@@ -16,12 +16,12 @@ use std::alloc::{AllocError, Global};
 use std::sync::Wait;
 use std::thread::Threads;
 
-/// What an `audit` line asks.
+/// The parameters of an `audit` line.
 #[derive(Drop)]
 pub struct Audit<'v, 'a> {
     pub source: &'v str,
     pub target: &'v str,
-    /// The ids of the documents that are replicated, which are texts; all documents are where none are named.
+    /// The ids of the selected documents, which are strings; all documents if absent.
     pub doc_ids: Option<&'v Vec<LineValue<'a>>>,
 }
 
@@ -53,7 +53,7 @@ impl<'v, 'a> Command<&'v Line<'a>> for Audit<'v, 'a> {
         })
     }
 
-    /// Serves `audit`.
+    /// Runs `audit`.
     fn serve<H: Threads + Wait + Sync>(
         &self,
         _rt: &H,
@@ -74,7 +74,7 @@ impl<'v, 'a> Command<&'v Line<'a>> for Audit<'v, 'a> {
     }
 }
 
-/// Prints what an audit found.
+/// Prints the result of an audit.
 fn print(answer: &mut Vec<u8>, found: Found) -> Result<(), AllocError>
     ensures { OnOk result (answer.new.items ≡ answer.old.items ++ audit_text (hole_of found)) }
 {

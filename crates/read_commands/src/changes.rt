@@ -1,4 +1,4 @@
-//! `changes`: the changes feed above a sequence, page by page.
+//! `changes`: prints the changes feed after a sequence, page by page.
 ghost use Rattle.std.specs.Prelude.{◌≡◌, ◌++◌, OnOk};
 ghost use Rattle.std.specs.List.{flat_map};
 ghost use Rattle.couch_base.specs.Feed.{feed};
@@ -18,11 +18,11 @@ use std::alloc::{AllocError, Global};
 use std::sync::Wait;
 use std::thread::Threads;
 
-/// What a `changes` line asks.
+/// The parameters of a `changes` line.
 #[derive(Drop)]
 pub struct Changes<'a> {
     pub db: &'a str,
-    /// The sequence above which changes are listed.
+    /// The sequence after which changes are listed.
     pub since: u64,
 }
 
@@ -50,7 +50,7 @@ impl<'v, 'a> Command<&'v Line<'a>> for Changes<'v> {
         Some(Changes { db, since })
     }
 
-    /// Serves `changes`.
+    /// Runs `changes`.
     fn serve<H: Threads + Wait + Sync>(
         &self,
         _rt: &H,
@@ -66,10 +66,10 @@ impl<'v, 'a> Command<&'v Line<'a>> for Changes<'v> {
     }
 }
 
-/// How many rows are read at a time, at most.
+/// The maximum number of rows per read.
 const PAGE: u64 = 10_000;
 
-/// Prints the rows above a sequence, and the update sequence.
+/// Prints the rows after a sequence, and the update sequence.
 fn print(
     alloc: Global,
     answer: &mut Vec<u8>,
@@ -96,7 +96,7 @@ fn print(
     Ok(())
 }
 
-/// Rows, each with its leaves.
+/// Prints rows with their leaves.
 #[derive(Drop)]
 struct ChangeRows;
 

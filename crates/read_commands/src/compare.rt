@@ -1,4 +1,4 @@
-//! `compare`: what a target misses of a source, by their documents alone.
+//! `compare`: prints what a target lacks of a source, without using logs.
 ghost use Rattle.std.specs.Prelude.{◌≡◌, ◌++◌, ◌<◌, [], length, true, if◌then◌else◌, IfOk, OnOk};
 ghost use Rattle.json_values.specs.LineView.{line_view};
 ghost use Rattle.read_commands.specs.Compare.{FitsCompare, compare_left, compared_line, compared_part, comparison_lines, contradicts_line, found_part};
@@ -16,12 +16,12 @@ use rev_tree::Contradiction;
 use script_databases::{Databases, Refusal};
 use std::alloc::{AllocError, Global};
 
-/// What a `compare` line asks.
+/// The parameters of a `compare` line.
 #[derive(Drop)]
 pub struct Compare<'v, 'a> {
     pub source: &'v str,
     pub target: &'v str,
-    /// The ids of the documents that are compared, which are texts; all documents are where none are named.
+    /// The ids of the selected documents, which are strings; all documents if absent.
     pub doc_ids: Option<&'v Vec<LineValue<'a>>>,
 }
 
@@ -74,10 +74,10 @@ impl<'v, 'a> StreamingCommand<&'v Line<'a>> for Compare<'v, 'a> {
     }
 }
 
-/// How many rows are read at a time, at most.
+/// The maximum number of rows per read.
 const PAGE: u64 = 100;
 
-/// What is left of an answer to `compare`, and the total of what was compared.
+/// The rest of the output of `compare`, and the totals so far.
 #[derive(Drop)]
 pub struct CompareRest {
     pub source: String,
@@ -87,7 +87,7 @@ pub struct CompareRest {
 }
 
 impl CompareRest {
-    /// Adds what there is to say of documents to a piece until it is full, then the total, and tells whether more is left.
+    /// Appends the lines of documents until the piece is full, then the totals. Returns whether more is left.
     pub fn more(
         &mut self,
         alloc: Global,
@@ -121,7 +121,7 @@ impl CompareRest {
     }
 }
 
-/// Prints the total.
+/// Prints the totals.
 fn push_total(answer: &mut Vec<u8>, total: &Total) -> Result<(), AllocError>
     ensures { OnOk result (answer.new.items ≡ answer.old.items ++ compared_line total.now) }
 {
@@ -130,7 +130,7 @@ fn push_total(answer: &mut Vec<u8>, total: &Total) -> Result<(), AllocError>
     answer.extend_from_slice(b"\n")
 }
 
-/// Adds how much was compared.
+/// Appends the numbers of compared documents and leaves.
 fn push_compared(answer: &mut Vec<u8>, total: &Total) -> Result<(), AllocError>
     ensures { OnOk result (answer.new.items ≡ answer.old.items ++ compared_part total.now) }
 {
@@ -141,7 +141,7 @@ fn push_compared(answer: &mut Vec<u8>, total: &Total) -> Result<(), AllocError>
     answer.extend_from_slice(b" leaves")
 }
 
-/// Adds what was found.
+/// Appends the numbers of differences.
 fn push_found(answer: &mut Vec<u8>, total: &Total) -> Result<(), AllocError>
     ensures { OnOk result (answer.new.items ≡ answer.old.items ++ found_part total.now) }
 {
@@ -153,7 +153,7 @@ fn push_found(answer: &mut Vec<u8>, total: &Total) -> Result<(), AllocError>
     push_number(answer, total.differing)
 }
 
-/// Rows of a source, each with what a target misses of its document, and their total.
+/// Prints what the target lacks of each row's document, and counts it.
 #[derive(Drop)]
 struct ComparedRows<'a> {
     source: &'a Database,
@@ -186,7 +186,7 @@ impl<'a> RowPrinter for ComparedRows<'a> {
     }
 }
 
-/// Prints what there is to say of a document.
+/// Prints the differences of a document.
 fn push_comparison(
     answer: &mut Vec<u8>,
     id: &str,
@@ -200,7 +200,7 @@ fn push_comparison(
     Ok(())
 }
 
-/// Prints the revision to which the target gives another parent, where there is one.
+/// Prints the revision whose parent differs in the target, if there is one.
 fn push_contradiction(
     answer: &mut Vec<u8>,
     id: &str,

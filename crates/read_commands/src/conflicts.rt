@@ -1,4 +1,4 @@
-//! `conflicts`: the documents of which two or more leaves are not deleted.
+//! `conflicts`: prints the documents with two or more live leaves.
 ghost use Rattle.std.specs.Prelude.{◌≡◌, ◌++◌, ◌<◌, [], length, true, if◌then◌else◌, IfOk, OnOk};
 ghost use Rattle.json_values.specs.LineView.{line_view};
 ghost use Rattle.read_commands.specs.Conflicts.{FitsConflicts, conflicts_left, conflicts_line};
@@ -14,7 +14,7 @@ use rev_tree::Tree;
 use script_databases::{Databases, Refusal};
 use std::alloc::{AllocError, Global};
 
-/// What a `conflicts` line asks.
+/// The parameters of a `conflicts` line.
 #[derive(Drop)]
 pub struct Conflicts<'a> {
     pub db: &'a str,
@@ -61,10 +61,10 @@ impl<'v, 'a> StreamingCommand<&'v Line<'a>> for Conflicts<'v> {
     }
 }
 
-/// How many rows are read at a time, at most.
+/// The maximum number of rows per read.
 const PAGE: u64 = 100;
 
-/// What is left of an answer to `conflicts`, and how much the documents are that were looked at.
+/// The rest of the output of `conflicts`, and the counts of the documents so far.
 #[derive(Drop)]
 pub struct ConflictsRest {
     pub db: String,
@@ -73,7 +73,7 @@ pub struct ConflictsRest {
 }
 
 impl ConflictsRest {
-    /// Adds documents in conflict to a piece until it is full, then how many they are, and tells whether more is left.
+    /// Appends documents in conflict until the piece is full, then their number. Returns whether more is left.
     pub fn more(
         &mut self,
         alloc: Global,
@@ -102,7 +102,7 @@ impl ConflictsRest {
     }
 }
 
-/// Prints how many documents are in conflict.
+/// Prints the number of documents in conflict.
 fn push_counts(answer: &mut Vec<u8>, census: &Census) -> Result<(), AllocError>
     ensures { OnOk result (answer.new.items ≡ answer.old.items ++ conflicts_line census.now) }
 {
@@ -113,7 +113,7 @@ fn push_counts(answer: &mut Vec<u8>, census: &Census) -> Result<(), AllocError>
     answer.extend_from_slice(b" documents\n")
 }
 
-/// Rows whose documents are in conflict, each with the leaves that are, and how much the documents are of all rows.
+/// Prints rows whose documents are in conflict, with their live leaves, and counts all documents.
 #[derive(Drop)]
 struct ConflictRows<'a> {
     database: &'a Database,

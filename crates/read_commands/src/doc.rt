@@ -1,4 +1,4 @@
-//! `doc`: a document at a revision, with its known ancestry.
+//! `doc`: prints a revision of a document with its known ancestry.
 ghost use Rattle.std.specs.Prelude.{◌≡◌, ◌++◌, OnOk};
 ghost use Rattle.doc_json.specs.DocText.{doc_text};
 ghost use Rattle.command_api.specs.Texts.{ended};
@@ -17,12 +17,12 @@ use std::alloc::{AllocError, Global};
 use std::sync::Wait;
 use std::thread::Threads;
 
-/// What a `doc` line asks.
+/// The parameters of a `doc` line.
 #[derive(Drop)]
 pub struct Doc<'a> {
     pub db: &'a str,
     pub id: &'a str,
-    /// The revision, or the winner where none is named.
+    /// The revision; the winner if absent.
     pub rev: Option<&'a str>,
 }
 
@@ -50,7 +50,7 @@ impl<'v, 'a> Command<&'v Line<'a>> for Doc<'v> {
         Some(Doc { db, id, rev })
     }
 
-    /// Serves `doc`.
+    /// Runs `doc`.
     fn serve<H: Threads + Wait + Sync>(
         &self,
         _rt: &H,
@@ -78,7 +78,7 @@ impl<'v, 'a> Command<&'v Line<'a>> for Doc<'v> {
     }
 }
 
-/// The revision that is named, or the winner where none is.
+/// The named revision, or the winner.
 fn chosen(tree: &Tree, named: Option<Rev>) -> Option<Rev>
     ensures { result ≡ chosen tree.now named }
 {

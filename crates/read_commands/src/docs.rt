@@ -1,4 +1,4 @@
-//! `docs`: the documents of a database, each at each of its leaves.
+//! `docs`: prints every leaf of the documents of a database.
 ghost use Rattle.std.specs.Prelude.{◌≡◌, ◌++◌, ◌<◌, [], length, true, if◌then◌else◌, IfOk, OnOk};
 ghost use Rattle.std.specs.List.{flat_map};
 ghost use Rattle.json_values.specs.LineView.{line_view};
@@ -17,13 +17,13 @@ use repl_inspect::documents_of;
 use script_databases::{Databases, Refusal};
 use std::alloc::{AllocError, Global};
 
-/// What a `docs` line asks.
+/// The parameters of a `docs` line.
 #[derive(Drop)]
 pub struct Docs<'v, 'a> {
     pub db: &'v str,
-    /// The sequence above which documents are printed.
+    /// The sequence after which documents are printed.
     pub since: u64,
-    /// The ids of the documents that are printed, which are texts; all documents are where none are named.
+    /// The ids of the selected documents, which are strings; all documents if absent.
     pub doc_ids: Option<&'v Vec<LineValue<'a>>>,
 }
 
@@ -67,10 +67,10 @@ impl<'v, 'a> StreamingCommand<&'v Line<'a>> for Docs<'v, 'a> {
     }
 }
 
-/// How many rows are read at a time, at most: a document may be large, and the pieces are to be small.
+/// The maximum number of rows per read. It is small because documents can be large.
 const PAGE: u64 = 16;
 
-/// What is left of an answer to `docs`.
+/// The rest of the output of `docs`.
 #[derive(Drop)]
 pub struct DocsRest {
     pub db: String,
@@ -78,7 +78,7 @@ pub struct DocsRest {
 }
 
 impl DocsRest {
-    /// Adds documents to a piece until it is full, then the update sequence, and tells whether more is left.
+    /// Appends documents until the piece is full, then the update sequence. Returns whether more is left.
     pub fn more(
         &mut self,
         alloc: Global,
@@ -111,7 +111,7 @@ impl DocsRest {
     }
 }
 
-/// Rows, each with its document at each of its leaves.
+/// Prints every leaf of the documents of rows.
 #[derive(Drop)]
 struct DocumentRows<'a> {
     database: &'a Database,
@@ -136,7 +136,7 @@ impl<'a> RowPrinter for DocumentRows<'a> {
     }
 }
 
-/// Prints documents, a line each.
+/// Prints documents, one per line.
 fn push_documents(answer: &mut Vec<u8>, documents: &[Doc]) -> Result<(), AllocError>
     ensures { OnOk result (answer.new.items ≡ answer.old.items ++ flat_map doc_line documents.now) }
 {

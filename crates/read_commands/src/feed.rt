@@ -1,5 +1,5 @@
-//! Rows of a database's changes feed, printed page by page, until a piece of an answer is full (docs/PROFILE.md, "Changes
-//! feed" and "Answers").
+//! Prints rows of a changes feed, page by page, until a piece of output is full (docs/PROFILE.md, "Changes feed" and
+//! "Answers").
 ghost use Rattle.std.specs.Prelude.{◌≡◌, ◌++◌, ◌∷◌, ◌<◌, [], List, length, true, false, OnOk, IfOk};
 ghost use Rattle.std.specs.List.{flat_map};
 ghost use Rattle.couch_base.specs.Feed.{RowValue};
@@ -9,30 +9,30 @@ use couch_base::{Database, Row};
 use doc_json::Chosen;
 use std::alloc::{AllocError, Global};
 
-/// How many bytes a piece of an answer has at least, unless it is the last.
+/// The minimum size in bytes of a piece of output, except for the last piece.
 const PIECE: usize = 65_536;
 
-/// How far a feed was walked.
+/// A position in a feed.
 #[derive(Drop)]
 pub struct Walk {
-    /// The sequence above which rows are left.
+    /// The sequence after which rows are left.
     pub since: u64,
-    /// The documents of which they are, where not of all.
+    /// The selected documents; all if absent.
     pub chosen: Option<Chosen>,
 }
 
-/// What a word prints of a row of a feed, and what it counts of the rows.
+/// Prints and counts the rows of a feed.
 pub trait RowPrinter {
     ghost use Rattle.std.specs.Prelude.{ℕ, List};
     ghost use Rattle.couch_base.specs.Feed.{RowValue};
 
-    /// What is counted.
+    /// The counts.
     type Tally;
 
-    // What is printed of a row.
+    // The text that is printed for a row.
     ghost row_text: { Self → RowValue → List ℕ };
 
-    // Whether what was counted is that of these rows.
+    // Whether these are the counts of these rows.
     ghost counts: { Self → Self.Tally → List RowValue → Type 0 } = { λ _ _ _. Unit {0} };
 
     /// Prints a row, and counts it.
@@ -48,11 +48,11 @@ pub trait RowPrinter {
             → counts self.now tally.new (earlier ++ row.now ∷ [])) };
 }
 
-/// Nothing is counted.
+/// Counts nothing.
 #[derive(Drop)]
 pub struct NoTally;
 
-/// Prints rows that are left, at most so many at a time, until the piece is full, and tells whether it is; else no rows
+/// Prints rows, at most `limit` per read, until the piece is full. Returns whether the piece is full; otherwise no rows
 /// are left.
 pub fn fill<P: RowPrinter>(
     alloc: Global,
@@ -83,7 +83,7 @@ pub fn fill<P: RowPrinter>(
     Ok(false)
 }
 
-/// Prints all rows that are left, at most so many at a time.
+/// Prints all remaining rows, at most `limit` per read.
 pub fn print_feed<P: RowPrinter>(
     alloc: Global,
     answer: &mut Vec<u8>,
@@ -104,7 +104,7 @@ pub fn print_feed<P: RowPrinter>(
     Ok(())
 }
 
-/// Prints the rows of a page, of at most so many.
+/// Prints the rows of one page of at most `limit` rows.
 fn step<P: RowPrinter>(
     alloc: Global,
     piece: &mut Vec<u8>,

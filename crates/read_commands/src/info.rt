@@ -1,4 +1,4 @@
-//! `info`: which database it is, and how much it holds.
+//! `info`: prints the identity and the counts of a database.
 ghost use Rattle.std.specs.Prelude.{◌≡◌, ◌++◌, OnOk};
 ghost use Rattle.json_values.specs.LineView.{line_view};
 ghost use Rattle.read_commands.specs.Info.{census_part, documents_part, identity_part, info_text, leaves_part, sessions_part};
@@ -13,7 +13,7 @@ use std::alloc::{AllocError, Global};
 use std::sync::Wait;
 use std::thread::Threads;
 
-/// What an `info` line asks.
+/// The parameters of an `info` line.
 #[derive(Drop)]
 pub struct Info<'a> {
     pub db: &'a str,
@@ -41,7 +41,7 @@ impl<'v, 'a> Command<&'v Line<'a>> for Info<'v> {
         Some(Info { db })
     }
 
-    /// Serves `info`.
+    /// Runs `info`.
     fn serve<H: Threads + Wait + Sync>(
         &self,
         _rt: &H,
@@ -57,7 +57,7 @@ impl<'v, 'a> Command<&'v Line<'a>> for Info<'v> {
     }
 }
 
-/// Prints which database it is, and the counts of what it holds.
+/// Prints the identity and the counts of a database.
 fn print(
     alloc: Global,
     answer: &mut Vec<u8>,
@@ -74,7 +74,7 @@ fn print(
     Ok(())
 }
 
-/// Adds how many sessions brought something here, and ends the line.
+/// Appends the number of incoming sessions, and ends the line.
 fn push_sessions(answer: &mut Vec<u8>, count: usize) -> Result<(), AllocError>
     ensures { OnOk result (answer.new.items ≡ answer.old.items ++ sessions_part count) }
 {
@@ -83,7 +83,7 @@ fn push_sessions(answer: &mut Vec<u8>, count: usize) -> Result<(), AllocError>
     answer.extend_from_slice(b"\n")
 }
 
-/// Adds which database it is, how far it has come, and in which life.
+/// Appends the name, UUID, update sequence and life of a database.
 fn push_identity(
     alloc: Global,
     answer: &mut Vec<u8>,
@@ -103,7 +103,7 @@ fn push_identity(
     push_number(answer, database.life())
 }
 
-/// Adds the counts of documents, leaves and revisions.
+/// Appends the numbers of documents, leaves and revisions.
 fn push_census(answer: &mut Vec<u8>, census: &Census) -> Result<(), AllocError>
     ensures { OnOk result (answer.new.items ≡ answer.old.items ++ census_part census.now) }
 {
@@ -111,7 +111,7 @@ fn push_census(answer: &mut Vec<u8>, census: &Census) -> Result<(), AllocError>
     push_leaves(answer, census)
 }
 
-/// Adds how many documents there are, and how many of them are deleted.
+/// Appends the numbers of documents and of deleted documents.
 fn push_documents(answer: &mut Vec<u8>, census: &Census) -> Result<(), AllocError>
     ensures { OnOk result (answer.new.items ≡ answer.old.items ++ documents_part census.now) }
 {
@@ -121,7 +121,7 @@ fn push_documents(answer: &mut Vec<u8>, census: &Census) -> Result<(), AllocErro
     push_number(answer, census.deleted)
 }
 
-/// Adds how many leaves, documents in conflict and revisions there are.
+/// Appends the numbers of leaves, of documents in conflict, and of revisions.
 fn push_leaves(answer: &mut Vec<u8>, census: &Census) -> Result<(), AllocError>
     ensures { OnOk result (answer.new.items ≡ answer.old.items ++ leaves_part census.now) }
 {

@@ -1,4 +1,4 @@
-//! `ledger`: the documents that a session's target refused, and why.
+//! `ledger`: prints the documents that the target refused in a session, and why.
 ghost use Rattle.std.specs.Prelude.{◌≡◌, ◌++◌, OnOk};
 ghost use Rattle.std.specs.List.{flat_map};
 ghost use Rattle.json_values.specs.LineView.{line_view};
@@ -18,11 +18,11 @@ use std::alloc::{AllocError, Global};
 use std::sync::Wait;
 use std::thread::Threads;
 
-/// What a `ledger` line asks.
+/// The parameters of a `ledger` line.
 #[derive(Drop)]
 pub struct Ledger<'a> {
     pub target: &'a str,
-    /// The number of the UUID that is the session's id.
+    /// The session id, as the number of its UUID.
     pub session: u128,
 }
 
@@ -50,7 +50,7 @@ impl<'v, 'a> Command<&'v Line<'a>> for Ledger<'v> {
         Some(Ledger { target, session })
     }
 
-    /// Serves `ledger`.
+    /// Runs `ledger`.
     fn serve<H: Threads + Wait + Sync>(
         &self,
         _rt: &H,
@@ -69,7 +69,7 @@ impl<'v, 'a> Command<&'v Line<'a>> for Ledger<'v> {
     }
 }
 
-/// Prints the rows of a ledger, and how many they are.
+/// Prints the rows of a ledger, and their number.
 fn print(answer: &mut Vec<u8>, rows: &[Refused]) -> Result<(), AllocError>
     ensures { OnOk result (answer.new.items ≡ answer.old.items ++ ledger_text rows.now) }
 {
@@ -89,7 +89,7 @@ fn push_rows(answer: &mut Vec<u8>, rows: &[Refused]) -> Result<(), AllocError>
     Ok(())
 }
 
-/// Prints a document that was refused, and why.
+/// Prints a refused document, and why it was refused.
 fn push_refused(answer: &mut Vec<u8>, refused: &Refused) -> Result<(), AllocError>
     ensures { OnOk result (answer.new.items ≡ answer.old.items ++ refused_line refused.now) }
 {
@@ -110,7 +110,7 @@ fn push_denied(answer: &mut Vec<u8>, id: &str, rev: Rev) -> Result<(), AllocErro
     answer.extend_from_slice(b"\n")
 }
 
-/// Prints a document that gives a revision another parent than was known.
+/// Prints a document that gives a revision a different parent.
 fn push_contradicted(
     answer: &mut Vec<u8>,
     id: &str,
@@ -127,7 +127,7 @@ fn push_contradicted(
     Ok(())
 }
 
-/// Adds a word, a document's id and a revision of it.
+/// Appends a keyword, a document id and a revision.
 fn push_rev_of(answer: &mut Vec<u8>, word: &[u8], id: &str, rev: Rev) -> Result<(), AllocError>
     ensures { OnOk result (answer.new.items ≡ answer.old.items ++ rev_part word.now id.now (rev_text rev)) }
 {
@@ -138,7 +138,7 @@ fn push_rev_of(answer: &mut Vec<u8>, word: &[u8], id: &str, rev: Rev) -> Result<
     push_rev(answer, &rev)
 }
 
-/// Adds the two parents of a revision.
+/// Appends the known and the given parent of a revision.
 fn push_parents(answer: &mut Vec<u8>, known: Rev, given: Rev) -> Result<(), AllocError>
     ensures { OnOk result (answer.new.items ≡ answer.old.items ++ parents_part (rev_text known) (rev_text given)) }
 {

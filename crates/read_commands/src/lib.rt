@@ -1,8 +1,8 @@
-//! The rooms of the words that change nothing: what such a line asks and what it is answered (docs/PROFILE.md, "Command
-//! lines" and "Answers").
+//! The commands that change nothing: their parameters, and what they print (docs/PROFILE.md, "Command lines" and
+//! "Answers").
 //!
-//! Each word has a file of its own. An answer about a database's feed is printed row by row (`feed`); where it goes out
-//! in pieces, its word has a long room (`streaming_command`), and more is given of what is left (`rest`).
+//! Each command has its own file. `feed` prints a database's feed row by row. A command whose output is produced in
+//! pieces implements `StreamingCommand` (`streaming_command`), and `rest` produces its remaining pieces.
 #![tactic(auto)]
 
 mod audit;

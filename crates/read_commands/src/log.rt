@@ -1,4 +1,4 @@
-//! `log`: the log of a replication, as one of its sides holds it.
+//! `log`: prints the replication log on one side.
 ghost use Rattle.std.specs.Prelude.{◌≡◌, ◌++◌, OnOk, IfOk};
 ghost use Rattle.json_values.specs.LineView.{line_view};
 ghost use Rattle.repl_peer.specs.logs.Checkpoint.{rep_between};
@@ -16,13 +16,13 @@ use std::alloc::{AllocError, Global};
 use std::sync::Wait;
 use std::thread::Threads;
 
-/// What a `log` line asks.
+/// The parameters of a `log` line.
 #[derive(Drop)]
 pub struct Log<'v, 'a> {
     pub source: &'v str,
     pub target: &'v str,
     pub side: Side,
-    /// The ids of the documents that are replicated, which are texts; all documents are where none are named.
+    /// The ids of the selected documents, which are strings; all documents if absent.
     pub doc_ids: Option<&'v Vec<LineValue<'a>>>,
 }
 
@@ -63,7 +63,7 @@ impl<'v, 'a> Command<&'v Line<'a>> for Log<'v, 'a> {
         })
     }
 
-    /// Serves `log`.
+    /// Runs `log`.
     fn serve<H: Threads + Wait + Sync>(
         &self,
         _rt: &H,
@@ -86,7 +86,7 @@ impl<'v, 'a> Command<&'v Line<'a>> for Log<'v, 'a> {
     }
 }
 
-/// The side of a replication, which has to be there.
+/// Reads the side, a required member.
 fn side_member(value: &LineValue<'_>) -> Option<Side>
     ensures { result ≡ side_at (line_view value.now) }
 {
@@ -97,7 +97,7 @@ fn side_member(value: &LineValue<'_>) -> Option<Side>
     }
 }
 
-/// The log that a side holds of the replication of the two.
+/// The log of a replication on one side.
 fn log_held(
     alloc: Global,
     source: &Peer<Rules>,
@@ -114,7 +114,7 @@ fn log_held(
     }
 }
 
-/// Prints a log's text.
+/// Prints the text of a log.
 fn print(answer: &mut Vec<u8>, text: &[u8]) -> Result<(), AllocError>
     ensures { OnOk result (answer.new.items ≡ answer.old.items ++ ended text.now) }
 {

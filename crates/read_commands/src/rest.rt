@@ -1,4 +1,4 @@
-//! What is left of an answer that goes out in pieces (docs/PROFILE.md, "Answers").
+//! The rest of an output that is produced in pieces (docs/PROFILE.md, "Answers").
 ghost use Rattle.std.specs.Prelude.{◌≡◌, ◌++◌, ◌<◌, [], length, true, if◌then◌else◌, OnOk, IfOk};
 ghost use Rattle.read_commands.specs.Rest.{FitsRest, rest_left};
 
@@ -8,7 +8,8 @@ use crate::docs::DocsRest;
 use script_databases::Databases;
 use std::alloc::{AllocError, Global};
 
-/// What is left of an answer. It names the databases that it is about. It is small, since each line hands on one or none.
+/// The rest of an output. It names its databases instead of borrowing them. The type is small because each line returns
+/// one.
 #[derive(Drop)]
 pub enum Rest {
     Compare(Box<CompareRest>),
@@ -17,7 +18,7 @@ pub enum Rest {
 }
 
 impl Rest {
-    /// Adds to a piece until it is full, and tells whether more is left.
+    /// Appends output to a piece until it is full. Returns whether more is left.
     pub fn more(
         &mut self,
         alloc: Global,

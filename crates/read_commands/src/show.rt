@@ -1,4 +1,4 @@
-//! `show`: a document's leaves, the winner first, each with its known ancestry.
+//! `show`: prints the leaves of a document, the winner first, with their known ancestries.
 ghost use Rattle.std.specs.Prelude.{◌≡◌, ◌++◌, true, false, OnOk};
 ghost use Rattle.std.specs.List.{flat_map, list_all};
 ghost use Rattle.std.specs.Option.{option_copied, option_map_or};
@@ -20,7 +20,7 @@ use std::alloc::{AllocError, Global};
 use std::sync::Wait;
 use std::thread::Threads;
 
-/// What a `show` line asks.
+/// The parameters of a `show` line.
 #[derive(Drop)]
 pub struct Show<'a> {
     pub db: &'a str,
@@ -50,7 +50,7 @@ impl<'v, 'a> Command<&'v Line<'a>> for Show<'v> {
         Some(Show { db, id })
     }
 
-    /// Serves `show`.
+    /// Runs `show`.
     fn serve<H: Threads + Wait + Sync>(
         &self,
         _rt: &H,
@@ -70,7 +70,7 @@ impl<'v, 'a> Command<&'v Line<'a>> for Show<'v> {
     }
 }
 
-/// Prints a document's leaves.
+/// Prints the leaves of a document.
 fn print(alloc: Global, answer: &mut Vec<u8>, id: &str, tree: &Tree) -> Result<(), AllocError>
     ensures { OnOk result (answer.new.items ≡ answer.old.items ++ show_text id.now tree.now) }
 {
@@ -79,7 +79,7 @@ fn print(alloc: Global, answer: &mut Vec<u8>, id: &str, tree: &Tree) -> Result<(
     push_leaves(alloc, answer, tree, leaves.as_slice())
 }
 
-/// Prints the first line. The leaves are the tree's.
+/// Prints the first line. `all` must be the leaves of the tree.
 fn push_head(answer: &mut Vec<u8>, id: &str, tree: &Tree, all: &[Rev]) -> Result<(), AllocError>
     requires { all.now ≡ leaves tree.now }
     ensures { OnOk result (answer.new.items ≡ answer.old.items ++ head_line id.now tree.now) }
@@ -96,7 +96,7 @@ fn push_head(answer: &mut Vec<u8>, id: &str, tree: &Tree, all: &[Rev]) -> Result
     Ok(())
 }
 
-/// Prints the winner, which is the first of the leaves. Each tree of a database has one.
+/// Prints the winner, which is the first leaf. Every tree of a database has one.
 fn push_winner(answer: &mut Vec<u8>, all: &[Rev]) -> Result<(), AllocError>
     ensures { OnOk result (answer.new.items ≡ answer.old.items ++ text_of_any (first_of all.now)) }
 {
@@ -106,7 +106,7 @@ fn push_winner(answer: &mut Vec<u8>, all: &[Rev]) -> Result<(), AllocError>
     }
 }
 
-/// Prints revisions of the tree, each on a line.
+/// Prints revisions of the tree, one per line.
 fn push_leaves(
     alloc: Global,
     answer: &mut Vec<u8>,
@@ -134,7 +134,7 @@ fn push_leaf(alloc: Global, answer: &mut Vec<u8>, tree: &Tree, leaf: &Rev) -> Re
     push_leaf_text(answer, leaf, deleted, rev_info.ancestry.revs())
 }
 
-/// Whether what is known of a content is that it is a deletion.
+/// Whether a known content is a deletion.
 fn is_deletion(content: Option<&Content>) -> bool
     ensures { result ≡ option_map_or (λ c. c.deleted) (option_copied content.entry) false }
 {

@@ -1,4 +1,4 @@
-//! The room of a word whose answer goes out in pieces, and how such an answer is begun.
+//! Commands whose output is produced in pieces.
 ghost use Rattle.std.specs.Prelude.{◌≡◌, ℕ, List, [], option_map, IfOk, IfErr};
 ghost use Rattle.script_engine.specs.Serving.{Fits, MayTell, text_with};
 ghost use Rattle.script_databases.specs.Databases.{State};
@@ -11,7 +11,7 @@ use crate::rest::Rest;
 use script_databases::{Databases, Refusal};
 use std::alloc::Global;
 
-/// The room of a word whose answer goes out in pieces, and that changes nothing.
+/// A read-only command whose output is produced in pieces.
 pub trait StreamingCommand<L>: Sized + Drop {
     ghost use Rattle.std.specs.Prelude.{Result};
     ghost use Rattle.serde_json.specs.Data.{Data};
@@ -22,29 +22,29 @@ pub trait StreamingCommand<L>: Sized + Drop {
     // The value of a line.
     ghost seen: { L → Data };
 
-    // What the word asks, apart from where it stands.
+    // The parameters of the command, independent of where they are stored.
     ghost Ask: { Type 0 };
 
     ghost asked: { Self → Ask };
 
-    // What an object asks by the word: its members, of their kinds, and no others.
+    // The parameters that an object gives: all members have their types, and there are no other members.
     ghost asked_in: { Data → Result Ask Refusal };
 
-    // What it is answered, and the state that it leaves.
+    // The possible results, and the states that they leave.
     ghost answers: { Answering State Ask };
 
-    /// What an object asks by the word. `None` where it asks nothing: the line is `BadCommand`.
+    /// Reads the parameters from an object. Returns `None` if it is not such a command; the line then fails with
+    /// `BadCommand`.
     fn read(line: L) -> Option<Self>
         ensures { needed (option_map asked result) ≡ asked_in (seen line) };
 
-    /// Looks at what is asked, and gives the whole answer as what is left of it. `Memory` may come in the place of any
-    /// answer.
+    /// Checks the parameters, and returns the complete output as a rest. Every line may fail with `Memory`.
     fn begin(&self, alloc: Global, databases: &Databases) -> Result<Rest, Refusal>
         ensures told { MayTell answers databases.now (asked self.now) (told_from databases.now result) databases.now }
         ensures fits { IfOk result (λ rest. FitsRest databases.now rest) };
 }
 
-/// Begins the answer to what an object asks by a word, in the word's room: gives its first piece, and what is left.
+/// Runs a command whose output is produced in pieces: returns its first piece, and the rest.
 #[inline(never)]
 pub fn begin_in<L, A: StreamingCommand<L>>(
     alloc: Global,
@@ -68,7 +68,7 @@ pub fn begin_in<L, A: StreamingCommand<L>>(
     give(alloc, databases, rest, answer)
 }
 
-/// Gives the first piece of an answer, and what is left behind it.
+/// Produces the first piece of an output, and returns the rest.
 fn give(
     alloc: Global,
     databases: &Databases,
@@ -88,7 +88,7 @@ fn give(
     Ok(None)
 }
 
-/// What a word is answered whose answer was given whole.
+/// The result of a command whose output was produced completely.
 pub fn whole(served: Result<(), Refusal>) -> Result<Option<Rest>, Refusal>
     ensures told { (s : State) → (text : List ℕ) → told_begun s result text ≡ told_by served text }
     ensures fits { (s : State) → IfOk result (λ rest. Fits (FitsRest s) rest) }

@@ -1,4 +1,4 @@
--- What is made of texts that are answers, or lines, by their grammar.
+-- The output for texts that are responses, or lines, by their grammar.
 use Rattle.proof_prelude.proofs.{◌≡◌, ℕ, List, [], ◌∷◌, ◌++◌, Bool, true, false, cond, refl, sym, ap, subst, ◌∙◌, append_assoc, append-nil, inl, inr, Result, Ok, Err, Option, Some, IfOk, IfErr, Appends}
 use Rattle.script_engine.specs.{Gives}
 use Rattle.response_parser.specs.{wants_documents, is_strict, start, step, is_refused, after, pieces, Piece, end_of, has_rest, last_end, whole, IsAnswered, IsChangeScript, Place, Refusal}
@@ -36,7 +36,7 @@ ok_err o e f = let clash = sym e ∙ f in absurd (cc)
 refused_not_ok : (p : Place) → is_refused p ≡ true → end_of p ≡ Ok tt → ⊥
 refused_not_ok p h e = let is = refused_is p h in ok_err (end_of p) e (ap end_of is.1)
 
--- a text that is read to its end, and holds these pieces
+-- a text that is parsed to its end, and contains these items
 module _ (wanted : Wanted) (t : List ℕ) (ps : List Piece) (well : end_of (after (start wanted) (whole (start wanted) t)).place ≡ Ok tt) (holds : pieces (start wanted) (whole (start wanted) t) ≡ ps) where
   reads_all : (w : Words) (left held held' : Option (List ℕ)) (x : Result ℕ AnswerFault) → left ≡ Some t → IfOk x (Answered wanted w left held held') → IfErr x (Stopped wanted w left held held') → ReadsAnswers w ps held held' x
   reads_all w left held held' (Ok passed) e ok err =
@@ -52,7 +52,7 @@ module _ (wanted : Wanted) (t : List ℕ) (ps : List Piece) (well : end_of (afte
       absurd (ok_err (end_of (after (start wanted) (whole (start wanted) t)).place) well (ap (λ z. end_of (after (start wanted) z).place) (sym all) ∙ ended))
   reads_all w left held held' (Err (Device fault)) e ok err = tt
 
--- ---- CouchDB's answers
+-- ---- CouchDB responses
 
 whole_text : (w : Wanted) (t : List ℕ) → (after (start w) t).place ≡ Between → whole (start w) t ≡ t
 whole_text w t e = ap (λ p. t ++ cond (has_rest p) (10 ∷ []) []) e ∙ append-nil t
@@ -65,9 +65,9 @@ reads_answers wanted docs lenient w left held held' x ok err t ps e h =
     let all = whole_text wanted t read.0 in
     reads_all wanted t ps (ap (λ z. end_of (after (start wanted) z).place) all ∙ ap end_of read.0) (ap (pieces (start wanted)) all ∙ read.1) w left held held' x e ok err
 
--- ---- a script's answers
+-- ---- script output
 
--- the last line with its end or without, where all is read with a line end behind
+-- the last line with or without its end, if a line end is added
 module _ (wanted : Wanted) (t : List ℕ) (ps : List Piece) (well : (p : Place) × ((after (start wanted) (t ++ 10 ∷ [])).place ≡ p) × (ends_lines p ≡ true)) (holds : pieces (start wanted) (t ++ 10 ∷ []) ≡ ps) where
   lines_whole : (rest : Bool) → has_rest (after (start wanted) t).place ≡ rest
       → (end_of (after (start wanted) (whole (start wanted) t)).place ≡ Ok tt) × (pieces (start wanted) (whole (start wanted) t) ≡ ps)

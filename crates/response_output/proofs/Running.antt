@@ -1,4 +1,4 @@
--- Answers as far as they were read, and what is written of them.
+-- Responses as far as they were read, and the output for them.
 use Rattle.proof_prelude.proofs.{◌≡◌, ℕ, List, [], ◌∷◌, ◌++◌, true, false, Option, Result, Ok, Err, IfOk, IfErr, refl, sym, ap, subst, ◌∙◌, append_assoc, append-nil, inl, inr, take, drop, take-append-drop, unwrap_or, Appends, Consumes, Keeps, IsAtEnd, Appends-nil, Appends-trans, Consumes-nil, Consumes-trans, Consumes-kept, Keeps-refl}
 use Rattle.script_engine.specs.{ScriptFault}
 use Rattle.script_engine.specs.declared.fault.ScriptFault.TheVariants.{Write}
@@ -67,7 +67,7 @@ Begins-more fault w ps qs held held' b = record {
   complete = b.complete;
 }
 
--- behind bytes that were read
+-- after bytes that were read
 pub Begins-behind : (fault : ScriptFault) (s s' : State) (w w' : Words) (front : List ℕ) (more : List Piece) (a b c : Option (List ℕ))
     → Fed s w front s' w' a b → Begins fault w' more b c → Begins fault w (pieces s front ++ more) a c
 Begins-behind fault s s' w w' front more a b c f p =
@@ -84,14 +84,14 @@ Begins-behind fault s s' w w' front more a b c f p =
       complete = p.complete;
     }
 
--- the same, where the bytes go on
+-- the same, if more bytes follow
 pub Begins-in : (fault : ScriptFault) (s s' : State) (w w' : Words) (front rest bytes : List ℕ) (a b c : Option (List ℕ))
     → bytes ≡ front ++ rest → Fed s w front s' w' a b → Begins fault w' (pieces s' rest) b c → Begins fault w (pieces s bytes) a c
 Begins-in fault s s' w w' front rest bytes a b c e f p =
     let same : pieces s bytes ≡ pieces s front ++ pieces s' rest = ap (pieces s) e ∙ pieces-append s front rest ∙ ap (λ z. pieces s front ++ pieces z rest) (sym f.state) in
     subst (λ z. Begins fault w z a c) (sym same) (Begins-behind fault s s' w w' front (pieces s' rest) a b c f p)
 
--- ---- what one byte made whole
+-- ---- the item that one byte completes
 
 pub texts-piece : (w : Words) (f : Found) (t : List ℕ) → texts w (piece_of f t) ≡ text_for w f t
 texts-piece w Nothing t = refl
@@ -114,7 +114,7 @@ Begins-part fault w s f t written front back a b fails found text made cut put =
   complete = subst (λ z. IsWhole z back) (sym fails) tt;
 }
 
--- the bytes up to one that made something whole
+-- the bytes up to one that completes something
 pub Fed-taken : (s s' : State) (w w' : Words) (bytes : List ℕ) (a b : Option (List ℕ))
     → s' ≡ after s bytes → pieces s bytes ≡ given s' → Appends a b (texts w (given s')) → w' ≡ words_behind w (given s') → Fed s w bytes s' w' a b
 Fed-taken s s' w w' bytes a b come whole put words = record {
@@ -123,7 +123,7 @@ Fed-taken s s' w w' bytes a b come whole put words = record {
   written = subst (Appends a b) (ap (texts w) (sym whole)) put;
 }
 
--- they stand before further ones
+-- more bytes follow them
 pub Begins-taken : (fault : ScriptFault) (s s' : State) (w : Words) (rest : List ℕ) (n : ℕ) (a b : Option (List ℕ))
     → pieces s (take n rest) ≡ given s' → Begins fault w (given s') a b → Begins fault w (pieces s rest) a b
 Begins-taken fault s s' w rest n a b whole p =
@@ -133,7 +133,7 @@ Begins-taken fault s s' w rest n a b whole p =
 
 -- ---- the end
 
--- the end behind a last line
+-- the end after a last line
 pub Finishes-end : (s s' : State) (w w' : Words) (a b c : Option (List ℕ)) (x : Result ℕ AnswerFault) → Fed s w (last_end s) s' w' a b → EndsAnswers s' w' b c x → Finishes s w a c x
 Finishes-end s s' w w' a b c (Ok passed) f e =
     let all = pieces s (last_end s) in (
@@ -159,7 +159,7 @@ Finishes-end s s' w w' a b c (Err (Device fault)) f e =
 
 -- ---- chunk after chunk
 
--- this input was read, and what it holds is written
+-- this input was read, and its contents are written
 pub record Ran (wanted : Wanted) (w : Words) (s : State) (w' : Words) (left left' held held' : Option (List ℕ)) : Type 0 where
   pub input : List ℕ
   pub fed : Fed (start wanted) w input s w' held held'
@@ -180,11 +180,11 @@ module _ {wanted : Wanted} {w : Words} {s : State} {w' : Words} {left left' held
   pub Ran-end : (left'' : Option (List ℕ)) → Keeps left' left'' → Ran wanted w s w' left left'' held held'
   Ran-end left'' k = record { input = r.input; fed = r.fed; taken = Consumes-kept left left' left'' r.input r.taken k }
 
-  -- all that is read, with what is left
+  -- everything that is read, with what is left
   all_read : (left'' : Option (List ℕ)) (bytes : List ℕ) → Consumes left left'' (r.input ++ bytes) → IsLeft wanted left (whole (start wanted) ((r.input ++ bytes) ++ unwrap_or left'' []))
   all_read left'' bytes c = ((r.input ++ bytes) ++ unwrap_or left'' [], Gives-left left left'' (r.input ++ bytes) c, refl)
 
-  -- it stopped in a chunk
+  -- the run stopped within a chunk
   pub Stopped-in : (fault : ScriptFault) (left'' held'' : Option (List ℕ)) (bytes : List ℕ) → Consumes left' left'' bytes → Begins fault w' (pieces s bytes) held' held'' → Stopped wanted w left held held'' (Device fault)
   Stopped-in fault left'' held'' bytes c b =
       let rest = unwrap_or left'' [] in
@@ -203,7 +203,7 @@ module _ {wanted : Wanted} {w : Words} {s : State} {w' : Words} {left left' held
   pub Stopped-before : (fault : ScriptFault) (left'' : Option (List ℕ)) → Keeps left' left'' → IsWhole fault [] → Stopped wanted w left held held' (Device fault)
   Stopped-before fault left'' k is_whole = Stopped-in fault left'' held' [] (Consumes-kept left' left' left'' [] (Consumes-nil left') k) (Begins-none fault w' [] held' is_whole)
 
-  -- at a byte that was refused
+  -- at a byte that was rejected
   ended_err : (o : Result (Unit {0}) Refusal) (x : Result ℕ AnswerFault) → end_of s.place ≡ o → x ≡ judged_by s.passed s.taken o → is_refused s.place ≡ true → IfErr x (Stopped wanted w left held held')
   ended_err (Ok u) x e is h = subst (λ z. IfErr z (Stopped wanted w left held held')) (sym is) tt
   ended_err (Err why) x e is h =
@@ -218,7 +218,7 @@ module _ {wanted : Wanted} {w : Words} {s : State} {w' : Words} {left left' held
   pub Stopped-refused : (x : Result ℕ AnswerFault) → x ≡ ended_of s → is_refused s.place ≡ true → IfErr x (Stopped wanted w left held held')
   Stopped-refused x is h = ended_err (end_of s.place) x refl is h
 
-  -- ---- at the reader's end
+  -- ---- at the end of the reader
 
   abbrev tail : List ℕ
   tail = last_end s
@@ -282,7 +282,7 @@ module _ {wanted : Wanted} {w : Words} {s : State} {w' : Words} {left left' held
     }),
   )
 
--- no byte is refused before the first one
+-- no byte is rejected before the first one
 pub start_going : (w : Wanted) → is_refused (start w).place ≡ false
 start_going Documents = refl
 start_going _ = refl

@@ -1,4 +1,4 @@
--- What is written for answers that are read: docs/PROFILE.md, "CouchDB's answers".
+-- The output for responses: docs/PROFILE.md, "CouchDB's answers".
 use Rattle.std.specs.Prelude.{◌≡◌, ◌⊎◌, ℕ, List, [], ◌++◌, true, false, Option, Result, Ok, Err, ⊤}
 use Rattle.std.specs.Io.KnownBytes.{Appends}
 use Rattle.script_engine.specs.Device.{Gives}
@@ -16,20 +16,21 @@ use Rattle.response_output.specs.declared.run.AnswerFault.TheVariants.{Refused, 
 
 -- ---- some bytes
 
--- they were read, and what they hold is written; first the bytes that the writer holds, before and after
+-- they were read, and their contents are written; the last two arguments are what the writer has accepted, before and
+-- after
 pub record Fed (s : State) (w : Words) (bytes : List ℕ) (s' : State) (w' : Words) (held held' : Option (List ℕ)) : Type 0 where
   pub state : s' ≡ after s bytes
   pub words : w' ≡ words_behind w (pieces s bytes)
   pub written : Appends held held' (texts w (pieces s bytes))
 
--- only a failed write leaves a text in part; no answer is given in pieces, so none is cut
+-- only a failed write leaves an incomplete item; output is not produced in pieces, so `Cut` does not occur
 abbrev pub IsWhole : ScriptFault → List ℕ → Type 0
 IsWhole Read missing = missing ≡ []
 IsWhole Write missing = ⊤
 IsWhole Memory missing = missing ≡ []
 IsWhole Cut missing = ⊥
 
--- what is written is a beginning of the texts of these pieces
+-- what is written is a prefix of the texts of these items
 pub record Begins (fault : ScriptFault) (w : Words) (all : List Piece) (held held' : Option (List ℕ)) : Type 0 where
   pub told : List Piece
   pub untold : List Piece
@@ -42,11 +43,11 @@ pub record Begins (fault : ScriptFault) (w : Words) (all : List Piece) (held hel
 
 -- ---- the end
 
--- all that is written of these pieces
+-- everything that is written for these items
 abbrev pub all_text : Words → List Piece → List ℕ
 all_text w all = texts w all ++ last_text (words_behind w all)
 
--- a write failed in the last text
+-- a write failed within the last text
 pub record EndsInPart (fault : ScriptFault) (whole : List ℕ) (held held' : Option (List ℕ)) : Type 0 where
   pub text : List ℕ
   pub missing : List ℕ
@@ -54,7 +55,7 @@ pub record EndsInPart (fault : ScriptFault) (whole : List ℕ) (held held' : Opt
   pub written : Appends held held' text
   pub failed : fault ≡ Write
 
--- the last text is written where what was read is whole answers and nothing else
+-- the last text is written if the input consists of complete responses
 abbrev pub EndsAnswers : State → Words → Option (List ℕ) → Option (List ℕ) → Result ℕ AnswerFault → Type 0
 EndsAnswers s w held held' (Ok passed) =
     Appends held held' (last_text w) × (end_of s.place ≡ Ok tt) × (passed ≡ s.passed)
@@ -73,32 +74,32 @@ Finishes s w held held' (Err (Refused why at)) =
 Finishes s w held held' (Err (Device fault)) =
     Begins fault w (pieces s (last_end s)) held held' ⊎ EndsInPart fault (all_text w (pieces s (last_end s))) held held'
 
--- ---- all that a reader gives
+-- ---- everything from a reader
 
--- What was read is all that the reader has left, of which no byte is refused, with a line end behind a last line that
--- has none.
+-- The input is everything that the reader has left, with a line end added if the last line has none. No byte is
+-- rejected.
 abbrev pub IsAll : Wanted → Option (List ℕ) → List ℕ → Type 0
 IsAll wanted left read =
     (input : List ℕ) × Gives left input × (read ≡ whole (start wanted) input) × (is_refused (after (start wanted) input).place ≡ false)
 
--- the same, of which bytes may be refused
+-- the same, but bytes may be rejected
 abbrev pub IsLeft : Wanted → Option (List ℕ) → List ℕ → Type 0
 IsLeft wanted left read = (input : List ℕ) × Gives left input × (read ≡ whole (start wanted) input)
 
--- it is a beginning of that, and its last byte is refused
+-- the input is a prefix of that, and its last byte is rejected
 abbrev pub IsFront : Wanted → Option (List ℕ) → List ℕ → Type 0
 IsFront wanted left read =
     (rest : List ℕ) × Gives left (read ++ rest) × (is_refused (after (start wanted) read).place ≡ true)
 
--- It is whole answers and nothing else, so many documents were passed over, and what it holds is written. First what
--- the reader has left, then what the writer holds, before and after.
+-- The input consists of complete responses, `passed` documents were skipped, and its contents are written. The
+-- arguments are what the reader has left, and what the writer has accepted, before and after.
 abbrev pub Answered : Wanted → Words → Option (List ℕ) → Option (List ℕ) → Option (List ℕ) → ℕ → Type 0
 Answered wanted w left held held' passed =
     (read : List ℕ) × IsAll wanted left read × Appends held held' (all_text w (pieces (start wanted) read))
     × (end_of (after (start wanted) read).place ≡ Ok tt) × (passed ≡ (after (start wanted) read).passed)
 
--- It is none, from its last byte on, and what it holds before is written. Or a device failed or memory was wanting,
--- and what is written is a beginning of what all of it holds.
+-- Either the input is invalid at its last byte, and the contents before that are written. Or a device or an allocation
+-- failed, and what is written is a prefix of the output for the complete input.
 abbrev pub Stopped : Wanted → Words → Option (List ℕ) → Option (List ℕ) → Option (List ℕ) → AnswerFault → Type 0
 Stopped wanted w left held held' (Refused why at) =
     (read : List ℕ) × (IsFront wanted left read ⊎ IsAll wanted left read)
@@ -108,25 +109,25 @@ Stopped wanted w left held held' (Device fault) =
     (read : List ℕ) × IsLeft wanted left read
     × (Begins fault w (pieces (start wanted) read) held held' ⊎ EndsInPart fault (all_text w (pieces (start wanted) read)) held held')
 
--- What is made of answers that hold these pieces: they are written, and nothing is refused.
+-- The output for responses with these contents: they are written, and the input is not rejected.
 abbrev pub ReadsAnswers : Words → List Piece → Option (List ℕ) → Option (List ℕ) → Result ℕ AnswerFault → Type 0
 ReadsAnswers w all held held' (Ok passed) = Appends held held' (all_text w all)
 ReadsAnswers w all held held' (Err (Refused why at)) = ⊥
 ReadsAnswers w all held held' (Err (Device fault)) = ⊤
 
--- The device that is named failed, and no other. First the reader's counts of reads, before and after, then the counts
--- of failures of reader and writer.
+-- The named device failed, and no other. The arguments are the reader's counts of reads, before and after, then the
+-- failure counts of reader and writer.
 abbrev pub CountsOf : AnswerFault → ℕ → ℕ → ℕ → ℕ → ℕ → ℕ → Type 0
 CountsOf (Refused why at) reads reads' reader reader' writer writer' = (reader' ≡ reader) × (writer' ≡ writer)
 CountsOf (Device fault) reads reads' reader reader' writer writer' = IsFaultOf fault reads reads' reader reader' writer writer'
 
--- the same, of a writer alone
+-- the same, for a writer only
 abbrev pub CountsOfWriter : Result ℕ AnswerFault → ℕ → ℕ → Type 0
 CountsOfWriter (Ok passed) writer writer' = writer' ≡ writer
 CountsOfWriter (Err (Refused why at)) writer writer' = writer' ≡ writer
 CountsOfWriter (Err (Device fault)) writer writer' = IsOfWriter fault writer writer'
 
--- what reading comes to at its end
+-- the result at the end of the input
 abbrev pub judged_by : ℕ → ℕ → Result (Unit {0}) Refusal → Result ℕ AnswerFault
 judged_by passed taken (Ok u) = Ok passed
 judged_by passed taken (Err why) = Err (Refused why taken)

@@ -1,4 +1,4 @@
--- What is written for what was read: docs/PROFILE.md, "CouchDB's answers" and "Lines of documents".
+-- The output for what was found: docs/PROFILE.md, "CouchDB's answers" and "Lines of documents".
 use Rattle.std.specs.Prelude.{ℕ, ◌&&◌, ◌==◌, nat_lt, List, [], ◌∷◌, ◌++◌, Bool, true, false, not, cond, codes}
 use Rattle.doc_envelope.specs.Names.{id_of}
 use Rattle.response_parser.specs.State.{more}
@@ -9,27 +9,27 @@ use Rattle.response_output.specs.Forms.{opening, separator, ends, closing, empty
 use Rattle.response_output.specs.declared.forms.Form.{Form}
 use Rattle.response_output.specs.declared.forms.Form.TheVariants.{Loads, Asked, Diffs, Docs, Bodies}
 
--- how the next text is written
+-- the state of a formatter
 pub record Words : Type 0 where
   pub form : Form
-  -- what stands before each text
+  -- the text before each item
   pub begins : List ℕ
-  -- the id that came last, and whether it has a revision
+  -- the last id, and whether a revision of it was written
   pub id : List ℕ
   pub listed : Bool
-  -- how many texts stand in the body that is open
+  -- the number of items in the open body
   pub count : ℕ
-  -- how many texts a body holds at most, or 0 where it holds all
+  -- the maximum number of items per body; 0 for no limit
   pub size : ℕ
   -- whether anything was written
   pub told : Bool
 
--- ---- one text
+-- ---- one item
 
 abbrev pub before : Words → List ℕ
 before w = cond (w.count == 0) (opening w.form) (separator w.form) ++ w.begins
 
--- a body is full with one text more, and is closed behind it
+-- the body is full after one more item, and is then closed
 abbrev pub is_full : Words → Bool
 is_full w = not (has_lists w.form) && more w.count == w.size
 
@@ -42,7 +42,7 @@ counted_up w = record w { count = cond (is_full w) 0 (more w.count); told = true
 abbrev pub id_kept : Words → List ℕ → Words
 id_kept w id = record w { id = id; listed = false }
 
--- a document by its own text
+-- a document, by its text
 abbrev pub document_text : Words → List ℕ → List ℕ
 document_text w text = before w ++ (text ++ behind w)
 
@@ -60,7 +60,7 @@ over_text w = cond (is_over w) (closing w.form) []
 abbrev pub over : Words → Words
 over w = record w { count = cond (is_over w) 0 w.count }
 
--- the first revision of a document, behind its id
+-- the first revision of a document, with its id
 abbrev pub first_rev_text : Words → List ℕ → List ℕ
 first_rev_text w text =
     over_text w ++ (before (over w) ++ (w.id ++ (before_rev w.form ++ (text ++ behind (over w)))))
@@ -68,7 +68,7 @@ first_rev_text w text =
 abbrev pub with_first_rev : Words → Words
 with_first_rev w = record (counted_up (over w)) { listed = true }
 
--- it stands in a list behind others
+-- a further revision, in the list of a document
 abbrev pub is_further : Words → Bool
 is_further w = has_lists w.form && w.listed
 
@@ -90,9 +90,9 @@ words_then w Document text = with_document w text
 words_then w Id text = id_kept w text
 words_then w Rev text = with_rev w
 
--- ---- all texts
+-- ---- all items
 
--- of pieces, one after another
+-- the texts of items, in order
 abbrev pub texts : Words → List Piece → List ℕ
 texts w [] = []
 texts w (p ∷ more) = text_for w p.0 p.1 ++ texts (words_then w p.0 p.1) more
@@ -105,7 +105,7 @@ words_behind w (p ∷ more) = words_behind (words_then w p.0 p.1) more
 abbrev pub last_text : Words → List ℕ
 last_text w = cond (nat_lt 0 w.count) (closing w.form) (cond w.told [] (empty w.form))
 
--- ---- words that nothing was written by
+-- ---- formatters that have written nothing
 
 abbrev pub words_of : Form → List ℕ → ℕ → Words
 words_of form begins size = record { form = form; begins = begins; id = []; listed = false; count = 0; size = size; told = false }
@@ -114,11 +114,11 @@ words_of form begins size = record { form = form; begins = begins; id = []; list
 abbrev pub loads_of : List ℕ → Words
 loads_of db = words_of Loads (codes "{\"do\":\"load\",\"db\":\"" ++ (db ++ codes "\",\"doc\":")) 0
 
--- bodies of requests for so many leaves
+-- request bodies for `size` leaves
 abbrev pub asked_of : ℕ → Words
 asked_of size = words_of Asked (codes "{\"id\":") size
 
--- bodies of requests for what is missing of so many documents
+-- request bodies that ask what is missing of `size` documents
 abbrev pub diffs_of : ℕ → Words
 diffs_of size = words_of Diffs [] size
 
@@ -126,6 +126,6 @@ diffs_of size = words_of Diffs [] size
 abbrev pub docs_of : List ℕ → Words
 docs_of db = words_of Docs (codes "{\"do\":\"doc\",\"db\":\"" ++ (db ++ codes "\",\"id\":")) 0
 
--- bodies of so many documents
+-- request bodies of `size` documents
 abbrev pub bodies_of : ℕ → Words
 bodies_of size = words_of Bodies [] size

@@ -1,23 +1,23 @@
-//! What stands round the texts that are written.
+//! The text around the documents, ids and revisions that are written.
 ghost use Rattle.std.specs.Prelude.{◌≡◌};
 ghost use Rattle.response_output.specs.Forms.{opening as opening_of, separator as separator_of, ends as ends_of, closing as closing_of, empty as empty_of, before_rev as before_rev_of, has_lists as has_lists_of};
 
-/// What is made of what was read.
+/// The format of the output.
 #[derive(Clone, Copy, Debug, PartialEq, Eq)]
 pub enum Form {
     /// `load` lines of a script.
     Loads,
-    /// The bodies of requests for leaves.
+    /// Request bodies that ask for leaves (`_bulk_get`).
     Asked,
-    /// The bodies of requests for what is missing.
+    /// Request bodies that ask for missing revisions (`_revs_diff`).
     Diffs,
     /// `doc` lines of a script.
     Docs,
-    /// The bodies of requests that store documents.
+    /// Request bodies that store documents (`_bulk_docs`).
     Bodies,
 }
 
-/// What opens a body.
+/// The text that opens a body.
 pub(crate) fn opening(form: Form) -> &'static [u8]
     ensures { result.now ≡ opening_of form }
 {
@@ -29,7 +29,7 @@ pub(crate) fn opening(form: Form) -> &'static [u8]
     }
 }
 
-/// What stands between two texts of a body.
+/// The text between two items of a body.
 pub(crate) fn separator(form: Form) -> &'static [u8]
     ensures { result.now ≡ separator_of form }
 {
@@ -40,7 +40,7 @@ pub(crate) fn separator(form: Form) -> &'static [u8]
     }
 }
 
-/// What stands behind each text.
+/// The text after each item.
 pub(crate) fn ends(form: Form) -> &'static [u8]
     ensures { result.now ≡ ends_of form }
 {
@@ -51,7 +51,7 @@ pub(crate) fn ends(form: Form) -> &'static [u8]
     }
 }
 
-/// What closes a body.
+/// The text that closes a body.
 pub(crate) fn closing(form: Form) -> &'static [u8]
     ensures { result.now ≡ closing_of form }
 {
@@ -61,7 +61,7 @@ pub(crate) fn closing(form: Form) -> &'static [u8]
     }
 }
 
-/// What is written in place of a body where there is nothing.
+/// The body that is written if there is nothing else to write.
 pub(crate) fn empty(form: Form) -> &'static [u8]
     ensures { result.now ≡ empty_of form }
 {
@@ -72,7 +72,7 @@ pub(crate) fn empty(form: Form) -> &'static [u8]
     }
 }
 
-/// What stands between the id of a document and its revision.
+/// The text between a document id and its revision.
 pub(crate) fn before_rev(form: Form) -> &'static [u8]
     ensures { result.now ≡ before_rev_of form }
 {
@@ -82,7 +82,7 @@ pub(crate) fn before_rev(form: Form) -> &'static [u8]
     }
 }
 
-/// Whether the revisions of a document stand in one list.
+/// Whether the revisions of a document are written as one list.
 pub(crate) fn has_lists(form: Form) -> bool
     ensures { result ≡ has_lists_of form }
 {

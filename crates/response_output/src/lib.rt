@@ -1,6 +1,6 @@
-//! What is written for what CouchDB's answers hold, from any reader to any writer.
+//! Writes the contents of CouchDB responses as script lines or request bodies.
 //!
-//! The forms are those of docs/PROFILE.md, "CouchDB's answers" and "Lines of documents".
+//! docs/PROFILE.md, "CouchDB's answers" and "Lines of documents", defines the formats.
 #![tactic(auto)]
 
 mod forms;

@@ -1,4 +1,4 @@
-//! Answers read from a reader, and what they hold written to a writer.
+//! Reads responses from a reader, and writes their contents to a writer.
 ghost use Rattle.std.specs.Prelude.{◌≡◌, ℕ, List, Some, IfOk, OnOk, IfErr, true, false};
 ghost use Rattle.std.specs.Io.KnownBytes.{Appends, IsAtEnd};
 ghost use Rattle.script_engine.specs.Chunks.{AreChunks};
@@ -23,13 +23,13 @@ use script_engine::{Chunks, ScriptFault, ScriptRead, ScriptWrite, write_all};
 use std::alloc::{AllocError, Global};
 use thiserror::Error;
 
-/// Why answers were not read to their end.
+/// Why reading stopped early.
 #[derive(Debug, Drop, Error)]
 pub enum AnswerFault {
-    /// They are none. The place is the number of bytes that were read, with the one that is at fault.
+    /// The input is not a response. `at` is the number of bytes read, including the one at fault.
     #[error("refused: {why} at byte {at}")]
     Refused { why: Refusal, at: u64 },
-    /// A device failed, or memory was wanting.
+    /// A device or an allocation failed.
     #[error("{fault}")]
     Device { fault: ScriptFault },
 }
@@ -52,7 +52,7 @@ impl From<AllocError> for AnswerFault {
     }
 }
 
-/// Writes what the last byte made whole.
+/// Writes what the last byte completed.
 fn tell<W: ScriptWrite>(
     reading: &Reading,
     wording: &mut Wording,
@@ -74,7 +74,7 @@ fn tell<W: ScriptWrite>(
     }
 }
 
-/// Reads bytes, and writes what they hold.
+/// Reads bytes, and writes their contents.
 fn feed<W: ScriptWrite>(
     reading: &mut Reading,
     wording: &mut Wording,
@@ -101,7 +101,7 @@ fn feed<W: ScriptWrite>(
     Ok(())
 }
 
-/// What reading comes to at its end.
+/// The result at the end of the input.
 fn ended(reading: &Reading) -> Result<u64, AnswerFault>
     ensures { result ≡ ended_of (state_of reading.now) }
 {
@@ -133,7 +133,7 @@ fn feed_rest<W: ScriptWrite>(
     feed(reading, wording, writer, b"\n")
 }
 
-/// Writes the last text, where what was read is whole answers and nothing else.
+/// Writes the last text, if the input consists of complete responses.
 fn end<W: ScriptWrite>(
     reading: &Reading,
     wording: &Wording,
@@ -152,7 +152,7 @@ fn end<W: ScriptWrite>(
     }
 }
 
-/// Does what is done where nothing follows.
+/// Handles the end of the input.
 fn finish<W: ScriptWrite>(
     reading: &mut Reading,
     wording: &mut Wording,
@@ -168,7 +168,7 @@ fn finish<W: ScriptWrite>(
     }
 }
 
-/// Reads chunk after chunk, and writes what they hold.
+/// Reads in chunks, and writes their contents.
 fn run_chunks<R: ScriptRead, W: ScriptWrite>(
     reading: &mut Reading,
     wording: &mut Wording,
@@ -207,12 +207,14 @@ fn run_chunks<R: ScriptRead, W: ScriptWrite>(
     }
 }
 
-/// Reads answers to the reader's end with a reading that begins, and writes what they hold, each text as soon as it is
-/// whole. Gives how many documents were passed over.
+/// Reads responses to the end of the input with a new parser, and writes each item as soon as it is complete. Returns
+/// the number of skipped documents.
 ///
-/// `Refused` where what is read is no answer: then what stands before the byte at fault is written. `Read` and `Write`
-/// come only where that device failed in this call, but that `Read` also comes in the place of a further read after
-/// 4,294,967,295 reads, each of at most 65,536 bytes.
+/// # Errors
+///
+/// - `Refused`: the input is not a response. The items before the byte at fault are written.
+/// - `Device`: `Read` or `Write` if that device failed in this call; `Read` also if 4,294,967,295 reads of at most
+///   65,536 bytes were made; `Memory` if an allocation failed.
 pub fn run_answers<R: ScriptRead, W: ScriptWrite>(
     alloc: Global,
     reading: &mut Reading,
@@ -222,14 +224,15 @@ pub fn run_answers<R: ScriptRead, W: ScriptWrite>(
 ) -> Result<u64, AnswerFault>
     requires begins { state_of reading.old ≡ start reading.old.wanted }
 
-    // What answers of CouchDB's forms hold is written, and they are never refused, where what holds nothing is passed
-    // over.
+    // If the input consists of CouchDB responses, their contents are written. Such input is never rejected if objects
+    // without documents are skipped.
     ensures forms { (text : List ℕ) → (held : List Piece) → wants_documents reading.old.wanted ≡ true
         → is_strict reading.old.wanted ≡ false → R.left reader.old ≡ Some text
         → IsAnswered reading.old.wanted text held → ReadsAnswers (words_of_wording wording.old) held
         (W.held writer.old) (W.held writer.new) result }
 
-    // So it is with the documents among a script's answers, where such are wanted alone, and with its changes.
+    // The same holds for the documents in the output of a script, if only documents are requested, and for the changes
+    // in it.
     ensures script { (text : List ℕ) → (held : List Piece) → wants_documents reading.old.wanted ≡ true
         → is_strict reading.old.wanted ≡ true → R.left reader.old ≡ Some text
         → IsScript reading.old.wanted text held → ReadsAnswers (words_of_wording wording.old) held
@@ -239,7 +242,7 @@ pub fn run_answers<R: ScriptRead, W: ScriptWrite>(
         → R.left reader.old ≡ Some text → IsChangeScript text held
         → ReadsAnswers (words_of_wording wording.old) held (W.held writer.old) (W.held writer.new) result }
 
-    // Whatever is read.
+    // For any input.
     ensures ok { IfOk result (λ passed. Answered reading.old.wanted (words_of_wording wording.old)
         (R.left reader.old) (W.held writer.old) (W.held writer.new) passed) }
     ensures end { OnOk result (IsAtEnd (R.left reader.new)) }

@@ -1,4 +1,4 @@
-//! What is written for what was read.
+//! Formats the items that were found.
 ghost use Rattle.std.specs.Prelude.{◌≡◌, ◌++◌, ◌∷◌, [], IfOk, OnOk};
 ghost use Rattle.response_parser.specs.State.{more};
 ghost use Rattle.response_output.specs.Stored.{made_of, words_of_wording};
@@ -10,28 +10,28 @@ use doc_envelope::id_of;
 use response_parser::Found;
 use std::alloc::{AllocError, Global};
 
-/// How what was read is written.
+/// The state of a formatter.
 #[derive(Drop)]
 pub struct Wording {
     form: Form,
-    /// What stands before each text.
+    /// The text before each item.
     begins: Vec<u8>,
-    /// The id that came last.
+    /// The last id.
     id: Vec<u8>,
-    /// Whether it has a revision.
+    /// Whether a revision of the last id was written.
     listed: bool,
-    /// How many texts stand in the body that is open.
+    /// The number of items in the open body.
     count: u64,
-    /// How many texts a body holds at most, or 0.
+    /// The maximum number of items per body; 0 for no limit.
     size: u64,
     /// Whether anything was written.
     told: bool,
-    /// The text that was made last.
+    /// The text of the last item.
     text: Vec<u8>,
 }
 
 impl Wording {
-    /// A `load` line for each document, of a database. Its name stands in it as it is.
+    /// Writes a `load` line for each document, for a database whose name is copied unchanged.
     pub fn loads(alloc: Global, db: &str) -> Result<Wording, AllocError>
         ensures { IfOk result (λ wording. words_of_wording wording ≡ loads_of db.now) }
     {
@@ -44,7 +44,7 @@ impl Wording {
         Ok(made(alloc, Form::Loads, begins, 0))
     }
 
-    /// Bodies of `_bulk_get` requests that ask for each revision, so many in each, or all in one where the number is 0.
+    /// Writes `_bulk_get` bodies that request each revision, `size` per body, or all in one if `size` is 0.
     pub fn asked(alloc: Global, size: u64) -> Result<Wording, AllocError>
         ensures { IfOk result (λ wording. words_of_wording wording ≡ asked_of size) }
     {
@@ -52,14 +52,14 @@ impl Wording {
         Ok(made(alloc, Form::Asked, begins, size))
     }
 
-    /// Bodies of `_revs_diff` requests, of so many documents each, or all in one where the number is 0.
+    /// Writes `_revs_diff` bodies of `size` documents, or all in one if `size` is 0.
     pub fn diffs(alloc: Global, size: u64) -> Wording
         ensures { words_of_wording result ≡ diffs_of size }
     {
         made(alloc, Form::Diffs, Vec::new(alloc), size)
     }
 
-    /// A `doc` line for each revision, of a database. Its name stands in it as it is.
+    /// Writes a `doc` line for each revision, for a database whose name is copied unchanged.
     pub fn docs(alloc: Global, db: &str) -> Result<Wording, AllocError>
         ensures { IfOk result (λ wording. words_of_wording wording ≡ docs_of db.now) }
     {
@@ -72,16 +72,16 @@ impl Wording {
         Ok(made(alloc, Form::Docs, begins, 0))
     }
 
-    /// Bodies of `_bulk_docs` requests, of so many documents each, or all in one where the number is 0.
+    /// Writes `_bulk_docs` bodies of `size` documents, or all in one if `size` is 0.
     pub fn bodies(alloc: Global, size: u64) -> Wording
         ensures { words_of_wording result ≡ bodies_of size }
     {
         made(alloc, Form::Bodies, Vec::new(alloc), size)
     }
 
-    /// Makes the text that is written for what was found.
+    /// Formats an item.
     ///
-    /// Where memory was wanting, no further text can be made.
+    /// If an allocation fails, the formatter cannot be used further.
     pub fn put(&mut self, found: Found, text: &[u8]) -> Result<(), AllocError>
         ensures text { OnOk result (made_of self.new ≡ text_for (words_of_wording self.old) found text.now) }
         ensures words { OnOk result
@@ -96,14 +96,14 @@ impl Wording {
         }
     }
 
-    /// The text that was made last.
+    /// The text of the last item.
     pub fn text(&self) -> &[u8]
         ensures { result.now ≡ made_of self.now }
     {
         self.text.as_slice()
     }
 
-    /// The id that came last, with its quotation marks; that of the last document, where documents came.
+    /// The last id, with its quotation marks. For documents, the id of the last one.
     pub fn id(&self) -> &[u8]
         ensures { result.now ≡ (words_of_wording self.now).id }
     {
@@ -123,7 +123,7 @@ impl Wording {
         }
     }
 
-    /// A document, by its own text.
+    /// Formats a document, by its text.
     fn put_document(&mut self, text: &[u8]) -> Result<(), AllocError>
         requires { made_of self.old ≡ [] }
         ensures text { OnOk result (made_of self.new ≡ document_text (words_of_wording self.old) text.now) }
@@ -137,7 +137,7 @@ impl Wording {
         Ok(())
     }
 
-    /// Keeps an id.
+    /// Stores an id.
     fn keep_id(&mut self, text: &[u8]) -> Result<(), AllocError>
         ensures same { made_of self.new ≡ made_of self.old }
         ensures words { OnOk result (words_of_wording self.new ≡ id_kept (words_of_wording self.old) text.now) }
@@ -147,7 +147,7 @@ impl Wording {
         self.id.extend_from_slice(text)
     }
 
-    /// A revision, behind the id that was kept.
+    /// Formats a revision of the stored id.
     fn put_rev(&mut self, rev: &[u8]) -> Result<(), AllocError>
         requires { made_of self.old ≡ [] }
         ensures text { OnOk result (made_of self.new ≡ rev_text (words_of_wording self.old) rev.now) }
@@ -159,7 +159,7 @@ impl Wording {
         self.put_first(rev)
     }
 
-    /// The first revision of a document.
+    /// Formats the first revision of a document.
     fn put_first(&mut self, rev: &[u8]) -> Result<(), AllocError>
         requires { made_of self.old ≡ [] }
         ensures text { OnOk result (made_of self.new ≡ first_rev_text (words_of_wording self.old) rev.now) }
@@ -174,7 +174,7 @@ impl Wording {
         Ok(())
     }
 
-    /// A revision, behind its id.
+    /// Formats a revision with its id.
     fn put_named(&mut self, rev: &[u8]) -> Result<(), AllocError>
         ensures text { OnOk result (made_of self.new ≡ made_of self.old
             ++ ((words_of_wording self.old).id ++ (before_rev_of (words_of_wording self.old).form ++ rev.now))) }
@@ -185,7 +185,7 @@ impl Wording {
         self.text.extend_from_slice(rev)
     }
 
-    /// A further revision of a document, in the list of them.
+    /// Formats a further revision of a document, in its list.
     fn put_further(&mut self, rev: &[u8]) -> Result<(), AllocError>
         requires { made_of self.old ≡ [] }
         ensures text { OnOk result (made_of self.new ≡ 44 ∷ rev.now) }
@@ -195,7 +195,7 @@ impl Wording {
         self.text.extend_from_slice(rev)
     }
 
-    /// Closes a body of lists that is full.
+    /// Closes a full body of lists.
     fn put_over(&mut self) -> Result<(), AllocError>
         requires { made_of self.old ≡ [] }
         ensures text { OnOk result (made_of self.new ≡ over_text (words_of_wording self.old)) }
@@ -208,7 +208,7 @@ impl Wording {
         Ok(())
     }
 
-    /// What stands before a text.
+    /// Appends the text before an item.
     fn put_before(&mut self) -> Result<(), AllocError>
         ensures text { OnOk result (made_of self.new ≡ made_of self.old ++ before (words_of_wording self.old)) }
         ensures words { words_of_wording self.new ≡ words_of_wording self.old }
@@ -222,7 +222,7 @@ impl Wording {
         self.text.extend_from_slice(self.begins.as_slice())
     }
 
-    /// What stands behind a text.
+    /// Appends the text after an item.
     fn put_behind(&mut self) -> Result<(), AllocError>
         ensures text { OnOk result (made_of self.new ≡ made_of self.old ++ behind (words_of_wording self.old)) }
         ensures words { words_of_wording self.new ≡ words_of_wording self.old }
@@ -234,14 +234,14 @@ impl Wording {
         Ok(())
     }
 
-    /// Whether a body is full with one text more, and is closed behind it.
+    /// Whether the body is full after one more item, and is then closed.
     fn is_full(&self) -> bool
         ensures { result ≡ is_full (words_of_wording self.now) }
     {
         !has_lists(self.form) && more(self.count) == self.size
     }
 
-    /// Counts a text.
+    /// Counts an item.
     fn count_up(&mut self)
         ensures words { words_of_wording self.new ≡ counted_up (words_of_wording self.old) }
         ensures same { made_of self.new ≡ made_of self.old }
@@ -251,7 +251,7 @@ impl Wording {
     }
 }
 
-/// A wording that nothing was written by.
+/// Creates a formatter that has written nothing.
 fn made(alloc: Global, form: Form, begins: Vec<u8>, size: u64) -> Wording
     ensures { words_of_wording result ≡ words_of form begins.items size }
 {
@@ -267,14 +267,14 @@ fn made(alloc: Global, form: Form, begins: Vec<u8>, size: u64) -> Wording
     }
 }
 
-/// One more, up to 2^64 - 1.
+/// A count increased by one, at most 2^64 - 1.
 fn more(count: u64) -> u64
     ensures { result ≡ more count }
 {
     if count < u64::MAX { count + 1 } else { count }
 }
 
-/// Three texts behind one another.
+/// Concatenates three texts.
 fn three(alloc: Global, one: &[u8], two: &[u8], last: &[u8]) -> Result<Vec<u8>, AllocError>
     ensures { IfOk result (λ joined. joined.items ≡ one.now ++ (two.now ++ last.now)) }
 {

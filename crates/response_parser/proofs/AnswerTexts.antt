@@ -1,4 +1,4 @@
--- Answers of CouchDB's forms are read as the documents that they hold.
+-- CouchDB responses are parsed as the documents in them.
 use Rattle.proof_prelude.proofs.{◌≡◌, ℕ, ◌+◌, ◌<◌, ◌==◌, ◌&&◌, nat_lt, List, [], ◌∷◌, ◌++◌, Bool, true, false, cond, refl, sym, ap, subst, ◌∙◌, append-nil, arith, inr}
 use Rattle.doc_envelope.specs.{Spaces}
 use Rattle.response_parser.specs.{wants_documents, is_strict, start, is_plain, after, pieces, Piece, IsValue, IsNamed, Holds, document, IsObject, no_members, with_members, itself, IsMembers, last_value, value, last_list, IsList, no_items, with_items, IsItems, last_item, item, AreAnswers, no_more, of_object, of_list, IsAnswered, object_first, list_first, Place, Name}
@@ -32,7 +32,7 @@ outside : (b : Bool) → b ≡ false → (0 == 0 && b) ≡ false
 outside b h = h
 
 module _ (w : Wanted) (docs : wants_documents w ≡ true) (lenient : is_strict w ≡ false) where
-  -- a name, its colon, and the white space before and behind that
+  -- a name and its colon, with white space around it
   list_named : {p : Place} (f : Bool) (n : ℕ) (k s s' : List ℕ) → BeginsKey w p f n → IsNamed w f n k names.List → Spaces s → Spaces s' → {t : List ℕ} {Q : State → Type 0} {ps : List Piece}
       → Leads (At w ListPlace n) t Q ps → Leads (At w p n) (34 ∷ (k ++ (s ++ 58 ∷ (s' ++ t)))) Q ps
   list_named f n k s s' begins named h h' g =
@@ -82,7 +82,7 @@ module _ (w : Wanted) (docs : wants_documents w ≡ true) (lenient : is_strict w
         joined (to_place (inner_closed n d AfterItem e) (an_object n o ins before inside)) (joined (spaces w n s s_after_item h)
         (then (item_comma w n) (joined (spaces w n s' s_next_item h') (some_items n d e more qs o_next m))))
 
-  -- ---- answers
+  -- ---- responses
 
   some_answers : (t : List ℕ) (ps : List Piece) → AreAnswers w t ps → Leads (At w Between 0) t (At w Between 0) ps
   some_answers t ps (no_more h) = spaces w 0 t s_between h
@@ -96,7 +96,7 @@ module _ (w : Wanted) (docs : wants_documents w ≡ true) (lenient : is_strict w
 starts : (w : Wanted) → is_strict w ≡ false → At w Start 0 (start w)
 starts w h = record { wanted = refl; place = ap (λ b. cond b Begin Start) h; depth = refl; diff = refl }
 
--- answers are read to their end, and as the documents that they hold
+-- responses are parsed to their end, as the documents in them
 pub answers_read : (w : Wanted) → wants_documents w ≡ true → is_strict w ≡ false → (t : List ℕ) (ps : List Piece) → IsAnswered w t ps → ((after (start w) t).place ≡ Between) × (pieces (start w) t ≡ ps)
 answers_read w docs lenient t ps h =
     let run = (all_answers w docs lenient t ps h).runs (start w) (starts w lenient) in

@@ -1,4 +1,4 @@
--- Single bytes of answers, from a place on, where documents are wanted.
+-- Single bytes of responses, from a place on, if documents are requested.
 use Rattle.proof_prelude.proofs.{◌≡◌, ℕ, ◌+◌, ◌-◌, ◌==◌, ◌&&◌, nat_lt, length, List, [], ◌∷◌, ◌++◌, Bool, true, false, cond, refl, sym, subst, arith, Some, and_right}
 use Rattle.doc_envelope.specs.{is_space, is_json, IsPlain, is_log}
 use Rattle.response_parser.specs.{wants_documents, wants_leaves, wants_changes, is_strict, covered, name_of, is_plain, step, given, Piece, Holds, document, no_object, of_passed, of_last, of_other, Place, Name}
@@ -9,7 +9,7 @@ use Rattle.response_parser.specs.declared.place.Wanted.TheVariants.{Leaves, Chan
 use Rattle.response_parser.specs.declared.place.Name.TheVariants as names
 use Rattle.response_parser.specs.declared.place.Found.TheVariants as found
 
--- ---- what is wanted
+-- ---- what is requested
 
 pub no_leaves : (w : Wanted) → wants_documents w ≡ true → wants_leaves w ≡ false
 no_leaves Leaves h = absurd (cc)
@@ -19,7 +19,7 @@ pub no_changes : (w : Wanted) → wants_documents w ≡ true → wants_changes w
 no_changes Changes h = absurd (cc)
 no_changes _ h = refl
 
--- within lists no name says anything else, where documents are wanted
+-- names in lists have the same meaning if documents are requested
 pub name_same : (w : Wanted) → wants_documents w ≡ true → (first inner : Bool) (d : ℕ) (t : List ℕ) → name_of w first inner false d t ≡ name_of w first false false d t
 name_same Leaves h first inner d t = unfold name_of in absurd (cc)
 name_same Changes h first inner d t = unfold name_of in absurd (cc)
@@ -27,7 +27,7 @@ name_same _ h first inner d t = unfold name_of in refl
 
 -- ---- outside of values
 
--- a reading that stands there, with so many lists and objects open
+-- a parser at a place, with d open lists and objects
 pub record At (w : Wanted) (p : Place) (d : ℕ) (s : State) : Type 0 where
   pub wanted : s.wanted ≡ w
   pub place : s.place ≡ p
@@ -40,21 +40,21 @@ settled s w p d = record s { wanted = w; place = p; depth = d; diff = false }
 pub is_settled : {w : Wanted} {p : Place} {d : ℕ} (s : State) → At w p d s → s ≡ settled s w p d
 is_settled s h = λ i. record s { wanted = h.wanted i; place = h.place i; depth = h.depth i; diff = h.diff i }
 
--- a byte leads from one place to another, and makes these pieces whole
+-- a byte leads from one place to another, and completes these items
 abbrev pub Steps : Wanted → Place → ℕ → ℕ → Place → ℕ → List Piece → Type 0
 Steps w p d b p' d' ps = (s : State) → At w p d s → At w p' d' (step s b) × (given (step s b) ≡ ps)
 
 steps : (w : Wanted) (p : Place) (d b : ℕ) (p' : Place) (d' : ℕ) (ps : List Piece) → ((s : State) → At w p' d' (step (settled s w p d) b) × (given (step (settled s w p d) b) ≡ ps)) → Steps w p d b p' d' ps
 steps w p d b p' d' ps f s h = subst (λ z. At w p' d' (step z b) × (given (step z b) ≡ ps)) (sym (is_settled s h)) (f s)
 
--- the same, whether the object has a known member or not
+-- the same, whether or not the object has a known member
 steps_known : (w : Wanted) (p : Place) (d b : ℕ) (p' : Place) (d' : ℕ) (ps : List Piece)
     → ((s : State) (k : Bool) → At w p' d' (step (record (settled s w p d) { known = k }) b) × (given (step (record (settled s w p d) { known = k }) b) ≡ ps)) → Steps w p d b p' d' ps
 steps_known w p d b p' d' ps f = steps w p d b p' d' ps (λ s. f s s.known)
 
 -- ---- brackets and commas
 
--- an object may stand there, and a list
+-- an object or a list may begin there
 pub data BeforeObject : Place → Type 0 where
   o_start : BeforeObject Start
   o_begin : BeforeObject Begin
@@ -77,7 +77,7 @@ module _ (w : Wanted) where
   opens_list d l_between c h = unfold step in steps w Between d 91 Item (d + 1) [] (λ s. rw (c, h) (record { wanted = refl; place = refl; depth = refl; diff = refl }, refl))
   opens_list d l_list c h = unfold step in steps w ListPlace d 91 Item (d + 1) [] (λ s. rw h (record { wanted = refl; place = refl; depth = refl; diff = refl }, refl))
 
--- behind what closes, with so many still open
+-- the place after a closing bracket, with this number still open
 abbrev pub closed_at : ℕ → Place → Place
 closed_at d p = cond (nat_lt 1 (d + 1)) p Between
 
@@ -112,7 +112,7 @@ module _ (w : Wanted) where
 
 -- ---- white space
 
--- it may stand there
+-- white space may be there
 pub data MaySpace : Place → Type 0 where
   s_start : MaySpace Start
   s_begin : MaySpace Begin
@@ -133,7 +133,7 @@ module _ (w : Wanted) where
 
 -- ---- names
 
--- a reading within a name, of which so much was taken
+-- a parser within a name, of which u was read
 pub record InKey (w : Wanted) (p : Place) (f : Bool) (d : ℕ) (u : List ℕ) (s : State) : Type 0 where
   pub wanted : s.wanted ≡ w
   pub place : s.place ≡ p
@@ -148,7 +148,7 @@ key_in s w p f d u = record s { wanted = w; place = p; depth = d; diff = false; 
 is_key_in : {w : Wanted} {p : Place} {f : Bool} {d : ℕ} {u : List ℕ} (s : State) → InKey w p f d u s → s ≡ key_in s w p f d u
 is_key_in s h = λ i. record s { wanted = h.wanted i; place = h.place i; depth = h.depth i; diff = h.diff i; first = h.first i; text = h.text i }
 
--- a byte leads from one state to another, and makes these pieces whole
+-- a byte leads from one state to another, and completes these items
 abbrev pub Leads1 : (State → Type 0) → ℕ → (State → Type 0) → List Piece → Type 0
 Leads1 P b Q ps = (s : State) → P s → Q (step s b) × (given (step s b) ≡ ps)
 
@@ -183,7 +183,7 @@ module _ (w : Wanted) where
 
 -- ---- values
 
--- a reading within a text, of which so much was taken
+-- a parser within a text, of which u was read
 pub record Within (w : Wanted) (p : Place) (d n : ℕ) (u : List ℕ) (s : State) : Type 0 where
   pub wanted : s.wanted ≡ w
   pub place : s.place ≡ p
@@ -201,7 +201,7 @@ is_held s h = λ i. record s { wanted = h.wanted i; place = h.place i; depth = h
 within : (Q : State → Type 0) (w : Wanted) (p : Place) (d n : ℕ) (u : List ℕ) (b : ℕ) (ps : List Piece) → ((s : State) → Q (step (held_in s w p d n u) b) × (given (step (held_in s w p d n u) b) ≡ ps)) → Leads1 (Within w p d n u) b Q ps
 within Q w p d n u b ps g s h = subst (λ z. Q (step z b) × (given (step z b) ≡ ps)) (sym (is_held s h)) (g s)
 
--- the same, whether the object has a known member or not
+-- the same, whether or not the object has a known member
 within_known : (Q : State → Type 0) (w : Wanted) (p : Place) (d n : ℕ) (u : List ℕ) (b : ℕ) (ps : List Piece)
     → ((s : State) (k : Bool) → Q (step (record (held_in s w p d n u) { known = k }) b) × (given (step (record (held_in s w p d n u) { known = k }) b) ≡ ps)) → Leads1 (Within w p d n u) b Q ps
 within_known Q w p d n u b ps g = within Q w p d n u b ps (λ s. g s s.known)
@@ -266,7 +266,7 @@ module _ (w : Wanted) (name : Name) (d n : ℕ) (u : List ℕ) where
   pub quoted_end : Takes w (Quoted name) d n u 34 (Value name) n (u ++ 34 ∷ [])
   quoted_end = unfold step in within (Within w (Value name) d n (u ++ 34 ∷ [])) w (Quoted name) d n u 34 [] (λ s. (record { wanted = refl; place = refl; depth = refl; diff = refl; nesting = refl; text = refl }, refl))
 
--- ---- the byte behind a value
+-- ---- the byte after a value
 
 module _ (w : Wanted) (d : ℕ) (u : List ℕ) (json : is_json u ≡ true) where
   pub ends_comma : {name : Name} {ps : List Piece} → Holds w name u ps → Leads1 (Within w (Value name) d 0 u) 44 (At w NextMember d) ps
@@ -308,6 +308,6 @@ module _ (w : Wanted) (d : ℕ) (u : List ℕ) (json : is_json (u ++ 125 ∷ [])
   pub log_ends : wants_documents w ≡ true → is_log (u ++ 125 ∷ []) ≡ true → Leads1 (Within w (Value names.Plain) (d + 1) 1 u) 125 (At w (closed_at d AfterItem) d) []
   log_ends docs e = unfold step in within (At w (closed_at d AfterItem) d) w (Value names.Plain) (d + 1) 1 u 125 [] (λ s. rw (json, docs, e) (record { wanted = refl; place = refl; depth = less_one d; diff = refl }, refl))
 
-  -- where none is wanted
+  -- if no documents are requested
   pub unwanted_ends : wants_documents w ≡ false → Leads1 (Within w (Value names.Plain) (d + 1) 1 u) 125 (At w (closed_at d AfterItem) d) []
   unwanted_ends docs = unfold step in within (At w (closed_at d AfterItem) d) w (Value names.Plain) (d + 1) 1 u 125 [] (λ s. rw (json, docs) (record { wanted = refl; place = refl; depth = less_one d; diff = refl }, refl))

@@ -1,4 +1,4 @@
--- A script's answers are read as the changes among them.
+-- Script output is parsed as the changes in it.
 use Rattle.proof_prelude.proofs.{◌≡◌, ℕ, ◌||◌, ◌==◌, List, [], ◌∷◌, ◌++◌, true, false, inl, inr, refl, sym, ap, subst, ◌∙◌, append_assoc, append-nil, codes, list_all, bytes_eq, and_parts, not-true, or_right}
 use Rattle.doc_envelope.specs.{is_space, is_json, EndsString, ends, plain, escaped}
 use Rattle.response_parser.specs.State.{State}
@@ -14,7 +14,7 @@ use Rattle.response_parser.proofs.Texts.{Leads, none_read, then, then_held, join
 use Rattle.response_parser.proofs.Itself.{unwanted}
 use Rattle.response_parser.proofs.LineTexts.{no_end, lower_bracket, Before, from_either, to_between, EndsLines, before_ends, starts_strict, blank_step, InLine, lined, is_lined}
 
--- a reading of changes that stands there, with so much of a text
+-- a parser of changes at a place, with this text
 abbrev Stands : LinePlace → State → Type 0
 Stands p = InLine Changes p
 
@@ -31,7 +31,7 @@ held_in s p u = record s { wanted = Changes; place = Line p; depth = 0; diff = f
 is_held : {p : LinePlace} {u : List ℕ} (s : State) → Holds p u s → s ≡ held_in s p u
 is_held s h = λ i. record s { wanted = h.wanted i; place = h.place i; depth = h.depth i; diff = h.diff i; text = h.text i }
 
--- a byte from a place on, from a text on, and from a text to a place
+-- a byte from a place, from a text, and from a text to a place
 module _ (p q : LinePlace) (b : ℕ) where
   stands : (ps : List Piece) → ((s : State) → Stands q (step (lined s Changes p) b) × (given (step (lined s Changes p) b) ≡ ps)) → (s : State) → Stands p s → Stands q (step s b) × (given (step s b) ≡ ps)
   stands ps f s h = subst (λ z. Stands q (step z b) × (given (step z b) ≡ ps)) (sym (is_lined s h)) (f s)
@@ -74,7 +74,7 @@ word_end u e = unfold step in ends_line at.Word u [] (λ s. rw (e, or_right s.so
 word_blank : (u : List ℕ) → bytes_eq u (codes "change") ≡ false → (s : State) → Holds at.Word u s → Stands at.Rest (step s 32) × (given (step s 32) ≡ [])
 word_blank u e = unfold step in leaves at.Word at.Rest 32 u [] (λ s. rw e (record { wanted = refl; place = refl; depth = refl; diff = refl }, refl))
 
--- the word of a change
+-- the word `change`
 change_end : (s : State) → Holds at.Word (codes "change") s → Stands at.Seq (step s 32) × (given (step s 32) ≡ [])
 change_end = unfold step in leaves at.Word at.Seq 32 (codes "change") [] (λ s. (record { wanted = refl; place = refl; depth = refl; diff = refl }, refl))
 
@@ -174,7 +174,7 @@ some_changes t ps (word {b} w {t = rest} h e n other m) =
 some_changes t ps (words {b} w x {t = rest} h e n other line m) =
     then (word_begins b e h) (joined (word_text (b ∷ []) w n) (then (word_blank (b ∷ w) other) (joined (rest_text x line) (then rest_end (some_changes rest ps m)))))
 
--- lines are read to their end, and as the changes that they hold
+-- lines are parsed to their end, as the changes in them
 pub changes_read : (w : Wanted) → w ≡ Changes → (t : List ℕ) (ps : List Piece) → AreChanges t ps → EndsLines (after (start w) t).place × (pieces (start w) t ≡ ps)
 changes_read w is t ps h =
     let run = (some_changes t ps h).runs (start Changes) (starts_strict Changes refl) in

@@ -1,4 +1,4 @@
--- An object whose first member is `_id` is read as a document.
+-- An object whose first member is `_id` is parsed as a document.
 use Rattle.proof_prelude.proofs.{◌≡◌, ℕ, ◌+◌, ◌==◌, ◌&&◌, nat_lt, List, [], ◌∷◌, ◌++◌, Bool, true, false, codes, refl, sym, ap, ◌∙◌, append_assoc, inl, and_right, is_utf8-from_IsUtf8}
 use Rattle.json.proofs.Printed.Utf8.{IsUtf8-are_ascii}
 use Rattle.json.proofs.OnLiterals.{json_on_literals}
@@ -20,7 +20,7 @@ id_key = 34 ∷ 95 ∷ 105 ∷ 100 ∷ 34 ∷ []
 id_is_json : is_json id_key ≡ true
 id_is_json = unfold json_on_literals in ap (λ b. b && true) (is_utf8-from_IsUtf8 id_key (IsUtf8-are_ascii id_key refl))
 
--- the first name of an object says that it is a document itself
+-- the first name of an object says that the object is a document
 pub id_name : (w : Wanted) → wants_leaves w ≡ false → (d : ℕ) (inner : Bool) → name_of w true inner false d id_key ≡ names.Plain
 id_name Leaves h d inner = unfold name_of in absurd (cc)
 id_name _ h d inner = unfold name_of in rw (and_right (d == 1) false refl)
@@ -43,7 +43,7 @@ module _ (w : Wanted) (leaves : wants_leaves w ≡ false) (d : ℕ) where
       let u_is = append_assoc (codes "{\"_id\"") h.line (125 ∷ []) ∙ sym h.text in
       before_brace o u before few h (then (log_ends w d (codes "{\"_id\"" ++ h.line) (ap is_json u_is ∙ h.json) docs (ap is_log u_is ∙ e)) none_read)
 
-  -- where none is wanted
+  -- if no documents are requested
   pub unwanted : {p : Place} (o u : List ℕ) → wants_documents w ≡ false → BeforeObject p → nat_lt d 8 ≡ true → IsPlainDocument o u → Leads (At w p d) o (At w (closed_at d AfterItem) d) []
   unwanted o u docs before few h =
       let u_is = append_assoc (codes "{\"_id\"") h.line (125 ∷ []) ∙ sym h.text in

@@ -1,4 +1,4 @@
--- A script's answers are read as the documents among them.
+-- Script output is parsed as the documents in it.
 use Rattle.proof_prelude.proofs.{◌≡◌, ℕ, ◌&&◌, ◌==◌, length, List, [], ◌∷◌, ◌++◌, Bool, true, false, not, cond, refl, sym, ap, subst, ◌∙◌, arith, ◌⊎◌, inl, inr, Ok, list_all, false≢true, or_right}
 use Rattle.doc_envelope.specs.{is_space}
 use Rattle.response_parser.specs.{wants_documents, is_strict, start, begins_sign, is_lower, step, after, given, pieces, Piece, has_rest, end_of, Place, LinePlace}
@@ -12,7 +12,7 @@ use Rattle.response_parser.proofs.Bytes.{At, is_settled, o_begin, o_between, s_b
 use Rattle.response_parser.proofs.Texts.{Leads, none_read, then, joined}
 use Rattle.response_parser.proofs.Itself.{a_document}
 
--- a reading before an answer or a line, where none need be
+-- a parser before a response or a line, if none is required
 abbrev pub Before : Wanted → State → Type 0
 Before w s = At w Begin 0 s ⊎ At w Between 0 s
 
@@ -51,7 +51,7 @@ module _ (w : Wanted) (docs : wants_documents w ≡ true) (strict : is_strict w 
   word_begins b e f k h s (inl at) = unfold step in subst (λ z. Passes w (step z b) × (given (step z b) ≡ [])) (sym (is_settled s at)) (rw (e, f, k, h, no_leaves w docs) (inl (record { wanted = refl; place = refl; depth = refl; diff = refl }), refl))
   word_begins b e f k h s (inr at) = unfold step in subst (λ z. Passes w (step z b) × (given (step z b) ≡ [])) (sym (is_settled s at)) (rw (e, f, k, h, no_leaves w docs) (inl (record { wanted = refl; place = refl; depth = refl; diff = refl }), refl))
 
-  -- within a line that holds nothing
+  -- within a line that contains nothing
   in_word : (b : ℕ) (space : Bool) → (b == 10) ≡ false → (b == 32) ≡ space → (s : State) → InLine w Word s → Passes w (step s b) × (given (step s b) ≡ [])
   in_word b true e f s at = unfold step in subst (λ z. Passes w (step z b) × (given (step z b) ≡ [])) (sym (is_lined s at)) (rw (e, f, no_changes w docs) (inr (record { wanted = refl; place = refl; depth = refl; diff = refl }), refl))
   in_word b false e f s at = unfold step in subst (λ z. Passes w (step z b) × (given (step z b) ≡ [])) (sym (is_lined s at)) (rw (e, f) (inl (record { wanted = refl; place = refl; depth = refl; diff = refl }), refl))
@@ -61,7 +61,7 @@ module _ (w : Wanted) (docs : wants_documents w ≡ true) (strict : is_strict w 
   pass_step b e s (inl at) = in_word b (b == 32) e refl s at
   pass_step b e s (inr at) = subst (λ z. Passes w (step z b) × (given (step z b) ≡ [])) (sym (is_lined s at)) (rw e (inr (record { wanted = refl; place = refl; depth = refl; diff = refl }), refl))
 
-  -- a line end leads before the next one, where nothing need be read
+  -- a line end leads to the start of the next line, if nothing is required
   line_end : (s : State) → Passes w s → Before w (step s 10) × (given (step s 10) ≡ [])
   line_end s (inl at) = unfold step in subst (λ z. Before w (step z 10) × (given (step z 10) ≡ [])) (sym (is_lined s at)) (rw (no_changes w docs, or_right s.some (is_strict w) strict) (inr (record { wanted = refl; place = refl; depth = refl; diff = refl }), refl))
   line_end s (inr at) = unfold step in subst (λ z. Before w (step z 10) × (given (step z 10) ≡ [])) (sym (is_lined s at)) (rw (or_right s.some (is_strict w) strict) (inr (record { wanted = refl; place = refl; depth = refl; diff = refl }), refl))
@@ -76,7 +76,7 @@ no_end_by true c h = absurd (cc)
 pub no_end : (b : ℕ) (t : List ℕ) → InOneLine (b ∷ t) → ((b == 10) ≡ false) × InOneLine t
 no_end b t h = no_end_by (b == 10) (list_all (λ c. not (c == 10)) t) h
 
--- a lower case letter is no bracket
+-- a lowercase letter is not a bracket
 pub lower_bracket : (b : ℕ) → is_lower b ≡ true → ((b == 91) ≡ false) × ((b == 123) ≡ false)
 lower_bracket b h = grind arith
 
@@ -97,7 +97,7 @@ module _ (w : Wanted) (docs : wants_documents w ≡ true) (strict : is_strict w 
 
 -- ---- the end
 
--- a line may begin there, or the input end
+-- a line may begin there, or the input may end
 abbrev pub ends_lines : Place → Bool
 ends_lines Begin = true
 ends_lines Between = true
@@ -108,7 +108,7 @@ lines_end Begin h = refl
 lines_end Between h = refl
 lines_end _ h = absurd (cc)
 
--- by what the places of two states are
+-- by the places of two states
 one_of_two : (b : Bool) (p q : Place) → ends_lines p ≡ false → ends_lines q ≡ false → ends_lines (cond b p q) ≡ false
 one_of_two true p q h k = h
 one_of_two false p q h k = k
@@ -117,7 +117,7 @@ one_state : (b : Bool) (s z : State) → ends_lines s.place ≡ false → ends_l
 one_state true s z h k = h
 one_state false s z h k = k
 
--- outside of lines a line end leads before a line only from there
+-- outside of lines, a line end leads to the start of a line only from there
 stays_out : (s : State) (p : Place) → has_rest p ≡ false → ends_lines p ≡ false → ends_lines (step (record s { place = p }) 10).place ≡ false
 unfolding step
 stays_out s Begin r h = absurd (cc)
@@ -134,7 +134,7 @@ stood_before s h r = by (ends_lines s.place) refl where
   by true e = e
   by false e = absurd (false≢true (sym (stays_out s s.place r e) ∙ h))
 
--- an empty line holds nothing
+-- an empty line contains nothing
 none_at : (s : State) (p : Place) → ends_lines p ≡ true → given (step (record s { place = p }) 10) ≡ []
 unfolding step
 none_at s Begin h = refl
@@ -144,7 +144,7 @@ none_at s _ h = absurd (cc)
 pub line_end_given : (s : State) → ends_lines s.place ≡ true → given (step s 10) ≡ []
 line_end_given s h = none_at s s.place h
 
--- where lines end
+-- places at which lines end
 abbrev pub EndsLines : Place → Type 0
 EndsLines q = (p : Place) × (q ≡ p) × (ends_lines p ≡ true)
 
@@ -155,7 +155,7 @@ before_ends w s (inr at) = (Between, at.place, refl)
 pub starts_strict : (w : Wanted) → is_strict w ≡ true → Before w (start w)
 starts_strict w h = inl (record { wanted = refl; place = ap (λ b. cond b Begin Start) h; depth = refl; diff = refl })
 
--- lines are read to their end, and as the documents that they hold
+-- lines are parsed to their end, as the documents in them
 pub lines_read : (w : Wanted) → wants_documents w ≡ true → is_strict w ≡ true → (t : List ℕ) (ps : List Piece) → AreLines w t ps → EndsLines (after (start w) t).place × (pieces (start w) t ≡ ps)
 lines_read w docs strict t ps h =
     let run = (some_lines w docs strict t ps h).runs (start w) (starts_strict w strict) in

@@ -1,4 +1,4 @@
--- Bytes read one after another.
+-- Bytes in order.
 use Rattle.proof_prelude.proofs.{◌≡◌, ℕ, ◌+◌, ◌<◌, List, [], ◌∷◌, ◌++◌, take, get_or, length, Bool, false, ◌||◌, refl, sym, ap, ◌∙◌, append_assoc, append-nil, take_more}
 use Rattle.response_parser.specs.State.{State}
 use Rattle.response_parser.specs.{step, is_refused, after, given, pieces, piece_of, is_piece, stops, Found}
@@ -14,7 +14,7 @@ pieces-append s (x ∷ xs) ys =
     ap (λ l. given (step s x) ++ l) (pieces-append (step s x) xs ys)
     ∙ sym (append_assoc (given (step s x)) (pieces (step s x) xs) (pieces (after (step s x) xs) ys))
 
--- one byte more
+-- one more byte
 pub after_more : (s : State) (bytes : List ℕ) (i : ℕ) → i < length bytes
     → after s (take (i + 1) bytes) ≡ step (after s (take i bytes)) (get_or bytes i 0)
 after_more s bytes i h = ap (after s) (take_more bytes i 0 h) ∙ after-append s (take i bytes) (get_or bytes i 0 ∷ [])
@@ -25,7 +25,7 @@ pieces_more s bytes i h =
     ap (pieces s) (take_more bytes i 0 h) ∙ pieces-append s (take i bytes) (get_or bytes i 0 ∷ [])
     ∙ ap (λ l. pieces s (take i bytes) ++ l) (append-nil (given (step (after s (take i bytes)) (get_or bytes i 0))))
 
--- the same, from a reading that has come so far
+-- the same, from a parser in this state
 module _ (s m n : State) (bytes : List ℕ) (i : ℕ) where
   pub after_taken : i < length bytes → m ≡ after s (take i bytes) → n ≡ step m (get_or bytes i 0) → n ≡ after s (take (i + 1) bytes)
   after_taken h come one = one ∙ ap (λ z. step z (get_or bytes i 0)) come ∙ sym (after_more s bytes i h)
@@ -40,6 +40,6 @@ none_of : (f : Found) (text : List ℕ) (b : Bool) → (is_piece f || b) ≡ fal
 none_of Nothing text b h = refl
 none_of _ text b h = absurd (cc)
 
--- a reading that goes on has nothing whole
+-- a parser that continues has completed nothing
 pub given_none : (s : State) → stops s ≡ false → given s ≡ []
 given_none s h = none_of s.found s.text (is_refused s.place) h

@@ -8,14 +8,14 @@ use Rattle.response_parser.specs.declared.place.Wanted.{Wanted}
 use Rattle.response_parser.proofs.Readings.{after-append, pieces-append}
 use Rattle.response_parser.proofs.Bytes.{At, InKey, Within, MaySpace, BeginsKey, spaced, key_plain, key_escape, key_escaped, key_end, value_lead, value_space, value_plain, value_quote, object_opens, list_opens, object_closes, list_closes, quoted_plain, quoted_escape, quoted_escaped, quoted_end}
 
--- a text leads from a kind of state to another, and makes these pieces whole
+-- a text leads from a kind of state to another, and completes these items
 pub record Leads (P : State → Type 0) (t : List ℕ) (Q : State → Type 0) (ps : List Piece) : Type 0 where
   pub runs : (s : State) → P s → Q (after s t) × (pieces s t ≡ ps)
 
 pub none_read : {P : State → Type 0} → Leads P [] P []
 none_read = record { runs = λ s h. (h, refl) }
 
--- one byte that makes something whole, and then the rest
+-- one byte that completes something, then the rest
 pub then_held : {P Q R : State → Type 0} {b : ℕ} {t : List ℕ} {qs : List Piece} (ps : List Piece) → ((s : State) → P s → Q (step s b) × (given (step s b) ≡ ps)) → Leads Q t R qs → Leads P (b ∷ t) R (ps ++ qs)
 then_held {b = b} {t} ps f g = record {
   runs = λ s h.
@@ -24,11 +24,11 @@ then_held {b = b} {t} ps f g = record {
       (more.0, ap (λ l. l ++ pieces (step s b) t) one.1 ∙ ap (λ l. ps ++ l) more.1);
 }
 
--- one byte, and then the rest
+-- one byte, then the rest
 pub then : {P Q R : State → Type 0} {b : ℕ} {t : List ℕ} {qs : List Piece} → ((s : State) → P s → Q (step s b) × (given (step s b) ≡ [])) → Leads Q t R qs → Leads P (b ∷ t) R qs
 then f g = then_held [] f g
 
--- one text, and then another
+-- one text, then another
 pub joined : {P Q R : State → Type 0} {t u : List ℕ} {ps qs : List Piece} → Leads P t Q ps → Leads Q u R qs → Leads P (t ++ u) R (ps ++ qs)
 joined {R = R} {t} {u} {ps} {qs} f g = record {
   runs = λ s h.
@@ -96,7 +96,7 @@ filled : (u v : List ℕ) → (length u == 0) ≡ false → (length (u ++ v) == 
 filled [] v h = absurd (cc)
 filled (a ∷ u) v h = suc_not_zero (length (u ++ v))
 
--- a bracket that closes within so many others is not the one of a document
+-- a closing bracket within others does not close the document
 inner_one : (n : ℕ) (b : Bool) → (n == 0 && b) ≡ false → (n + 1 == 1 && b) ≡ false
 inner_one n true h = grind arith
 inner_one n false h = grind arith
@@ -112,7 +112,7 @@ module _ (w : Wanted) (name : Name) (d : ℕ) where
       to_text (append_assoc (u ++ 92 ∷ []) (b ∷ []) t ∙ append_assoc u (92 ∷ []) (b ∷ t))
       (then (quoted_escape w name d n u) (then (quoted_escaped w name d n (u ++ 92 ∷ []) b) (quoted n ((u ++ 92 ∷ []) ++ b ∷ []) t rest)))
 
-  -- the text isn't empty, or no white space comes first
+  -- the text is not empty, or does not begin with white space
   abbrev Ready : List ℕ → List ℕ → Type 0
   Ready u t = ((length u == 0) ≡ false) ⊎ (is_space (slice_index t 0) ≡ false)
 

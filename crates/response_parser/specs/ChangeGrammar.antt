@@ -1,4 +1,4 @@
--- A script's answers, each with the changes that it holds: docs/PROFILE.md, "Lines of documents".
+-- The output of a script, with the changes in it: docs/PROFILE.md, "Lines of documents".
 use Rattle.std.specs.Prelude.{◌≡◌, ℕ, ◌||◌, ◌==◌, List, [], ◌∷◌, ◌++◌, Bool, true, false, not, codes}
 use Rattle.std.specs.List.{list_all}
 use Rattle.std.specs.Str.{bytes_eq}
@@ -9,7 +9,7 @@ use Rattle.response_parser.specs.Grammar.{IsPlainDocument}
 use Rattle.response_parser.specs.LineGrammar.{InOneLine}
 use Rattle.response_parser.specs.declared.place.Found.TheVariants.{Id, Rev}
 
--- revisions with commas between them, up to the line end; each gets its quotation marks
+-- revisions with commas between them, up to the line end; quotation marks are added to each
 pub data AreRevs : List ℕ → List Piece → Type 0 where
   last_rev : {b : ℕ} (r : List ℕ) → is_rev_byte b ≡ true → list_all is_rev_byte r ≡ true
       → AreRevs (b ∷ (r ++ 10 ∷ [])) ((Rev, 34 ∷ b ∷ (r ++ 34 ∷ [])) ∷ [])
@@ -20,7 +20,7 @@ pub data AreRevs : List ℕ → List Piece → Type 0 where
 abbrev pub is_word_byte : ℕ → Bool
 is_word_byte b = not (b == 10 || b == 32)
 
--- lines, each with its line end, and the id and the revisions of each change
+-- lines with their line ends, and the id and the revisions of each change
 pub data AreChanges : List ℕ → List Piece → Type 0 where
   none : AreChanges [] []
   empty : {b : ℕ} {t : List ℕ} {ps : List Piece} → is_space b ≡ true → AreChanges t ps → AreChanges (b ∷ t) ps
@@ -29,13 +29,13 @@ pub data AreChanges : List ℕ → List Piece → Type 0 where
       → AreChanges (codes "change " ++ (n ++ (32 ∷ 34 ∷ (k ++ (32 ∷ (r ++ t)))))) ((Id, 34 ∷ k) ∷ (ps ++ qs))
   -- a document or a log
   object : {o u t : List ℕ} {ps : List Piece} → IsPlainDocument o u → AreChanges t ps → AreChanges (o ++ t) ps
-  -- any other answer, of one word or more
+  -- any other line, of one word or more
   word : {b : ℕ} (w : List ℕ) {t : List ℕ} {ps : List Piece} → is_lower b ≡ true → is_space b ≡ false → list_all is_word_byte w ≡ true
       → bytes_eq (b ∷ w) (codes "change") ≡ false → AreChanges t ps → AreChanges (b ∷ (w ++ 10 ∷ t)) ps
   words : {b : ℕ} (w x : List ℕ) {t : List ℕ} {ps : List Piece} → is_lower b ≡ true → is_space b ≡ false → list_all is_word_byte w ≡ true
       → bytes_eq (b ∷ w) (codes "change") ≡ false → InOneLine x → AreChanges t ps
       → AreChanges (b ∷ (w ++ (32 ∷ (x ++ 10 ∷ t)))) ps
 
--- a script's answers, the last one with its line end or without
+-- the output of a script, with or without the last line end
 abbrev pub IsChangeScript : List ℕ → List Piece → Type 0
 IsChangeScript text held = AreChanges (text ++ 10 ∷ []) held

@@ -1,5 +1,5 @@
--- CouchDB's answers in terms of JSON's grammar, each with the documents that it holds: docs/PROFILE.md, "CouchDB's
--- answers". Whether a text is JSON is asked of the kit's own grammar (`is_json`).
+-- CouchDB's responses in terms of the JSON grammar, with the documents in them: docs/PROFILE.md, "CouchDB's answers".
+-- The grammar of the kit decides whether a text is JSON (`is_json`).
 use Rattle.std.specs.Prelude.{◌≡◌, ℕ, ◌+◌, ◌<◌, ◌==◌, slice_index, List, [], ◌∷◌, ◌++◌, Bool, true, false, codes, Some}
 use Rattle.doc_envelope.specs.Texts.{Spaces, EndsString, Closed, is_space, is_json}
 use Rattle.doc_envelope.specs.Names.{is_log}
@@ -11,21 +11,22 @@ use Rattle.response_parser.specs.declared.place.Name.{Name}
 use Rattle.response_parser.specs.declared.place.Name.TheVariants.{Document, Passed, Last, Other, List as ListName}
 use Rattle.response_parser.specs.declared.place.Found.TheVariants as found
 
--- ---- values and names by their texts
+-- ---- values and names, by their texts
 
--- a JSON text, up to the comma or brace behind it, and how it stands in one line
+-- a JSON text, up to the comma or brace after it, and the same text on one line
 pub record IsValue (t u : List ℕ) : Type 0 where
   pub closed : Closed 0 t u
   pub first : is_space (slice_index t 0) ≡ false
   pub json : is_json u ≡ true
 
--- a name between its quotation marks, the first one of its object or not, within so many others, and what it says
+-- a name with its quotation marks, whether it is the first one of its object, the number of open lists and objects, and
+-- its meaning
 pub record IsNamed (wanted : Wanted) (first : Bool) (d : ℕ) (k : List ℕ) (name : Name) : Type 0 where
   pub string : EndsString k
   pub json : is_json (34 ∷ k) ≡ true
   pub says : name_of wanted first false false d (34 ∷ k) ≡ name
 
--- what a value of a name holds: a document, where the name says so and it is an object
+-- the contents of a named value: a document, if the name says so and the value is an object
 pub data Holds (wanted : Wanted) : Name → List ℕ → List Piece → Type 0 where
   document : {u v : List ℕ} → (slice_index u 0 == 123) ≡ true → covered wanted u ≡ Some v → Holds wanted Document u ((found.Document, v) ∷ [])
   no_object : {u : List ℕ} → (slice_index u 0 == 123) ≡ false → Holds wanted Document u []
@@ -33,7 +34,7 @@ pub data Holds (wanted : Wanted) : Name → List ℕ → List Piece → Type 0 w
   of_last : {u : List ℕ} → Holds wanted Last u []
   of_other : {u : List ℕ} → Holds wanted Other u []
 
--- an object whose first member is `_id`, and how it stands in one line
+-- an object whose first member is `_id`, and the same text on one line
 pub record IsPlainDocument (o u : List ℕ) : Type 0 where
   pub before : List ℕ
   pub behind : List ℕ
@@ -44,12 +45,12 @@ pub record IsPlainDocument (o u : List ℕ) : Type 0 where
   pub text : u ≡ codes "{\"_id\"" ++ (line ++ 125 ∷ [])
   pub json : is_json u ≡ true
 
--- what it holds: itself, unless it is the text of a log
+-- its contents: the object itself, unless it is a log
 pub data IsDocument (wanted : Wanted) : List ℕ → List Piece → Type 0 where
   document : {o u v : List ℕ} → IsPlainDocument o u → is_log u ≡ false → covered wanted u ≡ Some v → IsDocument wanted o ((found.Document, v) ∷ [])
   log : {o u : List ℕ} → IsPlainDocument o u → is_log u ≡ true → IsDocument wanted o []
 
--- ---- lists and objects that are read through, within so many others
+-- ---- lists and objects that are searched, within d others
 
 mutual
   pub data IsObject (wanted : Wanted) : ℕ → List ℕ → List Piece → Type 0 where
@@ -58,7 +59,7 @@ mutual
         → IsObject wanted d (123 ∷ (s ++ t)) ps
     itself : {d : ℕ} {o : List ℕ} {ps : List Piece} → d < 8 → IsDocument wanted o ps → IsObject wanted d o ps
 
-  -- from a name, the first one of its object or not, up to the brace that closes that
+  -- from a name, the first one of its object or not, to the closing brace
   pub data IsMembers (wanted : Wanted) : Bool → ℕ → List ℕ → List Piece → Type 0 where
     last_value : {f : Bool} {d : ℕ} {k : List ℕ} (s s' : List ℕ) {t u : List ℕ} {name : Name} {ps : List Piece} → IsNamed wanted f d k name → Holds wanted name u ps
         → Spaces s → Spaces s' → IsValue t u → IsMembers wanted f d (34 ∷ (k ++ (s ++ 58 ∷ (s' ++ (t ++ 125 ∷ []))))) ps
@@ -75,15 +76,15 @@ mutual
     no_items : {d : ℕ} (s : List ℕ) → d < 8 → Spaces s → IsList wanted d (91 ∷ (s ++ 93 ∷ [])) []
     with_items : {d : ℕ} (s : List ℕ) {t : List ℕ} {ps : List Piece} → d < 8 → Spaces s → IsItems wanted (d + 1) t ps → IsList wanted d (91 ∷ (s ++ t)) ps
 
-  -- from an object up to the bracket that closes the list
+  -- from an object to the closing bracket of the list
   pub data IsItems (wanted : Wanted) : ℕ → List ℕ → List Piece → Type 0 where
     last_item : {d : ℕ} {o : List ℕ} (s : List ℕ) {ps : List Piece} → IsObject wanted d o ps → Spaces s → IsItems wanted d (o ++ (s ++ 93 ∷ [])) ps
     item : {d : ℕ} {o : List ℕ} (s s' : List ℕ) {more : List ℕ} {ps qs : List Piece} → IsObject wanted d o ps → Spaces s → Spaces s' → IsItems wanted d more qs
         → IsItems wanted d (o ++ (s ++ 44 ∷ (s' ++ more))) (ps ++ qs)
 
--- ---- answers
+-- ---- responses
 
--- answers behind one another, with white space between, before and behind them
+-- responses in order, with white space around them
 pub data AreAnswers (wanted : Wanted) : List ℕ → List Piece → Type 0 where
   no_more : {s : List ℕ} → Spaces s → AreAnswers wanted s []
   of_object : (s : List ℕ) {o more : List ℕ} {ps qs : List Piece} → Spaces s → IsObject wanted 0 o ps → AreAnswers wanted more qs
@@ -91,7 +92,7 @@ pub data AreAnswers (wanted : Wanted) : List ℕ → List Piece → Type 0 where
   of_list : (s : List ℕ) {l more : List ℕ} {ps qs : List Piece} → Spaces s → IsList wanted 0 l ps → AreAnswers wanted more qs
       → AreAnswers wanted (s ++ (l ++ more)) (ps ++ qs)
 
--- one answer at least
+-- at least one response
 pub data IsAnswered (wanted : Wanted) : List ℕ → List Piece → Type 0 where
   object_first : (s : List ℕ) {o more : List ℕ} {ps qs : List Piece} → Spaces s → IsObject wanted 0 o ps → AreAnswers wanted more qs
       → IsAnswered wanted (s ++ (o ++ more)) (ps ++ qs)

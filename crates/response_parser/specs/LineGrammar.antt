@@ -1,4 +1,4 @@
--- A script's answers, each with the documents that it holds: docs/PROFILE.md, "Lines of documents".
+-- The output of a script, with the documents in it: docs/PROFILE.md, "Lines of documents".
 use Rattle.std.specs.Prelude.{◌≡◌, ℕ, ◌==◌, List, [], ◌∷◌, ◌++◌, true, false, not}
 use Rattle.std.specs.List.{list_all}
 use Rattle.doc_envelope.specs.Texts.{is_space}
@@ -7,21 +7,21 @@ use Rattle.response_parser.specs.Reading.{Piece}
 use Rattle.response_parser.specs.Grammar.{IsDocument}
 use Rattle.response_parser.specs.declared.place.Wanted.{Wanted}
 
--- no line ends in it
+-- a text without a line end
 abbrev pub InOneLine : List ℕ → Type 0
 InOneLine t = list_all (λ b. not (b == 10)) t ≡ true
 
--- lines, each with its line end, and documents
+-- lines with their line ends, and documents
 pub data AreLines (wanted : Wanted) : List ℕ → List Piece → Type 0 where
   no_lines : AreLines wanted [] []
   -- an empty line, or white space
   blank : {b : ℕ} {t : List ℕ} {ps : List Piece} → is_space b ≡ true → AreLines wanted t ps → AreLines wanted (b ∷ t) ps
-  -- a document by its own text, or the text of a log
+  -- a document by its text, or a log
   document : {o t : List ℕ} {ps qs : List Piece} → IsDocument wanted o ps → AreLines wanted t qs → AreLines wanted (o ++ t) (ps ++ qs)
-  -- any other answer
+  -- any other line
   answer : {b : ℕ} (x : List ℕ) {t : List ℕ} {ps : List Piece} → is_lower b ≡ true → is_space b ≡ false → InOneLine x → AreLines wanted t ps
       → AreLines wanted (b ∷ (x ++ 10 ∷ t)) ps
 
--- a script's answers, the last one with its line end or without
+-- the output of a script, with or without the last line end
 abbrev pub IsScript : Wanted → List ℕ → List Piece → Type 0
 IsScript wanted text held = AreLines wanted (text ++ 10 ∷ []) held

@@ -1,4 +1,4 @@
--- What one byte of a line of a script's answers does: docs/PROFILE.md, "Lines of documents".
+-- The effect of one byte of a line of a script's output: docs/PROFILE.md, "Lines of documents".
 use Rattle.std.specs.Prelude.{ℕ, ◌&&◌, ◌||◌, ◌==◌, nat_le, [], ◌∷◌, Bool, cond, codes}
 use Rattle.std.specs.Str.{bytes_eq}
 use Rattle.doc_envelope.specs.Texts.{is_json}
@@ -20,7 +20,7 @@ text_begun place s b = record s { place = Line place; text = b ∷ [] }
 abbrev pub is_lower : ℕ → Bool
 is_lower b = nat_le 97 b && nat_le b 122
 
--- A line ends. Where there must be an answer, and none was read, the reading stands before the first one again.
+-- A line ends. If a response is required and none was read, the parser returns to its first place.
 abbrev pub line_ended : State → State
 line_ended s = at (cond (s.some || is_strict s.wanted) Between Start) s
 
@@ -30,7 +30,7 @@ change_begun s b = cond (b == 32) (record s { place = Line Seq; text = [] }) (re
 abbrev pub is_change : State → Bool
 is_change s = wants_changes s.wanted && bytes_eq s.text (codes "change")
 
--- the first word is whole: a refusal is passed over, and behind `change` stands one
+-- the first word is complete: `refused` is counted as skipped
 abbrev pub word_passed : State → State
 word_passed s = record s { passed = cond (bytes_eq s.text (codes "refused")) (more s.passed) s.passed }
 
@@ -69,11 +69,11 @@ in_id_escape s b = at (Line Id) (added b s)
 abbrev pub after_id : State → ℕ → State
 after_id s b = cond (b == 32) (at (Line BeforeRev) s) (refused NoAnswer s)
 
--- an ASCII letter, a digit, a hyphen, an underline or a full stop
+-- an ASCII letter, a digit, a hyphen, an underscore or a period
 abbrev pub is_rev_byte : ℕ → Bool
 is_rev_byte b = is_digit b || is_lower b || nat_le 65 b && nat_le b 90 || b == 45 || b == 95 || b == 46
 
--- a revision gets its quotation marks
+-- quotation marks are added to a revision
 abbrev pub before_rev : State → ℕ → State
 before_rev s b = cond (is_rev_byte b) (record s { place = Line Rev; text = 34 ∷ b ∷ [] }) (refused NoAnswer s)
 

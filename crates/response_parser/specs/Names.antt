@@ -1,4 +1,4 @@
--- What the name of a member says of its value: docs/PROFILE.md, "CouchDB's answers".
+-- The meaning of a member's name: docs/PROFILE.md, "CouchDB's answers".
 use Rattle.std.specs.Prelude.{ℕ, ◌||◌, ◌&&◌, ◌==◌, List, Bool, true, false, cond, codes, Option, Some, None}
 use Rattle.std.specs.Str.{bytes_eq}
 use Rattle.response_parser.specs.declared.place.Wanted.{Wanted}
@@ -12,7 +12,7 @@ use Rattle.response_parser.specs.declared.place.Found.TheVariants as found
 
 -- ---- of a name with its quotation marks
 
--- where documents are wanted; the flag says that it is the first one of its object
+-- when documents are requested; the flag says whether it is the first name of its object
 abbrev pub document_name : Bool → List ℕ → Name
 document_name first t =
     cond (first && bytes_eq t (codes "\"_id\"")) Plain
@@ -21,8 +21,8 @@ document_name first t =
     (cond (bytes_eq t (codes "\"missing\"") || bytes_eq t (codes "\"error\"")) Passed
     (cond (bytes_eq t (codes "\"last_seq\"")) Last Other))))
 
--- where leaves are wanted; the flags say that it stands in a list of a document's revisions, and in the entry of a
--- document that misses revisions
+-- when leaves are requested; the flags say whether it is in a document's list of revisions, and whether it is in the
+-- entry of a document with missing revisions
 abbrev pub leaf_name : Bool → Bool → List ℕ → Name
 leaf_name inner entry t =
     cond entry (cond (bytes_eq t (codes "\"missing\"")) Missing Other)
@@ -32,7 +32,7 @@ leaf_name inner entry t =
     (cond (inner && bytes_eq t (codes "\"rev\"")) Rev
     (cond (bytes_eq t (codes "\"last_seq\"")) Last Other)))))
 
--- where a script's changes are wanted
+-- when a script's changes are requested
 abbrev pub change_name : Bool → List ℕ → Name
 change_name first t = cond (first && bytes_eq t (codes "\"_id\"")) Plain Foreign
 
@@ -44,7 +44,7 @@ wanted_name Unfolded first inner entry t = document_name first t
 wanted_name Leaves first inner entry t = leaf_name inner entry t
 wanted_name InChanges first inner entry t = change_name first t
 
--- CouchDB's own error is an object outside of all others
+-- a CouchDB error is an outermost object
 unfoldable pub name_of : Wanted → Bool → Bool → Bool → ℕ → List ℕ → Name
 name_of wanted first inner diff depth t =
     cond (depth == 1 && bytes_eq t (codes "\"error\"")) Error
@@ -127,7 +127,7 @@ is_error Reason = false
 is_error Other = false
 is_error Foreign = false
 
--- What a value of that name is whose text begins with the byte: a document begins with a brace, an id and a revision
+-- What is found if a name has a value that begins with this byte: a document begins with a brace, an id and a revision
 -- with a quotation mark.
 abbrev pub found_of : Name → ℕ → Found
 found_of Plain first = found.Nothing
@@ -144,7 +144,7 @@ found_of Reason first = found.Nothing
 found_of Other first = found.Nothing
 found_of Foreign first = found.Nothing
 
--- it stands in the place of a document
+-- the value is a substitute for a document
 abbrev pub passes : Name → ℕ → Bool
 passes Plain first = false
 passes Document first = cond (first == 123) false true
@@ -160,7 +160,7 @@ passes Reason first = false
 passes Other first = false
 passes Foreign first = false
 
--- it is no id or no revision, though its name says so; or the reason of an error
+-- the name requires an id or a revision, and the value is not a string; or it is the reason of an error
 abbrev pub refusal_of : Name → ℕ → Bool → Option Refusal
 refusal_of Plain first failed = None
 refusal_of Document first failed = None

@@ -1,4 +1,4 @@
--- What bytes hold, one after another: docs/PROFILE.md, "CouchDB's answers".
+-- The contents of bytes: docs/PROFILE.md, "CouchDB's answers".
 use Rattle.std.specs.Prelude.{ℕ, List, [], ◌∷◌, ◌++◌, Bool, true, false, cond, ◌||◌, Result, Ok, Err}
 use Rattle.response_parser.specs.State.{State}
 use Rattle.response_parser.specs.Steps.{step, is_refused}
@@ -9,12 +9,12 @@ use Rattle.response_parser.specs.declared.place.Refusal.TheVariants.{NoAnswer, C
 use Rattle.response_parser.specs.declared.place.Found.{Found}
 use Rattle.response_parser.specs.declared.place.Found.TheVariants.{Nothing, Document, Id, Rev}
 
--- how far reading has come behind these bytes
+-- the state after these bytes
 abbrev pub after : State → List ℕ → State
 after s [] = s
 after s (b ∷ bytes) = after (step s b) bytes
 
--- what a text is, with the text
+-- what was found, with its text
 abbrev pub Piece : Type 0
 Piece = Found × List ℕ
 
@@ -24,7 +24,7 @@ piece_of Document text = (Document, text) ∷ []
 piece_of Id text = (Id, text) ∷ []
 piece_of Rev text = (Rev, text) ∷ []
 
--- what is whole behind a byte
+-- what is complete after a byte
 abbrev pub given : State → List Piece
 given s = piece_of s.found s.text
 
@@ -34,16 +34,16 @@ is_piece Document = true
 is_piece Id = true
 is_piece Rev = true
 
--- a reading stops where something is whole, and where a byte is refused
+-- the parser stops if something is complete, or a byte was rejected
 abbrev pub stops : State → Bool
 stops s = is_piece s.found || is_refused s.place
 
--- what these bytes hold, in order
+-- the contents of these bytes, in order
 abbrev pub pieces : State → List ℕ → List Piece
 pieces s [] = []
 pieces s (b ∷ bytes) = given (step s b) ++ pieces (step s b) bytes
 
--- why what was read is no answer, where nothing follows
+-- why the input is incomplete if it ends here
 abbrev pub end_of : Place → Result (Unit {0}) Refusal
 end_of Start = Err NoAnswer
 end_of Begin = Ok tt
@@ -67,7 +67,7 @@ end_of (Revs place) = Err CutOff
 end_of (Line place) = Err CutOff
 end_of (Refused why) = Err why
 
--- whether a line has begun that has no line end
+-- whether the last line has no line end
 abbrev pub has_rest : Place → Bool
 has_rest Start = false
 has_rest Begin = false

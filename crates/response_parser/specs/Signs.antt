@@ -1,5 +1,5 @@
--- First bytes of what is no answer, but known: docs/PROFILE.md, "CouchDB's answers". Gzip is RFC 1952, a status line
--- RFC 9112, the delimiter of a part RFC 2046; a byte order mark is that of UTF-8 or UTF-16.
+-- The first bytes of known formats that are not responses: docs/PROFILE.md, "CouchDB's answers". Gzip is RFC 1952, a
+-- status line RFC 9112, the delimiter of a part RFC 2046; a byte order mark is that of UTF-8 or UTF-16.
 use Rattle.std.specs.Prelude.{ℕ, ◌||◌, List, [], ◌∷◌, ◌++◌, Bool, cond, codes}
 use Rattle.std.specs.Str.{bytes_eq}
 use Rattle.response_parser.specs.State.{State}
@@ -7,14 +7,14 @@ use Rattle.response_parser.specs.declared.place.Place.TheVariants.{Sign, Refused
 use Rattle.response_parser.specs.declared.place.Refusal.{Refusal}
 use Rattle.response_parser.specs.declared.place.Refusal.TheVariants.{NoAnswer, Gzip, Html, Headers, Multipart, ByteOrderMark}
 
--- a front of such bytes, and not all of them
+-- a proper prefix of such bytes
 abbrev pub begins_sign : List ℕ → Bool
 begins_sign t =
     bytes_eq t (31 ∷ []) || bytes_eq t (codes "<") || bytes_eq t (codes "-") || bytes_eq t (239 ∷ []) || bytes_eq t (239 ∷ 187 ∷ [])
     || bytes_eq t (254 ∷ []) || bytes_eq t (255 ∷ []) || bytes_eq t (codes "H") || bytes_eq t (codes "HT") || bytes_eq t (codes "HTT")
     || bytes_eq t (codes "HTTP")
 
--- what a text is the beginning of
+-- the format that begins with this text
 abbrev pub sign_of : List ℕ → Refusal
 sign_of t =
     cond (bytes_eq t (31 ∷ 139 ∷ [])) Gzip

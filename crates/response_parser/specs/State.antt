@@ -1,4 +1,4 @@
--- How far answers were read: docs/PROFILE.md, "CouchDB's answers".
+-- The state of the parser: docs/PROFILE.md, "CouchDB's answers".
 use Rattle.std.specs.Prelude.{ℕ, ◌+◌, ◌++◌, nat_lt, List, [], ◌∷◌, Bool, false, cond}
 use Rattle.response_parser.specs.Wanted.{first_place}
 use Rattle.response_parser.specs.declared.place.Place.{Place}
@@ -14,33 +14,33 @@ pub record State : Type 0 where
   pub place : Place
   -- whether a list or an object was closed
   pub some : Bool
-  -- how many lists and objects are open
+  -- the number of open lists and objects
   pub depth : ℕ
-  -- whether the innermost object has a member that is known, and whether it has an id
+  -- whether the innermost object has a known member, and whether it has an id
   pub known : Bool
   pub named : Bool
-  -- whether the name that was read last is the first one of its object
+  -- whether the last name is the first one of its object
   pub first : Bool
-  -- whether the innermost list is one of a document's revisions
+  -- whether the innermost list is a document's list of revisions
   pub inner : Bool
-  -- whether the answer is one of what is missing, by the ids of documents
+  -- whether the response is one of `_revs_diff`
   pub diff : Bool
-  -- whether the answer has an error
+  -- whether the response has an error
   pub failed : Bool
-  -- how many brackets are open within a value
+  -- the number of open brackets within a value
   pub nesting : ℕ
-  -- the text of the name or the value, as far as it was read; behind it, whole
+  -- the current name or value, as far as it was read; complete after its end
   pub text : List ℕ
-  -- the text of the error that was read last
+  -- the text of the last error
   pub error : List ℕ
-  -- what the last byte made whole
+  -- what the last byte completed
   pub found : Found
-  -- how many documents were passed over
+  -- the number of skipped documents
   pub passed : ℕ
-  -- how many bytes were read
+  -- the number of bytes read
   pub taken : ℕ
 
--- where reading begins
+-- the initial state
 abbrev pub start : Wanted → State
 start wanted = record {
   wanted = wanted;
@@ -61,11 +61,11 @@ start wanted = record {
   taken = 0;
 }
 
--- one more, up to 2 ^ 64 - 1
+-- a count increased by one, at most 2 ^ 64 - 1
 abbrev pub more : ℕ → ℕ
 more n = cond (nat_lt n 18446744073709551615) (n + 1) n
 
--- ---- what a byte may do
+-- ---- possible effects of a byte
 
 abbrev pub at : Place → State → State
 at place s = record s { place = place }

@@ -1,4 +1,4 @@
--- What one byte does: docs/PROFILE.md, "CouchDB's answers" and "Lines of documents".
+-- The effect of one byte: docs/PROFILE.md, "CouchDB's answers" and "Lines of documents".
 use Rattle.std.specs.Prelude.{ℕ, Bool, true, false, cond}
 use Rattle.response_parser.specs.State.{State, more}
 use Rattle.response_parser.specs.Signs.{in_sign}
@@ -56,7 +56,7 @@ is_refused (Revs place) = false
 is_refused (Line place) = false
 is_refused (Refused why) = true
 
--- a byte is counted until one is refused
+-- a byte is counted, unless one was rejected before
 abbrev pub begun : State → State
 begun s = record s { found = found.Nothing; taken = cond (is_refused s.place) s.taken (more s.taken) }
 

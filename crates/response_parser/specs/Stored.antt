@@ -1,4 +1,4 @@
--- A reading as it is stored: what it stands for.
+-- The value that a stored parser stands for.
 use Rattle.response_parser.specs.State.{State}
 use Rattle.response_parser.specs.declared.reading.Reading.{Reading}
 

@@ -1,4 +1,4 @@
--- What one byte of a value does: docs/PROFILE.md, "CouchDB's answers".
+-- The effect of one byte of a value: docs/PROFILE.md, "CouchDB's answers".
 use Rattle.std.specs.Prelude.{ℕ, ◌+◌, ◌-◌, ◌&&◌, ◌||◌, ◌==◌, nat_lt, length, slice_index, List, [], ◌∷◌, ◌++◌, true, not, cond, Option, Some, None}
 use Rattle.doc_envelope.specs.Texts.{is_space, is_json}
 use Rattle.doc_envelope.specs.Names.{is_log}
@@ -14,7 +14,7 @@ use Rattle.response_parser.specs.declared.place.Name.{Name}
 use Rattle.response_parser.specs.declared.place.Found.{Found}
 use Rattle.response_parser.specs.declared.place.Found.TheVariants as found
 
--- ---- a value is whole
+-- ---- a value is complete
 
 abbrev pub found_as : Option (List ℕ) → State → State
 found_as (Some t) s = record s { text = t; found = found.Document }
@@ -32,7 +32,7 @@ told found.Rev s = record s { found = found.Rev }
 abbrev pub passed_by : Name → ℕ → State → State
 passed_by name first s = record s { passed = cond (passes name first) (more s.passed) s.passed }
 
--- CouchDB's own error is kept
+-- CouchDB's error is stored
 abbrev pub error_kept : Name → ℕ → State → State
 error_kept name first s = cond (is_error name && first == 34) (record s { failed = true; error = s.text }) s
 
@@ -50,20 +50,20 @@ abbrev pub value_ended : Name → State → ℕ → State
 value_ended name s b =
     cond (is_json s.text) (value_judged (refusal_of name (slice_index s.text 0) s.failed) name s b) (refused NotJson s)
 
--- a document that is the object itself is whole with its brace; the text of a log is none
+-- a document is complete with its closing brace; a log is not a document
 abbrev pub plain_found : State → State
 plain_found s = cond (wants_documents s.wanted && not (is_log s.text)) (document_found s) s
 
 abbrev pub plain_ended : State → State
 plain_ended s = cond (is_json s.text) (plain_found (object_closed (record s { known = true }))) (refused NotJson s)
 
--- ---- a byte of it
+-- ---- a byte of a value
 
--- nothing that nests deeper is a JSON text
+-- a text that is nested deeper is rejected
 abbrev pub deeper : State → ℕ → State
 deeper s b = cond (nat_lt s.nesting 128) (record s { nesting = s.nesting + 1; text = s.text ++ b ∷ [] }) (refused NotJson s)
 
--- a bracket closes that was opened
+-- an opened bracket closes
 abbrev pub less_deep : State → ℕ → State
 less_deep s b = record s { nesting = s.nesting - 1; text = s.text ++ b ∷ [] }
 
@@ -72,7 +72,7 @@ shallower name s b =
     cond (s.nesting == 0) (refused NotJson s)
     (cond (s.nesting == 1 && is_plain name) (plain_ended (less_deep s b)) (less_deep s b))
 
--- white space before a value goes, and elsewhere is a blank
+-- white space before a value is dropped; elsewhere it becomes a blank
 abbrev pub spaced : State → State
 spaced s = cond (length s.text == 0) s (added 32 s)
 
@@ -93,7 +93,7 @@ in_escaped name s b = at (Quoted name) (added b s)
 
 -- ---- a value that may be the entry of a document
 
--- the first byte of what a name says
+-- the first byte of a value, by the meaning of its name
 abbrev pub in_begun : Place → State → ℕ → State
 in_begun Start s b = moved_between Start s b
 in_begun Begin s b = moved_between Begin s b

@@ -1,4 +1,4 @@
--- What each kind of what is wanted asks for: docs/PROFILE.md, "CouchDB's answers" and "Lines of documents".
+-- The rules for each kind of request: docs/PROFILE.md, "CouchDB's answers" and "Lines of documents".
 use Rattle.std.specs.Prelude.{ℕ, List, Bool, true, false, cond, Option, Some}
 use Rattle.doc_envelope.specs.Envelopes.{enveloped, unfolded}
 use Rattle.response_parser.specs.declared.place.Place.{Place}
@@ -30,7 +30,7 @@ wants_changes Unfolded = false
 wants_changes Leaves = false
 wants_changes Changes = true
 
--- an object that holds nothing is refused, and not passed over; and nothing at all may be read
+-- an object without a document is rejected instead of skipped, and the input may be empty
 abbrev pub is_strict : Wanted → Bool
 is_strict Documents = false
 is_strict Enveloped = false
@@ -42,7 +42,7 @@ is_strict Changes = true
 abbrev pub first_place : Wanted → Place
 first_place wanted = cond (is_strict wanted) Begin Start
 
--- what a document is found as: its own text, its envelope, or what is taken out of that
+-- the reported form of a document: its text, its envelope, or the document in its envelope
 abbrev pub covered : Wanted → List ℕ → Option (List ℕ)
 covered Documents t = Some t
 covered Enveloped t = enveloped t

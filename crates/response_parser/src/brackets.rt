@@ -9,11 +9,11 @@ use crate::reading::Reading;
 use crate::spelling::{is_space, more};
 use crate::wanted::{is_strict, wants_changes, wants_leaves};
 
-/// How many lists and objects may be open.
+/// The maximum number of open lists and objects.
 const MAX_DEPTH: u8 = 8;
 
 impl Reading {
-    /// Goes on at a place.
+    /// Continues at a place.
     #[inline(always)]
     pub(crate) fn stand_at(&mut self, place: Place)
         ensures { state_of self.new ≡ at place (state_of self.old) }
@@ -21,7 +21,7 @@ impl Reading {
         self.place = place;
     }
 
-    /// Refuses a byte.
+    /// Rejects a byte.
     #[inline(always)]
     pub(crate) fn refuse(&mut self, why: Refusal)
         ensures { state_of self.new ≡ refused why (state_of self.old) }
@@ -29,7 +29,7 @@ impl Reading {
         self.place = Place::Refused(why);
     }
 
-    /// Opens a list or an object, behind whose bracket is the place.
+    /// Opens a list or an object, and continues at a place within it.
     pub(crate) fn open(&mut self, place: Place)
         ensures { state_of self.new ≡ opened place (state_of self.old) }
     {
@@ -45,7 +45,7 @@ impl Reading {
         }
     }
 
-    /// Closes a list or an object, behind which is the place, unless it was the outermost one.
+    /// Closes a list or an object, and continues at a place after it, unless it was the outermost one.
     pub(crate) fn close(&mut self, place: Place)
         ensures { state_of self.new ≡ closed place (state_of self.old) }
     {
@@ -69,7 +69,7 @@ impl Reading {
         self.close(Place::AfterMember);
     }
 
-    /// Closes an object. Where it has no known member it is passed over, or refused.
+    /// Closes an object. An object without a known member is skipped or rejected.
     pub(crate) fn close_object(&mut self)
         ensures { state_of self.new ≡ object_closed (state_of self.old) }
     {
@@ -84,7 +84,7 @@ impl Reading {
         }
     }
 
-    /// Where the byte behind an object stands, which is an item, or the entry of a document.
+    /// The place after an object, which is an item or the entry of a document.
     fn behind_object(&self) -> Place
         ensures { result ≡ behind_object (state_of self.now) }
     {
@@ -95,7 +95,7 @@ impl Reading {
         }
     }
 
-    /// Closes an object without members. An answer without any says that nothing is missing.
+    /// Closes an object without members. A `_revs_diff` response without members means that nothing is missing.
     pub(crate) fn close_empty(&mut self)
         ensures { state_of self.new ≡ empty_closed (state_of self.old) }
     {
@@ -103,7 +103,7 @@ impl Reading {
         self.close_object();
     }
 
-    /// Opens the entry of a document, at whose name it was found.
+    /// Opens the entry of a document, whose id is the member's name.
     pub(crate) fn open_entry(&mut self)
         ensures { state_of self.new ≡ entry_opened (state_of self.old) }
     {
@@ -112,7 +112,7 @@ impl Reading {
         self.open(Place::Member);
     }
 
-    /// A byte behind the bracket that opens a list.
+    /// Reads a byte after the opening bracket of a list.
     pub(crate) fn at_item(&mut self, byte: u8)
         ensures { state_of self.new ≡ at_item (state_of self.old) byte }
     {
@@ -126,7 +126,7 @@ impl Reading {
         }
     }
 
-    /// A byte behind a comma of a list.
+    /// Reads a byte after a comma of a list.
     pub(crate) fn at_next_item(&mut self, byte: u8)
         ensures { state_of self.new ≡ at_next_item (state_of self.old) byte }
     {
@@ -139,7 +139,7 @@ impl Reading {
         }
     }
 
-    /// A byte behind an item.
+    /// Reads a byte after an item.
     pub(crate) fn after_item(&mut self, byte: u8)
         ensures { state_of self.new ≡ after_item (state_of self.old) byte }
     {
@@ -153,7 +153,7 @@ impl Reading {
         }
     }
 
-    /// The bracket that opens an answer which is a list.
+    /// Opens a response that is a list.
     pub(crate) fn open_list(&mut self)
         ensures { state_of self.new ≡ list_opened (state_of self.old) }
     {

@@ -1,4 +1,4 @@
-//! Documents that are found, and their envelopes.
+//! Complete documents, wrapped or unwrapped if requested.
 ghost use Rattle.std.specs.Prelude.{◌≡◌, OnOk, Some};
 ghost use Rattle.response_parser.specs.Stored.{state_of};
 ghost use Rattle.response_parser.specs.Values.{document_found, found_as};
@@ -9,7 +9,7 @@ use crate::reading::Reading;
 use std::alloc::AllocError;
 
 impl Reading {
-    /// A document is whole: it is found as it is, in an envelope, or taken out of one.
+    /// Handles a complete document: reports it unchanged, wrapped or unwrapped.
     pub(crate) fn find_document(&mut self) -> Result<(), AllocError>
         ensures { OnOk result (state_of self.new ≡ document_found (state_of self.old)) }
     {
@@ -23,7 +23,7 @@ impl Reading {
         }
     }
 
-    /// Finds its envelope.
+    /// Reports the document in an envelope.
     fn find_put(&mut self) -> Result<(), AllocError>
         requires { self.old.wanted ≡ Wanted.Enveloped }
         ensures { OnOk result (state_of self.new ≡ document_found (state_of self.old)) }
@@ -35,7 +35,7 @@ impl Reading {
         Ok(())
     }
 
-    /// Finds what its envelope holds.
+    /// Reports the document from its envelope.
     fn find_taken(&mut self) -> Result<(), AllocError>
         requires { self.old.wanted ≡ Wanted.Unfolded }
         ensures { OnOk result (state_of self.new ≡ document_found (state_of self.old)) }
@@ -47,7 +47,7 @@ impl Reading {
         Ok(())
     }
 
-    /// Finds the text that was made.
+    /// Reports the text that was built.
     fn find_made(&mut self) -> Result<(), AllocError>
         ensures { OnOk result (state_of self.new ≡ found_as (Some (made_of self.old.envelope)) (state_of self.old)) }
     {

@@ -1,6 +1,7 @@
-//! CouchDB's answers, read byte by byte: the documents that they hold, each by its own text.
+//! A streaming parser that finds the documents in CouchDB responses.
 //!
-//! What an answer holds is docs/PROFILE.md, "CouchDB's answers". Only the text of one value is kept at a time.
+//! docs/PROFILE.md, "CouchDB's answers", defines the responses. The parser reads byte by byte, and keeps the text of
+//! one value at a time.
 #![tactic(auto)]
 
 mod brackets;

@@ -1,4 +1,4 @@
-//! Lines of a script's answers.
+//! Lines of a script's output.
 ghost use Rattle.std.specs.Prelude.{◌≡◌, OnOk};
 ghost use Rattle.response_parser.specs.Stored.{state_of};
 ghost use Rattle.response_parser.specs.Objects.{at_answer, at_begin, is_first};
@@ -11,7 +11,7 @@ use crate::wanted::{is_strict, wants_changes, wants_leaves};
 use std::alloc::AllocError;
 
 impl Reading {
-    /// Does what a byte does at a place in a line.
+    /// Reads a byte in a line.
     pub(crate) fn in_line(&mut self, place: LinePlace, byte: u8) -> Result<(), AllocError>
         ensures { OnOk result (state_of self.new ≡ in_line place (state_of self.old) byte) }
     {
@@ -37,7 +37,7 @@ impl Reading {
         }
     }
 
-    /// Begins a text with a byte.
+    /// Starts a text with a byte.
     fn begin_text(&mut self, place: LinePlace, byte: u8) -> Result<(), AllocError>
         ensures { OnOk result (state_of self.new ≡ text_begun place (state_of self.old) byte) }
     {
@@ -47,7 +47,7 @@ impl Reading {
         Ok(())
     }
 
-    /// A byte before an answer, or a line of a script's answers.
+    /// Reads a byte before a response or a line of output.
     pub(crate) fn at_answer(&mut self, byte: u8) -> Result<(), AllocError>
         ensures { OnOk result (state_of self.new ≡ at_answer (state_of self.old) byte) }
     {
@@ -62,7 +62,7 @@ impl Reading {
         Ok(())
     }
 
-    /// A byte that begins a line of a script's answers, or no answer.
+    /// Reads the first byte of a line of output, or of an invalid response.
     fn at_begin(&mut self, byte: u8) -> Result<(), AllocError>
         ensures { OnOk result (state_of self.new ≡ at_begin (state_of self.old) byte) }
     {
@@ -76,7 +76,7 @@ impl Reading {
         Ok(())
     }
 
-    /// A byte of the first word, or the one behind it.
+    /// Reads a byte of the first word of a line, or the byte after it.
     fn in_word(&mut self, byte: u8) -> Result<(), AllocError>
         ensures { OnOk result (state_of self.new ≡ in_word (state_of self.old) byte) }
     {
@@ -88,7 +88,7 @@ impl Reading {
         }
     }
 
-    /// The byte behind the first word.
+    /// Ends the first word of a line.
     fn end_word(&mut self, byte: u8)
         ensures { state_of self.new ≡ word_ended (state_of self.old) byte }
     {
@@ -106,7 +106,7 @@ impl Reading {
         }
     }
 
-    /// Ends a line. Before the first answer it leaves the reading where it was.
+    /// Ends a line. Before the first response, the parser returns to its first place.
     fn end_line(&mut self)
         ensures { state_of self.new ≡ line_ended (state_of self.old) }
     {
@@ -117,14 +117,14 @@ impl Reading {
         };
     }
 
-    /// Whether the first word is that of a change, and changes are wanted.
+    /// Whether the first word is `change`, and changes are requested.
     fn is_change(&self) -> bool
         ensures { result ≡ is_change (state_of self.now) }
     {
         wants_changes(self.wanted) && is(self.text.as_slice(), b"change")
     }
 
-    /// The byte behind the word of a change.
+    /// Ends the word `change`.
     fn begin_change(&mut self, byte: u8)
         ensures { state_of self.new ≡ change_begun (state_of self.old) byte }
     {
@@ -136,7 +136,7 @@ impl Reading {
         }
     }
 
-    /// A byte behind what is wanted of a line.
+    /// Reads a byte of the rest of a line, which is ignored.
     fn in_rest(&mut self, byte: u8)
         ensures { state_of self.new ≡ in_rest (state_of self.old) byte }
     {
@@ -145,7 +145,7 @@ impl Reading {
         }
     }
 
-    /// A byte of the sequence of a change.
+    /// Reads a byte of the sequence of a change.
     fn in_seq(&mut self, byte: u8)
         ensures { state_of self.new ≡ in_seq (state_of self.old) byte }
     {
@@ -159,7 +159,7 @@ impl Reading {
         }
     }
 
-    /// The first byte of an id.
+    /// Reads the first byte of an id.
     fn before_id(&mut self, byte: u8) -> Result<(), AllocError>
         ensures { OnOk result (state_of self.new ≡ before_id (state_of self.old) byte) }
     {
@@ -170,7 +170,7 @@ impl Reading {
         Ok(())
     }
 
-    /// A byte of an id.
+    /// Reads a byte of an id.
     fn in_id(&mut self, byte: u8) -> Result<(), AllocError>
         ensures { OnOk result (state_of self.new ≡ in_id (state_of self.old) byte) }
     {
@@ -196,7 +196,7 @@ impl Reading {
         Ok(())
     }
 
-    /// A byte behind a backslash of an id.
+    /// Reads a byte after a backslash in an id.
     fn in_id_escape(&mut self, byte: u8) -> Result<(), AllocError>
         ensures { OnOk result (state_of self.new ≡ in_id_escape (state_of self.old) byte) }
     {
@@ -205,7 +205,7 @@ impl Reading {
         Ok(())
     }
 
-    /// The byte behind an id.
+    /// Reads the byte after an id.
     fn after_id(&mut self, byte: u8)
         ensures { state_of self.new ≡ after_id (state_of self.old) byte }
     {
@@ -216,7 +216,7 @@ impl Reading {
         }
     }
 
-    /// The first byte of a revision.
+    /// Reads the first byte of a revision.
     fn before_rev(&mut self, byte: u8) -> Result<(), AllocError>
         ensures { OnOk result (state_of self.new ≡ before_rev (state_of self.old) byte) }
     {
@@ -228,7 +228,7 @@ impl Reading {
         self.add(byte)
     }
 
-    /// A byte of a revision, or the one behind it.
+    /// Reads a byte of a revision, or the byte after it.
     fn in_rev(&mut self, byte: u8) -> Result<(), AllocError>
         ensures { OnOk result (state_of self.new ≡ in_rev (state_of self.old) byte) }
     {
@@ -243,7 +243,7 @@ impl Reading {
         Ok(())
     }
 
-    /// Ends a revision, behind which is the place.
+    /// Ends a revision, and continues at a place.
     fn end_rev(&mut self, place: Place) -> Result<(), AllocError>
         ensures { OnOk result (state_of self.new ≡ rev_ended place (state_of self.old)) }
     {
@@ -254,21 +254,21 @@ impl Reading {
     }
 }
 
-/// A lower case letter of ASCII.
+/// Whether a byte is a lowercase ASCII letter.
 fn is_lower(byte: u8) -> bool
     ensures { result ≡ is_lower byte }
 {
     byte >= b'a' && byte <= b'z'
 }
 
-/// A digit of ASCII.
+/// Whether a byte is an ASCII digit.
 fn is_digit(byte: u8) -> bool
     ensures { result ≡ is_digit byte }
 {
     byte >= b'0' && byte <= b'9'
 }
 
-/// A byte of a revision.
+/// Whether a byte may be part of a revision.
 fn is_rev_byte(byte: u8) -> bool
     ensures { result ≡ is_rev_byte byte }
 {
@@ -280,7 +280,7 @@ fn is_rev_byte(byte: u8) -> bool
         || byte == b'.'
 }
 
-/// Whether no answer comes before a place.
+/// Whether no response comes before a place.
 fn is_first(place: Place) -> bool
     ensures { result ≡ is_first place }
 {

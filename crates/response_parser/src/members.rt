@@ -1,4 +1,4 @@
-//! Members of objects: their names, and what stands round them.
+//! Names of members, and the bytes around them.
 ghost use Rattle.std.specs.Prelude.{◌≡◌, OnOk};
 ghost use Rattle.response_parser.specs.Stored.{state_of};
 ghost use Rattle.response_parser.specs.State.{added};
@@ -13,7 +13,7 @@ use crate::wanted::wants_leaves;
 use std::alloc::AllocError;
 
 impl Reading {
-    /// Takes in a byte of a name or a value.
+    /// Appends a byte to the current name or value.
     #[inline(always)]
     pub(crate) fn add(&mut self, byte: u8) -> Result<(), AllocError>
         ensures { OnOk result (state_of self.new ≡ added byte (state_of self.old)) }
@@ -22,7 +22,7 @@ impl Reading {
         Ok(())
     }
 
-    /// A byte where none is taken in.
+    /// Reads a byte outside of names and values.
     pub(crate) fn between(&mut self, byte: u8)
         ensures { state_of self.new ≡ moved_between self.old.place (state_of self.old) byte }
     {
@@ -37,7 +37,7 @@ impl Reading {
         }
     }
 
-    /// Begins a name, at its quotation mark.
+    /// Starts a name at its quotation mark.
     fn begin_key(&mut self, first: bool) -> Result<(), AllocError>
         ensures { OnOk result (state_of self.new ≡ key_begun first (state_of self.old)) }
     {
@@ -48,7 +48,7 @@ impl Reading {
         Ok(())
     }
 
-    /// A byte behind the brace that opens an object.
+    /// Reads a byte after the opening brace of an object.
     pub(crate) fn at_member(&mut self, byte: u8) -> Result<(), AllocError>
         ensures { OnOk result (state_of self.new ≡ at_member (state_of self.old) byte) }
     {
@@ -63,7 +63,7 @@ impl Reading {
         Ok(())
     }
 
-    /// A byte behind a comma of an object.
+    /// Reads a byte after a comma of an object.
     pub(crate) fn at_next_member(&mut self, byte: u8) -> Result<(), AllocError>
         ensures { OnOk result (state_of self.new ≡ at_next_member (state_of self.old) byte) }
     {
@@ -77,7 +77,7 @@ impl Reading {
         Ok(())
     }
 
-    /// A byte behind a member whose value is no text.
+    /// Reads a byte after a member whose value is a list or an object.
     fn after_member(&mut self, byte: u8)
         ensures { state_of self.new ≡ after_member (state_of self.old) byte }
     {
@@ -91,7 +91,7 @@ impl Reading {
         }
     }
 
-    /// A byte of a name.
+    /// Reads a byte of a name.
     pub(crate) fn in_key(&mut self, byte: u8) -> Result<(), AllocError>
         ensures { OnOk result (state_of self.new ≡ in_key (state_of self.old) byte) }
     {
@@ -106,7 +106,7 @@ impl Reading {
         }
     }
 
-    /// A byte behind a backslash of a name.
+    /// Reads a byte after a backslash in a name.
     pub(crate) fn in_key_escape(&mut self, byte: u8) -> Result<(), AllocError>
         ensures { OnOk result (state_of self.new ≡ in_key_escape (state_of self.old) byte) }
     {
@@ -115,7 +115,7 @@ impl Reading {
         Ok(())
     }
 
-    /// Ends a name, behind its last quotation mark.
+    /// Ends a name at its closing quotation mark.
     fn end_key(&mut self) -> Result<(), AllocError>
         ensures { OnOk result (state_of self.new ≡ named (state_of self.old)) }
     {
@@ -131,7 +131,7 @@ impl Reading {
         Ok(())
     }
 
-    /// What the name says that was read.
+    /// The meaning of the current name.
     fn name(&self) -> Name
         ensures { result ≡ name_in (state_of self.now) }
     {
@@ -145,7 +145,7 @@ impl Reading {
         )
     }
 
-    /// Begins a document that the object is, behind the name `_id` of its first member.
+    /// Starts a document, after its first name `_id`.
     fn begin_plain(&mut self) -> Result<(), AllocError>
         ensures { OnOk result (state_of self.new ≡ plain_begun (state_of self.old)) }
     {
@@ -156,7 +156,7 @@ impl Reading {
         Ok(())
     }
 
-    /// A byte behind a name.
+    /// Reads a byte after a name.
     fn at_colon(&mut self, name: Name, byte: u8)
         ensures { state_of self.new ≡ at_colon name (state_of self.old) byte }
     {
@@ -172,14 +172,14 @@ impl Reading {
         }
     }
 
-    /// Whether the value may be the entry of a document, which the name is the id of.
+    /// Whether the next value may be the entry of a document, with the name as its id.
     fn is_ahead(&self) -> bool
         ensures { result ≡ is_ahead (state_of self.now) }
     {
         wants_leaves(self.wanted) && self.depth == 1 && (self.first || self.diff)
     }
 
-    /// A byte before a value that may be the entry of a document.
+    /// Reads a byte before a value that may be the entry of a document.
     pub(crate) fn at_ahead(&mut self, name: Name, byte: u8) -> Result<(), AllocError>
         ensures { OnOk result (state_of self.new ≡ at_ahead name (state_of self.old) byte) }
     {
@@ -198,7 +198,7 @@ impl Reading {
         self.in_begun(byte)
     }
 
-    /// The first byte of what a name says.
+    /// Reads the first byte of a value, by the meaning of its name.
     fn in_begun(&mut self, byte: u8) -> Result<(), AllocError>
         ensures { OnOk result (state_of self.new ≡ begun_in (state_of self.old) byte) }
     {
@@ -211,7 +211,7 @@ impl Reading {
         }
     }
 
-    /// Begins what a name says, behind its colon.
+    /// Starts a value, by the meaning of its name.
     fn begin_as(&mut self, name: Name)
         ensures { state_of self.new ≡ begun_as name (state_of self.old) }
     {
@@ -222,7 +222,7 @@ impl Reading {
         }
     }
 
-    /// Begins a value, behind the colon of its name.
+    /// Starts a value after the colon.
     fn begin_value(&mut self, name: Name)
         ensures { state_of self.new ≡ value_begun name (state_of self.old) }
     {
@@ -234,7 +234,7 @@ impl Reading {
         self.nesting = 0;
     }
 
-    /// A byte before the bracket that opens a list.
+    /// Reads a byte before the opening bracket of a list.
     fn at_list(&mut self, byte: u8)
         ensures { state_of self.new ≡ at_list (state_of self.old) byte }
     {
@@ -249,7 +249,7 @@ impl Reading {
     }
 }
 
-/// Where the value of a name begins.
+/// The place at which the value of a name starts.
 fn value_place(name: Name) -> Place
     ensures { result ≡ value_place name }
 {
@@ -260,28 +260,28 @@ fn value_place(name: Name) -> Place
     }
 }
 
-/// Whether a name says something of its value.
+/// Whether a name is known.
 fn is_known(name: Name) -> bool
     ensures { result ≡ is_known name }
 {
     !matches!(name, Name::Other | Name::Id | Name::Reason)
 }
 
-/// Whether a name says that its object is a document itself.
+/// Whether a name means that its object is a document.
 pub(crate) fn is_plain(name: Name) -> bool
     ensures { result ≡ is_plain name }
 {
     matches!(name, Name::Plain)
 }
 
-/// Whether it is that of an id.
+/// Whether a name means an id.
 fn is_id(name: Name) -> bool
     ensures { result ≡ is_id name }
 {
     matches!(name, Name::Id)
 }
 
-/// Whether it is that of a list of revisions.
+/// Whether a name means a list of revisions.
 fn is_changes(name: Name) -> bool
     ensures { result ≡ is_changes name }
 {

@@ -1,189 +1,189 @@
-//! Where in an answer a reading stands.
+//! Places in a response.
 
 use thiserror::Error;
 
-/// What is wanted, and of what.
+/// What the parser looks for, and in which kind of input.
 #[derive(Clone, Copy, Debug, PartialEq, Eq)]
 pub enum Wanted {
-    /// The documents of answers; an object that holds none is passed over.
+    /// Documents in responses; objects without a document are skipped.
     Documents,
-    /// The same, each in an envelope.
+    /// The same, in envelopes.
     Enveloped,
-    /// The documents of answers; an object that holds none is refused.
+    /// Documents in responses; objects without a document are rejected.
     Bodies,
-    /// The same, each taken out of its envelope.
+    /// The same, unwrapped from their envelopes.
     Unfolded,
-    /// The document ids and revisions that CouchDB's changes feed lists, or its answer of what is missing.
+    /// Document ids and revisions in a changes feed or a `_revs_diff` response.
     Leaves,
-    /// The document ids and revisions in the `change` lines of a script's answers.
+    /// Document ids and revisions in the `change` lines of a script's output.
     Changes,
 }
 
-/// What the name of a member says of its value.
+/// What the name of a member says about its value.
 #[derive(Clone, Copy, Debug, PartialEq, Eq)]
 pub enum Name {
-    /// The object is a document itself.
+    /// The object of this member is a document.
     Plain,
     /// A document.
     Document,
-    /// The id of a document.
+    /// A document id.
     Id,
     /// A list of further objects.
     List,
-    /// A list of the revisions of the document whose id came before it in the same object.
+    /// A list of the revisions of the document whose id precedes it in the same object.
     Changes,
     /// A revision in such a list.
     Rev,
-    /// A list of revisions that are missing.
+    /// A list of missing revisions.
     Missing,
-    /// What stands in the place of a document.
+    /// A substitute for a document, which is skipped.
     Passed,
     /// The end of a changes feed.
     Last,
-    /// CouchDB's own error.
+    /// The `error` of a CouchDB error.
     Error,
-    /// Why it is one.
+    /// The `reason` of a CouchDB error.
     Reason,
-    /// Nothing that is wanted.
+    /// A value that is ignored.
     Other,
-    /// Nothing that may stand there.
+    /// A value that is not allowed here.
     Foreign,
 }
 
-/// What was found whole at a byte.
+/// What is complete after a byte.
 #[derive(Clone, Copy, Debug, PartialEq, Eq)]
 pub enum Found {
     /// Nothing.
     Nothing,
     /// The text of a document.
     Document,
-    /// The text of a document's id, with its quotation marks.
+    /// The text of a document id, with its quotation marks.
     Id,
     /// The text of a revision, with its quotation marks.
     Rev,
 }
 
-/// Why bytes are no answer.
+/// Why input is not a response.
 #[derive(Clone, Copy, Debug, PartialEq, Eq, Error)]
 pub enum Refusal {
-    /// They are no JSON text in UTF-8, or one that nests deeper than 128.
+    /// It is not JSON in UTF-8, or is nested deeper than 128.
     #[error("NotJson")]
     NotJson,
-    /// They are JSON, but of none of the forms.
+    /// It is JSON, but not in one of the known forms.
     #[error("NoAnswer")]
     NoAnswer,
-    /// They end within an answer.
+    /// It ends within a response.
     #[error("CutOff")]
     CutOff,
-    /// They are an object that holds no document, where nothing else is wanted.
+    /// It is an object without a document, but only documents are allowed.
     #[error("NoDocument")]
     NoDocument,
-    /// They are a document that no envelope holds, or whose envelope holds none.
+    /// It is a document that cannot be wrapped, or an envelope that cannot be unwrapped.
     #[error("NotWhole")]
     NotWhole,
-    /// They are CouchDB's own error.
+    /// It is an error of CouchDB.
     #[error("CouchError")]
     CouchError,
-    /// They are compressed.
+    /// It is compressed.
     #[error("Gzip")]
     Gzip,
-    /// They are HTML.
+    /// It is HTML.
     #[error("Html")]
     Html,
-    /// They are the headers of an answer.
+    /// It has HTTP headers.
     #[error("Headers")]
     Headers,
-    /// They are an answer of several parts.
+    /// It is a multipart response.
     #[error("Multipart")]
     Multipart,
-    /// They are a byte order mark.
+    /// It begins with a byte order mark.
     #[error("ByteOrderMark")]
     ByteOrderMark,
 }
 
-/// Where in a line of a script's answers the next byte stands.
+/// The place of the next byte in a line of a script's output.
 #[derive(Clone, Copy, Debug, PartialEq, Eq)]
 pub enum LinePlace {
-    /// In its first word.
+    /// In the first word.
     Word,
-    /// Behind what is wanted of it.
+    /// In the rest of the line, which is ignored.
     Rest,
     /// In the sequence of a change.
     Seq,
     /// Before the id of a change.
     BeforeId,
-    /// In that.
+    /// In the id of a change.
     Id,
-    /// Behind a backslash in it.
+    /// After a backslash in the id.
     IdEscape,
-    /// Behind the id of a change.
+    /// After the id of a change.
     AfterId,
-    /// At the beginning of a revision.
+    /// At the start of a revision.
     BeforeRev,
     /// In a revision.
     Rev,
 }
 
-/// Where in a list of missing revisions the next byte stands.
+/// The place of the next byte in a list of missing revisions.
 #[derive(Clone, Copy, Debug, PartialEq, Eq)]
 pub enum RevPlace {
-    /// Before the bracket that opens it.
+    /// Before the opening bracket.
     List,
-    /// Behind that.
+    /// After the opening bracket.
     First,
-    /// Behind a comma.
+    /// After a comma.
     Next,
     /// In a revision.
     Rev,
-    /// Behind a backslash in it.
+    /// After a backslash in a revision.
     Escape,
-    /// Behind a revision.
+    /// After a revision.
     Behind,
 }
 
-/// Where in an answer the next byte stands.
+/// The place of the next byte in a response.
 #[derive(Clone, Copy, Debug, PartialEq, Eq)]
 pub enum Place {
-    /// Before the first answer, where there must be one.
+    /// Before the first response; there must be one.
     Start,
-    /// Before the first answer, where there may be none.
+    /// Before the first response; there may be none.
     Begin,
-    /// In the first bytes of what is no answer.
+    /// In the first bytes of a known format that is not a response.
     Sign,
-    /// Behind an answer.
+    /// After a response.
     Between,
-    /// Behind the bracket that opens a list.
+    /// After the opening bracket of a list.
     Item,
-    /// Behind a comma of a list.
+    /// After a comma of a list.
     NextItem,
-    /// Behind an item.
+    /// After an item.
     AfterItem,
-    /// Behind the brace that opens an object.
+    /// After the opening brace of an object.
     Member,
-    /// Behind a comma of an object.
+    /// After a comma of an object.
     NextMember,
-    /// Behind a member whose value is a list of objects.
+    /// After a member whose value is a list of objects.
     AfterMember,
     /// In a member's name.
     Key,
-    /// Behind a backslash in it.
+    /// After a backslash in a member's name.
     KeyEscape,
-    /// Behind a member's name.
+    /// After a member's name.
     Colon(Name),
     /// Before a value that may be the entry of a document.
     Ahead(Name),
-    /// Before the bracket that opens a list.
+    /// Before the opening bracket of a list.
     List,
     /// In a member's value.
     Value(Name),
-    /// In a string of it.
+    /// In a string of a member's value.
     Quoted(Name),
-    /// Behind a backslash in that.
+    /// After a backslash in a string of a member's value.
     Escaped(Name),
     /// In a list of missing revisions.
     Revs(RevPlace),
-    /// In lines.
+    /// In a line of a script's output.
     Line(LinePlace),
-    /// Where it was refused.
+    /// After a byte was rejected.
     Refused(Refusal),
 }

@@ -1,4 +1,4 @@
-//! A reading of answers, byte by byte.
+//! The state of the parser.
 ghost use Rattle.std.specs.Prelude.{◌≡◌, ◌<◌, ◌≤◌, false, length, take, IfOk, OnOk};
 ghost use Rattle.response_parser.specs.Stored.{state_of};
 ghost use Rattle.response_parser.specs.State.{start};
@@ -12,44 +12,44 @@ use doc_envelope::Envelope;
 use json::Scratch;
 use std::alloc::{AllocError, Global};
 
-/// How far answers were read.
+/// The state of the parser between two bytes.
 #[derive(Drop)]
 pub struct Reading {
     pub(crate) wanted: Wanted,
     pub(crate) place: Place,
     /// Whether a list or an object was closed.
     pub(crate) some: bool,
-    /// How many lists and objects are open.
+    /// The number of open lists and objects.
     pub(crate) depth: u8,
-    /// Whether the innermost object has a member that is known.
+    /// Whether the innermost object has a known member.
     pub(crate) known: bool,
-    /// Whether it has an id.
+    /// Whether the innermost object has an id.
     pub(crate) named: bool,
-    /// Whether the name that was read last is the first one of its object.
+    /// Whether the last name is the first one of its object.
     pub(crate) first: bool,
-    /// Whether the innermost list is one of a document's revisions.
+    /// Whether the innermost list is a document's list of revisions.
     pub(crate) inner: bool,
-    /// Whether the answer is one of what is missing, by the ids of documents.
+    /// Whether the response is one of `_revs_diff`.
     pub(crate) diff: bool,
-    /// Whether the answer has an error.
+    /// Whether the response has an error.
     pub(crate) failed: bool,
-    /// How many brackets are open within a value.
+    /// The number of open brackets within a value.
     pub(crate) nesting: u8,
     /// The text of a name or a value.
     pub(crate) text: Vec<u8>,
-    /// The text of the error that was read last.
+    /// The text of the last error.
     pub(crate) error: Vec<u8>,
     pub(crate) found: Found,
-    /// How many documents were passed over.
+    /// The number of skipped documents.
     pub(crate) passed: u64,
-    /// How many bytes were read.
+    /// The number of bytes read.
     pub(crate) taken: u64,
     pub(crate) scratch: Scratch,
     pub(crate) envelope: Envelope,
 }
 
 impl Reading {
-    /// A reading that begins.
+    /// Starts a parser.
     pub fn new(alloc: Global, wanted: Wanted) -> Reading
         ensures { state_of result ≡ start wanted }
     {
@@ -75,9 +75,9 @@ impl Reading {
         }
     }
 
-    /// Takes bytes up to one that makes something whole, or is refused, or to their end. Gives how many were taken.
+    /// Reads bytes until something is complete, a byte is rejected, or the bytes end. Returns the number of bytes read.
     ///
-    /// Where memory was wanting, nothing can be read any more.
+    /// If an allocation fails, the parser cannot be used further.
     pub fn take_in(&mut self, bytes: &[u8]) -> Result<usize, AllocError>
         requires { 0 < length bytes.now }
         ensures some { IfOk result (λ count. 0 < count) }
@@ -96,49 +96,49 @@ impl Reading {
         Ok(bytes.len())
     }
 
-    /// What the last byte made whole.
+    /// What the last byte completed.
     pub fn found(&self) -> Found
         ensures { result ≡ (state_of self.now).found }
     {
         self.found
     }
 
-    /// Its text, where something was made whole.
+    /// The completed text, if there is one.
     pub fn text(&self) -> &[u8]
         ensures { result.now ≡ (state_of self.now).text }
     {
         self.text.as_slice()
     }
 
-    /// The text of CouchDB's own error, with its quotation marks.
+    /// The text of CouchDB's error, with its quotation marks.
     pub fn error(&self) -> &[u8]
         ensures { result.now ≡ (state_of self.now).error }
     {
         self.error.as_slice()
     }
 
-    /// How many documents were passed over.
+    /// The number of skipped documents.
     pub fn passed(&self) -> u64
         ensures { result ≡ (state_of self.now).passed }
     {
         self.passed
     }
 
-    /// How many bytes were taken, with the one that was refused.
+    /// The number of bytes read, including a rejected one.
     pub fn taken(&self) -> u64
         ensures { result ≡ (state_of self.now).taken }
     {
         self.taken
     }
 
-    /// Whether a byte was refused.
+    /// Whether a byte was rejected.
     pub fn is_refused(&self) -> bool
         ensures { result ≡ is_refused (state_of self.now).place }
     {
         is_refused(self.place)
     }
 
-    /// Why what was taken is not whole answers and nothing else, where no byte follows.
+    /// Ends the input. Returns why it does not consist of complete responses.
     pub fn end(&self) -> Result<(), Refusal>
         ensures { result ≡ end_of (state_of self.now).place }
     {
@@ -150,14 +150,14 @@ impl Reading {
         }
     }
 
-    /// Whether a line has begun that has no line end.
+    /// Whether the last line has no line end.
     pub fn has_rest(&self) -> bool
         ensures { result ≡ has_rest (state_of self.now).place }
     {
         matches!(self.place, Place::Line(_))
     }
 
-    /// Whether the last byte made something whole, or was refused.
+    /// Whether the last byte completed something, or was rejected.
     #[inline(always)]
     fn stops(&self) -> bool
         ensures { result ≡ stops (state_of self.now) }
@@ -165,7 +165,7 @@ impl Reading {
         self.found != Found::Nothing || is_refused(self.place)
     }
 
-    /// Takes a byte.
+    /// Reads a byte.
     #[inline(always)]
     #[tactic(auto, unfolding(crate::specs::Steps::step))]
     fn take(&mut self, byte: u8) -> Result<(), AllocError>
@@ -175,7 +175,7 @@ impl Reading {
         self.advance(byte)
     }
 
-    /// Counts a byte, until one is refused.
+    /// Counts a byte, unless one was rejected before.
     #[inline(always)]
     fn begin(&mut self)
         ensures { state_of self.new ≡ begun (state_of self.old) }
@@ -186,7 +186,7 @@ impl Reading {
         }
     }
 
-    /// Does what a byte does at the place where the reading stands.
+    /// Reads a byte at the current place.
     #[inline(always)]
     fn advance(&mut self, byte: u8) -> Result<(), AllocError>
         ensures { OnOk result (state_of self.new ≡ moved self.old.place (state_of self.old) byte) }
@@ -212,7 +212,7 @@ impl Reading {
     }
 }
 
-/// Whether a byte was refused.
+/// Whether a byte was rejected.
 #[inline(always)]
 fn is_refused(place: Place) -> bool
     ensures { result ≡ is_refused place }

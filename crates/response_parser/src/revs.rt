@@ -9,7 +9,7 @@ use crate::spelling::is_space;
 use std::alloc::AllocError;
 
 impl Reading {
-    /// Does what a byte does at a place in a list of missing revisions.
+    /// Reads a byte in a list of missing revisions.
     pub(crate) fn in_revs(&mut self, place: RevPlace, byte: u8) -> Result<(), AllocError>
         ensures { OnOk result (state_of self.new ≡ in_revs place (state_of self.old) byte) }
     {
@@ -29,7 +29,7 @@ impl Reading {
         }
     }
 
-    /// A byte before the bracket.
+    /// Reads a byte before the opening bracket.
     fn at_revs(&mut self, byte: u8)
         ensures { state_of self.new ≡ at_revs (state_of self.old) byte }
     {
@@ -43,7 +43,7 @@ impl Reading {
         }
     }
 
-    /// A byte behind the bracket that opens the list.
+    /// Reads a byte after the opening bracket.
     fn at_first_rev(&mut self, byte: u8) -> Result<(), AllocError>
         ensures { OnOk result (state_of self.new ≡ at_first_rev (state_of self.old) byte) }
     {
@@ -54,7 +54,7 @@ impl Reading {
         self.at_next_rev(byte)
     }
 
-    /// A byte behind a comma.
+    /// Reads a byte after a comma.
     fn at_next_rev(&mut self, byte: u8) -> Result<(), AllocError>
         ensures { OnOk result (state_of self.new ≡ at_next_rev (state_of self.old) byte) }
     {
@@ -70,7 +70,7 @@ impl Reading {
         self.add(byte)
     }
 
-    /// A byte of a revision.
+    /// Reads a byte of a revision.
     fn in_missing(&mut self, byte: u8) -> Result<(), AllocError>
         ensures { OnOk result (state_of self.new ≡ in_missing (state_of self.old) byte) }
     {
@@ -96,7 +96,7 @@ impl Reading {
         Ok(())
     }
 
-    /// A byte behind a backslash of a revision.
+    /// Reads a byte after a backslash in a revision.
     fn in_missing_escape(&mut self, byte: u8) -> Result<(), AllocError>
         ensures { OnOk result (state_of self.new ≡ in_missing_escape (state_of self.old) byte) }
     {
@@ -105,7 +105,7 @@ impl Reading {
         Ok(())
     }
 
-    /// A byte behind a revision.
+    /// Reads a byte after a revision.
     fn after_missing(&mut self, byte: u8)
         ensures { state_of self.new ≡ after_missing (state_of self.old) byte }
     {

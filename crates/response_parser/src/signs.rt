@@ -1,4 +1,4 @@
-//! First bytes of what is no answer, but known.
+//! The first bytes of known formats that are not responses.
 ghost use Rattle.std.specs.Prelude.{◌≡◌, OnOk};
 ghost use Rattle.response_parser.specs.Stored.{state_of};
 ghost use Rattle.response_parser.specs.Signs.{begins_sign, sign_of, in_sign, sign_begun};
@@ -9,7 +9,7 @@ use crate::spelling::is;
 use std::alloc::AllocError;
 
 impl Reading {
-    /// Begins with the first bytes of what is no answer.
+    /// Starts with the first bytes of input that is not a response.
     pub(crate) fn begin_sign(&mut self, byte: u8) -> Result<(), AllocError>
         ensures { OnOk result (state_of self.new ≡ sign_begun (state_of self.old) byte) }
     {
@@ -17,7 +17,7 @@ impl Reading {
         self.in_sign(byte)
     }
 
-    /// A byte of the first ones of what is no answer.
+    /// Reads a byte of the first bytes of input that is not a response.
     pub(crate) fn in_sign(&mut self, byte: u8) -> Result<(), AllocError>
         ensures { OnOk result (state_of self.new ≡ in_sign (state_of self.old) byte) }
     {
@@ -32,7 +32,7 @@ impl Reading {
     }
 }
 
-/// Whether a text is the front of the first bytes of something known, and not all of them.
+/// Whether a text is a proper prefix of the first bytes of a known format.
 fn begins_sign(text: &[u8]) -> bool
     ensures { result ≡ begins_sign text.now }
 {
@@ -49,7 +49,7 @@ fn begins_sign(text: &[u8]) -> bool
         || is(text, b"HTTP")
 }
 
-/// What a text is the beginning of.
+/// The format that begins with this text.
 fn sign_of(text: &[u8]) -> Refusal
     ensures { result ≡ sign_of text.now }
 {

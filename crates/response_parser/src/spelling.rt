@@ -1,4 +1,4 @@
-//! Single bytes and names.
+//! Comparing single bytes and names.
 ghost use Rattle.std.specs.Prelude.{◌≡◌, ◌||◌};
 ghost use Rattle.std.specs.Str.{bytes_eq};
 ghost use Rattle.doc_envelope.specs.Texts.{is_space};
@@ -7,7 +7,7 @@ ghost use Rattle.response_parser.specs.Names.{name_of, wanted_name, document_nam
 
 use crate::place::{Name, Wanted};
 
-/// Whether a byte is white space of JSON.
+/// Whether a byte is JSON white space.
 #[inline(always)]
 pub(crate) fn is_space(byte: u8) -> bool
     ensures { result ≡ is_space byte }
@@ -15,7 +15,7 @@ pub(crate) fn is_space(byte: u8) -> bool
     byte == b' ' || byte == b'\t' || byte == b'\n' || byte == b'\r'
 }
 
-/// One more, up to 2^64 - 1.
+/// A count increased by one, at most 2^64 - 1.
 #[inline(always)]
 pub(crate) fn more(count: u64) -> u64
     ensures { result ≡ more count }
@@ -23,7 +23,7 @@ pub(crate) fn more(count: u64) -> u64
     if count < u64::MAX { count + 1 } else { count }
 }
 
-/// Whether two texts are the same.
+/// Whether two texts are equal.
 #[inline(always)]
 pub(crate) fn is(text: &[u8], name: &[u8]) -> bool
     ensures { result ≡ bytes_eq text.now name.now }
@@ -31,7 +31,7 @@ pub(crate) fn is(text: &[u8], name: &[u8]) -> bool
     text == name
 }
 
-/// Whether a text is one of two.
+/// Whether a text equals one of two.
 #[inline(always)]
 fn is_either(text: &[u8], one: &[u8], other: &[u8]) -> bool
     ensures { result ≡ (bytes_eq text.now one.now || bytes_eq text.now other.now) }
@@ -39,9 +39,9 @@ fn is_either(text: &[u8], one: &[u8], other: &[u8]) -> bool
     is(text, one) || is(text, other)
 }
 
-/// What a member's name, with its quotation marks, says of its value. The flags say that it is the first one of its
-/// object, that it stands in a list of a document's revisions, and that the answer is one of what is missing; so many
-/// lists and objects are open.
+/// The meaning of a member's name, which includes its quotation marks. `first`: it is the first name of its object.
+/// `inner`: it is in a document's list of revisions. `diff`: the response is one of `_revs_diff`. `depth`: the number
+/// of open lists and objects.
 #[tactic(auto, unfolding(crate::specs::Names::name_of))]
 pub(crate) fn name_of(
     wanted: Wanted,
@@ -62,7 +62,7 @@ pub(crate) fn name_of(
     wanted_name(wanted, first, inner, diff && depth == 2, text)
 }
 
-/// The same, of an object within others.
+/// The meaning of a name in an inner object.
 fn wanted_name(wanted: Wanted, first: bool, inner: bool, entry: bool, text: &[u8]) -> Name
     ensures { result ≡ wanted_name wanted first inner entry text.now }
 {
@@ -73,7 +73,7 @@ fn wanted_name(wanted: Wanted, first: bool, inner: bool, entry: bool, text: &[u8
     }
 }
 
-/// The same, where documents are wanted.
+/// The meaning of a name when documents are requested.
 fn name_of_documents(first: bool, text: &[u8]) -> Name
     ensures { result ≡ document_name first text.now }
 {
@@ -92,7 +92,7 @@ fn name_of_documents(first: bool, text: &[u8]) -> Name
     }
 }
 
-/// The same, where leaves are wanted.
+/// The meaning of a name when leaves are requested.
 fn name_of_leaves(inner: bool, entry: bool, text: &[u8]) -> Name
     ensures { result ≡ leaf_name inner entry text.now }
 {
@@ -117,7 +117,7 @@ fn name_of_leaves(inner: bool, entry: bool, text: &[u8]) -> Name
     }
 }
 
-/// The same, where a script's changes are wanted.
+/// The meaning of a name when a script's changes are requested.
 fn name_of_changes(first: bool, text: &[u8]) -> Name
     ensures { result ≡ change_name first text.now }
 {

@@ -13,11 +13,11 @@ use crate::wanted::wants_documents;
 use doc_envelope::is_log;
 use std::alloc::AllocError;
 
-/// How many brackets may be open within a value.
+/// The maximum number of open brackets within a value.
 const MAX_NESTING: u8 = 128;
 
 impl Reading {
-    /// Whether the text is a JSON text in UTF-8.
+    /// Whether the current text is JSON in UTF-8.
     pub(crate) fn is_json(&mut self) -> Result<bool, AllocError>
         ensures value { IfOk result (λ json. json ≡ is_json self.old.text.items) }
         ensures same { OnOk result (state_of self.new ≡ state_of self.old) }
@@ -28,7 +28,7 @@ impl Reading {
         json::is_valid(text, &mut self.scratch)
     }
 
-    /// A byte of a value.
+    /// Reads a byte of a value.
     pub(crate) fn in_value(&mut self, name: Name, byte: u8) -> Result<(), AllocError>
         ensures { OnOk result (state_of self.new ≡ in_value name (state_of self.old) byte) }
     {
@@ -50,7 +50,7 @@ impl Reading {
         }
     }
 
-    /// White space outside of strings. Before a value it goes.
+    /// Reads white space outside of strings. White space before a value is dropped.
     fn space(&mut self) -> Result<(), AllocError>
         ensures { OnOk result (state_of self.new ≡ spaced (state_of self.old)) }
     {
@@ -60,7 +60,7 @@ impl Reading {
         self.add(b' ')
     }
 
-    /// A bracket that opens.
+    /// Reads an opening bracket.
     fn nest(&mut self, byte: u8) -> Result<(), AllocError>
         ensures { OnOk result (state_of self.new ≡ deeper (state_of self.old) byte) }
     {
@@ -72,7 +72,7 @@ impl Reading {
         Ok(())
     }
 
-    /// A bracket that closes, and with it a document that is the object itself.
+    /// Reads a closing bracket, which may also close a document.
     fn unnest(&mut self, name: Name, byte: u8) -> Result<(), AllocError>
         ensures { OnOk result (state_of self.new ≡ shallower name (state_of self.old) byte) }
     {
@@ -105,7 +105,7 @@ impl Reading {
         Ok(())
     }
 
-    /// The byte behind a value, a comma or the brace that closes the object.
+    /// Reads the byte after a value: a comma, or the brace that closes the object.
     fn end_value(&mut self, name: Name, byte: u8) -> Result<(), AllocError>
         ensures { OnOk result (state_of self.new ≡ value_ended name (state_of self.old) byte) }
     {
@@ -122,7 +122,7 @@ impl Reading {
         self.judge(name, first)
     }
 
-    /// The byte behind a value that was told.
+    /// Reads the byte after a value that was handled.
     fn pass_value(&mut self, byte: u8)
         ensures { state_of self.new ≡ value_passed (state_of self.old) byte }
     {
@@ -133,7 +133,7 @@ impl Reading {
         }
     }
 
-    /// Tells what a value is that is whole, by its first byte.
+    /// Handles a complete value, by its first byte.
     fn judge(&mut self, name: Name, first: u8) -> Result<(), AllocError>
         ensures { OnOk result (state_of self.new ≡ judged name first (state_of self.old)) }
     {
@@ -145,7 +145,7 @@ impl Reading {
         self.tell(found)
     }
 
-    /// Keeps CouchDB's own error.
+    /// Stores CouchDB's error.
     fn keep_error(&mut self, name: Name, first: u8) -> Result<(), AllocError>
         ensures { OnOk result (state_of self.new ≡ error_kept name first (state_of self.old)) }
     {
@@ -157,7 +157,7 @@ impl Reading {
         self.error.extend_from_slice(self.text.as_slice())
     }
 
-    /// Tells what the text is.
+    /// Reports the current text.
     fn tell(&mut self, found: Found) -> Result<(), AllocError>
         ensures { OnOk result (state_of self.new ≡ told found (state_of self.old)) }
     {
@@ -170,7 +170,7 @@ impl Reading {
         }
     }
 
-    /// A byte of a string.
+    /// Reads a byte of a string.
     pub(crate) fn in_quoted(&mut self, name: Name, byte: u8) -> Result<(), AllocError>
         ensures { OnOk result (state_of self.new ≡ in_quoted name (state_of self.old) byte) }
     {
@@ -183,7 +183,7 @@ impl Reading {
         Ok(())
     }
 
-    /// A byte behind a backslash of a string.
+    /// Reads a byte after a backslash in a string.
     pub(crate) fn in_escaped(&mut self, name: Name, byte: u8) -> Result<(), AllocError>
         ensures { OnOk result (state_of self.new ≡ in_escaped name (state_of self.old) byte) }
     {
@@ -193,14 +193,14 @@ impl Reading {
     }
 }
 
-/// The first byte of a text, or 0 where it has none.
+/// The first byte of a text; 0 if it is empty.
 fn first_of(text: &[u8]) -> u8
     ensures { result ≡ slice_index text.now 0 }
 {
     if text.is_empty() { 0 } else { text[0] }
 }
 
-/// What a value of a name is that begins with a byte.
+/// What is found if a name has a value that begins with this byte.
 fn found_of(name: Name, first: u8) -> Found
     ensures { result ≡ found_of name first }
 {
@@ -212,7 +212,7 @@ fn found_of(name: Name, first: u8) -> Found
     }
 }
 
-/// Whether it stands in the place of a document.
+/// Whether the value is a substitute for a document.
 fn passes(name: Name, first: u8) -> bool
     ensures { result ≡ passes name first }
 {
@@ -223,8 +223,8 @@ fn passes(name: Name, first: u8) -> bool
     }
 }
 
-/// Why a value of a name is refused that begins with a byte: it is no id or no revision, though its name says so, or
-/// the reason of an error.
+/// Why a value is rejected: its name requires an id or a revision, and it is not a string; or it is the reason of an
+/// error.
 fn refusal_of(name: Name, first: u8, failed: bool) -> Option<Refusal>
     ensures { result ≡ refusal_of name first failed }
 {
@@ -235,7 +235,7 @@ fn refusal_of(name: Name, first: u8, failed: bool) -> Option<Refusal>
     }
 }
 
-/// Whether a name is that of an error.
+/// Whether a name means an error.
 fn is_error(name: Name) -> bool
     ensures { result ≡ is_error name }
 {

@@ -1,38 +1,38 @@
-//! What each kind of what is wanted asks for.
+//! The rules for each kind of request (`Wanted`).
 ghost use Rattle.std.specs.Prelude.{◌≡◌};
 ghost use Rattle.response_parser.specs.Wanted.{wants_documents, wants_leaves, wants_changes, is_strict, first_place};
 
 use crate::place::{Place, Wanted};
 
-/// Whether documents are wanted.
+/// Whether documents are requested.
 pub(crate) fn wants_documents(wanted: Wanted) -> bool
     ensures { result ≡ wants_documents wanted }
 {
     !matches!(wanted, Wanted::Leaves | Wanted::Changes)
 }
 
-/// Whether ids and revisions of CouchDB's answers are wanted.
+/// Whether ids and revisions in CouchDB responses are requested.
 pub(crate) fn wants_leaves(wanted: Wanted) -> bool
     ensures { result ≡ wants_leaves wanted }
 {
     matches!(wanted, Wanted::Leaves)
 }
 
-/// Whether changes of a script's answers are wanted.
+/// Whether changes in a script's output are requested.
 pub(crate) fn wants_changes(wanted: Wanted) -> bool
     ensures { result ≡ wants_changes wanted }
 {
     matches!(wanted, Wanted::Changes)
 }
 
-/// Whether an object that holds nothing is refused.
+/// Whether an object without a document is rejected.
 pub(crate) fn is_strict(wanted: Wanted) -> bool
     ensures { result ≡ is_strict wanted }
 {
     matches!(wanted, Wanted::Bodies | Wanted::Unfolded | Wanted::Changes)
 }
 
-/// Where reading begins.
+/// The first place of the parser.
 pub(crate) fn first_place(wanted: Wanted) -> Place
     ensures { result ≡ first_place wanted }
 {

@@ -1,4 +1,4 @@
--- Copies under names.
+-- Named backups.
 use Rattle.proof_prelude.proofs.{◌≡◌, ◌⊎◌, inl, inr, ℕ, zero, suc, ◌+◌, ◌<◌, Bool, true, false, cond, List, [], ◌∷◌, ◌++◌, take, get_or, length, slice_get, Option, Some, None, is_some, Result, Ok, Err, nat_lt, ◌==◌, refl, sym, ap, ◌∙◌, cond_both, take_more, slice_get-get_or, same_Some, none-some, find, eqb-true}
 use Rattle.repl_peer.specs.{PeerValue, GivesUnlessMemory, BackupValue, is_target, greater_life, restore_answer, restored_by, after_restore, TargetFault}
 use Rattle.couch_base.specs.{most}
@@ -6,7 +6,7 @@ use Rattle.repl_peer.specs.declared.fault.TargetFault.TheVariants as faults
 use Rattle.script_databases.specs.{backed_of, backed_told}
 use Rattle.script_databases.specs.declared.refusal.Refusal.TheVariants as why
 
--- ---- looking for one
+-- ---- finding one
 
 find_end : {X : Type 0} (p : X → Bool) (xs : List X) (x : X) → find p xs ≡ None → p x ≡ false → find p (xs ++ x ∷ []) ≡ None
 find_end p [] x none other = ap (λ b. cond b (Some x) None) other
@@ -16,7 +16,7 @@ find_end p (y ∷ xs) x none other =
     (λ apart e. ap (λ b. cond b (Some y) (find p (xs ++ x ∷ []))) apart ∙ find_end p xs x e other)
     none
 
--- not among one more
+-- not in the list with one more
 pub find_more : {X : Type 0} (p : X → Bool) (xs : List X) (i : ℕ) (x : X) → i < length xs → x ≡ get_or xs i x → find p (take i xs) ≡ None → p x ≡ false → find p (take (i + 1) xs) ≡ None
 find_more p xs i x lt is none other =
     ap (find p) (take_more xs i x lt ∙ ap (λ y. take i xs ++ y ∷ []) (sym is)) ∙ find_end p (take i xs) x none other
@@ -32,18 +32,18 @@ find_at p (y ∷ xs) (suc i) x at none passes =
     (λ apart e. ap (λ b. cond b (Some y) (find p xs)) apart ∙ find_at p xs i x at e passes)
     none
 
--- the first at a place
+-- the first one is at this index
 pub find_here : {X : Type 0} (p : X → Bool) (xs : List X) (i : ℕ) (x : X) → i < length xs → x ≡ get_or xs i x → find p (take i xs) ≡ None → p x ≡ true → find p xs ≡ Some x
 find_here p xs i x lt is none passes = find_at p xs i x (slice_get-get_or xs i x lt ∙ ap Some (sym is)) none passes
 
--- ---- putting one back
+-- ---- restoring one
 
--- what the two calls refuse
+-- the errors of the two calls
 pub copy_refused : {A : Type 0} (fault : TargetFault) (expected : Result A TargetFault) → GivesUnlessMemory (Err fault) expected → (expected ≡ Err fault) ⊎ (fault ≡ faults.Memory)
 copy_refused faults.Memory expected h = inr refl
 copy_refused fault expected h = inl (sym h)
 
--- what is put back has the same UUID
+-- a restored peer has the same UUID
 pub restore_keeps : (b : BackupValue) (p : PeerValue) → (after_restore p b).db.uuid ≡ p.db.uuid
 restore_keeps b p = go (restore_answer p b) refl
   where
@@ -55,9 +55,9 @@ restore_keeps b p = go (restore_answer p b) refl
         (λ _ j. cond_both (b.db.uuid == p.db.uuid) (cond (nat_lt (greater_life p b) most) (Ok tt) (Err faults.LifeFull)) (Err faults.ForeignBackup) (λ (x : Result (Unit {0}) TargetFault). x ≡ Ok done → b.db.uuid ≡ p.db.uuid) (λ e _. eqb-true _ _ e) (λ _ i. cc) j)
         k
 
--- ---- making one
+-- ---- adding one
 
--- a name that is taken
+-- a name in use
 pub taken_refused : (p : PeerValue) (o : Option BackupValue) → is_some o ≡ true → backed_told (backed_of (Some p) o) ≡ Err why.BackupExists
 taken_refused p None h = cc
 taken_refused p (Some b) h = refl

@@ -1,4 +1,4 @@
--- The numbers of the databases' UUIDs, beside the databases.
+-- The index of the databases' UUIDs.
 use Rattle.proof_prelude.proofs.{◌≡◌, ℕ, Bool, true, false, cond, List, [], refl, sym, ap, ◌∙◌, Option, Some, None, nat_eq, option_map, list_any, Equal-is, eq_by_cmp, is_eq, lookup, get, get-insert, get-empty, nat_list_cmp_total, tied_itself, is_text, same_Some, none-some, true≢false, eqb-true, eq-eqb}
 use Rattle.std.specs.FinMap.{insert}
 use Rattle.rev_core.specs.{RevId}
@@ -8,13 +8,13 @@ use Rattle.repl_peer.proofs.{edit_later, load_later}
 use Rattle.script_databases.specs.{State, peer_at, with_peer, IsTaken, text_cmp, Beside, Entries, peers_of, state_of, IsIndex, AllDeny, denied_of}
 use Rattle.script_databases.proofs.TableLemmas.{text_cmp-IsAntisymmetric, get-by_text}
 
--- ---- looking up
+-- ---- lookup
 
--- what a table has at a name is what the state has there
+-- the table and the state have the same peer at a name
 pub found_at : (g : Beside) (es : Entries) (s : State) (q : List ℕ) → state_of g es ≡ s → option_map (λ p. p.1) (lookup (is_text q) es) ≡ peer_at s q
 found_at g es s q e = sym (get-by_text (λ p. p.1) es q) ∙ ap (λ t. peer_at t q) e
 
--- a table with one written
+-- a table with one peer replaced
 pub state_with : (g : Beside) (old new : Entries) (name : List ℕ) (u : PeerValue) → peers_of new ≡ insert (peers_of old) name u → state_of g new ≡ with_peer (state_of g old) name u
 state_with g old new name u e = ap (λ m. let s : State = record { program = g.program; drawn = g.drawn; backups = g.backups; peers = m } in s) e
 
@@ -33,13 +33,13 @@ index_none g es uuids e f = record {
 pub none_deny : (deny : Option (List ℕ)) (es : Entries) → es ≡ [] → AllDeny deny es
 none_deny deny es e = λ name d h. absurd (none-some d (sym (get-empty text_cmp name) ∙ sym (ap (λ x. get (denied_of x) name) e) ∙ h))
 
--- ---- one more, or one changed
+-- ---- one database added or changed
 
--- what stands at a name after it
+-- the peer at a name after that
 at_name : (s : State) (name : List ℕ) (l : PeerValue) (q : List ℕ) → peer_at (with_peer s name l) q ≡ cond (eq_by_cmp text_cmp q name) (Some l) (peer_at s q)
 at_name s name l q = get-insert nat_list_cmp_total s.peers name l q
 
--- the name is the one that was written, or it stands there as before
+-- the name is the changed one, or its peer is unchanged
 pub split : (s : State) (name : List ℕ) (l : PeerValue) (q : List ℕ) (P : Type 0) → (q ≡ name → peer_at (with_peer s name l) q ≡ Some l → P) → (peer_at (with_peer s name l) q ≡ peer_at s q → P) → P
 split s name l q P f g =
     elim (eq_by_cmp text_cmp q name) as (λ b. eq_by_cmp text_cmp q name ≡ b → P) [
@@ -93,7 +93,7 @@ index_written old new name l m uuids index there is e = record {
       (λ same. index.taken u (t.0, t.1, sym same ∙ found, t.3));
 }
 
--- ---- neither a load nor an edit changes the UUID
+-- ---- loads and edits do not change the UUID
 
 pub load_keeps : (d : Document) (l : PeerValue) → (after_load l d).db.uuid ≡ l.db.uuid
 load_keeps d l = (load_later l d).db.uuid
@@ -101,9 +101,9 @@ load_keeps d l = (load_later l d).db.uuid
 pub edit_keeps : (id : List ℕ) (parent : Option RevId) (deleted : Bool) (body : List ℕ) (l : PeerValue) → (after_edit l id parent deleted body).db.uuid ≡ l.db.uuid
 edit_keeps id parent deleted body l = (edit_later l id parent deleted body).db.uuid
 
--- ---- what the peers refuse
+-- ---- the filters of the peers
 
--- one more that refuses the same
+-- one more peer with the same filter
 pub deny_added : (deny : Option (List ℕ)) (old new : Entries) (name : List ℕ) (d : Option (List ℕ)) → AllDeny deny old → d ≡ deny → denied_of new ≡ insert (denied_of old) name d → AllDeny deny new
 deny_added deny old new name d all e is = λ q found h.
     let at : cond (eq_by_cmp text_cmp q name) (Some d) (get (denied_of old) q) ≡ Some found = sym (get-insert nat_list_cmp_total (denied_of old) name d q) ∙ sym (ap (λ m. get m q) is) ∙ h in

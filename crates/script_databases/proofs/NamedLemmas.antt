@@ -1,4 +1,4 @@
--- Changes of one database in a table of names.
+-- Changes of one named database.
 use Rattle.proof_prelude.proofs.{◌≡◌, ◌⊎◌, inl, inr, ℕ, List, refl, sym, ap, ◌∙◌, Some, None, Result, Ok, Err, OnErr, String, string_bytes, FinMap, get, UpdatesBy, lookup, bytes_eq, is_text, string_eq}
 use Rattle.std.specs.declared.alloc.Global.{Global}
 use Rattle.std.specs.FinMap.{insert}
@@ -13,7 +13,7 @@ use Rattle.script_databases.specs.declared.refusal.Refusal.TheVariants as why
 use Rattle.script_databases.proofs.IndexLemmas.{deny_kept, index_written, state_at, state_with}
 use Rattle.script_databases.proofs.TableLemmas.{found_absent, found_there, insert-same, none_there, written}
 
--- what a database refuses is told by its name
+-- an error of the database is reported by its name
 pub put_refused : (fault : BaseFault) (expected : Result Put BaseFault) → PutGives (Err fault) expected → (told_as base_refusal expected ≡ Err (base_refusal fault)) ⊎ (base_refusal fault ≡ why.Memory)
 put_refused base.Memory expected h = inr refl
 put_refused fault expected h = inl (ap (told_as base_refusal) (sym h))
@@ -22,11 +22,11 @@ pub edit_refused : (after : PeerValue) (fault : BaseFault) (expected : Result Re
 edit_refused after base.Memory expected h = inr refl
 edit_refused after fault expected h = inl (ap (edited_as after) (sym h))
 
--- a value that is put in again in the place of its like changes nothing
+-- replacing a value by an equal one changes nothing
 kept_there : {V : Type 0} (old new : FinMap text_cmp V) (name : List ℕ) (l u : V) → get old name ≡ Some l → new ≡ insert old name u → u ≡ l → new ≡ old
 kept_there old new name l u there is e = is ∙ ap (insert old name) e ∙ insert-same old name l there
 
--- ---- what is looked up by a name
+-- ---- lookup by name
 
 -- no peer has the name
 pub peer_absent : (g : Beside) (es : Entries) (name : List ℕ) → None ≡ lookup (is_text name) es → peer_at (state_of g es) name ≡ None
@@ -35,12 +35,12 @@ peer_absent g es name none = none_there (peers_of es) name (found_absent (λ p. 
 pub peer_there : (g : Beside) (es : Entries) (name : List ℕ) (l : Rules × PeerValue) → Some l ≡ lookup (is_text name) es → peer_at (state_of g es) name ≡ Some l.1
 peer_there g es name l there = found_there (λ p. p.1) es name name l refl there
 
--- of a refusal
+-- of an error
 pub on_err : {A E : Type 0} {P : Type 0} (r : Result A E) → P → OnErr r P
 on_err (Ok x) p = tt
 on_err (Err e) p = p
 
--- ---- the peer l of a name, in whose place u stands afterwards
+-- ---- the peer l of a name, which u replaces
 
 module _ {S : Type 0} (g : Beside) (old new : HashMap (String Global) (Rules × PeerValue) S) (name : List ℕ) (l u : Rules × PeerValue)
     (there : Some l ≡ lookup (is_text name) old.entries) (updates : UpdatesBy string_eq (λ s. bytes_eq name (string_bytes s)) old new (Some u)) where
@@ -50,17 +50,17 @@ module _ {S : Type 0} (g : Beside) (old new : HashMap (String Global) (Rules × 
   peers_are : peers_of new.entries ≡ insert (peers_of old.entries) name u.1
   peers_are = written (λ p. p.1) old new name name u refl updates
 
-  -- it is changed in the state too
+  -- the state changes in the same way
   pub state_changed : (f : PeerValue → PeerValue) → u.1 ≡ f l.1 → state_of g new.entries ≡ changed_at (state_of g old.entries) name f
   state_changed f is =
       state_with g old.entries new.entries name (f l.1) (peers_are ∙ ap (insert (peers_of old.entries) name) is)
       ∙ sym (ap (with_changed (state_of g old.entries) name f) was)
 
-  -- or the state stays
+  -- or the state is unchanged
   pub state_stays : u.1 ≡ l.1 → state_of g new.entries ≡ state_of g old.entries
   state_stays same = state_at g old.entries new.entries (kept_there (peers_of old.entries) (peers_of new.entries) name l.1 u.1 was peers_are same)
 
-  -- with the UUID the numbers stay, and with the filter what all refuse
+  -- with the same UUID the index is unchanged, and with the same filter all filters
   pub tables_stay : (uuids : List ℕ) → u.1.db.uuid ≡ l.1.db.uuid → u.0 ≡ l.0 → IsIndex (state_of g old.entries) uuids × AllDeny g.program.deny old.entries
       → IsIndex (state_of g new.entries) uuids × AllDeny g.program.deny new.entries
   tables_stay uuids uuid filter kept = (

@@ -17,7 +17,7 @@ use Rattle.script_databases.proofs.TableLemmas.{insert-same, text_cmp-IsAntisymm
 
 -- ---- two names of a table
 
--- what stands at another name
+-- the value at another name
 pub other : {V : Type 0} (m : FinMap text_cmp V) (a b : List ℕ) (d : V) → a ≢ b → get (insert m a d) b ≡ get m b
 other {V} m a b d ne = get-insert nat_list_cmp_total m a d b ∙ no (eq_by_cmp text_cmp b a) refl
   where
@@ -25,7 +25,7 @@ other {V} m a b d ne = get-insert nat_list_cmp_total m a d b ∙ no (eq_by_cmp t
     no true h = absurd (ne (sym (text_cmp-IsAntisymmetric b a ((Equal-is (text_cmp b a)).0 h))))
     no false h = refl
 
--- what was there before stays there
+-- names in the table stay in the table
 pub still_there : {V : Type 0} (m : FinMap text_cmp V) (a b : List ℕ) (d : V) → contains_key m b ≡ true → contains_key (insert m a d) b ≡ true
 still_there {V} m a b d h = ap is_some (get-insert nat_list_cmp_total m a d b) ∙ by (eq_by_cmp text_cmp b a)
   where
@@ -33,7 +33,7 @@ still_there {V} m a b d h = ap is_some (get-insert nat_list_cmp_total m a d b) �
     by true = refl
     by false = h
 
--- what is written over two names, whatever stood there for a while
+-- two names are overwritten, whatever was stored in between
 put_over : {V : Type 0} (m : FinMap text_cmp V) (a b : List ℕ) (d e x y : V) → insert (insert (insert (insert m a d) b e) a x) b y ≡ insert (insert m a x) b y
 put_over {V} m a b d e x y = same_map nat_list_cmp_total text_cmp-IsAntisymmetric _ _ (λ q.
     get-insert nat_list_cmp_total (insert (insert (insert m a d) b e) a x) b y q
@@ -49,14 +49,14 @@ put_over {V} m a b d e x y = same_map nat_list_cmp_total text_cmp-IsAntisymmetri
     by q false true = refl
     by q false false = refl
 
--- both names are in a table whose two places were emptied
+-- both names are in a table whose two peers were replaced
 pub has_source : {V : Type 0} (m mid : FinMap text_cmp V) (a b : List ℕ) (d e : V) → mid ≡ insert (insert m a d) b e → contains_key m a ≡ true → contains_key mid a ≡ true
 has_source m mid a b d e is there = ap (λ n. contains_key n a) is ∙ still_there _ b a e (still_there m a a d there)
 
 pub has_target : {V : Type 0} (m mid : FinMap text_cmp V) (a b : List ℕ) (d e : V) → mid ≡ insert (insert m a d) b e → contains_key m b ≡ true → contains_key mid b ≡ true
 has_target m mid a b d e is there = ap (λ n. contains_key n b) is ∙ still_there _ b b e (still_there m a b d there)
 
--- where something was put into both places then
+-- if values were stored at both names afterwards
 written_over : {V : Type 0} (m mid last : FinMap text_cmp V) (a b : List ℕ) (d e x y : V) → mid ≡ insert (insert m a d) b e → last ≡ insert (insert mid a x) b y → last ≡ insert (insert m a x) b y
 written_over m mid last a b d e x y emptied written = written ∙ ap (λ n. insert (insert n a x) b y) emptied ∙ put_over m a b d e x y
 
@@ -67,21 +67,21 @@ state_left g es mid new a b d e x y emptied written = ap (λ m. let s : State = 
 same_back : {V : Type 0} (m : FinMap text_cmp V) (a b : List ℕ) (x y : V) → get m a ≡ Some x → get m b ≡ Some y → insert (insert m a x) b y ≡ m
 same_back m a b x y e f = ap (λ n. insert n b y) (insert-same m a x e) ∙ insert-same m b y f
 
--- so is the state, with nothing changed
+-- so the state is unchanged
 pub state_kept : (g : Beside) (es : Entries) (a b : List ℕ) (x y : PeerValue) → get (peers_of es) a ≡ Some x → get (peers_of es) b ≡ Some y → state_of g es ≡ with_both (state_of g es) a b x y
 state_kept g es a b x y e f = ap (λ m. let s : State = record { program = g.program; drawn = g.drawn; backups = g.backups; peers = m } in s) (sym (same_back (peers_of es) a b x y e f))
 
--- as they are again
+-- the same values are stored again
 denied_back : {V : Type 0} (m m3 : FinMap text_cmp V) (a b : List ℕ) (x y x' y' : V) → m3 ≡ insert (insert m a x') b y' → x' ≡ x → y' ≡ y → get m a ≡ Some x → get m b ≡ Some y → m3 ≡ m
 denied_back m m3 a b x y x' y' is e f there there' = is ∙ ap (λ v. insert (insert m a v) b y') e ∙ ap (insert (insert m a x) b) f ∙ same_back m a b x y there there'
 
--- peers that refuse the same were put into both places
+-- peers with the same filter were stored at both names
 pub deny_left : (deny : Option (List ℕ)) (es mid new : Entries) (a b : List ℕ) (d e x y x' y' : Option (List ℕ)) → denied_of mid ≡ insert (insert (denied_of es) a d) b e → denied_of new ≡ insert (insert (denied_of mid) a x') b y' → x' ≡ x → y' ≡ y →
     get (denied_of es) a ≡ Some x → get (denied_of es) b ≡ Some y → AllDeny deny es → AllDeny deny new
 deny_left deny es mid new a b d e x y x' y' emptied written i j there there' all =
     deny_kept deny es new all (denied_back (denied_of es) (denied_of new) a b x y x' y' (written_over (denied_of es) (denied_of mid) (denied_of new) a b d e x' y' emptied written) i j there there')
 
--- ---- a plan that is not refused is one between two names
+-- ---- a valid plan is one between two names
 
 pub plan_apart : (u v : ℕ) (plan : Plan) → plan_answer u v plan ≡ Ok tt → (u == v) ≡ false
 plan_apart u v plan h =
@@ -127,7 +127,7 @@ rules_are : (deny : Option (String Global)) → ◌≡◌ {A = Document → Bool
 rules_are None = refl
 rules_are (Some prefix) = refl
 
--- a peer of the table refuses what the program denies
+-- a peer of the table has the program's filter
 pub refuses_is : (deny : Option (List ℕ)) (entries : Entries) (name : List ℕ) (rules : Rules) → AllDeny deny entries → get (denied_of entries) name ≡ Some (deny_of rules) → rules_refuse rules ≡ deny_refuses deny
 refuses_is deny entries name rules all there = rules_are rules.deny ∙ ap deny_refuses (all name (deny_of rules) there)
 
@@ -139,9 +139,9 @@ index_left old new source target s t s' t' uuids ne e f es et is index =
     let mid = with_peer old source s' in
     index_written mid new target t t' uuids (index_written old mid source s s' uuids index e refl es) (other old.peers source target s' ne ∙ f) is et
 
--- ---- a run between two filters is one between what they refuse
+-- ---- a run between two filters is a run between what they refuse
 
--- what is refused early leaves both as they are
+-- an early error changes neither peer
 early_denied : (full : Type 0) (may : Place → Type 0) (answer : Result (Unit {0}) PoolFault) (deny : Option (List ℕ)) (s t s' t' : Rules × PeerValue) (fetched : List ℕ) (outcome : Result Report PoolFault) → EarlyOrLate full may answer s t s' t' fetched outcome →
     EarlyOrLate full may answer (deny, s.1) (deny, t.1) (deny, s'.1) (deny, t'.1) fetched outcome
 early_denied full may (Err why) deny s t s' t' fetched outcome h = (h.0, ap (λ (p : Rules × PeerValue). (deny, p.1)) h.1, ap (λ (p : Rules × PeerValue). (deny, p.1)) h.2, h.3)
@@ -167,7 +167,7 @@ run_denied full may plan deny s t s' t' fetched outcome same runs = record {
   whole = runs.whole;
 }
 
--- ---- a plan that is refused before all else
+-- ---- a plan that is rejected at the start
 
 pub alone_refused : (g : Beside) (es : Entries) (a b : List ℕ) (s t : PeerValue) (plan : Plan) (why : TargetFault) → get (peers_of es) a ≡ Some s → get (peers_of es) b ≡ Some t → plan_answer s.db.uuid t.db.uuid plan ≡ Err why →
     ReplicatesBetween ReplicatesAlone (state_of g es) a b plan (Err why) (state_of g es)

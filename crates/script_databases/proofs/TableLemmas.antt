@@ -10,7 +10,7 @@ text_cmp-IsAntisymmetric = slice_cmp-IsAntisymmetric nat_cmp-IsAntisymmetric
 
 -- ---- maps
 
--- what was found, put in again, changes nothing
+-- storing a found value again changes nothing
 pub insert-same : {V : Type 0} (m : FinMap text_cmp V) (k : List ℕ) (v : V) → get m k ≡ Some v → insert m k v ≡ m
 insert-same {V} m k v is = same_map nat_list_cmp_total text_cmp-IsAntisymmetric _ _ (λ q. get-insert nat_list_cmp_total m k v q ∙ by q (eq_by_cmp text_cmp q k) refl)
   where
@@ -31,7 +31,7 @@ find-texts value (e ∷ es) q =
     both true = refl
     both false = refl
 
--- what a table has at a name
+-- the value at a name
 pub get-by_text : {X V : Type 0} (value : X → V) (es : List (String Global × X)) (q : List ℕ) → get (by_text value es) q ≡ option_map value (lookup (is_text q) es)
 get-by_text value es q = get-from_entries nat_list_cmp_total (map (λ e. (string_bytes e.0, value e.1)) es) q ∙ find-texts value es q
 
@@ -50,7 +50,7 @@ by_text-updated {X} {V} value old new k x h = same_map nat_list_cmp_total text_c
     turned : (q : List ℕ) → bytes_eq k q ≡ eq_by_cmp text_cmp q k
     turned q = sym (is_eq-slice_cmp k q) ∙ (eq_by_cmp_equiv nat_list_cmp_total).symm k q
 
--- ---- what is at a name
+-- ---- the value at a name
 
 pub get-by_text-there : {X V : Type 0} (value : X → V) (es : List (String Global × X)) (q : List ℕ) (x : X) → lookup (is_text q) es ≡ Some x → get (by_text value es) q ≡ Some (value x)
 get-by_text-there value es q x h = get-by_text value es q ∙ ap (option_map value) h
@@ -62,7 +62,7 @@ contains_key-by_text {X} value es q = ap is_some (get-by_text value es q) ∙ bo
     both None = refl
     both (Some x) = refl
 
--- nothing is there
+-- there is no value
 pub none_there : {V : Type 0} (m : FinMap text_cmp V) (q : List ℕ) → contains_key m q ≡ false → get m q ≡ None
 none_there {V} m q h = by (get m q) h
   where
@@ -70,7 +70,7 @@ none_there {V} m q h = by (get m q) h
     by None e = refl
     by (Some v) e = absurd (true≢false e)
 
--- ---- what a table's own calls found and left
+-- ---- the results and effects of the table's calls
 
 pub found_there : {X V : Type 0} (value : X → V) (es : List (String Global × X)) (k q : List ℕ) (x : X) → k ≡ q → Some x ≡ lookup (is_text k) es → get (by_text value es) q ≡ Some (value x)
 found_there value es k q x e h = get-by_text-there value es q x (ap (λ (r : List ℕ). lookup (is_text r) es) (sym e) ∙ sym h)

@@ -1,4 +1,4 @@
--- What keeps the databases of a script tied: first two peers, then a state, by what a call changes of it.
+-- All databases of a script stay tied: first for two peers, then for a state, by the kind of change.
 pub mod OtherLogs
 pub mod MovedPairs
 pub mod RestoredPairs

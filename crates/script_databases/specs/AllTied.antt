@@ -1,4 +1,4 @@
--- Databases that are tied to one another, each to each and for every choice: docs/PROFILE.md, "Tied databases".
+-- Databases that are all tied to each other, for every selection: docs/PROFILE.md, "Tied databases".
 use Rattle.std.specs.Prelude.{◌≡◌, ℕ, List, Some}
 use Rattle.doc_json.specs.Chosen.{Choice}
 use Rattle.couch_base.specs.Lists.{Among}
@@ -10,28 +10,28 @@ use Rattle.repl_target.specs.Audit.{CoversFeed}
 use Rattle.repl_target.specs.ties.Ties.{IsTiedWith}
 use Rattle.script_databases.specs.Databases.{State, NamedBackupValue, IsTaken, peer_at}
 
--- ---- what is known of the databases of a script
+-- ---- databases that are known to each other
 
--- a UUID is that of a database, and not the given one
+-- another database of the script has this UUID
 abbrev pub IsOther : State → ℕ → ℕ → Type 0
 IsOther s own uuid = IsTaken s uuid × (uuid ≡ own → ⊥)
 
--- each log is of a replication into another database that is there
+-- each log belongs to a replication into another database of the script
 abbrev pub LeadToOthers : State → ℕ → List (RepId × List EntryValue) → Type 0
 LeadToOthers s own logs = (l : RepId × List EntryValue) → Among l logs → IsOther s own l.0.target
 
--- each session is of a replication from another database that is there
+-- each session belongs to a replication from another database of the script
 abbrev pub ComeFromOthers : State → ℕ → List SessionValue → Type 0
 ComeFromOthers s own sessions = (x : SessionValue) → Among x sessions → IsOther s own x.rep.source
 
--- a copy is of the database under its name, and its logs lead to others
+-- a backup is of the database under whose name it is stored, and its logs lead to other databases
 pub record IsCopyOfOne (s : State) (k : NamedBackupValue) : Type 0 where
   pub peer : PeerValue
   pub there : peer_at s k.db ≡ Some peer
   pub uuid : k.backup.db.uuid ≡ peer.db.uuid
   pub logs : LeadToOthers s peer.db.uuid k.backup.outgoing
 
--- no two databases have one UUID; no copy, log or session is of a database that is not there, or of one and itself
+-- no two databases have the same UUID; each backup belongs to a database, and each log and session to another database
 pub record IsKnown (s : State) : Type 0 where
   pub apart : (n m : List ℕ) (p q : PeerValue) → peer_at s n ≡ Some p → peer_at s m ≡ Some q → p.db.uuid ≡ q.db.uuid
       → n ≡ m
@@ -39,20 +39,20 @@ pub record IsKnown (s : State) : Type 0 where
   pub logs : (n : List ℕ) (p : PeerValue) → peer_at s n ≡ Some p → LeadToOthers s p.db.uuid p.outgoing
   pub sessions : (n : List ℕ) (p : PeerValue) → peer_at s n ≡ Some p → ComeFromOthers s p.db.uuid p.sessions
 
--- ---- and all are tied
+-- ---- databases that are all tied
 
--- these are copies of the database of a name
+-- these are backups of the database with this name
 abbrev pub AreCopiesOf : State → List ℕ → List BackupValue → Type 0
 AreCopiesOf s n backups =
     (b : BackupValue) → Among b backups → (k : NamedBackupValue) × Among k s.backups × (k.db ≡ n) × (k.backup ≡ b)
 
--- each database, with its copies, is tied to each as a source to a target, whichever choice is looked at
+-- each database, with its backups, is tied as a source to each database as a target, for every selection
 pub record AllTied (s : State) : Type 0 where
   pub known : IsKnown s
   pub tied : (n m : List ℕ) (p q : PeerValue) → peer_at s n ≡ Some p → peer_at s m ≡ Some q → (chosen : Choice)
       → (backups : List BackupValue) → AreCopiesOf s n backups → IsTiedWith backups p q chosen
 
--- the database of one name covers that of another up to its update sequence, which is n
+-- the database `target` covers the selected feed of the database `source` up to its update sequence, which is n
 abbrev pub CoversUpTo : State → List ℕ → List ℕ → Choice → ℕ → Type 0
 CoversUpTo s source target chosen n =
     (p : PeerValue) × (q : PeerValue) × (peer_at s source ≡ Some p) × (peer_at s target ≡ Some q)

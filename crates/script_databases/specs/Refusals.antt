@@ -1,4 +1,4 @@
--- Why a line is refused: docs/PROFILE.md, "Order of checks", "Names of refusals" and "Answers".
+-- Why a line fails: docs/PROFILE.md, "Order of checks", "Names of refusals" and "Answers".
 use Rattle.std.specs.Prelude.{◌≡◌, ◌⊎◌, ℕ, List, Result, Ok, Err, codes}
 use Rattle.rev_core.specs.declared.fault.RevFault.{RevFault}
 use Rattle.rev_core.specs.declared.fault.RevFault.TheVariants as rev
@@ -15,12 +15,12 @@ use Rattle.repl_peer.specs.declared.fault.TargetFault.TheVariants as target
 use Rattle.script_databases.specs.declared.refusal.Refusal.{Refusal}
 use Rattle.script_databases.specs.declared.refusal.Refusal.TheVariants as why
 
--- r is the expected answer, unless memory ran out
+-- the result is the expected one, or the error `Memory`
 abbrev pub GivesOrMemory : {A : Type 0} → Result A Refusal → Result A Refusal → Type 0
 GivesOrMemory (Ok x) expected = expected ≡ Ok x
 GivesOrMemory (Err e) expected = (expected ≡ Err e) ⊎ (e ≡ why.Memory)
 
--- ---- the refusals of the crates below
+-- ---- the errors of the lower crates
 
 abbrev pub doc_refusal : DocFault → Refusal
 doc_refusal doc.NotObject = why.NotObject
@@ -63,7 +63,7 @@ log_refusal (log.Older stored) = why.Older
 log_refusal log.EmptyLog = why.EmptyLog
 log_refusal log.Memory = why.Memory
 
--- why a call of a peer is refused
+-- the error of a line whose call of a peer failed
 abbrev pub target_refusal : TargetFault → Refusal
 target_refusal target.SessionExists = why.SessionExists
 target_refusal target.NoSuchBase = why.NoSuchBase
@@ -87,12 +87,12 @@ target_refusal target.BadBatch = why.BadBatch
 target_refusal target.SamePeer = why.SamePeer
 target_refusal target.Memory = why.Memory
 
--- how far a replication came that its plan stopped, or why it is refused
+-- the low water of a replication that its plan stopped, or the error of the line
 abbrev pub stop_of : TargetFault → Result ℕ Refusal
 stop_of (target.Unfinished low_water) = Ok low_water
 stop_of fault = Err (target_refusal fault)
 
--- how far a run of the pool came that its plan stopped, or why it is refused
+-- the low water of a pool run that its plan stopped, or the error of the line
 abbrev pub run_stop_of : PoolFault → Result ℕ Refusal
 run_stop_of pool.NoWorkers = Err why.NoWorkers
 run_stop_of pool.TooManyWorkers = Err why.TooManyWorkers
@@ -105,12 +105,12 @@ run_stop_of pool.CountFull = Err why.CountFull
 run_stop_of pool.BoardFull = Err why.BoardFull
 run_stop_of pool.Memory = Err why.Memory
 
--- a result whose fault is told as a refusal
+-- a result with its error converted to the error of a line
 abbrev pub told_as : {A E : Type 0} → (E → Refusal) → Result A E → Result A Refusal
 told_as name (Ok x) = Ok x
 told_as name (Err fault) = Err (name fault)
 
--- ---- the name that an answer gives
+-- ---- the printed names
 
 abbrev pub name_of : Refusal → List ℕ
 name_of why.BadLine = codes "BadLine"

@@ -21,19 +21,20 @@ use Rattle.repl_target.specs.declared.replication.Plan.{Plan}
 use Rattle.script_databases.specs.Databases.{State, peer_at, with_peer}
 use Rattle.script_databases.specs.declared.watched.Watched.{Watched}
 
--- a target refuses the documents whose ids begin with what the program denies
+-- a target refuses the documents whose ids begin with the prefix
 abbrev pub deny_refuses : Option (List ℕ) → Document → Bool
 deny_refuses deny d = option_map_or (λ prefix. starts_with nat_eq d.id prefix) deny false
 
--- the state with these two peers under two names
+-- the state after two peers are stored under their names
 abbrev pub with_both : State → List ℕ → List ℕ → PeerValue → PeerValue → State
 with_both old source target s t = with_peer (with_peer old source s) target t
 
 -- ---- by one thread
 
--- what it leaves (docs/PROFILE.md, "Replication by one thread" and "Tied peers"): the source is as it was but for its
--- log, and the target is a later one; peers that were tied stay so, with each copy of the source, whichever choice is
--- looked at; and at Ok the report is the session's, and all of the source's chosen feed is covered where the two were tied
+-- After a replication by one thread (docs/PROFILE.md, "Replication by one thread" and "Tied peers"): only the log of
+-- the source changed, and the target is a later one; peers that were tied are still tied, with all backups of the
+-- source, for every selection. If it succeeded, the report is the session's, and the target covers the source's
+-- selected feed if the two were tied before.
 pub record KeepsTied (s t : PeerValue) (plan : Plan) (result : Result Report TargetFault) (s' t' : PeerValue) : Type 0
   where
     pub log : s' ≡ record s { outgoing = s'.outgoing }
@@ -43,8 +44,7 @@ pub record KeepsTied (s t : PeerValue) (plan : Plan) (result : Result Report Tar
     pub well : IfOk result (λ report. IsReported s t t' plan report)
     pub whole : OnOk result (IsTiedPair s t plan.chosen → CoversFeed s t' plan.chosen s.db.update_seq)
 
--- any answer and next two peers that a replication gives, also where it is refused; from a name into itself each plan is
--- refused
+-- the possible results of a replication, including errors; every plan from a database to itself is rejected
 abbrev pub ReplicatesAlone : State → List ℕ → List ℕ → PeerValue → PeerValue → Plan → Result Report TargetFault → State
     → Type 0
 ReplicatesAlone old source target s t plan result new =
@@ -57,7 +57,7 @@ ReplicatesAlone old source target s t plan result new =
 abbrev pub Nowhere : Place → Type 0
 Nowhere place = ⊥
 
--- any answer and next two peers that a run of the pool may give, also where it is refused
+-- the possible results of a pool run, including errors
 abbrev pub ReplicatesByPool : State → List ℕ → List ℕ → PeerValue → PeerValue → Plan → Result Report PoolFault → State
     → Type 0
 ReplicatesByPool old source target s t plan result new =
@@ -66,15 +66,14 @@ ReplicatesByPool old source target s t plan result new =
     (old.program.deny, t') fetched result
     × (new ≡ with_both old source target s' t')
 
--- ---- by the pool, with its progress on a board
+-- ---- by the pool, with a progress board
 
--- how a run ended that was watched
+-- the result of a watched run, without its counters
 abbrev pub unwatched : Result Watched PoolFault → Result Report PoolFault
 unwatched (Ok watched) = Ok watched.report
 unwatched (Err why) = Err why
 
--- no more was settled than was read; or nothing was done, where memory was wanting for the board of a plan that is not
--- refused
+-- at most as much was settled as was read; or nothing changed, because a board for a valid plan could not be allocated
 abbrev pub ReplicatesWatched : State → List ℕ → List ℕ → PeerValue → PeerValue → Plan → Result Watched PoolFault
     → State → Type 0
 ReplicatesWatched old source target s t plan result new =
@@ -84,7 +83,7 @@ ReplicatesWatched old source target s t plan result new =
     (old.program.deny, t') fetched (unwatched result)
     × (new ≡ with_both old source target s' t')
 
--- ---- between two names under which peers stand, in one of these ways
+-- ---- between the peers of two names, in one of these ways
 
 abbrev pub ReplicatesBetween : {R : Type 0} → (State → List ℕ → List ℕ → PeerValue → PeerValue → Plan → R → State → Type 0)
     → State → List ℕ → List ℕ → Plan → R → State → Type 0

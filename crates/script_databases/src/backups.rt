@@ -1,4 +1,4 @@
-//! Copies of databases under names (docs/PROFILE.md, "Backup and restore").
+//! Named backups of databases (docs/PROFILE.md, "Backup and restore").
 ghost use Rattle.std.specs.Prelude.{◌≡◌, IfOk, string_bytes};
 ghost use Rattle.std.specs.Option.{option_copied};
 ghost use Rattle.script_databases.specs.Databases.{NamedBackupValue, is_named, backup_among};
@@ -7,7 +7,7 @@ use repl_target::Backup;
 use std::alloc::{AllocError, Global};
 use std::marker::Model;
 
-/// A copy of a database, with the database's name and its own. A name stands for one copy of each database.
+/// A backup, with the name of its database and its own name. Each database has at most one backup of a name.
 #[derive(Drop)]
 pub struct NamedBackup {
     db: String,
@@ -27,7 +27,7 @@ impl Model for NamedBackup {
 }
 
 impl NamedBackup {
-    /// A copy under its names.
+    /// Stores a backup under its names.
     pub fn new(
         alloc: Global,
         db: &str,
@@ -41,7 +41,7 @@ impl NamedBackup {
         Ok(NamedBackup { db, name, backup })
     }
 
-    /// Whether it is a copy of the database `db` under that name.
+    /// Whether this is the backup `name` of the database `db`.
     fn is_named(&self, db: &str, name: &str) -> bool
         ensures { result ≡ is_named db.now name.now self.now }
     {
@@ -49,7 +49,7 @@ impl NamedBackup {
     }
 }
 
-/// The copy of the database `db` under a name, where there is one.
+/// Finds the backup `name` of the database `db`.
 pub fn find_backup<'a>(backups: &'a [NamedBackup], db: &str, name: &str) -> Option<&'a Backup>
     ensures { option_copied result ≡ backup_among backups.now db.now name.now }
 {

@@ -23,36 +23,36 @@ use std::marker::Model;
 use std::sync::Wait;
 use std::thread::Threads;
 
-/// What an edit did: the new revision, and the sequence of the change.
+/// The result of an edit: the new revision, and the update sequence after the edit.
 #[derive(Clone, Copy, Debug, PartialEq, Eq)]
 pub struct Edited {
     pub rev: Rev,
     pub seq: u64,
 }
 
-/// What a database has after it was put back: its update sequence, and its life.
+/// The update sequence and the life of a restored database.
 #[derive(Clone, Copy, Debug, PartialEq, Eq)]
 pub struct PutBack {
     pub seq: u64,
     pub life: u64,
 }
 
-/// The peers by their names.
+/// Peers by name.
 pub type Names = IndexMap<String, Peer<Rules>>;
 
-/// The databases of a script, each a peer under its name, the numbers of their UUIDs, and how many ids were made. Each
-/// peer refuses what the settings say.
+/// The databases of a script: peers by name, an index of their UUIDs, and the number of generated ids. All peers have
+/// the filter from the settings.
 pub struct Databases {
     settings: Settings,
     by_name: Names,
     uuids: IndexSet<u128>,
-    /// How many ids were made.
+    /// The number of generated ids.
     drawn: u128,
-    /// Copies of databases, the oldest first.
+    /// Backups, the oldest first.
     backups: Vec<NamedBackup>,
 }
 
-// By hand, so that it is proved once: docs/DECISIONS.md, "Letting values go".
+// Implemented by hand, so that it is proved once: docs/DECISIONS.md, "Letting values go".
 impl Drop for Databases {
     fn drop(self) {
         let Databases {
@@ -83,7 +83,7 @@ impl Databases {
     ghost use Rattle.script_databases.specs.Refusals.{GivesOrMemory};
     ghost use Rattle.script_databases.specs.Replications.{ReplicatesAlone, ReplicatesBetween, ReplicatesByPool, ReplicatesWatched};
 
-    /// No databases, with a copy of the settings, from whose seed ids are made. All of none are tied.
+    /// Creates an empty set of databases, with a copy of the settings. It is trivially consistent.
     pub fn new(alloc: Global, settings: &Settings) -> Result<Databases, AllocError>
         ensures none { IfOk result (λ databases. databases ≡ no_databases (program_of settings.now)) }
         ensures tied { IfOk result (λ databases. AllTied databases) }
@@ -98,28 +98,28 @@ impl Databases {
         })
     }
 
-    /// What the program is set to.
+    /// The settings of the program.
     pub fn settings(&self) -> &Settings
         ensures { program_of result.now ≡ self.now.program }
     {
         &self.settings
     }
 
-    /// The peer of a name, where one has it.
+    /// The peer with this name, if there is one.
     pub fn find(&self, name: &str) -> Option<&Peer<Rules>>
         ensures { option_map (λ p. p.1) (option_copied result) ≡ peer_at self.now name.now }
     {
         self.by_name.get(name)
     }
 
-    /// Whether a peer has the name.
+    /// Whether there is a peer with this name.
     pub fn has(&self, name: &str) -> bool
         ensures { result ≡ contains_key self.now.peers name.now }
     {
         self.by_name.contains_key(name)
     }
 
-    /// Whether a database has the UUID of that number.
+    /// Whether a database has this UUID.
     pub fn is_taken(&self, uuid: u128) -> bool
         ensures taken { result ≡ true → IsTaken self.now uuid }
         ensures free { result ≡ false → IsTaken self.now uuid → ⊥ }
@@ -127,7 +127,7 @@ impl Databases {
         self.uuids.contains(&uuid)
     }
 
-    /// The number of the next made id, which is drawn.
+    /// Generates the next id.
     pub fn draw(&mut self) -> u128
         ensures id { result ≡ next_made self.old }
         ensures drawn { self.new ≡ drawn_one self.old }
@@ -142,7 +142,7 @@ impl Databases {
         id
     }
 
-    /// A peer of no documents that refuses what the settings say. `uuid` is the number of its UUID.
+    /// Creates an empty peer with this UUID and the filter from the settings.
     pub fn make(&self, alloc: Global, uuid: u128) -> Result<Peer<Rules>, AllocError>
         ensures { IfOk result (λ p. (p.1 ≡ new_peer uuid) × (deny_of p.0 ≡ self.now.program.deny)) }
     {
@@ -153,8 +153,9 @@ impl Databases {
         Ok(Peer::new(alloc, uuid, Rules { deny }))
     }
 
-    /// Adds a peer under a name that is not there. It refuses what the settings say. All stay tied where it is a new one,
-    /// into and out of which nothing was replicated, and no database has its UUID.
+    /// Adds a peer under an unused name. The peer must have the filter from the settings.
+    ///
+    /// All databases stay consistent if the peer has no sessions and no logs, and no other database has its UUID.
     pub fn add(&mut self, alloc: Global, name: &str, peer: Peer<Rules>) -> Result<(), AllocError>
         requires absent { peer_at self.old name.now ≡ None }
         requires filter { deny_of peer.0 ≡ self.old.program.deny }
@@ -171,7 +172,11 @@ impl Databases {
         Ok(())
     }
 
-    /// Loads a document into the database of a name. `NoDatabase` where none has it; else what the database refuses.
+    /// Loads a document into a database.
+    ///
+    /// # Errors
+    ///
+    /// `NoDatabase` if the name is unknown; otherwise the error of the database.
     pub fn load(&mut self, name: &str, doc: &Doc) -> Result<Put, Refusal>
         ensures answer { GivesOrMemory result (load_answer (peer_at self.old name.now) doc.now) }
         ensures ok { OnOk result (self.new ≡ loaded_at self.old name.now doc.now) }
@@ -185,7 +190,11 @@ impl Databases {
         Ok(put)
     }
 
-    /// Edits a document of the database of a name. `NoDatabase` where none has it; else what the database refuses.
+    /// Edits a document of a database.
+    ///
+    /// # Errors
+    ///
+    /// `NoDatabase` if the name is unknown; otherwise the error of the database.
     pub fn edit(
         &mut self,
         name: &str,
@@ -208,11 +217,13 @@ impl Databases {
         Ok(Edited { rev, seq })
     }
 
-    /// Keeps a copy of the database `db` under a name of its own, and answers the copy's update sequence (docs/PROFILE.md,
+    /// Saves a backup of the database `db` under a name. Returns the update sequence of the backup (docs/PROFILE.md,
     /// "Backup and restore").
     ///
-    /// `NoDatabase` where none is there; else `BackupExists` where that database has a copy of the name; else `IsTarget`
-    /// where something was replicated into it.
+    /// # Errors
+    ///
+    /// Checked in this order: `NoDatabase` if the name is unknown; `BackupExists` if the database has a backup of this
+    /// name; `IsTarget` if the database has been a replication target.
     pub fn back_up(&mut self, alloc: Global, db: &str, name: &str) -> Result<u64, Refusal>
         ensures answer { GivesOrMemory result (backed_told (backed_answer self.old db.now name.now)) }
         ensures ok { OnOk result (self.new ≡ backed_at self.old db.now name.now) }
@@ -235,11 +246,13 @@ impl Databases {
         Ok(seq)
     }
 
-    /// Puts the database `db` back to its copy of a name, which is kept, and answers the update sequence and the life that
-    /// it then has (docs/PROFILE.md, "Backup and restore").
+    /// Restores the database `db` from its backup of this name, which is kept. Returns the new update sequence and life
+    /// (docs/PROFILE.md, "Backup and restore").
     ///
-    /// `NoDatabase` where none is there; else `NoBackup` where that database has no copy of the name; else `IsTarget` where
-    /// something was replicated into it, and `LifeFull` where no life is left.
+    /// # Errors
+    ///
+    /// Checked in this order: `NoDatabase` if the name is unknown; `NoBackup` if the database has no backup of this
+    /// name; `IsTarget` if the database has been a replication target; `LifeFull` if there is no unused life.
     pub fn put_back(&mut self, db: &str, name: &str) -> Result<PutBack, Refusal>
         ensures answer { GivesOrMemory result
             (put_back_answer (peer_at self.old db.now) (backup_at self.old db.now name.now)) }
@@ -259,10 +272,10 @@ impl Databases {
         Ok(PutBack { seq, life })
     }
 
-    /// Replicates from the database of one name into that of another by the pool, through the gate that is always open.
-    /// Both are there. It waits.
+    /// Replicates between two existing databases with the pool. Blocks until the run has ended.
     ///
-    /// A plan that is refused before all else changes nothing: so is each where the names are one.
+    /// A plan that is rejected at the start changes nothing. A replication from a database to itself is rejected in
+    /// this way.
     pub fn replicate<H: Threads + Wait + Sync>(
         &mut self,
         rt: &H,
@@ -293,10 +306,12 @@ impl Databases {
         outcome
     }
 
-    /// Replicates from the database of one name into that of another by the pool, as `replicate`, over a new board with
-    /// one viewer, which reads it once the run has ended. Both are there. It waits.
+    /// Replicates like `replicate`, with a new progress board. Reads the board through its one viewer after the run has
+    /// ended.
     ///
-    /// `Memory` too, with nothing changed, where there is none for the board.
+    /// # Errors
+    ///
+    /// Those of `replicate`; also `Memory` if the board cannot be allocated, which changes nothing.
     pub fn replicate_watched<H: Threads + Wait + Sync>(
         &mut self,
         rt: &H,
@@ -332,9 +347,10 @@ impl Databases {
         with_reading(&board, &mut viewer, outcome)
     }
 
-    /// Replicates from the database of one name into that of another by one thread. Both are there.
+    /// Replicates between two existing databases with one thread.
     ///
-    /// A plan that is refused before all else changes nothing: so is each where the names are one.
+    /// A plan that is rejected at the start changes nothing. A replication from a database to itself is rejected in
+    /// this way.
     pub fn replicate_alone(
         &mut self,
         alloc: Global,

@@ -1,6 +1,6 @@
-//! The databases of a script: peers by name, what the program is set to, and the ids that are made.
+//! The databases of a script: peers by name, the program's settings, and generated ids.
 //!
-//! Each call answers a value or why the line is refused (`Refusal`). What lines are is not known here.
+//! Each call returns a value or the error of the line (`Refusal`). This crate does not know the format of lines.
 #![tactic(auto)]
 
 mod backups;

@@ -1,4 +1,4 @@
-//! The ids that a script makes (docs/PROFILE.md, "Made ids").
+//! Generated ids (docs/PROFILE.md, "Made ids").
 ghost use Rattle.std.specs.Prelude.{◌≡◌, ◌<◌, ◌^◌};
 ghost use Rattle.script_databases.specs.MadeIds.{made_id, of_number, next_place};
 
@@ -6,27 +6,27 @@ use rand_chacha::ChaCha8Rng;
 use rand_core::SeedableRng;
 use uuid::Uuid;
 
-/// How many ids there are before the stream begins again.
+/// The number of ids before the stream repeats.
 const IDS: u128 = 1 << 66;
 
-/// The stream of made ids of a seed, at its next one: ChaCha with 8 rounds, whose key is the seed as 8 bytes, least
-/// first, and 24 zeros, four words an id.
+/// A generator of ids: ChaCha with 8 rounds, four 32-bit words per id. The key is the seed as 8 bytes, least
+/// significant first, and 24 zeros.
 #[derive(Drop)]
 pub struct MadeIds {
     pub seed: u64,
-    /// How many have been drawn.
+    /// The number of generated ids.
     pub drawn: u128,
 }
 
 impl MadeIds {
-    /// The stream of a seed, at its first id.
+    /// Starts the stream of a seed.
     pub fn new(seed: u64) -> MadeIds
         ensures { result ≡ record { seed = seed; drawn = 0 } }
     {
         MadeIds { seed, drawn: 0 }
     }
 
-    /// The number of the next id, a version 4 UUID of the stream's next 16 bytes.
+    /// Generates the next id: a version 4 UUID from the next 16 bytes of the stream.
     pub fn draw(&mut self) -> u128
         ensures id { result ≡ made_id self.old.seed self.old.drawn }
         ensures next { self.new ≡ record self.old { drawn = next_place self.old.drawn } }
@@ -40,7 +40,7 @@ impl MadeIds {
     }
 }
 
-/// The generator of a seed, at its beginning.
+/// The random generator of a seed, at its start.
 fn rng_of(seed: u64) -> ChaCha8Rng
     ensures { result ≡ of_number seed }
 {

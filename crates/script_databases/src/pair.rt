@@ -1,4 +1,4 @@
-//! Two peers of a table of names: looked up, taken out, and put in again.
+//! Looking up two peers, taking them out of the table, and putting them back.
 ghost use Rattle.std.specs.Prelude.{◌≡◌, ◌≢◌, true, Some};
 ghost use Rattle.std.specs.FinMap.{contains_key, get, insert};
 ghost use Rattle.script_databases.specs.Stored.{deny_of, denied_of, peers_of, IsEmptied};
@@ -8,7 +8,7 @@ use repl_target::{Peer, Rules};
 use std::alloc::Global;
 use std::mem;
 
-/// The peers of two names, which are there.
+/// The peers of two existing names.
 pub fn find_both<'a>(
     names: &'a Names,
     source: &str,
@@ -29,7 +29,7 @@ pub fn find_both<'a>(
     (sender, receiver)
 }
 
-/// Takes the peers of two names out. Peers without documents stand in their places.
+/// Takes two peers out of the table. Empty peers replace them.
 pub fn take_out(
     names: &mut Names,
     alloc: Global,
@@ -56,7 +56,7 @@ pub fn take_out(
     (sender, receiver)
 }
 
-/// Puts two peers in at their names, which are there.
+/// Stores two peers under their existing names.
 pub fn put_in(
     names: &mut Names,
     source: &str,

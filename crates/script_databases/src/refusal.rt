@@ -1,4 +1,4 @@
-//! Why a line is refused.
+//! The errors of lines.
 ghost use Rattle.std.specs.Prelude.{◌≡◌};
 ghost use Rattle.script_databases.specs.declared.refusal.Refusal.TheVariants.{Memory};
 ghost use Rattle.script_databases.specs.Refusals.{name_of, base_refusal, doc_refusal, log_refusal, rev_refusal, run_stop_of, stop_of, target_refusal};
@@ -11,131 +11,132 @@ use repl_target::TargetFault;
 use rev_core::RevFault;
 use std::alloc::{AllocError, AllocFailed};
 
-/// Why a line is refused, or that memory ran out (docs/PROFILE.md, "Order of checks"). `name` gives the name of each.
+/// Why a line failed (docs/PROFILE.md, "Order of checks"). `name` returns the printed name. The variants
+/// that are not expected for a line exist so that each error of a call has its own name.
 #[derive(Clone, Copy, Debug, PartialEq, Eq)]
 pub enum Refusal {
-    /// A window is done already, which no line brings.
+    /// A window is already done. Not expected for a line.
     AlreadyDone,
     /// A document has attachments.
     Attachments,
-    /// A batch is not 1 to 10,000.
+    /// A batch size is not 1 to 10,000.
     BadBatch,
-    /// The object is no command: a word, a member or its kind is wrong.
+    /// The object is not a command: its command, a member or a type is wrong.
     BadCommand,
     /// A revision id has no generation.
     BadGeneration,
-    /// A page of no rows is asked for, which no line does.
+    /// A page of no rows was requested. Not expected for a line.
     BadLimit,
-    /// The line is no JSON object.
+    /// The line is not a JSON object.
     BadLine,
-    /// A moment lies after the year 9999.
+    /// A timestamp is after the year 9999.
     BadMoment,
-    /// The goal of a page is not above its start, which no line asks.
+    /// The goal of a page is not above its start. Not expected for a line.
     BadRange,
-    /// A document's `_revisions` is no ancestry.
+    /// A document's `_revisions` is not an ancestry.
     BadRevisions,
     /// A revision id has no signature.
     BadSig,
-    /// A copy of the database has the name.
+    /// The database already has a backup of this name.
     BackupExists,
-    /// A word of the board that shows progress would pass its limit.
+    /// A counter of the progress board would exceed its maximum.
     BoardFull,
-    /// An edit's parent is no leaf, or it names none and a leaf is live.
+    /// An edit's parent is not a leaf, or it is missing and the document has a live leaf.
     Conflict,
-    /// A given revision has another parent in the document's tree.
+    /// A given revision has a different parent in the document's tree.
     Contradiction,
-    /// A count of the session would pass its limit.
+    /// A count of the session would exceed its maximum.
     CountFull,
-    /// A UUID is given for a database that is there.
+    /// A UUID was given for an existing database.
     DatabaseExists,
-    /// A log without entries is asked for.
+    /// The requested log has no entries.
     EmptyLog,
-    /// A copy is of another database, which no line puts back.
+    /// A backup is from a different database. Not expected for a line.
     ForeignBackup,
-    /// Documents are of no window of the session.
+    /// A parcel belongs to no window of the session. Not expected for a line.
     ForeignParcel,
-    /// A number is neither an i64 nor a u64.
+    /// A number is not a 64-bit integer.
     Fraction,
-    /// A window does not follow the ones before, which no line brings.
+    /// A window does not follow the previous one. Not expected for a line.
     Gap,
-    /// An edit's parent has the greatest generation.
+    /// An edit's parent has the maximum generation.
     GenerationFull,
-    /// The goal of a page is above the update sequence, which no line asks.
+    /// The goal of a page is above the update sequence. Not expected for a line.
     GoalAhead,
-    /// A session has its goal below its start.
+    /// A session's goal is below its start. Not expected for a line.
     GoalBelowStart,
-    /// A worker was stopped, which no line's replication is.
+    /// A worker was stopped. Not expected for a line.
     Halted,
-    /// A leaf of the source isn't covered, which no replication ends with.
+    /// A leaf of the source is not covered. Not expected for a line.
     Hole,
-    /// Something was replicated into the database.
+    /// The database has been a replication target.
     IsTarget,
-    /// No life is left.
+    /// There is no unused life.
     LifeFull,
-    /// An allocation was refused.
+    /// An allocation failed.
     Memory,
-    /// No copy of the database has the name.
+    /// The database has no backup of this name.
     NoBackup,
-    /// No database has the name.
+    /// No database has this name.
     NoDatabase,
-    /// A document's id is absent, no text, or empty.
+    /// A document's id is missing, empty, or not a string.
     NoId,
-    /// A list of chosen documents is empty.
+    /// The list of selected documents is empty.
     NoneChosen,
     /// A document has no revision id.
     NoRev,
-    /// A session begins behind none of its replication, which no line asks.
+    /// A session's base session does not exist. Not expected for a line.
     NoSuchBase,
-    /// The database has no document of the id.
+    /// The database has no document with this id.
     NoSuchDocument,
-    /// The document has no such revision, or it has no content.
+    /// The document has no such revision, or its content is unknown.
     NoSuchRevision,
     /// The target has no such session.
     NoSuchSession,
-    /// A pool without workers.
+    /// The number of workers is 0.
     NoWorkers,
-    /// A document or a body is no object.
+    /// A document or a body is not an object.
     NotObject,
-    /// A log's entry has a greater recorded sequence, which no line is refused for.
+    /// The stored log entry has a greater recorded sequence. Not expected for a line.
     Older,
-    /// A window or an entry is of another life, which no line brings.
+    /// A window or an entry is from another life. Not expected for a line.
     OtherLife,
-    /// A window ends above the goal, which no line brings.
+    /// A window ends above the goal. Not expected for a line.
     PastGoal,
-    /// A document's id begins with `_` and is no id of a design document.
+    /// A document's id begins with `_`, and is not the id of a design document.
     ReservedId,
-    /// The revision of an edit is there already.
+    /// The revision of an edit already exists.
     RevExists,
     /// A document's `_rev` is not the newest of its `_revisions`.
     RevMismatch,
-    /// Source and target are one database.
+    /// Source and target are the same database.
     SamePeer,
-    /// The update sequence is the greatest one.
+    /// The update sequence is at its maximum.
     SeqFull,
-    /// A database is asked for at a sequence above the greatest one, which no line does.
+    /// A new database's update sequence is above the maximum. Not expected for a line.
     SeqTooLarge,
-    /// The target holds the session.
+    /// The target already has this session.
     SessionExists,
-    /// A special member is not known, or `_deleted` is no flag.
+    /// A special member is unknown, or `_deleted` is not a Boolean.
     SpecialMember,
-    /// A session begins above what is recorded, which no line asks.
+    /// A session starts above what its base session has recorded. Not expected for a line.
     StartAboveBase,
-    /// A window was settled in part: memory or a sequence was wanting.
+    /// Only part of a window was settled: no memory, or no update sequence, was left.
     Stopped,
-    /// More than 1,000 documents are chosen.
+    /// More than 1,000 documents are selected.
     TooManyChosen,
-    /// A pool of more than 64 workers.
+    /// The number of workers is above 64.
     TooManyWorkers,
-    /// A leaf of a window is not covered by what was fetched.
+    /// The fetched documents do not cover a leaf of the window. Not expected for a line.
     Uncovered,
-    /// A session isn't at its goal, which no line is refused for.
+    /// A session has not reached its goal. Not expected for a line.
     Unfinished,
-    /// Another database has the UUID.
+    /// Another database has this UUID.
     UuidTaken,
 }
 
 impl Refusal {
-    /// The name that an answer gives (docs/PROFILE.md, "Names of refusals").
+    /// The printed name (docs/PROFILE.md, "Names of refusals").
     pub fn name(&self) -> &'static str
         ensures { result.now ≡ name_of self.now }
     {
@@ -202,7 +203,7 @@ impl Refusal {
         }
     }
 
-    /// How far a replication came that its plan stopped, or the refusal of a line whose replication is refused.
+    /// The low water of a replication that its plan stopped, or the error of the line.
     pub fn stop_of(fault: TargetFault) -> Result<u64, Refusal>
         ensures { result ≡ stop_of fault }
     {
@@ -212,7 +213,7 @@ impl Refusal {
         }
     }
 
-    /// How far a run of the pool came that its plan stopped, or the refusal of a line whose run is refused.
+    /// The low water of a pool run that its plan stopped, or the error of the line.
     pub fn run_stop_of(fault: PoolFault) -> Result<u64, Refusal>
         ensures { result ≡ run_stop_of fault }
     {
@@ -247,7 +248,7 @@ impl<T: Drop> From<AllocFailed<T>> for Refusal {
     }
 }
 
-/// The refusal of a line whose document, body or id is refused.
+/// The error of a line whose document, body or id is invalid.
 impl From<DocFault> for Refusal {
     ghost from_gives = { λ fault e. e ≡ doc_refusal fault };
 
@@ -269,9 +270,9 @@ impl From<DocFault> for Refusal {
     }
 }
 
-/// The refusal of a line whose revision id is refused.
+/// The error of a line whose revision id is invalid.
 ///
-/// An ancestry's two refusals come from no text of a revision id.
+/// The two errors of ancestries do not occur for the text of a revision id.
 impl From<RevFault> for Refusal {
     ghost from_gives = { λ fault e. e ≡ rev_refusal fault };
 
@@ -287,7 +288,7 @@ impl From<RevFault> for Refusal {
     }
 }
 
-/// The refusal of a line whose call a database refused.
+/// The error of a line whose database call failed.
 impl From<BaseFault> for Refusal {
     ghost from_gives = { λ fault e. e ≡ base_refusal fault };
 
@@ -308,7 +309,7 @@ impl From<BaseFault> for Refusal {
     }
 }
 
-/// The refusal of a line whose log or moment is refused.
+/// The error of a line whose log or timestamp is invalid.
 impl From<LogFault> for Refusal {
     ghost from_gives = { λ fault e. e ≡ log_refusal fault };
 
@@ -322,7 +323,7 @@ impl From<LogFault> for Refusal {
     }
 }
 
-/// The refusal of a line whose call a peer refused.
+/// The error of a line whose call of a peer failed.
 impl From<TargetFault> for Refusal {
     ghost from_gives = { λ fault e. e ≡ target_refusal fault };
 

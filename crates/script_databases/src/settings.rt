@@ -1,29 +1,28 @@
-//! What a program of scripts is set to.
+//! The settings of a program that runs scripts.
 ghost use Rattle.std.specs.Prelude.{◌≡◌, IfOk, false};
 ghost use Rattle.script_databases.specs.Stored.{program_of};
 
 use std::alloc::{AllocError, Global};
 
-/// The program's settings, which its options give.
-///
+/// The settings, as the program's options set them.
 #[derive(Drop)]
 pub struct Settings {
-    /// A target refuses each document whose id begins with this.
+    /// The id prefix of the documents that a target refuses.
     pub deny: Option<String>,
-    /// The seed of the ids that are made.
+    /// The seed of generated ids.
     pub seed: u64,
-    /// The moment of a replication, in seconds since 1970.
+    /// The timestamp of replications, in Unix time.
     pub at: u64,
-    /// How many workers a replication has.
+    /// The number of workers of a replication.
     pub workers: u64,
-    /// How many rows a window of a replication has at most.
+    /// The maximum number of rows of a window.
     pub batch: u64,
-    /// Whether a load or an edit that is done is answered nothing.
+    /// Whether successful loads and edits print nothing.
     pub quiet: bool,
 }
 
 impl Settings {
-    /// The settings of a program without options: no prefix, 0, 0, 4, 500, not quiet.
+    /// The default settings: no prefix, seed 0, timestamp 0, 4 workers, batches of 500, not quiet.
     pub fn new() -> Settings
         ensures { result ≡ record { deny = None; seed = 0; at = 0; workers = 4; batch = 500; quiet = false } }
     {
@@ -37,7 +36,7 @@ impl Settings {
         }
     }
 
-    /// A copy.
+    /// Copies the settings.
     pub fn copy(&self, alloc: Global) -> Result<Settings, AllocError>
         ensures { IfOk result (λ copy. program_of copy ≡ program_of self.now) }
     {

@@ -1,4 +1,4 @@
-//! Runs of the pool that are watched on a board.
+//! Pool runs that are watched on a progress board.
 ghost use Rattle.std.specs.Prelude.{◌≡◌, ◌≤◌, true, IfErr, IfOk, vec_len};
 ghost use Rattle.std.specs.List.{All};
 ghost use Rattle.progress_board.specs.Seats.{CameWith, are_seats};
@@ -11,18 +11,18 @@ use repl_pool::{PoolFault, Seats, board_with_seats};
 use repl_target::Report;
 use std::alloc::Global;
 
-/// A run of the pool that came to its goal, with what its board showed once it had ended.
+/// A run that reached its goal, with the counters of its board after its end.
 #[derive(Clone, Copy, Debug, PartialEq, Eq)]
 pub struct Watched {
-    /// How many documents all workers have settled.
+    /// The number of documents that all workers settled.
     pub settled: u64,
-    /// How many they have read: no fewer.
+    /// The number of documents that all workers read, at least `settled`.
     pub read: u64,
     /// The report of the session.
     pub report: Report,
 }
 
-/// A new board for a run with so many workers: with their seats, and the one of its viewer.
+/// Creates a board for a run, with a seat for each worker and one for the viewer.
 pub fn board_for(
     alloc: Global,
     workers: u64,
@@ -47,7 +47,7 @@ pub fn board_for(
     Ok((board, seats, viewer))
 }
 
-/// How a run ended that was watched: at its goal, with what its board shows.
+/// Adds the counters of the board to the result of a watched run.
 pub fn with_reading(
     board: &Board,
     viewer: &mut BoardSeat,

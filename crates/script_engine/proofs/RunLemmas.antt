@@ -5,7 +5,7 @@ use Rattle.script_engine.specs.declared.fault.ScriptFault.TheVariants.{Read, Wri
 use Rattle.script_engine.specs.Served.{Served}
 use Rattle.script_engine.proofs.ServedLemmas.{Served-none, Served-joined, Begins-joined, Begins-more, is_answered, is_answered_so_far}
 
--- these bytes were read in so many turns, and served, and their answers written
+-- these bytes were read in this number of reads, and run, and their output is written
 pub record Ran {S : Type 0} (f : Answering S (List ℕ)) (g : S) (p : Place S) (left left' held held' : Option (List ℕ)) (turns : ℕ) : Type 0 where
   pub input : List ℕ
   pub text : List ℕ
@@ -16,7 +16,7 @@ pub record Ran {S : Type 0} (f : Answering S (List ℕ)) (g : S) (p : Place S) (
 
 -- ---- known bytes
 
--- what was taken and what is left is all there was
+-- the bytes that were read and those that are left are all bytes
 pub Gives-left : (a b : Option (List ℕ)) (x : List ℕ) → Consumes a b x → Gives a (x ++ unwrap_or b [])
 Gives-left None b x p = tt
 Gives-left (Some a) None x p = absurd p
@@ -29,15 +29,15 @@ Gives-end (Some a) (Some b) x p e = p ∙ ap (λ z. x ++ z) e ∙ append-nil x
 
 -- ---- a chunk
 
--- there was none
+-- the reader was at its end
 pub no_chunk : {more : Bool} (left left' : Option (List ℕ)) (chunk : List ℕ) → more ≡ false → ReadsChunk more left left' chunk → Keeps left left' × IsAtEnd left'
 no_chunk left left' chunk e h = subst (λ b. ReadsChunk b left left' chunk) e h
 
--- there was one
+-- there was a chunk
 pub a_chunk : {more : Bool} (left left' : Option (List ℕ)) (chunk bytes : List ℕ) → more ≡ true → bytes ≡ chunk → ReadsChunk more left left' chunk → Consumes left left' bytes × (0 < length bytes) × (length bytes ≤ 65536)
 a_chunk left left' chunk bytes e is h = subst (ReadsChunk true left left') (sym is) (subst (λ b. ReadsChunk b left left' chunk) e h)
 
--- ---- turns
+-- ---- reads
 
 pub Ran-none : {S : Type 0} {f : Answering S (List ℕ)} {g : S} (p : Place S) (left held : Option (List ℕ)) (turns : ℕ) → p ≡ start g → Ran f g p left left held held turns
 Ran-none {f} {g} p left held turns e = record {
@@ -60,11 +60,11 @@ Ran-more {turns = turns} q left'' held'' bytes turns' e r c most (t, s, w) = rec
   few = omega (arith, r.few, length-append r.input bytes, e);
 }
 
--- the number of the line is far below its limit
+-- the line number is far below its limit
 pub Ran-number : {S : Type 0} {f : Answering S (List ℕ)} {g : S} {p : Place S} {left left' held held' : Option (List ℕ)} {turns : ℕ} → Ran f g p left left' held held' turns → turns ≤ 4294967295 → p.number + 65536 < 18446744073709551616
 Ran-number r h = omega (arith, r.served.number_is, r.served.few, r.few)
 
--- what the writer holds is kept
+-- what the writer has accepted is unchanged
 pub Ran-kept : {S : Type 0} {f : Answering S (List ℕ)} {g : S} {p : Place S} {left left' held held' : Option (List ℕ)} {turns : ℕ} (held'' : Option (List ℕ)) → Ran f g p left left' held held' turns → Keeps held' held'' → Ran f g p left left' held held'' turns
 Ran-kept {held = held} {held'} held'' r k = record {
   input = r.input;
@@ -75,15 +75,15 @@ Ran-kept {held = held} {held'} held'' r k = record {
   few = r.few;
 }
 
--- all lines that were read in are answered
+-- the output of all complete lines is written
 pub Ran-ended : {S : Type 0} {f : Answering S (List ℕ)} {g : S} {p : Place S} {left left' held held' : Option (List ℕ)} {turns : ℕ} (left'' : Option (List ℕ)) → Ran f g p left left' held held' turns → Keeps left' left'' → has_line_end p.begun ≡ false →
     (taken : List ℕ) × (text : List ℕ) × Consumes left left'' taken × Appends held held' text × AnswersEnded f g taken text p.state
 Ran-ended {p = p} {left} {left'} left'' r k e =
     (r.input, r.text, Consumes-kept left left' left'' r.input r.taken k, r.written, (r.served.lines, p.begun, r.served.told, r.served.cut, e, r.served.run, r.served.text_is))
 
--- ---- faults
+-- ---- errors
 
--- what is written answers a whole input that begins so
+-- the written text is a prefix of the output of some complete input that begins so
 pub record SoFar {S : Type 0} (fault : ScriptFault) (f : Answering S (List ℕ)) (g : S) (left held held' : Option (List ℕ)) : Type 0 where
   pub input : List ℕ
   pub text : List ℕ
@@ -94,7 +94,7 @@ pub record SoFar {S : Type 0} (fault : ScriptFault) (f : Answering S (List ℕ))
 begins : {S : Type 0} {f : Answering S (List ℕ)} → {p q : Place S} {xs t : List ℕ} → Served f p xs q t → Begins f p xs t
 begins {f} {p} {q} {xs} {t} s = record { front = xs; back = []; new = q; more = []; bytes_are = sym (append-nil xs); serves = subst (λ z. Served f p xs q z) (sym (append-nil t)) s }
 
--- the first lines of an input of which a front was served, whatever follows
+-- the first lines of an input of which a prefix was run, whichever bytes follow
 answers_whole : {S : Type 0} {f : Answering S (List ℕ)} {g : S} {q : Place S} {xs text : List ℕ} (rest input : List ℕ) → xs ++ rest ≡ input → Served f (start g) xs q text → IsAnsweredSoFar f g input text × AnswersFirst f g input text
 answers_whole {f = f} {g} {q} {xs} {text} rest input e s =
     (is_answered_so_far input (Begins-more rest (begins s)) (ap lines_of e), (s.lines, lines_of (q.begun ++ rest), s.told, q.state, ap lines_of (sym e) ∙ s.cut rest, s.run, s.text_is))
@@ -109,7 +109,7 @@ SoFar-none {g = g} left held = record {
   answered = answers_whole (unwrap_or left []) (unwrap_or left []) refl (Served-none (start g));
 }
 
--- the script stopped between two turns
+-- the script stopped between two reads
 pub SoFar-stopped : {S : Type 0} {f : Answering S (List ℕ)} {g : S} {p : Place S} {left left' held held' : Option (List ℕ)} {turns : ℕ} (left'' : Option (List ℕ)) → Ran f g p left left' held held' turns → Keeps left' left'' → SoFar Read f g left held held'
 SoFar-stopped {left = left} {left'} left'' r k = record {
   input = r.input ++ unwrap_or left'' [];
@@ -125,7 +125,7 @@ so_far f g input text Write h = h
 so_far f g input text Memory h = h.0
 so_far f g input text Cut h = h
 
--- a write failed besides
+-- in addition a write failed
 SoFar-write : {S : Type 0} {fault : ScriptFault} {f : Answering S (List ℕ)} {g : S} {left held held' : Option (List ℕ)} → SoFar fault f g left held held' → SoFar Write f g left held held'
 SoFar-write {fault = fault} {f} {g} s = record {
   input = s.input;
@@ -135,11 +135,11 @@ SoFar-write {fault = fault} {f} {g} s = record {
   answered = so_far f g s.input s.text fault s.answered;
 }
 
--- it stopped there since the answers could not be passed on
+-- the script stopped because its output could not be flushed
 pub SoFar-unsent : {S : Type 0} {f : Answering S (List ℕ)} {g : S} {p : Place S} {left left' held held' : Option (List ℕ)} {turns : ℕ} (left'' : Option (List ℕ)) → Ran f g p left left' held held' turns → Keeps left' left'' → SoFar Write f g left held held'
 SoFar-unsent left'' r k = SoFar-write (SoFar-stopped left'' r k)
 
--- it stopped in a chunk
+-- the script stopped within a chunk
 pub SoFar-fed : {S : Type 0} {f : Answering S (List ℕ)} {g : S} {p : Place S} {left left' held held' : Option (List ℕ)} {turns : ℕ} (fault : ScriptFault) (left'' held'' : Option (List ℕ)) (bytes : List ℕ) → Ran f g p left left' held held' turns → Consumes left' left'' bytes → FeedsUntil fault f p bytes held' held'' → SoFar fault f g left held held''
 SoFar-fed Read left'' held'' bytes r c x = absurd x
 SoFar-fed {left = left} {left'} Write left'' held'' bytes r c (t, b, w) = record {
@@ -164,7 +164,7 @@ SoFar-fed {left = left} {left'} Memory left'' held'' bytes r c (new, rest, fed) 
   answered = answers_whole (rest ++ unwrap_or left'' []) _ (sym (append_assoc (r.input ++ fed.front) rest (unwrap_or left'' [])) ∙ ap (λ z. z ++ unwrap_or left'' []) (append_assoc r.input fed.front rest ∙ ap (λ z. r.input ++ z) (sym fed.bytes_are))) (Served-joined r.served fed.feeds.1);
 }
 
--- what the writer holds is kept
+-- what the writer has accepted is unchanged
 pub SoFar-kept : {S : Type 0} {fault : ScriptFault} {f : Answering S (List ℕ)} {g : S} {left held held' : Option (List ℕ)} (held'' : Option (List ℕ)) → SoFar fault f g left held held' → Keeps held' held'' → SoFar fault f g left held held''
 SoFar-kept {held = held} {held'} held'' s k = record {
   input = s.input;
@@ -174,7 +174,7 @@ SoFar-kept {held = held} {held'} held'' s k = record {
   answered = s.answered;
 }
 
--- what was written is passed on, and that may fail
+-- the output is flushed, which may fail
 pub SoFar-left : {S : Type 0} {f : Answering S (List ℕ)} {g : S} {left held held' : Option (List ℕ)} (fault stands : ScriptFault) (w w' : ℕ) → SoFar fault f g left held held' → LeavesAs fault stands w w' → SoFar stands f g left held held'
 SoFar-left {f = f} {g} {left} {held} {held'} Read stands w w' s (inl h) = subst (λ e. SoFar e f g left held held') (sym h.0) s
 SoFar-left {f = f} {g} {left} {held} {held'} Read stands w w' s (inr h) = subst (λ e. SoFar e f g left held held') (sym h.0) (SoFar-write s)
@@ -184,7 +184,7 @@ SoFar-left {f = f} {g} {left} {held} {held'} Memory stands w w' s (inr h) = subs
 SoFar-left {f = f} {g} {left} {held} {held'} Cut stands w w' s (inl h) = subst (λ e. SoFar e f g left held held') (sym h.0) s
 SoFar-left {f = f} {g} {left} {held} {held'} Cut stands w w' s (inr h) = subst (λ e. SoFar e f g left held held') (sym h.0) (SoFar-write s)
 
--- nothing was read, and what was written before is passed on
+-- nothing was read, and earlier output is flushed
 pub SoFar-not_begun : {S : Type 0} {f : Answering S (List ℕ)} {g : S} (left held held' : Option (List ℕ)) (stands : ScriptFault) {w w' : ℕ} → Keeps held held' → LeavesAs Memory stands w w' → SoFar stands f g left held held'
 SoFar-not_begun left held held' stands {w} {w'} k l = SoFar-left Memory stands w w' (SoFar-kept held' (SoFar-none left held) k) l
 
@@ -193,7 +193,7 @@ SoFar-not_begun left held held' stands {w} {w'} k l = SoFar-left Memory stands w
 same_lines : {S : Type 0} {f : Answering S (List ℕ)} {g : S} {p : Place S} {xs t : List ℕ} (bytes : List ℕ) → Served f (start g) xs p t → lines_of (p.begun ++ bytes) ≡ lines_of p.begun → lines_of (xs ++ bytes) ≡ lines_of xs
 same_lines {p} {xs} bytes s e = s.cut bytes ∙ ap (λ z. s.lines ++ z) (e ∙ ap lines_of (sym (append-nil p.begun))) ∙ sym (s.cut []) ∙ ap lines_of (append-nil xs)
 
--- it stopped in its last line
+-- the script stopped in its last line
 pub SoFar-finished : {S : Type 0} {f : Answering S (List ℕ)} {g : S} {p : Place S} {left left' held held' : Option (List ℕ)} {turns : ℕ} (held'' : Option (List ℕ)) → Ran f g p left left' held held' turns → IsAtEnd left' → FinishesInPart f p held' held'' → SoFar Write f g left held held''
 SoFar-finished {left = left} {left'} held'' r e (bytes, l, (t, b, w)) = record {
   input = r.input;
@@ -203,21 +203,21 @@ SoFar-finished {left = left} {left'} held'' r e (bytes, l, (t, b, w)) = record {
   answered = is_answered_so_far r.input (Begins-joined r.served b) (same_lines bytes r.served l);
 }
 
--- it stopped in an answer
+-- the script stopped within a line's output
 pub SoFar-in_answer : {S : Type 0} {f : Answering S (List ℕ)} {g : S} {left held held' : Option (List ℕ)} (fault : ScriptFault) (w w' : ℕ) → IsInAnswer fault w w' → SoFar Write f g left held held' → SoFar fault f g left held held'
 SoFar-in_answer Read w w' h s = absurd h
 SoFar-in_answer Write w w' h s = s
 SoFar-in_answer Memory w w' h s = absurd h
 SoFar-in_answer Cut w w' h s = record { input = s.input; text = s.text; gives = s.gives; written = s.written; answered = s.answered }
 
--- it stopped where the answers to all lines were to be passed on
+-- the script stopped when the output of all lines was flushed
 pub FinishesInPart-whole : {S : Type 0} {f : Answering S (List ℕ)} {p q : Place S} (held held' held'' : Option (List ℕ)) → Finishes f p q held held' → Keeps held' held'' → FinishesInPart f p held held''
 FinishesInPart-whole held held' held'' (bytes, l, n, (t, s, w)) k = (bytes, l, (t, begins s, Appends-kept held held' held'' t w k))
 
 pub Finishes-kept : {S : Type 0} {f : Answering S (List ℕ)} {p q : Place S} (held held' held'' : Option (List ℕ)) → Finishes f p q held held' → Keeps held' held'' → Finishes f p q held held''
 Finishes-kept held held' held'' (bytes, l, n, (t, s, w)) k = (bytes, l, n, (t, s, Appends-kept held held' held'' t w k))
 
--- it came to its end
+-- the script ended
 pub Ran-finished : {S : Type 0} {f : Answering S (List ℕ)} {g : S} {p : Place S} {left left' held held' : Option (List ℕ)} {turns : ℕ} (q : Place S) (held'' : Option (List ℕ)) → Ran f g p left left' held held' turns → IsAtEnd left' → Finishes f p q held' held'' →
     (input : List ℕ) × (text : List ℕ) × Gives left input × Appends held held'' text × IsAnswered f g input q.clean text q.state
 Ran-finished {left = left} {left'} q held'' r e (bytes, l, n, (t, s, w)) =
@@ -234,7 +234,7 @@ Ran-end {left = left} {left'} left'' r k = record {
   few = r.few;
 }
 
--- ---- which device failed
+-- ---- the device that failed
 
 IsRead : ScriptFault → Type 0
 IsRead Read = Unit {0}
@@ -252,18 +252,18 @@ pub cut_not_read : Cut ≡ Read → ⊥
 unfolding IsRead
 cut_not_read e = subst IsRead (sym e) tt
 
--- what stops an answer is of the writer, or of memory
+-- an error within a line's output comes from the writer, or from memory
 pub IsInAnswer-of_writer : (fault : ScriptFault) (w w1 w' : ℕ) → w1 ≡ w → IsInAnswer fault w1 w' → IsOfWriter fault w w'
 IsInAnswer-of_writer Read w w1 w' e h = absurd h
 IsInAnswer-of_writer Write w w1 w' e h = h ∙ ap (λ n. min (n + 1) full) e
 IsInAnswer-of_writer Memory w w1 w' e h = absurd h
 IsInAnswer-of_writer Cut w w1 w' e h = h ∙ e
 
--- memory that is out before anything is read, as the script leaves it
+-- an allocation failed before anything was read
 pub LeavesAs-memory : {A : ScriptFault} (left : ScriptFault) (old new : ℕ) → A ≡ Memory → LeavesAs A left old new → LeavesAs Memory left old new
 LeavesAs-memory left old new e h = subst (λ f. LeavesAs f left old new) e h
 
--- a fault of the writer or of memory, behind which what was written is passed on
+-- an error of the writer or of memory, after which the output is flushed
 pub IsFaultOf-left : (fault stands : ScriptFault) (k k' r r' w w1 w2 w3 : ℕ) → r' ≡ r → w1 ≡ w → IsOfWriter fault w1 w2 → LeavesAs fault stands w2 w3 → IsFaultOf stands k k' r r' w w3
 IsFaultOf-left Read stands k k' r r' w w1 w2 w3 e f h l = absurd h
 IsFaultOf-left Write stands k k' r r' w w1 w2 w3 e f h l = subst (λ s. IsFaultOf s k k' r r' w w3) (sym l.0) (e, l.1 ∙ h ∙ ap (λ n. min (n + 1) full) f)
@@ -272,7 +272,7 @@ IsFaultOf-left Memory stands k k' r r' w w1 w2 w3 e f h (inr l) = subst (λ s. I
 IsFaultOf-left Cut stands k k' r r' w w1 w2 w3 e f h (inl l) = subst (λ s. IsFaultOf s k k' r r' w w3) (sym l.0) (e, l.1 ∙ h ∙ f)
 IsFaultOf-left Cut stands k k' r r' w w1 w2 w3 e f h (inr l) = subst (λ s. IsFaultOf s k k' r r' w w3) (sym l.0) (e, l.1 ∙ ap (λ n. min (n + 1) full) (h ∙ f))
 
--- a script that stopped in bytes that it took in did not stop at a read
+-- a script that stopped within bytes it had read did not stop at a read
 pub not_read : (fault stands : ScriptFault) (w1 w2 w3 : ℕ) → IsOfWriter fault w1 w2 → LeavesAs fault stands w2 w3 → stands ≡ Read → ⊥
 not_read Read stands w1 w2 w3 h l e = absurd h
 not_read Write stands w1 w2 w3 h l e = write_not_read (sym l.0 ∙ e)
@@ -281,6 +281,6 @@ not_read Memory stands w1 w2 w3 h (inr l) e = write_not_read (sym l.0 ∙ e)
 not_read Cut stands w1 w2 w3 h (inl l) e = cut_not_read (sym l.0 ∙ e)
 not_read Cut stands w1 w2 w3 h (inr l) e = write_not_read (sym l.0 ∙ e)
 
--- a script that has not begun stands at its start
+-- a script that has not begun is in its initial state
 pub place_equal : {S : Type 0} (s : S) (b : List ℕ) (n : ℕ) (clean : Bool) → b ≡ [] → n ≡ 1 → clean ≡ true → (record { state = s; begun = b; number = n; clean = clean }) ≡ start s
 place_equal s b n clean e f h = λ i. record { state = s; begun = e i; number = f i; clean = h i }

@@ -1,4 +1,4 @@
-//! A reader, chunk after chunk.
+//! Reads a reader in chunks.
 ghost use Rattle.std.specs.Prelude.{◌≡◌, ◌+◌, ℕ, IfOk, IfErr, OnOk, OnErr};
 ghost use Rattle.std.specs.Io.KnownBytes.{Keeps};
 ghost use Rattle.script_engine.specs.Chunks.{HasRead, AreChunks, ReadsChunk, StopsReading};
@@ -9,25 +9,25 @@ use crate::device::ScriptRead;
 use crate::fault::ScriptFault;
 use std::alloc::{AllocError, Global};
 
-/// How many reads there are at most (docs/PROFILE.md, "Limits").
+/// The maximum number of reads (docs/PROFILE.md, "Limits").
 const MAX_READS: u32 = 4294967295;
 
-/// How many bytes a read takes at most.
+/// The maximum number of bytes per read.
 const CHUNK: usize = 65536;
 
-/// What is read of a reader, chunk after chunk.
+/// Reads a reader in chunks, into one buffer.
 #[derive(Drop)]
 pub struct Chunks {
-    /// Room for a chunk.
+    /// The buffer for a chunk.
     room: Vec<u8>,
-    /// How much of it is the chunk that was read last.
+    /// The length of the last chunk, which is at the start of the buffer.
     count: usize,
-    /// How many reads were made.
+    /// The number of reads so far.
     turns: u32,
 }
 
 impl Chunks {
-    /// Nothing is read yet.
+    /// Allocates the buffer. Nothing has been read yet.
     pub fn new(alloc: Global) -> Result<Chunks, AllocError>
         ensures begun { IfOk result (λ c. c.turns ≡ 0) }
         ensures room { IfOk result AreChunks }
@@ -40,8 +40,11 @@ impl Chunks {
         })
     }
 
-    /// Reads the next chunk, and tells whether there is one: at the reader's end there is none. `Read` where the reader
-    /// failed, or 4,294,967,295 reads were made.
+    /// Reads the next chunk. Returns `false` at the end of the input.
+    ///
+    /// # Errors
+    ///
+    /// `Read`: the reader failed, or 4,294,967,295 reads were made before.
     pub fn next<R: ScriptRead>(&mut self, reader: &mut R) -> Result<bool, ScriptFault>
         requires room { AreChunks self.old }
         ensures chunk { IfOk result (λ more.
@@ -71,7 +74,7 @@ impl Chunks {
         }
     }
 
-    /// The chunk that was read last.
+    /// Returns the chunk that was read last.
     pub fn bytes(&self) -> &[u8]
         requires room { AreChunks self.now }
         ensures { result.now ≡ chunk_of self.now }

@@ -1,4 +1,4 @@
-//! Tests of the engine of scripts.
+//! Tests of the script engine.
 #![tactic(auto)]
 
 #[cfg(test)]

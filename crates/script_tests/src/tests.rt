@@ -1,11 +1,11 @@
-//! Tests of the engine that runs a script's lines, over a server of other words than the program's: what each line is answered,
-//! when answers go out, and devices that give and take little, and fail at one of their calls.
+//! Tests of the script engine with servers of their own: the output of lines, when output is flushed, and devices that
+//! read and write little and fail at a chosen call.
 
-// What lines are answered, and when their answers go out.
+// The output of lines, and when it is flushed.
 mod engine;
 
-// Devices that fail.
+// Failing devices.
 mod devices;
 
-// Answers in pieces.
+// Output in pieces.
 mod pieces;

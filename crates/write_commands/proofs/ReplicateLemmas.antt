@@ -1,4 +1,4 @@
--- What replications are told.
+-- The results of replications.
 use Rattle.proof_prelude.proofs.{◌≡◌, ◌≤◌, ◌<◌, inl, inr, ℕ, List, Option, Some, None, Result, Ok, Err, refl, sym, ap, subst, ◌∙◌}
 use Rattle.doc_json.specs.{Choice}
 use Rattle.repl_peer.specs.{PeerValue}
@@ -10,30 +10,30 @@ use Rattle.command_api.specs.{choice_given, told_of}
 use Rattle.write_commands.specs.{EndsBy, ReplicateAsk, ReportsReplication, ReplicatesFound, both_of, last_second, moment_of, plan_of, plan_with, replicated_text, session_of, with_drawn, with_session, Ending}
 use Rattle.command_api.proofs.{passes, is_found}
 
--- where it is known whether both databases are there
+-- if it is known whether both databases exist
 pub replicates : (old new : State) (ask : ReplicateAsk) (told : Told) (found : Result (PeerValue × PeerValue) Refusal) → both_of old ask ≡ found → ReplicatesFound old ask found told new → ReportsReplication old ask told new
 replicates old new ask told found e h = subst (λ f. ReplicatesFound old ask f told new) (sym e) h
 
--- both are
+-- both exist
 pub are_both : (old : State) (ask : ReplicateAsk) (s t : PeerValue) → peer_at old ask.source ≡ Some s → peer_at old ask.target ≡ Some t → both_of old ask ≡ Ok (s, t)
 are_both old ask s t e f = passes _ (is_found why.NoDatabase e) ∙ passes _ (is_found why.NoDatabase f)
 
--- an id that is drawn changes no peer
+-- drawing an id changes no peer
 pub same_peer : (s : State) (given : Option ℕ) (name : List ℕ) → peer_at (with_drawn s given) name ≡ peer_at s name
 same_peer s (Some session) name = refl
 same_peer s None name = refl
 
--- nor what the program is set to
+-- nor the settings
 same_program : (s : State) (given : Option ℕ) → (with_drawn s given).program ≡ s.program
 same_program s (Some session) = refl
 same_program s None = refl
 
--- where the choice is refused, or finds no memory
+-- if the selection is invalid, or finds no memory
 pub unchosen : (old new : State) (ask : ReplicateAsk) (s t : PeerValue) (refusal : Refusal) → peer_at old ask.source ≡ Some s → peer_at old ask.target ≡ Some t → GivesOrMemory {A = Choice} (Err refusal) (choice_given ask.doc_ids) → new ≡ with_session old ask.options
     → ReportsReplication old ask (Err (name_of refusal)) new
 unchosen old new ask s t refusal e f gives is = replicates old new ask _ (Ok (s, t)) (are_both old ask s t e f) (Err refusal, gives, (refl, is))
 
--- or the moment lies too late
+-- or the timestamp is too late
 pub too_late : (old new : State) (ask : ReplicateAsk) (s t : PeerValue) (chosen : Choice) (program : Program) → peer_at old ask.source ≡ Some s → peer_at old ask.target ≡ Some t → choice_given ask.doc_ids ≡ Ok chosen → new ≡ with_session old ask.options → program ≡ new.program
     → last_second < moment_of program ask.options → ReportsReplication old ask (Err (name_of why.BadMoment)) new
 too_late old new ask s t chosen program e f gives is of late =

@@ -1,4 +1,4 @@
--- Each word keeps all databases tied, and its answer may be trusted: a file for each.
+-- Each command keeps all databases tied, and its output has its guarantee: a file for each.
 pub mod Load
 pub mod Edit
 pub mod Backup

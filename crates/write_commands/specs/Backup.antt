@@ -11,9 +11,9 @@ use Rattle.command_api.specs.Telling.{Does}
 use Rattle.command_api.specs.Texts.{ended}
 use Rattle.write_commands.specs.declared.backup.Backup.{Backup}
 
--- ---- what it asks
+-- ---- its parameters
 
--- to keep a copy of a database under a name
+-- to save a copy of a database under a name
 pub record BackupAsk : Type 0 where
   pub db : List ℕ
   pub name : List ℕ
@@ -27,15 +27,15 @@ backup_in d = do
   name ← needed (name_at (codes "name") d)
   needed (if_only (codes "do" ∷ codes "db" ∷ codes "name" ∷ []) d (record { db = db; name = name }))
 
--- ---- what it prints
+-- ---- its output
 
--- the update sequence of the copy
+-- the update sequence of the backup
 abbrev pub backed_line : List ℕ → List ℕ → ℕ → List ℕ
 backed_line db name seq = ended (codes "backed " ++ db ++ codes " " ++ name ++ codes " at " ++ decimal seq)
 
--- ---- what it does
+-- ---- its result
 
--- the copy is kept beside the others
+-- the backup is stored with the others
 abbrev pub backup_done : State → BackupAsk → Result (List ℕ × State) Refusal
 backup_done s ask = do
   copy ← backed_answer s ask.db ask.name

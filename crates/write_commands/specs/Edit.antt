@@ -18,9 +18,9 @@ use Rattle.command_api.specs.Telling.{database_of, Does, UnlessQuiet}
 use Rattle.command_api.specs.Texts.{ended, quoted}
 use Rattle.write_commands.specs.declared.edit.Edit.{Edit}
 
--- ---- what it asks
+-- ---- its parameters
 
--- to edit a document, behind a parent where one is named; its body may be any value
+-- to edit a document, with an optional parent; the body may be any value
 pub record EditAsk : Type 0 where
   pub db : List ℕ
   pub id : List ℕ
@@ -47,16 +47,16 @@ edit_in d = do
   needed (if_only (codes "do" ∷ codes "db" ∷ codes "id" ∷ codes "parent" ∷ codes "deleted" ∷ codes "body" ∷ []) d
       (record { db = db; id = id; parent = parent; deleted = unwrap_or deleted false; body = get (codes "body") d }))
 
--- ---- what it prints
+-- ---- its output
 
 abbrev pub edited_line : List ℕ → List ℕ → Edited → List ℕ
 edited_line db id e =
     ended (codes "edited " ++ db ++ codes " " ++ quoted id ++ codes " " ++ rev_text e.rev ++ codes " seq "
     ++ decimal e.seq)
 
--- ---- what it does
+-- ---- its result
 
--- the id is looked at first, then the parent, then the body
+-- the id is parsed first, then the parent, then the body
 abbrev pub edit_done : State → EditAsk → Result (List ℕ × State) Refusal
 edit_done s ask = do
   l ← database_of s ask.db

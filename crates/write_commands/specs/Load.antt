@@ -23,9 +23,9 @@ use Rattle.command_api.specs.Telling.{Refuses, Does, UnlessQuiet}
 use Rattle.command_api.specs.Texts.{ended, quoted, text_of_any}
 use Rattle.write_commands.specs.declared.load.Load.{Load}
 
--- ---- what it asks
+-- ---- its parameters
 
--- to load a document, or to make a database where none is given, with the UUID of that number where one is given
+-- to load a document, or to create a database if there is no document, with the given UUID, if any
 pub record LoadAsk : Type 0 where
   pub db : List ℕ
   pub uuid : Option ℕ
@@ -42,7 +42,7 @@ load_in d = do
   needed (if_only (codes "do" ∷ codes "db" ∷ codes "uuid" ∷ codes "doc" ∷ []) d
       (record { db = db; uuid = uuid; doc = get (codes "doc") d }))
 
--- ---- what it prints
+-- ---- its output
 
 abbrev pub made_line : List ℕ → List ℕ
 made_line db = ended (codes "made " ++ db)
@@ -50,7 +50,7 @@ made_line db = ended (codes "made " ++ db)
 abbrev pub there_line : List ℕ → List ℕ
 there_line db = ended (codes "there " ++ db)
 
--- a document's id, and its newest revision as it was given
+-- a document's id, and its newest revision as given
 abbrev pub document_part : Document → List ℕ
 document_part doc = quoted doc.id ++ codes " " ++ text_of_any (head_of doc.ancestry)
 
@@ -64,7 +64,7 @@ abbrev pub put_line : List ℕ → Document → Put → List ℕ
 put_line db doc (Changed seq) = loaded_line db doc seq
 put_line db doc Same = same_line db doc
 
--- ---- what it does
+-- ---- its result
 
 -- a document is put into a database
 abbrev pub put_into : State → List ℕ → PeerValue → Document → Result (List ℕ × State) Refusal
@@ -72,30 +72,30 @@ put_into s db l doc = do
   put ← told_as base_refusal (put_answer l.db doc)
   Ok (put_line db doc put, with_peer s db (after_load l doc))
 
--- into one that is there
+-- loading into an existing database
 abbrev pub load_there : State → List ℕ → PeerValue → Option Document → Result (List ℕ × State) Refusal
 load_there s db l None = Ok (there_line db, s)
 load_there s db l (Some doc) = put_into s db l doc
 
--- into one that is new, with the UUID of that number
+-- loading into a new database with this UUID
 abbrev pub load_new : State → List ℕ → ℕ → Option Document → Result (List ℕ × State) Refusal
 load_new s db uuid None = Ok (made_line db, with_peer s db (new_peer uuid))
 load_new s db uuid (Some doc) = put_into s db (new_peer uuid) doc
 
--- unless another database has the UUID
+-- the same, unless another database has the UUID
 abbrev pub LoadsUntaken : State → List ℕ → ℕ → Result (Option Document) Refusal → Told → State → Type 0
 LoadsUntaken old db uuid doc told new =
     IsTaken old uuid × Refuses why.UuidTaken old told new
     ⊎ (IsTaken old uuid → ⊥) × Does (doc >>= load_new old db uuid) old told new
 
--- with a made UUID: the document is looked at first, and the id is drawn once it was accepted, also where memory is
--- wanting behind that
+-- loading with a generated UUID: the document is parsed first; the id is drawn if the document is valid, even if an
+-- allocation fails after that
 abbrev pub LoadsMade : State → List ℕ → Result (Option Document) Refusal → Told → State → Type 0
 LoadsMade old db (Ok doc) told new =
     LoadsUntaken (drawn_one old) db (next_made old) (Ok doc) told new ⊎ Refuses why.Memory (drawn_one old) told new
 LoadsMade old db (Err refusal) told new = Refuses refusal old told new
 
--- by whether the database is there, and whether a UUID is given
+-- by whether the database exists, and whether a UUID is given
 abbrev pub LoadsAt : State → List ℕ → Option PeerValue → Option ℕ → Result (Option Document) Refusal → Told → State
     → Type 0
 LoadsAt old db (Some l) (Some uuid) doc told new = Refuses why.DatabaseExists old told new
@@ -109,7 +109,7 @@ LoadsLoud old ask told new = LoadsAt old ask.db (peer_at old ask.db) ask.uuid (d
 abbrev pub Loads : Answering State LoadAsk
 Loads old ask told new = UnlessQuiet LoadsLoud old ask told new
 
--- ---- the part of it behind the document, where no UUID is given
+-- ---- the part after the document is parsed, without a given UUID
 
 pub record NamedLoad : Type 0 where
   pub db : List ℕ
@@ -118,7 +118,7 @@ pub record NamedLoad : Type 0 where
 abbrev pub LoadsNamed : Answering State NamedLoad
 LoadsNamed old ask told new = LoadsAt old ask.db (peer_at old ask.db) None (Ok ask.doc) told new
 
--- ---- the part of it behind the UUID
+-- ---- the part after the UUID is known
 
 pub record NewLoad : Type 0 where
   pub db : List ℕ

@@ -30,9 +30,9 @@ use Rattle.write_commands.specs.declared.replicate.Ending.TheVariants.{Done, Sho
 use Rattle.write_commands.specs.declared.replicate.Options.{Options}
 use Rattle.write_commands.specs.declared.replicate.Replicate.{Replicate}
 
--- ---- what it asks
+-- ---- its parameters
 
--- the replication from one database into another, of some documents or of all
+-- to replicate from one database to another, for a selection of documents
 pub record ReplicateAsk : Type 0 where
   pub source : List ℕ
   pub target : List ℕ
@@ -47,7 +47,7 @@ replicate_asked ask = record {
   options = ask.options;
 }
 
--- what is left out is None, and `alone` and `progress` are false then
+-- absent parameters are None; `alone` and `progress` are false if absent
 abbrev pub options_in : Data → Result Options Refusal
 options_in d = do
   session ← needed (optional as_uuid (codes "session") d)
@@ -85,31 +85,31 @@ replicate_in d = do
     options = options;
   }))
 
--- ---- what it prints
+-- ---- its output
 
--- from where a session read, and up to where all is done
+-- the session id, the start and the recorded sequence
 abbrev pub session_part : Report → List ℕ
 session_part r =
     codes "session " ++ id_digits r.session.0 ++ codes " from " ++ decimal r.start ++ codes " to " ++ decimal r.recorded
 
--- how many leaves it checked, and how many of them were missing
+-- the number of checked leaves, and of missing leaves among them
 abbrev pub checked_part : Report → List ℕ
 checked_part r = codes " checked " ++ decimal r.counts.checked ++ codes " found " ++ decimal r.counts.found
 
--- how many documents it read, wrote and failed to write
+-- the numbers of documents that were read, written and refused
 abbrev pub documents_part : Report → List ℕ
 documents_part r =
     codes " read " ++ decimal r.counts.read ++ codes " written " ++ decimal r.counts.written ++ codes " failed " ++ decimal r.counts.failures
 
--- what a session did
+-- the report of a session
 abbrev pub report_line : Report → List ℕ
 report_line r = ended (session_part r ++ checked_part r ++ documents_part r)
 
--- how many documents a board showed as settled, of those that it showed as read
+-- the board's counters of settled and of read documents
 abbrev pub progress_line : Watched → List ℕ
 progress_line w = ended (codes "progress " ++ decimal w.settled ++ codes " of " ++ decimal w.read)
 
--- how far a session came that its plan stopped
+-- the low water of a session that its plan stopped
 abbrev pub stopped_line : SessionId → ℕ → List ℕ
 stopped_line session low_water = ended (codes "stopped " ++ id_digits session.0 ++ codes " at " ++ decimal low_water)
 
@@ -120,15 +120,15 @@ ending_line session (Stopped low_water) = stopped_line session low_water
 
 -- ---- its plan
 
--- the last moment
+-- the last valid timestamp
 abbrev pub last_second : ℕ
 last_second = 253402300799
 
--- the moment, which is the program's where a line names none
+-- the timestamp of the line, or the program's
 abbrev pub moment_of : Program → Options → ℕ
 moment_of program options = unwrap_or options.at program.at
 
--- a session's id is the given one, or else the next made one, which is drawn
+-- the given session id, or the next generated one
 abbrev pub session_of : State → Options → ℕ
 session_of s options = unwrap_or options.session (next_made s)
 
@@ -139,7 +139,7 @@ with_drawn s None = drawn_one s
 abbrev pub with_session : State → Options → State
 with_session s options = with_drawn s options.session
 
--- what a line leaves out is the program's
+-- the plan, with the program's settings for absent parameters
 abbrev pub plan_with : Program → Options → ℕ → Choice → Plan
 plan_with program options session chosen = record {
   session = record { 0 = session };
@@ -154,9 +154,9 @@ plan_with program options session chosen = record {
 abbrev pub plan_of : State → Options → Choice → Plan
 plan_of s options chosen = plan_with s.program options (session_of s options) chosen
 
--- ---- what it does
+-- ---- its result
 
--- by one thread: a replication that its plan stopped is not refused
+-- by one thread: a replication that its plan stopped has not failed
 abbrev pub ending_of : Result Report TargetFault → Result Ending Refusal
 ending_of (Ok report) = Ok (Done report)
 ending_of (Err fault) = do
@@ -175,8 +175,8 @@ abbrev pub ending_of_watched : Result Watched PoolFault → Result Ending Refusa
 ending_of_watched (Ok watched) = Ok (Shown watched)
 ending_of_watched (Err fault) = ending_of_run (Err fault)
 
--- how a replication ended by one thread, where the line says so; else by the pool, with a board where the line asks for
--- progress
+-- the ending of a replication: by one thread if the line says so; otherwise by the pool, with a board if the line asks
+-- for progress
 abbrev pub EndsBy : Bool → Bool → State → List ℕ → List ℕ → PeerValue → PeerValue → Plan → Result Ending Refusal → State
     → Type 0
 EndsBy true progress old source target s t plan ending new =
@@ -194,7 +194,7 @@ replicated_text session ended = do
   ending ← ended
   Ok (ending_line session ending)
 
--- of the chosen documents of two databases that are there, where the choice isn't refused
+-- for a selection of documents of two existing databases
 abbrev pub ReplicatesChosen : State → ReplicateAsk → PeerValue × PeerValue → Result Choice Refusal → Told → State
     → Type 0
 ReplicatesChosen old ask both (Ok chosen) told new =
@@ -205,7 +205,7 @@ ReplicatesChosen old ask both (Ok chosen) told new =
     × (told ≡ told_of (replicated_text (plan_of old ask.options chosen).session ending))
 ReplicatesChosen old ask both (Err refusal) told new = Refuses refusal (with_session old ask.options) told new
 
--- the session's id is drawn before the choice is made, which may find no memory
+-- the session id is drawn before the selection is built, and building it may run out of memory
 abbrev pub ReplicatesBoth : State → ReplicateAsk → PeerValue × PeerValue → Told → State → Type 0
 ReplicatesBoth old ask both told new =
     (chosen : Result Choice Refusal) × GivesOrMemory chosen (choice_given ask.doc_ids)
@@ -224,16 +224,16 @@ both_of s ask = do
 abbrev pub ReportsReplication : Answering State ReplicateAsk
 ReportsReplication old ask told new = ReplicatesFound old ask (both_of old ask) told new
 
--- ---- what it may be trusted for: docs/PROFILE.md, "Tied databases"
+-- ---- its guarantee: docs/PROFILE.md, "Tied databases"
 
--- a session that was not stopped, and is told to have come to n: that is the source's update sequence, and the target
--- covers each leaf of the source's chosen feed
+-- if a session was not stopped and printed the recorded sequence n: n is the source's update sequence, and the target
+-- covers each leaf of the source's selected feed
 abbrev pub CoversIfDone : State → List ℕ → List ℕ → Choice → Ending → Type 0
 CoversIfDone s source target chosen (Done report) = CoversUpTo s source target chosen report.recorded
 CoversIfDone s source target chosen (Shown watched) = CoversUpTo s source target chosen watched.report.recorded
 CoversIfDone s source target chosen (Stopped low_water) = Unit {0}
 
--- a replication is answered with the line of an ending, of which that is so, unless the line is refused
+-- the line prints an ending for which this holds, or fails
 abbrev pub IsCovered : State → ReplicateAsk → Told → Type 0
 IsCovered s ask (Ok text) =
     (session : SessionId) × (ending : Ending) × (chosen : Choice) × (text ≡ ending_line session ending)

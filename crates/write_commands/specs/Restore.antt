@@ -12,9 +12,9 @@ use Rattle.command_api.specs.Telling.{Does}
 use Rattle.command_api.specs.Texts.{ended}
 use Rattle.write_commands.specs.declared.restore.Restore.{Restore}
 
--- ---- what it asks
+-- ---- its parameters
 
--- to put a database back to its copy of a name
+-- to replace a database by its backup of a name
 pub record RestoreAsk : Type 0 where
   pub db : List ℕ
   pub name : List ℕ
@@ -28,16 +28,16 @@ restore_in d = do
   name ← needed (name_at (codes "name") d)
   needed (if_only (codes "do" ∷ codes "db" ∷ codes "name" ∷ []) d (record { db = db; name = name }))
 
--- ---- what it prints
+-- ---- its output
 
--- the update sequence and the life of the database that was put back
+-- the update sequence and the life of the restored database
 abbrev pub left_part : PutBack → List ℕ
 left_part back = codes " at " ++ decimal back.seq ++ codes " life " ++ decimal back.life
 
 abbrev pub restored_line : List ℕ → List ℕ → PutBack → List ℕ
 restored_line db name back = ended (codes "restored " ++ db ++ codes " " ++ name ++ left_part back)
 
--- ---- what it does
+-- ---- its result
 
 abbrev pub restore_done : State → RestoreAsk → Result (List ℕ × State) Refusal
 restore_done s ask = do

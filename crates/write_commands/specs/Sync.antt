@@ -14,9 +14,9 @@ use Rattle.write_commands.specs.declared.replicate.Options.{Options}
 use Rattle.write_commands.specs.declared.sync.BothWays.{BothWays}
 use Rattle.write_commands.specs.declared.sync.Shared.{Shared}
 
--- ---- what it asks
+-- ---- its parameters
 
--- a replication there, and one back
+-- a replication in each direction
 pub record SyncAsk : Type 0 where
   pub there : ReplicateAsk
   pub back : ReplicateAsk
@@ -24,7 +24,7 @@ pub record SyncAsk : Type 0 where
 abbrev pub sync_asked : BothWays → SyncAsk
 sync_asked ask = record { there = replicate_asked ask.there; back = replicate_asked ask.back }
 
--- what is said of both ways: what is left out is None, and `alone` is false then
+-- the parameters of both directions: absent ones are None; `alone` is false if absent
 abbrev pub shared_in : Data → Result Shared Refusal
 shared_in d = do
   workers ← needed (optional as_whole (codes "workers") d)
@@ -33,7 +33,7 @@ shared_in d = do
   alone ← needed (optional as_bool (codes "alone") d)
   Ok (record { workers = workers; batch = batch; at = at; alone = unwrap_or alone false })
 
--- what that says of one way: no plan stops it, and its progress is not told
+-- the parameters of one direction: its plan does not stop it, and it prints no counters
 abbrev pub way_options : Shared → Option ℕ → Options
 way_options shared session = record {
   session = session;
@@ -45,7 +45,7 @@ way_options shared session = record {
   progress = false;
 }
 
--- from one of two databases into the other
+-- one direction
 abbrev pub way : List ℕ → List ℕ → Option (List (List ℕ)) → Options → ReplicateAsk
 way source target doc_ids options = record { source = source; target = target; doc_ids = doc_ids; options = options }
 
@@ -67,27 +67,27 @@ sync_in d = do
     back = way b a doc_ids (way_options shared back);
   }))
 
--- ---- what it does
+-- ---- its result
 
--- one answer behind another: the text of both, or the second's refusal
+-- both outputs in order, or the second direction's error
 abbrev pub both_told : List ℕ → Told → Told
 both_told text (Ok more) = Ok (text ++ more)
 both_told text (Err name) = Err name
 
--- behind what the way there is told: the way back, unless that one was refused
+-- after the result of the forward direction: the reverse direction, unless the forward direction failed
 abbrev pub SyncsBack : State → SyncAsk → Told → Told → State → Type 0
 SyncsBack mid ask (Ok text) told new =
     (second : Told) × MayTell ReportsReplication mid ask.back second new × (told ≡ both_told text second)
 SyncsBack mid ask (Err name) told new = (told ≡ Err name) × (new ≡ mid)
 
--- what two lines of `replicate` may be told, one behind the other
+-- the possible results of two `replicate` lines, in order
 abbrev pub Syncs : Answering State SyncAsk
 Syncs old ask told new =
     (first : Told) × (mid : State) × MayTell ReportsReplication old ask.there first mid × SyncsBack mid ask first told new
 
--- ---- what it may be trusted for: docs/PROFILE.md, "Tied databases"
+-- ---- its guarantee: docs/PROFILE.md, "Tied databases"
 
--- between its two ways all databases are tied, and each way may be trusted for what a replication may
+-- between the two directions all databases are tied, and each direction has the guarantee of a replication
 abbrev pub IsMet : State → SyncAsk → Told → Type 0
 IsMet new ask (Ok text) =
     (mid : State) × (first : List ℕ) × (second : List ℕ) × (text ≡ first ++ second) × AllTied mid

@@ -1,4 +1,4 @@
-//! `backup`: a copy of a database, kept under a name of its own.
+//! `backup`: saves a named copy of a database.
 ghost use Rattle.std.specs.Prelude.{◌≡◌, ◌++◌, OnOk};
 ghost use Rattle.json_values.specs.LineView.{line_view};
 ghost use Rattle.write_commands.specs.Backup.{backed_line};
@@ -10,11 +10,11 @@ use std::alloc::{AllocError, Global};
 use std::sync::Wait;
 use std::thread::Threads;
 
-/// What a `backup` line asks.
+/// The parameters of a `backup` line.
 #[derive(Drop)]
 pub struct Backup<'a> {
     pub db: &'a str,
-    /// The name of the copy, among those of the database.
+    /// The name of the backup, unique within its database.
     pub name: &'a str,
 }
 
@@ -41,7 +41,7 @@ impl<'v, 'a> Command<&'v Line<'a>> for Backup<'v> {
         Some(Backup { db, name })
     }
 
-    /// Serves `backup`.
+    /// Runs `backup`.
     fn serve<H: Threads + Wait + Sync>(
         &self,
         _rt: &H,
@@ -55,7 +55,7 @@ impl<'v, 'a> Command<&'v Line<'a>> for Backup<'v> {
     }
 }
 
-/// Prints the two names, and the update sequence of the copy.
+/// Prints the two names, and the update sequence of the backup.
 fn print(answer: &mut Vec<u8>, db: &str, name: &str, seq: u64) -> Result<(), AllocError>
     ensures { OnOk result (answer.new.items ≡ answer.old.items ++ backed_line db.now name.now seq) }
 {

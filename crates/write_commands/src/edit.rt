@@ -1,4 +1,4 @@
-//! `edit`: a new revision of a document, behind a leaf.
+//! `edit`: adds a revision to a document, as a child of a leaf.
 ghost use Rattle.std.specs.Prelude.{◌≡◌, ◌++◌, [], OnOk};
 ghost use Rattle.json_values.specs.LineView.{line_view};
 ghost use Rattle.write_commands.specs.Edit.{EditsLoud, edit_asked, edited_line};
@@ -15,12 +15,12 @@ use std::alloc::{AllocError, Global};
 use std::sync::Wait;
 use std::thread::Threads;
 
-/// What an `edit` line asks.
+/// The parameters of an `edit` line.
 #[derive(Drop)]
 pub struct Edit<'v, 'a> {
     pub db: &'v str,
     pub id: &'v str,
-    /// The revision behind which the new one goes.
+    /// The parent of the new revision.
     pub parent: Option<&'v str>,
     pub deleted: bool,
     pub body: Option<LinePart<'v, 'a>>,
@@ -59,7 +59,7 @@ impl<'v, 'a> Command<&'v Line<'a>> for Edit<'v, 'a> {
         })
     }
 
-    /// Serves `edit`. Where the program is quiet, what is done is answered nothing.
+    /// Runs `edit`. Prints nothing on success if the program is quiet.
     fn serve<H: Threads + Wait + Sync>(
         &self,
         _rt: &H,
@@ -74,7 +74,7 @@ impl<'v, 'a> Command<&'v Line<'a>> for Edit<'v, 'a> {
     }
 }
 
-/// Edits. The id is looked at first, then the parent, then the body.
+/// Edits a document, and prints the result. Parses the id first, then the parent, then the body.
 fn edit_loud(
     alloc: Global,
     databases: &mut Databases,
@@ -95,7 +95,7 @@ fn edit_loud(
     Ok(())
 }
 
-/// Prints the new revision, and the sequence of the change.
+/// Prints the new revision, and its update sequence.
 fn print(answer: &mut Vec<u8>, db: &str, id: &str, edited: Edited) -> Result<(), AllocError>
     ensures { OnOk result (answer.new.items ≡ answer.old.items ++ edited_line db.now id.now edited) }
 {

@@ -1,5 +1,5 @@
-//! The rooms of the words that change databases: what such a line asks, what it does and what it is answered
-//! (docs/PROFILE.md, "Command lines" and "Answers"). Each word has a file of its own.
+//! The commands that change databases: their parameters, effects and output (docs/PROFILE.md, "Command lines" and
+//! "Answers"). Each command has its own file.
 #![tactic(auto)]
 
 mod backup;

@@ -1,4 +1,4 @@
-//! `load`: a database is made, or a document is put into one.
+//! `load`: creates a database, or stores a document in one.
 ghost use Rattle.std.specs.Prelude.{◌≡◌, ◌++◌, [], None, Some, OnOk, IfOk, IfErr, option_map};
 ghost use Rattle.json_values.specs.LineView.{line_view};
 ghost use Rattle.script_engine.specs.Serving.{MayTell};
@@ -19,11 +19,11 @@ use std::alloc::{AllocError, Global};
 use std::sync::Wait;
 use std::thread::Threads;
 
-/// What a `load` line asks.
+/// The parameters of a `load` line.
 #[derive(Drop)]
 pub struct Load<'v, 'a> {
     pub db: &'v str,
-    /// The number of the UUID of a database that is made.
+    /// The UUID of a new database, as a number.
     pub uuid: Option<u128>,
     pub doc: Option<LinePart<'v, 'a>>,
 }
@@ -52,7 +52,7 @@ impl<'v, 'a> Command<&'v Line<'a>> for Load<'v, 'a> {
         Some(Load { db, uuid, doc })
     }
 
-    /// Serves `load`. Where the program is quiet, what is done is answered nothing.
+    /// Runs `load`. Prints nothing on success if the program is quiet.
     fn serve<H: Threads + Wait + Sync>(
         &self,
         _rt: &H,
@@ -67,7 +67,7 @@ impl<'v, 'a> Command<&'v Line<'a>> for Load<'v, 'a> {
     }
 }
 
-/// Loads. A UUID is given only for a database that is new.
+/// Loads, and prints the result. A UUID may be given only for a new database.
 fn load_loud(
     alloc: Global,
     databases: &mut Databases,
@@ -83,7 +83,7 @@ fn load_loud(
     }
 }
 
-/// Makes a database with a UUID: that none has the name is looked at first, then that none has the UUID.
+/// Creates a database with a given UUID. Checks first that the name is unused, then that the UUID is.
 fn load_given(
     alloc: Global,
     databases: &mut Databases,
@@ -109,8 +109,7 @@ fn load_given(
     }
 }
 
-/// Loads into the database of a name, or where none has it, into one that is made. The document is read before it is
-/// known which.
+/// Loads into an existing or a new database. Parses the document before it looks up the database.
 fn load_named(
     alloc: Global,
     databases: &mut Databases,
@@ -129,7 +128,7 @@ fn load_named(
     }
 }
 
-/// Makes a database of no documents, where none has the name.
+/// Creates an empty database, unless it exists.
 fn open(
     alloc: Global,
     databases: &mut Databases,
@@ -148,9 +147,9 @@ fn open(
     make_empty(alloc, databases, db, uuid, answer)
 }
 
-/// Puts a document into the database of a name, or where none has it, into one that is made.
+/// Stores a document in an existing or a new database.
 ///
-/// Only where the put is refused it is asked whether one has the name, so that a document that is put costs one look-up.
+/// The database is looked up separately only if the put fails, so that a successful put costs one lookup.
 fn put(
     alloc: Global,
     databases: &mut Databases,
@@ -176,7 +175,7 @@ fn put(
     }
 }
 
-/// Puts a document into a database that is made.
+/// Stores a document in a new database.
 fn put_new(
     alloc: Global,
     databases: &mut Databases,
@@ -193,9 +192,11 @@ fn put_new(
     make_with(alloc, databases, db, uuid, document, answer)
 }
 
-/// Draws the UUID of a database that is made.
+/// Generates the UUID of a new database.
 ///
-/// `UuidTaken` where a database has it.
+/// # Errors
+///
+/// `UuidTaken` if a database has that UUID.
 fn draw_free(databases: &mut Databases) -> Result<u128, Refusal>
     ensures drawn { databases.new ≡ drawn_one databases.old }
     ensures ok { IfOk result
@@ -210,7 +211,7 @@ fn draw_free(databases: &mut Databases) -> Result<u128, Refusal>
     Ok(uuid)
 }
 
-/// Makes a database of no documents.
+/// Creates an empty database.
 fn make_empty(
     alloc: Global,
     databases: &mut Databases,
@@ -229,7 +230,7 @@ fn make_empty(
     Ok(())
 }
 
-/// Makes a database with a document.
+/// Creates a database with a document.
 fn make_with(
     alloc: Global,
     databases: &mut Databases,
@@ -250,7 +251,7 @@ fn make_with(
     Ok(())
 }
 
-/// Prints that a database was made.
+/// Prints that a database was created.
 fn print_made(answer: &mut Vec<u8>, db: &str) -> Result<(), AllocError>
     ensures { OnOk result (answer.new.items ≡ answer.old.items ++ made_line db.now) }
 {
@@ -260,7 +261,7 @@ fn print_made(answer: &mut Vec<u8>, db: &str) -> Result<(), AllocError>
     Ok(())
 }
 
-/// Prints that a database is there.
+/// Prints that a database exists.
 fn print_there(answer: &mut Vec<u8>, db: &str) -> Result<(), AllocError>
     ensures { OnOk result (answer.new.items ≡ answer.old.items ++ there_line db.now) }
 {
@@ -270,7 +271,7 @@ fn print_there(answer: &mut Vec<u8>, db: &str) -> Result<(), AllocError>
     Ok(())
 }
 
-/// Prints what putting a document did.
+/// Prints the result of a put.
 fn print_put(answer: &mut Vec<u8>, db: &str, document: &Doc, put: Put) -> Result<(), AllocError>
     ensures { OnOk result (answer.new.items ≡ answer.old.items ++ put_line db.now document.now put) }
 {
@@ -280,7 +281,7 @@ fn print_put(answer: &mut Vec<u8>, db: &str, document: &Doc, put: Put) -> Result
     }
 }
 
-/// Prints that putting a document changed something.
+/// Prints that a put changed the document.
 fn print_loaded(answer: &mut Vec<u8>, db: &str, document: &Doc, seq: u64) -> Result<(), AllocError>
     ensures { OnOk result (answer.new.items ≡ answer.old.items ++ loaded_line db.now document.now seq) }
 {
@@ -294,7 +295,7 @@ fn print_loaded(answer: &mut Vec<u8>, db: &str, document: &Doc, seq: u64) -> Res
     Ok(())
 }
 
-/// Prints that putting a document changed nothing.
+/// Prints that a put changed nothing.
 fn print_same(answer: &mut Vec<u8>, db: &str, document: &Doc) -> Result<(), AllocError>
     ensures { OnOk result (answer.new.items ≡ answer.old.items ++ same_line db.now document.now) }
 {
@@ -306,7 +307,7 @@ fn print_same(answer: &mut Vec<u8>, db: &str, document: &Doc) -> Result<(), Allo
     Ok(())
 }
 
-/// Prints a document's id, and its newest revision.
+/// Appends a document's id and its newest revision.
 fn push_document(answer: &mut Vec<u8>, document: &Doc) -> Result<(), AllocError>
     ensures { OnOk result (answer.new.items ≡ answer.old.items ++ document_part document.now) }
 {

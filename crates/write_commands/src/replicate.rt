@@ -1,4 +1,4 @@
-//! `replicate`: a replication from one database into another.
+//! `replicate`: replicates from one database to another.
 ghost use Rattle.std.specs.Prelude.{◌≡◌, ◌<◌, ◌≤◌, ◌++◌, [], true, OnOk, IfOk, IfErr};
 ghost use Rattle.command_api.specs.Checks.{needed};
 ghost use Rattle.std.specs.FinMap.{contains_key};
@@ -24,44 +24,43 @@ use std::alloc::{AllocError, Global};
 use std::sync::Wait;
 use std::thread::Threads;
 
-/// What a `replicate` line asks.
+/// The parameters of a `replicate` line.
 #[derive(Drop)]
 pub struct Replicate<'v, 'a> {
     pub source: &'v str,
     pub target: &'v str,
-    /// The ids of the documents that are replicated, which are texts; all documents are where none are named.
+    /// The ids of the selected documents, which are strings; all documents if absent.
     pub doc_ids: Option<&'v Vec<LineValue<'a>>>,
     pub options: Options,
 }
 
-/// What a line says of a replication besides its two sides and its documents: what it leaves out is none, and `alone`
-/// and `progress` are false then.
+/// The other parameters of a replication. Absent ones are `None`; `alone` and `progress` are false if absent.
 #[derive(Clone, Copy, Debug, PartialEq, Eq)]
 pub struct Options {
-    /// The number of the UUID that is the new session's id.
+    /// The id of the new session, as the number of its UUID.
     pub session: Option<u128>,
-    /// Whether it is to have one thread.
+    /// Whether to use one thread.
     pub alone: bool,
-    /// How many workers fetch, and how many write.
+    /// The number of fetchers, and the number of writers.
     pub workers: Option<u64>,
-    /// How many rows a window has at most.
+    /// The maximum number of rows of a window.
     pub batch: Option<u64>,
-    /// When it takes place, in seconds since 1970.
+    /// The timestamp, in Unix time.
     pub at: Option<u64>,
-    /// After how many windows it stops.
+    /// The number of windows after which the replication stops.
     pub stop_after: Option<u64>,
-    /// Whether it is to tell how far it came, of those that it has several threads for.
+    /// Whether to print the counters of the run. Has no effect with one thread.
     pub progress: bool,
 }
 
-/// How a replication ended that was not refused.
+/// How a replication ended that did not fail.
 #[derive(Drop)]
 enum Ending {
-    /// It came to its goal.
+    /// The replication reached its goal.
     Done(Report),
-    /// It came to its goal, and its board was read then.
+    /// The replication reached its goal; its board was read after that.
     Shown(Watched),
-    /// Its plan stopped it, with all done up to a sequence below the goal.
+    /// The plan stopped the replication; everything up to this sequence is done.
     Stopped(u64),
 }
 
@@ -110,7 +109,7 @@ impl<'v, 'a> Command<&'v Line<'a>> for Replicate<'v, 'a> {
         })
     }
 
-    /// Serves `replicate`. It waits, where the line does not ask for one thread.
+    /// Runs `replicate`. Blocks, unless the line asks for one thread.
     fn serve<H: Threads + Wait + Sync>(
         &self,
         rt: &H,
@@ -122,8 +121,8 @@ impl<'v, 'a> Command<&'v Line<'a>> for Replicate<'v, 'a> {
     }
 }
 
-/// Serves a replication. An id is made for a session that has none, once both databases are found, and before the ids of
-/// documents are looked at. It waits, where one thread is not asked for.
+/// Runs a replication, and prints its result. A session id is generated, if needed, after both databases are found and
+/// before the ids of documents are parsed. Blocks, unless the line asks for one thread.
 #[inline(never)]
 pub fn serve_replication<H: Threads + Wait + Sync>(
     rt: &H,
@@ -150,7 +149,7 @@ pub fn serve_replication<H: Threads + Wait + Sync>(
     Ok(())
 }
 
-/// What an object says of a replication besides its two sides and its documents.
+/// Reads the other parameters of a replication.
 fn options_of(value: &LineValue<'_>) -> Option<Options>
     ensures { needed result ≡ options_in (line_view value.now) }
 {
@@ -172,7 +171,7 @@ fn options_of(value: &LineValue<'_>) -> Option<Options>
     })
 }
 
-/// The id of the session that a line asks for, which is drawn where it names none.
+/// The given session id, or a generated one.
 fn session_asked(databases: &mut Databases, options: &Options) -> u128
     ensures state { databases.new ≡ with_session databases.old options.now }
     ensures session { result ≡ session_of databases.old options.now }
@@ -183,9 +182,11 @@ fn session_asked(databases: &mut Databases, options: &Options) -> u128
     }
 }
 
-/// The plan that a line asks for: what it leaves out is the program's.
+/// Builds the plan of a line, with the program's settings for what is absent.
 ///
-/// `BadMoment` where the moment lies after the year 9999.
+/// # Errors
+///
+/// `BadMoment` if the timestamp is after the year 9999.
 fn plan_asked(
     databases: &Databases,
     options: &Options,
@@ -212,8 +213,8 @@ fn plan_asked(
     })
 }
 
-/// Replicates between the two databases of a line, which are there: by one thread where the line says so, else by the
-/// pool, whose progress is shown where the line asks for it.
+/// Replicates between the two existing databases of a line: by one thread if the line says so, otherwise with the pool,
+/// with a progress board if requested.
 fn run_plan<H: Threads + Wait + Sync>(
     rt: &H,
     alloc: Global,
@@ -236,7 +237,7 @@ fn run_plan<H: Threads + Wait + Sync>(
     ending_of_run(databases.replicate(rt, alloc, ask.source, ask.target, plan))
 }
 
-/// How a run of the pool ended that was watched.
+/// The ending of a watched pool run.
 fn ending_of_watched(outcome: Result<Watched, PoolFault>) -> Result<Ending, Refusal>
     ensures { result ≡ ending_of_watched outcome }
 {
@@ -246,7 +247,7 @@ fn ending_of_watched(outcome: Result<Watched, PoolFault>) -> Result<Ending, Refu
     }
 }
 
-/// How a run of the pool ended: one that its plan stopped is not refused.
+/// The ending of a pool run. A run that its plan stopped has not failed.
 fn ending_of_run(outcome: Result<Report, PoolFault>) -> Result<Ending, Refusal>
     ensures { result ≡ ending_of_run outcome }
 {
@@ -259,7 +260,7 @@ fn ending_of_run(outcome: Result<Report, PoolFault>) -> Result<Ending, Refusal>
     }
 }
 
-/// How a replication by one thread ended: one that its plan stopped is not refused.
+/// The ending of a replication by one thread. A replication that its plan stopped has not failed.
 fn ending_of(outcome: Result<Report, TargetFault>) -> Result<Ending, Refusal>
     ensures { result ≡ ending_of outcome }
 {
@@ -272,7 +273,7 @@ fn ending_of(outcome: Result<Report, TargetFault>) -> Result<Ending, Refusal>
     }
 }
 
-/// Prints how a session ended.
+/// Prints the ending of a session.
 fn print(
     alloc: Global,
     answer: &mut Vec<u8>,
@@ -291,7 +292,7 @@ fn print(
     }
 }
 
-/// Prints how far a run was seen.
+/// Prints the counters of a run.
 fn print_progress(answer: &mut Vec<u8>, watched: &Watched) -> Result<(), AllocError>
     ensures { OnOk result (answer.new.items ≡ answer.old.items ++ progress_line watched.now) }
 {
@@ -302,7 +303,7 @@ fn print_progress(answer: &mut Vec<u8>, watched: &Watched) -> Result<(), AllocEr
     answer.extend_from_slice(b"\n")
 }
 
-/// Prints what a session did.
+/// Prints the report of a session.
 fn print_report(alloc: Global, answer: &mut Vec<u8>, report: &Report) -> Result<(), AllocError>
     ensures { OnOk result (answer.new.items ≡ answer.old.items ++ report_line report.now) }
 {
@@ -312,7 +313,7 @@ fn print_report(alloc: Global, answer: &mut Vec<u8>, report: &Report) -> Result<
     answer.extend_from_slice(b"\n")
 }
 
-/// From where a session read, and up to where all is done.
+/// Appends the session id, the start and the recorded sequence.
 fn push_session(alloc: Global, answer: &mut Vec<u8>, report: &Report) -> Result<(), AllocError>
     ensures { OnOk result (answer.new.items ≡ answer.old.items ++ session_part report.now) }
 {
@@ -325,7 +326,7 @@ fn push_session(alloc: Global, answer: &mut Vec<u8>, report: &Report) -> Result<
     push_number(answer, report.recorded)
 }
 
-/// How many leaves a session checked, and how many of them were missing.
+/// Appends the number of checked leaves, and of missing leaves among them.
 fn push_checked(answer: &mut Vec<u8>, report: &Report) -> Result<(), AllocError>
     ensures { OnOk result (answer.new.items ≡ answer.old.items ++ checked_part report.now) }
 {
@@ -335,7 +336,7 @@ fn push_checked(answer: &mut Vec<u8>, report: &Report) -> Result<(), AllocError>
     push_number(answer, report.counts.found)
 }
 
-/// How many documents a session read, wrote and failed to write.
+/// Appends the numbers of documents that were read, written and refused.
 fn push_documents(answer: &mut Vec<u8>, report: &Report) -> Result<(), AllocError>
     ensures { OnOk result (answer.new.items ≡ answer.old.items ++ documents_part report.now) }
 {
@@ -347,7 +348,7 @@ fn push_documents(answer: &mut Vec<u8>, report: &Report) -> Result<(), AllocErro
     push_number(answer, report.counts.failures)
 }
 
-/// Prints how far a session came that its plan stopped.
+/// Prints the low water of a session that its plan stopped.
 fn print_stopped(
     alloc: Global,
     answer: &mut Vec<u8>,

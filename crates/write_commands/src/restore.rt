@@ -1,4 +1,4 @@
-//! `restore`: a database put back to a copy of it.
+//! `restore`: replaces a database by its backup.
 ghost use Rattle.std.specs.Prelude.{◌≡◌, ◌++◌, OnOk};
 ghost use Rattle.json_values.specs.LineView.{line_view};
 ghost use Rattle.write_commands.specs.Restore.{left_part, restored_line};
@@ -10,11 +10,11 @@ use std::alloc::{AllocError, Global};
 use std::sync::Wait;
 use std::thread::Threads;
 
-/// What a `restore` line asks.
+/// The parameters of a `restore` line.
 #[derive(Drop)]
 pub struct Restore<'a> {
     pub db: &'a str,
-    /// The name of the copy, among those of the database.
+    /// The name of the backup, unique within its database.
     pub name: &'a str,
 }
 
@@ -41,7 +41,7 @@ impl<'v, 'a> Command<&'v Line<'a>> for Restore<'v> {
         Some(Restore { db, name })
     }
 
-    /// Serves `restore`.
+    /// Runs `restore`.
     fn serve<H: Threads + Wait + Sync>(
         &self,
         _rt: &H,
@@ -55,7 +55,7 @@ impl<'v, 'a> Command<&'v Line<'a>> for Restore<'v> {
     }
 }
 
-/// Prints the two names, and the database's update sequence and life.
+/// Prints the two names, and the update sequence and life of the database.
 fn print(answer: &mut Vec<u8>, db: &str, name: &str, back: PutBack) -> Result<(), AllocError>
     ensures { OnOk result (answer.new.items ≡ answer.old.items ++ restored_line db.now name.now back) }
 {
@@ -67,7 +67,7 @@ fn print(answer: &mut Vec<u8>, db: &str, name: &str, back: PutBack) -> Result<()
     answer.extend_from_slice(b"\n")
 }
 
-/// Adds the update sequence and the life of a database that was put back.
+/// Appends the update sequence and the life of a restored database.
 fn push_left(answer: &mut Vec<u8>, back: PutBack) -> Result<(), AllocError>
     ensures { OnOk result (answer.new.items ≡ answer.old.items ++ left_part back) }
 {

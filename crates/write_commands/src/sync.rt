@@ -1,4 +1,4 @@
-//! `sync`: a replication each way between two databases.
+//! `sync`: replicates in both directions between two databases.
 ghost use Rattle.std.specs.Prelude.{◌≡◌};
 ghost use Rattle.json_values.specs.LineView.{line_view};
 ghost use Rattle.command_api.specs.Checks.{needed};
@@ -15,23 +15,23 @@ use std::alloc::Global;
 use std::sync::Wait;
 use std::thread::Threads;
 
-/// What a `sync` line asks: a replication there, from `a` into `b`, and one back.
+/// The parameters of a `sync` line: a replication from `a` to `b`, and one from `b` to `a`.
 #[derive(Drop)]
 pub struct BothWays<'v, 'a> {
     pub there: Replicate<'v, 'a>,
     pub back: Replicate<'v, 'a>,
 }
 
-/// What a line says of both of its ways.
+/// The parameters of both directions.
 #[derive(Clone, Copy, Debug, PartialEq, Eq)]
 pub struct Shared {
-    /// How many workers fetch, and how many write.
+    /// The number of fetchers, and the number of writers.
     pub workers: Option<u64>,
-    /// How many rows a window has at most.
+    /// The maximum number of rows of a window.
     pub batch: Option<u64>,
-    /// When it takes place, in seconds since 1970.
+    /// The timestamp, in Unix time.
     pub at: Option<u64>,
-    /// Whether each way is to have one thread.
+    /// Whether each direction uses one thread.
     pub alone: bool,
 }
 
@@ -80,8 +80,8 @@ impl<'v, 'a> Command<&'v Line<'a>> for BothWays<'v, 'a> {
         })
     }
 
-    /// Serves `sync`: the way back is not begun where the way there is refused. It waits, where the line does not ask for
-    /// one thread.
+    /// Runs `sync`. The reverse direction does not start if the forward direction fails. Blocks, unless the line asks
+    /// for one thread.
     fn serve<H: Threads + Wait + Sync>(
         &self,
         rt: &H,
@@ -97,7 +97,7 @@ impl<'v, 'a> Command<&'v Line<'a>> for BothWays<'v, 'a> {
     }
 }
 
-/// What an object says of both ways.
+/// Reads the parameters of both directions.
 fn shared_of(value: &LineValue<'_>) -> Option<Shared>
     ensures { needed result ≡ shared_in (line_view value.now) }
 {
@@ -113,7 +113,7 @@ fn shared_of(value: &LineValue<'_>) -> Option<Shared>
     })
 }
 
-/// What is said of one way, whose session has that id: it is stopped by no plan, and its progress is not told.
+/// The parameters of one direction, with its session id. No direction stops early or prints counters.
 fn options_of(shared: &Shared, session: Option<u128>) -> Options
     ensures { result ≡ way_options shared.now session }
 {

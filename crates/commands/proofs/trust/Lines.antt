@@ -1,4 +1,4 @@
--- Each line keeps all databases tied, and the answers to a whole script may be trusted.
+-- Each line keeps all databases tied, and the output of a script has its guarantees.
 use Rattle.proof_prelude.proofs.{ℕ, Bool, List, [], ◌∷◌, Result, Ok, Err, sym, subst}
 use Rattle.script_engine.specs.{AnswersEnded, AnswersFirst, IsAnswered, IsAnsweredSoFar, Run, Step, blank, served, IsToldUntil, Told, gave_up, in_full, served_only, ScriptFault}
 use Rattle.script_engine.specs.declared.fault.ScriptFault.TheVariants.{Cut, Memory, Read, Write}

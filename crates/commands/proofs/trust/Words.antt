@@ -1,4 +1,4 @@
--- Each word keeps all databases tied, and its answer may be trusted.
+-- Each command keeps all databases tied, and its output has its guarantee.
 use Rattle.proof_prelude.proofs.{refl, sym, subst}
 use Rattle.script_engine.specs.{Told}
 use Rattle.script_databases.specs.AllTied.{AllTied}

@@ -1,4 +1,4 @@
--- `audit` is told `clean` where all databases are tied.
+-- `audit` prints `clean` if all databases are tied.
 use Rattle.proof_prelude.proofs.{◌≡◌, ℕ, List, [], codes, Some, None, Result, Ok, Err, refl, sym, ap, subst, ◌∙◌, same_Some}
 use Rattle.doc_json.specs.{Choice}
 use Rattle.repl_peer.specs.{PeerValue}
@@ -13,7 +13,7 @@ use Rattle.repl_target.specs.declared.auditing.found.Audit.TheVariants.{Clean}
 use Rattle.script_databases.proofs.{same_Ok}
 use Rattle.command_api.proofs.{bound, found}
 
--- what was found is what an audit of the two finds, which is nothing where they are tied
+-- the result is that of an audit of the two, which finds nothing if they are tied
 pub finds_none : (old : State) (ask : AuditAsk) (s t : PeerValue) (v w : Choice) (found : Audit) → peer_at old ask.source ≡ Some s → peer_at old ask.target ≡ Some t → choice_given ask.doc_ids ≡ Ok v → w ≡ v → hole_of found ≡ audit_answer s t v → (IsTiedPair s t w → found ≡ Clean)
     → FindsNone old ask
 finds_none old ask s t v w found at_s at_t gives same answer clean p q chosen at at' given tied =
@@ -23,12 +23,12 @@ finds_none old ask s t v w found at_s at_t gives same answer clean p q chosen at
     let own : IsTiedPair s t w = subst (IsTiedPair s t) (k ∙ sym same) (subst (λ (x : PeerValue). IsTiedPair s x chosen) j (subst (λ (x : PeerValue). IsTiedPair x q chosen) i tied)) in
     ap (λ (x : PeerValue). audit_answer x q chosen) i ∙ ap (λ (x : PeerValue). audit_answer s x chosen) j ∙ ap (audit_answer s t) k ∙ sym answer ∙ ap hole_of (clean own)
 
--- what is told is clean
+-- the output is `clean`
 clean_told : (r : Result (List ℕ) Refusal) → ((text : List ℕ) → r ≡ Ok text → text ≡ codes "clean\n") → IsClean (told_of r)
 clean_told (Ok text) f = f text refl
 clean_told (Err refusal) f = tt
 
--- so where all are tied, that is told
+-- so it is if all databases are tied
 pub audits_clean : (old new : State) → AllTied old → (ask : AuditAsk) (told : Told) → Audits old ask told new → IsClean told
 audits_clean old new h ask told d =
     subst IsClean (sym d.0.0)

@@ -1,4 +1,4 @@
--- What stands at a name of a state, where a peer was written at one.
+-- The peer at a name after a peer was stored.
 use Rattle.proof_prelude.proofs.{◌≡◌, ◌≢◌, ◌⊎◌, inl, inr, ℕ, Bool, false, cond, List, refl, sym, ap, ◌∙◌, true, Some, Equal-is, eq_by_cmp, is_eq, get-insert, nat_list_cmp_total, tied_itself, same_Some, true≢false}
 use Rattle.repl_peer.specs.{PeerValue}
 use Rattle.script_databases.specs.{State, peer_at, text_cmp, with_peer}
@@ -17,7 +17,7 @@ itself name = ap is_eq (tied_itself nat_list_cmp_total name)
 apart_name : (q name : List ℕ) → eq_by_cmp text_cmp q name ≡ false → q ≢ name
 apart_name q name e i = true≢false (sym (itself name) ∙ ap (λ x. eq_by_cmp text_cmp x name) (sym i) ∙ e)
 
--- two names are one, or not
+-- two names are equal, or not
 pub names : (n m : List ℕ) → (n ≡ m) ⊎ (n ≢ m)
 names n m = go (eq_by_cmp text_cmp n m) refl
   where
@@ -25,7 +25,7 @@ names n m = go (eq_by_cmp text_cmp n m) refl
     go true e = inl (same_name n m e)
     go false e = inr (apart_name n m e)
 
--- what was written stands there, and else what stood there before
+-- the stored peer at its name, otherwise the previous one
 pub looks : (s : State) (name : List ℕ) (l : PeerValue) (q : List ℕ) (p : PeerValue) → peer_at (with_peer s name l) q ≡ Some p → ((q ≡ name) × (p ≡ l)) ⊎ ((q ≢ name) × (peer_at s q ≡ Some p))
 looks s name l q p h = go (eq_by_cmp text_cmp q name) refl
   where

@@ -1,4 +1,4 @@
--- Replications by one thread between two of the databases keep all of them tied, and cover what they say.
+-- Replications by one thread keep all databases tied, and cover what they report.
 use Rattle.proof_prelude.proofs.{◌≡◌, ◌≢◌, ◌⊎◌, inl, inr, ℕ, Bool, List, [], Result, Ok, Err, refl, sym, subst, Some, IfOk, eqb-false}
 use Rattle.doc_json.specs.Document.{Document}
 use Rattle.repl_log.specs.{EntryValue}

@@ -1,4 +1,4 @@
--- Runs of the pool between two of the databases keep all of them tied, and cover what they say.
+-- Pool runs keep all databases tied, and cover what they report.
 use Rattle.proof_prelude.proofs.{◌≡◌, ◌≢◌, inl, inr, ℕ, List, [], Result, Ok, Err, refl, sym, ap, subst, ◌∙◌, Option, Some, IfOk, eqb-false, sum}
 use Rattle.repl_peer.specs.{PeerValue, Report}
 use Rattle.repl_target.specs.{Plan, IsTiedPair, CoversFeed}
@@ -54,7 +54,7 @@ module _ (full : Type 0) (plan : Plan) (deny : Option (List ℕ)) (s t s' t' : P
         go (Ok report) e well whole = covered_at old a b s t s' t' at_s at_t (ran_apart report e) runs.log plan.chosen report.recorded well.reported.recorded (whole pair)
 
 module _ (old : State) (h : AllTied old) (a b : List ℕ) (s t : PeerValue) (at_s : peer_at old a ≡ Some s) (at_t : peer_at old b ≡ Some t) (plan : Plan) where
-  -- what is said of a state behind a run
+  -- the statement about a state after a run
   abbrev pub Left : Result Report PoolFault → State → Type 0
   Left result new = AllTied new × IfOk result (λ report. CoversUpTo new a b plan.chosen report.recorded)
 

@@ -1,4 +1,4 @@
--- What each call on the databases leaves: all of them stay tied, and a replication covers what it says.
+-- After each call all databases are tied, and a successful replication covers what it reports.
 use Rattle.proof_prelude.proofs.{◌≡◌, ℕ, Bool, List, Result, Ok, Err, refl, sym, subst, Option, Some, IfOk, None, cond_both, MatchResult-at_ok}
 use Rattle.doc_json.specs.Document.{Document}
 use Rattle.couch_base.specs.{Id}
@@ -15,13 +15,13 @@ use Rattle.script_databases.proofs.ties.OneMore.{backup_tied, drawn_tied}
 use Rattle.script_databases.proofs.ties.ByOneThread.{alone_left}
 use Rattle.script_databases.proofs.ties.ByPool.{pool_left, watched_left}
 
--- ---- one is changed
+-- ---- one database changes
 
--- nothing was changed
+-- nothing changed
 pub unchanged_tied : (old new : State) → new ≡ old → AllTied old → AllTied new
 unchanged_tied old new is h = subst AllTied (sym is) h
 
--- none is there, or one id more was drawn
+-- there are no databases, or one more id was drawn
 pub none_left : (new : State) (program : Program) → new ≡ no_databases program → AllTied new
 none_left new program is = subst AllTied (sym is) (none_are_tied program)
 
@@ -42,13 +42,13 @@ pub edited_tied : (old new : State) (name : List ℕ) (id : Id) (parent : Option
 edited_tied old new name id parent deleted body is h =
     subst AllTied (sym is) (changed_tied old h name (λ l. after_edit l id parent deleted body) (λ l at. edit_tied old h name l at id parent deleted body))
 
--- ---- copies
+-- ---- backups
 
--- two results that are Ok hold one value
+-- two equal successful results have equal values
 pub same_Ok : {A : Type 0} (x y : A) → ◌≡◌ {A = Result A Refusal} (Ok x) (Ok y) → x ≡ y
 same_Ok x y e = MatchResult-at_ok {r = Ok x} (λ z. x ≡ z) (λ _. ⊥) y e refl
 
--- the copy that is made is that of the database
+-- the new backup is one of the database
 pub copied : (o : Option PeerValue) (b : Option BackupValue) (copy : BackupValue) → backed_of o b ≡ Ok copy → (p : PeerValue) × (o ≡ Some p) × (copy_of p ≡ copy)
 copied None b copy e = cc
 copied (Some p) (Some b) copy e = cc
@@ -73,7 +73,7 @@ put_back_tied old new db name is h = subst AllTied (sym is) (go (backup_at old d
 
 -- ---- replications between two names
 
--- what holds of an Ok under a premise
+-- a statement about success under a premise
 if_tied : {R E : Type 0} (A : Type 0) (P : R → Type 0) (r : Result R E) → (A → IfOk r P) → IfOk r (λ x. A → P x)
 if_tied A P (Ok x) f = f
 if_tied A P (Err why) f = tt

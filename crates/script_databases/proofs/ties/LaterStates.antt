@@ -1,4 +1,4 @@
--- The same databases later: all are tied where each two that are not one are.
+-- The same databases later: all are tied if each two different ones are.
 use Rattle.proof_prelude.proofs.{◌≡◌, ◌≢◌, inl, inr, ℕ, List, sym, ap, subst, ◌∙◌, Some, get-empty, same_Some, none-some}
 use Rattle.doc_json.specs.{Choice}
 use Rattle.couch_base.specs.{Among}
@@ -11,7 +11,7 @@ use Rattle.script_databases.specs.AllTied.{AllTied}
 use Rattle.script_databases.proofs.ties.MovedPairs.{none_tied}
 use Rattle.script_databases.proofs.ties.AtNames.{names}
 
--- no replication leads from a database into itself
+-- no replication leads from a database to itself
 own_tied : (s : State) → IsKnown s → (n : List ℕ) (p : PeerValue) → peer_at s n ≡ Some p → (c : Choice) (backups : List BackupValue) → AreCopiesOf s n backups → IsTiedWith backups p p c
 own_tied s k n p at c backups copies =
     none_tied backups p p c
@@ -23,7 +23,7 @@ own_tied s k n p at c backups copies =
     let one : copy.peer ≡ p = same_Some copy.peer p (sym copy.there ∙ ap (peer_at s) f.2 ∙ at) in
     (copy.logs l (subst (λ (x : BackupValue). Among l x.outgoing) (sym f.3) j)).1 (ap (λ (i : RepId). i.target) r ∙ sym (ap (λ (x : PeerValue). x.db.uuid) one)))
 
--- so two names that are not one are looked at
+-- so only two different names matter
 pub all_tied : (s : State) → IsKnown s → ((n m : List ℕ) (p q : PeerValue) → n ≢ m → peer_at s n ≡ Some p → peer_at s m ≡ Some q → (c : Choice) (backups : List BackupValue) → AreCopiesOf s n backups → IsTiedWith backups p q c) → AllTied s
 all_tied s k two = record {
   known = k;
@@ -52,7 +52,7 @@ none_are_tied program =
 
 -- ---- the same databases later
 
--- the peer that stood at a name before
+-- the peer that had this name before
 pub record Was (old : State) (n : List ℕ) (now : PeerValue) : Type 0 where
   pub peer : PeerValue
   pub there : peer_at old n ≡ Some peer

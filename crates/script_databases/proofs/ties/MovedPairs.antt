@@ -1,4 +1,4 @@
--- Two peers that stay tied where a call changed the source, or the target; and two of which neither knows the replication.
+-- Two peers that stay tied if a call changes the source, or the target; and two peers without this replication.
 use Rattle.proof_prelude.proofs.{◌≡◌, List, refl, sym, subst, ◌∙◌}
 use Rattle.doc_json.specs.{Choice}
 use Rattle.couch_base.specs.{Among, IsLater}
@@ -9,7 +9,7 @@ use Rattle.repl_target.specs.{AreTiedEntries, IsTiedWith}
 use Rattle.repl_target.proofs.{Stays, session-later, entry-later, backups-later, session-source, entry-source, backups-source, tied-stays}
 use Rattle.script_databases.proofs.ties.OtherLogs.{log_member}
 
--- a source whose database is later, and whose log of the replication is as it was
+-- a source with a later database and the same log of the replication
 pub source_moves : (backups : List BackupValue) (p new q : PeerValue) (c : Choice) → IsLater p.db new.db → log_in new.outgoing (rep_between p q c) ≡ log_in p.outgoing (rep_between p q c) → IsTiedWith backups p q c → IsTiedWith backups new q c
 source_moves backups p new q c later logs h =
     let rep = rep_between p q c in
@@ -24,11 +24,11 @@ source_moves backups p new q c later logs h =
       copies = backups-source backups p new q c later.uuid h.copies;
     }
 
--- a session is one that was there, with the same windows
+-- a session existed before, with the same windows
 abbrev pub WasThere : PeerValue → SessionValue → Type 0
 WasThere p s = (t : SessionValue) × Among t p.sessions × Stays t s
 
--- a later target, whose sessions of the replication are those that were there
+-- a later target with the same sessions of the replication
 pub target_moves : (backups : List BackupValue) (q p new : PeerValue) (c : Choice) → IsLaterPeer p new → ((s : SessionValue) → Among s new.sessions → s.rep ≡ rep_between q p c → WasThere p s) → IsTiedWith backups q p c → IsTiedWith backups q new c
 target_moves backups q p new c later old h =
     let rep = rep_between q p c in
@@ -47,7 +47,7 @@ target_moves backups q p new c later old h =
 pub stays_same : (p : PeerValue) (s : SessionValue) → Among s p.sessions → WasThere p s
 stays_same p s m = (s, m, record { id = refl; rep = refl; life = refl; start = refl; windows = refl })
 
--- two of which neither knows the replication
+-- two peers without this replication
 pub none_tied : (backups : List BackupValue) (p q : PeerValue) (c : Choice) → ((s : SessionValue) → Among s q.sessions → s.rep ≡ rep_between p q c → ⊥) → ((l : RepId × List EntryValue) → Among l p.outgoing → l.0 ≡ rep_between p q c → ⊥)
     → ((b : BackupValue) → Among b backups → (l : RepId × List EntryValue) → Among l b.outgoing → l.0 ≡ rep_between p q c → ⊥) → IsTiedWith backups p q c
 none_tied backups p q c sessions logs copies =

@@ -1,4 +1,4 @@
--- One database is changed: by a write of its own, or by a copy that is put back.
+-- One database changes: by a local write, or by a restore.
 use Rattle.proof_prelude.proofs.{◌≡◌, inl, inr, ℕ, Bool, List, [], ◌∷◌, Result, Ok, Err, refl, sym, ap, subst, ◌∙◌, Option, Some, None, and_parts, option_map, same_Some, none-some, find}
 use Rattle.doc_json.specs.Document.{Document}
 use Rattle.doc_json.specs.{Choice}
@@ -48,7 +48,7 @@ module _ (old : State) (h : AllTied old) (a : List ℕ) (p new : PeerValue) (at 
     ];
   }) h
 
-  -- by a write of its own
+  -- by a local write
   pub local_tied : IsLaterPeer p new → new.outgoing ≡ p.outgoing → new.sessions ≡ p.sessions → AllTied (with_peer old a new)
   local_tied later logs sessions =
       one_grows later.db.uuid
@@ -65,7 +65,7 @@ edit_tied old h a p at id parent deleted body =
     let e = edit_by_load (λ q. (q.outgoing ≡ p.outgoing) × (q.sessions ≡ p.sessions)) p (λ _. (refl, refl)) (refl, refl) id parent deleted body in
     local_tied old h a p (after_edit p id parent deleted body) at (edit_later p id parent deleted body) e.0 e.1
 
--- it is put back to one of its copies
+-- by a restore
 pub restore_tied : (old : State) → AllTied old → (a name : List ℕ) (p : PeerValue) (b : BackupValue) → peer_at old a ≡ Some p → backup_at old a name ≡ Some b → AllTied (with_peer old a (after_restore p b))
 restore_tied old h a name p b at kept = go (restore_answer p b) refl
   where

@@ -1,4 +1,4 @@
--- One copy, one id or one database more.
+-- One more backup, id or database.
 use Rattle.proof_prelude.proofs.{◌≡◌, ◌≢◌, inl, inr, ℕ, List, [], ◌∷◌, refl, sym, ap, subst, ◌∙◌, Some, None, same_Some, none-some}
 use Rattle.couch_base.specs.{Among, Among-push}
 use Rattle.repl_log.specs.declared.replication.RepId.{RepId}

@@ -1,11 +1,11 @@
--- Logs of a peer, where an entry is put into one of them.
+-- The logs of a peer after an entry is stored.
 use Rattle.proof_prelude.proofs.{◌≡◌, ◌≢◌, ◌⊎◌, inl, inr, cond, List, [], ◌∷◌, Result, Ok, Err, refl, sym, ap, ◌∙◌, cond_both}
 use Rattle.couch_base.specs.{Among}
 use Rattle.repl_log.specs.declared.replication.RepId.{RepId}
 use Rattle.repl_log.specs.{EntryValue, with_entry, log_in, logs_with, same_rep, same_rep-is}
 use Rattle.repl_peer.specs.{TargetFault, PeerValue, put_by, put_entry_answer, after_put_entry}
 
--- an entry of a log stands in a log of that replication
+-- an entry of a log is in a log of that replication
 pub log_member : (logs : List (RepId × List EntryValue)) (rep : RepId) (e : EntryValue) → Among e (log_in logs rep) → (l : RepId × List EntryValue) × Among l logs × (l.0 ≡ rep)
 log_member [] rep e m = absurd m
 log_member (l ∷ logs) rep e m =
@@ -14,7 +14,7 @@ log_member (l ∷ logs) rep e m =
     (λ _ n. let k = log_member logs rep e n in (k.0, inr k.1, k.2))
     m
 
--- an entry put into another's leaves it
+-- an entry stored in another log does not change this one
 log_other : (logs : List (RepId × List EntryValue)) (rep : RepId) (e : EntryValue) (own : RepId) → own ≢ rep → log_in (logs_with logs rep e) own ≡ log_in logs own
 log_other [] rep e own ne =
     cond_both (same_rep own rep) (with_entry [] e) [] (λ (x : List EntryValue). x ≡ []) (λ t. absurd (ne (same_rep-is own rep t))) (λ _. refl)
@@ -25,7 +25,7 @@ log_other (l ∷ logs) rep e own ne =
     (λ u. ap (λ b. cond b (with_entry l.1 e) (log_in logs own)) u))
     (λ _. ap (λ (x : List EntryValue). cond (same_rep own l.0) l.1 x) (log_other logs rep e own ne))
 
--- the logs then are of the replications that were there, and of that
+-- the logs belong to the previous replications, and to that one
 logs_of : (logs : List (RepId × List EntryValue)) (rep : RepId) (e : EntryValue) (l : RepId × List EntryValue) → Among l (logs_with logs rep e) → ((k : RepId × List EntryValue) × Among k logs × (l.0 ≡ k.0)) ⊎ (l.0 ≡ rep)
 logs_of [] rep e l (inl i) = inr (ap (λ (x : RepId × List EntryValue). x.0) i)
 logs_of [] rep e l (inr m) = absurd m

@@ -1,4 +1,4 @@
--- Two peers that stay tied where one of them is put back to a copy.
+-- Two peers that stay tied if one of them is restored.
 use Rattle.proof_prelude.proofs.{◌≡◌, ℕ, false, cond, List, [], ◌∷◌, Result, Ok, Err, ◌+◌, ◌<◌, ◌≤◌, ◌==◌, nat_lt, sym, subst, ◌∙◌, arith, cond_both, eqb-true}
 use Rattle.doc_json.specs.{Choice}
 use Rattle.couch_base.specs.{Among, most}
@@ -9,7 +9,7 @@ use Rattle.repl_target.specs.{AreTiedEntries, IsTiedWith}
 use Rattle.repl_target.proofs.{entry-life, backups-source}
 use Rattle.repl_peer.specs.declared.fault.TargetFault.TheVariants as faults
 
--- what that asks
+-- the requirements of a restore
 pub record Restores (p : PeerValue) (b : BackupValue) : Type 0 where
   pub uuid : b.db.uuid ≡ p.db.uuid
   pub none : (s : SessionValue) → Among s p.sessions → ⊥
@@ -29,7 +29,7 @@ restores_in p b done is =
     })
     is
 
--- the source's new life is above all, and the log is the copy's
+-- the source's new life is greater than all, and the log is the backup's
 pub restored_source : (backups : List BackupValue) (p : PeerValue) (b : BackupValue) (q : PeerValue) (c : Choice) → Restores p b → AreTiedEntries b.db q (rep_between p q c) (log_in b.outgoing (rep_between p q c)) → IsTiedWith backups p q c → IsTiedWith backups (restored p b) q c
 restored_source backups p b q c k copied h =
     let rep = rep_between p q c in

@@ -1,4 +1,4 @@
--- The sessions of a target behind a replication: those that were there, and others from its source.
+-- The sessions of a target after a replication: the previous ones, and others from its source.
 use Rattle.proof_prelude.proofs.{◌≡◌, ◌⊎◌, inl, inr, ℕ, Bool, List, [], ◌∷◌, Ok, sym, ap, subst, ◌∙◌, both_ways, eq-eqb}
 use Rattle.rev_tree.specs.{SessionId}
 use Rattle.doc_json.specs.Document.{Document}
@@ -10,7 +10,7 @@ use Rattle.repl_target.specs.{Plan, Call, Load, Edit, Begin, Append, Settle, Sto
 use Rattle.repl_target.proofs.{fresh_of, Stays, Brings, call_keeps}
 use Rattle.script_databases.proofs.ties.MovedPairs.{WasThere, stays_same}
 
--- they are those that were there, and others from its source
+-- each is a previous one, or from the source
 abbrev pub Comes : PeerValue → ℕ → SessionValue → Type 0
 Comes target uuid s = WasThere target s ⊎ (s.rep.source ≡ uuid)
 

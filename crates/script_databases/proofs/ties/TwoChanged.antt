@@ -1,4 +1,4 @@
--- A replication between two databases, in all pairs of them and of a third.
+-- A replication between two databases, for all pairs of them and a third one.
 use Rattle.proof_prelude.proofs.{◌≡◌, ◌≢◌, ◌⊎◌, inl, inr, ℕ, Bool, List, refl, sym, ap, subst, ◌∙◌, Some, same_Some}
 use Rattle.doc_json.specs.Document.{Document}
 use Rattle.doc_json.specs.{Choice}
@@ -17,7 +17,7 @@ use Rattle.script_databases.proofs.ties.RunSessions.{left_sessions}
 use Rattle.script_databases.proofs.ties.AtNames.{names, looks, here, elsewhere}
 use Rattle.script_databases.proofs.ties.LaterStates.{grown_tied}
 
--- what a replication between two of them leaves, by one thread or by many
+-- the effect of a replication, by one thread or by the pool
 pub record Moves (refuses : Document → Bool) (source target : PeerValue) (plan : Plan) (source' target' : PeerValue) : Type 0 where
   pub log : source' ≡ record source { outgoing = source'.outgoing }
   pub left : IsLeft refuses source target plan target'
@@ -36,7 +36,7 @@ module _ (old : State) (h : AllTied old) (a b : List ℕ) (s t s' t' : PeerValue
   abbrev rep : RepId
   rep = rep_between s t plan.chosen
 
-  -- the source's own parts
+  -- the source is unchanged but for its log
   same_db : s'.db ≡ s.db
   same_db = ap (λ (x : PeerValue). x.db) moves.log
 
@@ -59,7 +59,7 @@ module _ (old : State) (h : AllTied old) (a b : List ℕ) (s t s' t' : PeerValue
         ]
       ]
 
-  -- its log of a replication into a third
+  -- its log of a replication to a third database
   third_log : (q : PeerValue) → q.db.uuid ≢ t.db.uuid → (c : Choice) → log_in s'.outgoing (rep_between s q c) ≡ log_in s.outgoing (rep_between s q c)
   third_log q ne c =
       elim moves.put [
@@ -78,7 +78,7 @@ module _ (old : State) (h : AllTied old) (a b : List ℕ) (s t s' t' : PeerValue
         | inr is ↦ subst (IsOther old t.db.uuid) (sym is) ((a, s, at_s, refl), apart)
       ]
 
-  -- what stands where
+  -- the peer at each name
   abbrev Stands : List ℕ → PeerValue → Type 0
   Stands n p = ((n ≡ b) × (p ≡ t')) ⊎ (((n ≡ a) × (p ≡ s')) ⊎ ((n ≢ a) × (n ≢ b) × (peer_at old n ≡ Some p)))
 
@@ -92,7 +92,7 @@ module _ (old : State) (h : AllTied old) (a b : List ℕ) (s t s' t' : PeerValue
         ]
       ]
 
-  -- of a third
+  -- a third database
   third : (n : List ℕ) (p : PeerValue) → peer_at old n ≡ Some p → n ≢ b → p.db.uuid ≢ t.db.uuid
   third n p e ne i = ne (h.known.apart n b p t e at_t i)
 

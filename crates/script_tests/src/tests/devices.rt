@@ -1,4 +1,4 @@
-//! Devices that give and take little, and fail at one of their calls.
+//! Devices that read and write little, and fail at a chosen call.
 
 use crate::tests::engine::{ANSWERS, LINES, Lengths};
 use script_engine::{OverRead, OverWrite, ScriptFault, ScriptRead, ScriptWrite, run_lines};
@@ -6,7 +6,7 @@ use std::io;
 use std::io::ErrorKind;
 use std::test::Fail;
 
-/// A reader that gives a few bytes a call, and fails at one of its calls.
+/// A reader that returns a few bytes per call, and fails at a chosen call.
 #[derive(Drop)]
 pub(crate) struct NarrowReader<'a> {
     pub(crate) bytes: &'a [u8],
@@ -36,10 +36,11 @@ impl ScriptRead for NarrowReader<'_> {
     }
 }
 
-/// Lines of 16 bytes with their line ends, as many as a call gives.
+/// Lines of 16 bytes including the line end, which is what one call returns.
 const SIXTEEN: &str = "a line of these\na line of these\na line of these\n";
 
-/// Lines, how many reads of them succeed, and what is answered then: each line that was read to its end, before the next read.
+/// Lines, the number of successful reads, and the output until then: every complete line is handled before the next
+/// read.
 static READS: &[(&str, u64, &str)] = &[
     (SIXTEEN, 0, ""),
     (SIXTEEN, 1, "0\n"),
@@ -72,7 +73,7 @@ fn stops_at_a_failed_read(rt: HostRuntime) -> Result<(), Fail> {
     Ok(())
 }
 
-/// A writer that takes one byte a call, and fails at one of its calls.
+/// A writer that accepts one byte per call, and fails at a chosen call.
 #[derive(Drop)]
 struct NarrowWriter {
     written: Vec<u8>,
@@ -103,7 +104,7 @@ impl ScriptWrite for NarrowWriter {
     }
 }
 
-/// At each write in turn: what went out is a beginning of the answers, as long as the writes before.
+/// Fails each write in turn: the written text is a prefix of the output, as long as the number of previous writes.
 #[test]
 fn stops_at_a_failed_write(rt: HostRuntime) -> Result<(), Fail> {
     let writes = ANSWERS.len() as u64;
@@ -125,7 +126,7 @@ fn stops_at_a_failed_write(rt: HostRuntime) -> Result<(), Fail> {
     Ok(())
 }
 
-/// A writer that gathers all that it is given, and fails at one of its flushes.
+/// A writer that buffers everything, and fails at a chosen flush.
 #[derive(Drop)]
 struct GatheringWriter {
     given: Vec<u8>,
@@ -161,8 +162,8 @@ impl ScriptWrite for GatheringWriter {
     }
 }
 
-/// How many flushes succeed, and what has gone out then: one is before the first read, one before the read that finds the end,
-/// and one behind the last line, which has no line end.
+/// The number of successful flushes, and the flushed text. The flushes are before the first read, before the read that
+/// finds the end, and after the last line, which has no line end.
 static FLUSHES: &[(u64, &str)] = &[
     (0, ""),
     (1, ""),
@@ -194,7 +195,7 @@ fn answers_go_out_before_each_read(rt: HostRuntime) -> Result<(), Fail> {
     Ok(())
 }
 
-/// Over a reader that gives 16 bytes a call: 1,500 lines, then one of 40,000 bytes.
+/// Reads 1,500 lines and one of 40,000 bytes, 16 bytes per call.
 #[test]
 fn four_thousand_reads(rt: HostRuntime) -> Result<(), Fail> {
     let (mut input, mut wanted) = (Vec::new(rt.alloc()), Vec::from_slice(rt.alloc(), b"0\n")?);

@@ -1,4 +1,4 @@
-//! The engine over a server of other words than the program's.
+//! The engine with a server that prints lengths.
 ghost use Rattle.std.specs.Prelude.{◌≡◌, ◌++◌, [], OnOk, codes, decimal};
 ghost use Rattle.script_tests.specs.Lengths.{TellsLength};
 
@@ -7,7 +7,7 @@ use script_engine::{NoRest, OverRead, OverWrite, Serve, run_lines};
 use std::alloc::AllocError;
 use std::test::Fail;
 
-/// Answers each line with the length of the one before it.
+/// Prints for each line the length of the previous one.
 #[derive(Drop)]
 pub(crate) struct Lengths {
     pub(crate) before: usize,
@@ -39,7 +39,7 @@ impl Serve for Lengths {
     fn observe(&mut self, _number: u64, _line: &[u8], _refused: Option<&'static str>) {}
 }
 
-/// Prints a length on a line.
+/// Prints a length and a line end.
 fn print(answer: &mut Vec<u8>, length: usize) -> Result<(), AllocError>
     ensures { OnOk result (answer.new.items ≡ answer.old.items ++ (decimal length ++ codes "\n")) }
 {
@@ -48,11 +48,11 @@ fn print(answer: &mut Vec<u8>, length: usize) -> Result<(), AllocError>
     answer.extend_from_slice(b"\n")
 }
 
-/// Blank lines, a refused line with its number, and a last line without an end.
+/// Blank lines, a failing line with its number, and a last line without a line end.
 pub(crate) const LINES: &str =
     "one\n\n \t\r\nthree\nxxxxxxxxxxxxxxxxxxxxxxxxxxxxxxxxxxxxxxxxx\nfour";
 
-/// What they are answered.
+/// The output of these lines.
 pub(crate) const ANSWERS: &str = "0\n3\nrefused 5 Long\n5\n";
 
 #[test]

@@ -1,19 +1,19 @@
-//! Answers in pieces: the engine over a server that gives a line back, and then its line end.
+//! Output in pieces: a server that prints a line, and then its line end.
 ghost use Rattle.std.specs.Prelude.{◌≡◌, ◌++◌, Ok, codes};
 
 use script_engine::{OverRead, OverWrite, ScriptFault, Serve, run_lines};
 use std::alloc::{AllocError, Global};
 use std::test::Fail;
 
-/// The line end behind a line.
+/// The rest of an output: the line end.
 #[derive(Drop)]
 pub(crate) struct LineEnd;
 
-/// Gives each line back, then its line end, for which memory may be wanting.
+/// Prints each line, and then its line end, for which an allocation may fail.
 #[derive(Drop)]
 pub(crate) struct Echo {
     alloc: Global,
-    /// How much room is made before the line end is given.
+    /// The capacity that is reserved for the line end.
     room: usize,
 }
 
@@ -44,7 +44,7 @@ impl Serve for Echo {
     fn observe(&mut self, _number: u64, _line: &[u8], _refused: Option<&'static str>) {}
 }
 
-/// What lines are answered where there is memory, and where there is none behind a first piece.
+/// The output with enough memory, and if the allocation after the first piece fails.
 static ROOMS: &[(usize, bool, &str)] = &[(1, true, "one\ntwo three\n"), (usize::MAX, false, "one")];
 
 #[test]

@@ -11,14 +11,14 @@ use Rattle.rev_core.specs.{◌>>=◌}
 use Rattle.write_commands.specs.{LoadsAt, LoadsUntaken, load_new, load_there}
 use Rattle.command_api.proofs.{bound, does_tied, left_is}
 
--- a document is put, or none
+-- with a document, or without one
 there_tied : (s : State) → AllTied s → (db : List ℕ) (l : PeerValue) → peer_at s db ≡ Some l → (doc : Option Document) (done : List ℕ × State) → load_there s db l doc ≡ Ok done → AllTied done.1
 there_tied s h db l at None done e = left_is _ done e h
 there_tied s h db l at (Some d) done e =
     let k = bound (told_as base_refusal (put_answer l.db d)) _ done e in
     left_is _ done k.2 (load_tied s h db l at d)
 
--- one that is made
+-- a new database
 new_tied : (s : State) → AllTied s → (db : List ℕ) → peer_at s db ≡ None → (uuid : ℕ) → (IsTaken s uuid → ⊥) → (doc : Option Document) (done : List ℕ × State) → load_new s db uuid doc ≡ Ok done → AllTied done.1
 new_tied s h db free uuid untaken None done e = left_is _ done e (made_tied s h db (new_peer uuid) free untaken refl refl)
 new_tied s h db free uuid untaken (Some d) done e =
@@ -33,7 +33,7 @@ untaken_tied s new h db free uuid wanted told (inr d) =
     (λ done e. (let k = bound wanted (load_new s db uuid) done e in new_tied s h db free uuid d.0 k.0 done k.2))
     d.1
 
--- by what is there
+-- by whether the database exists
 pub loads_tied : (old new : State) → AllTied old → (db : List ℕ) (told : Told) (o : Option PeerValue) → peer_at old db ≡ o → (uuid : Option ℕ) (wanted : Result (Option Document) Refusal) → LoadsAt old db o uuid wanted told new → AllTied new
 loads_tied old new h db told (Some l) at (Some uuid) wanted d = subst AllTied (sym d.1) h
 loads_tied old new h db told (Some l) at None wanted d =

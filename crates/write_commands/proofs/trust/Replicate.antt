@@ -1,4 +1,4 @@
--- `replicate` keeps all databases tied, and a session that came to its goal covers all of the chosen source.
+-- `replicate` keeps all databases tied, and a session that reached its goal covers the source's selected feed.
 use Rattle.proof_prelude.proofs.{◌≡◌, inl, inr, ℕ, Bool, true, false, List, Option, Some, None, Result, Ok, Err, IfOk, refl, sym, ap, subst, ◌∙◌}
 use Rattle.rev_tree.specs.{SessionId}
 use Rattle.doc_json.specs.{Choice}
@@ -16,7 +16,7 @@ use Rattle.script_databases.proofs.{same_Ok, drawn_tied, alone_left, pool_left, 
 use Rattle.write_commands.proofs.ReplicateLemmas.{same_peer}
 use Rattle.command_api.proofs.{bound, found}
 
--- ---- an id is drawn, or none
+-- ---- an id is drawn, or not
 
 with_drawn_tied : (s : State) (given : Option ℕ) → AllTied s → AllTied (with_drawn s given)
 with_drawn_tied s (Some session) h = h
@@ -56,7 +56,7 @@ ends_tied false false old h a b s t at_s at_t plan ending new (result, ran, is) 
     let left = pool_left old h a b s t at_s at_t plan result new ran in
     (left.0, subst (Covers new a b plan.chosen) (sym is) (run_ends new a b plan.chosen result left.1))
 
--- ---- what is told of it
+-- ---- its output
 
 tells : (new : State) (ask : ReplicateAsk) (session : SessionId) (c : Choice) (ending : Result Ending Refusal) → choice_given ask.doc_ids ≡ Ok c → Covers new ask.source ask.target c ending → IsCovered new ask (told_of (replicated_text session ending))
 tells new ask session c (Ok ending) given covers = (session, ending, c, refl, given, covers)

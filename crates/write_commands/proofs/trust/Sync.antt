@@ -1,4 +1,4 @@
--- `sync` keeps all databases tied, and each of its ways may be trusted.
+-- `sync` keeps all databases tied, and each of its directions has its guarantee.
 use Rattle.proof_prelude.proofs.{Ok, Err, refl, sym, subst}
 use Rattle.script_engine.specs.{Told, MayTell, in_full, gave_up, served_only}
 use Rattle.script_databases.specs.AllTied.{AllTied}
@@ -6,7 +6,7 @@ use Rattle.script_databases.specs.{State}
 use Rattle.write_commands.specs.{ReplicateAsk, ReportsReplication, IsCovered, both_of, SyncAsk, Syncs, IsMet}
 use Rattle.write_commands.proofs.trust.Replicate.{reports_tied}
 
--- one way, for which memory may be wanting
+-- one direction, which may run out of memory
 may_tied : (old new : State) → AllTied old → (ask : ReplicateAsk) (told : Told) → MayTell ReportsReplication old ask told new → AllTied new × IsCovered new ask told
 may_tied old new h ask told (in_full d) = reports_tied old new h ask told (both_of old ask) refl d
 may_tied old new h ask told gave_up = (h, tt)

@@ -5,7 +5,7 @@ use Rattle.clap.specs.declared.builder.command.Command.{Command}
 use Rattle.clap.specs.declared.builder.command.Command.TheViews.{out-Command}
 use Rattle.cli_common.proofs.words.program.Goals as goal
 
--- texts are no part of what is read
+-- texts do not affect parsing
 with_about : (x y : Command) (text : Option (Bor (List ℕ))) → out-Command y ≡ record (out-Command x) { about = text } → app_of y ≡ app_of x
 with_about x y text e = ap app_of_fields e
 

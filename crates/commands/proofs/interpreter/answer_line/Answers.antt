@@ -7,7 +7,7 @@ use Rattle.json_values.specs.{line_view}
 use Rattle.command_api.proofs.{may_tell}
 use Rattle.commands.proofs.interpreter.answer_line.Goals as goal
 
--- a line that is no object, or for which memory was wanting
+-- a line that is not an object, or an allocation failed
 line_refused : (old : State) (line : List ℕ) (refusal : Refusal) → (refusal ≡ why.Memory) ⊎ ((refusal ≡ why.BadLine) × IsNoObject line) → MayTell LinesAnswer old line (Err (name_of refusal)) old
 line_refused old line refusal (inl m) = subst (λ r. MayTell LinesAnswer old line (Err (name_of r)) old) (sym m) gave_up
 line_refused old line refusal (inr h) = subst (λ r. MayTell LinesAnswer old line (Err (name_of r)) old) (sym h.0) (in_full (Err why.BadLine, inr (h.1, refl), (refl, refl)))

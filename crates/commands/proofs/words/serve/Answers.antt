@@ -8,15 +8,15 @@ use Rattle.commands.specs.{AnswersAsked, Asked, asked_as, asked_in, load, edit, 
 use Rattle.commands.proofs.{word_answered}
 use Rattle.commands.proofs.words.serve.Goals as goal
 
--- what is told to what is asked by the word, is told to what is asked
+-- a result of a command's request is a result of the request
 by_word : {old new : State} {told : Told} (d : Data) (word found : CommandName) → asked_in d ≡ asked_as found d → found ≡ word → MayTell AnswersAsked old (asked_as word d) told new → MayTell AnswersAsked old (asked_in d) told new
 by_word {old = old} {new = new} {told = told} d word found e is h = subst (λ a. MayTell AnswersAsked old a told new) (sym (e ∙ ap (λ w. asked_as w d) is)) h
 
--- what is told to what a line's value asks, is told to what the line asks
+-- a result of the request of a line's value is a result of the line's request
 of_line : {old new : State} {told : Told} {v w : LineValue} → v ≡ w → MayTell AnswersAsked old (asked_in (line_view v)) told new → MayTell AnswersAsked old (asked_in (line_view w)) told new
 of_line {old = old} {new = new} {told = told} is h = subst (λ x. MayTell AnswersAsked old (asked_in (line_view x)) told new) is h
 
--- what is told whole
+-- a complete output
 told_whole : {old new : State} {a : Result Asked Refusal} {x y : Told} → x ≡ y → MayTell AnswersAsked old a y new → MayTell AnswersAsked old a x new
 told_whole {old = old} {new = new} {a = a} e h = subst (λ t. MayTell AnswersAsked old a t new) (sym e) h
 

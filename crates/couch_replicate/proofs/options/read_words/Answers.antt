@@ -11,7 +11,7 @@ options_free : is_simple_and_free options ≡ true
 unfolding clap_on_literals
 options_free = refl
 
--- no settings are what the words say, where none are what was found of them
+-- no settings match the arguments if none match their parsed values
 nothing_said : (words : List (List ℕ)) (x : Result Options NoSettings)
     → IfErr x (SetNothing (λ id. first_of id (matches_of options words)) (λ id. one_of id (matches_of options words))) → IfErr x (Refuses words)
 nothing_said words (Ok o) h = tt

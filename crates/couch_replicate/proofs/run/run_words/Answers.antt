@@ -6,7 +6,7 @@ use Rattle.commands.specs.{TrustedLines}
 use Rattle.couch_replicate.specs.{Answered}
 use Rattle.couch_replicate.proofs.run.run_words.Goals as goal
 
--- what the run of a script answered
+-- the output of the run of a script
 answered : (g : Program) (l l' h h' : Option (List ℕ)) (x : Result Bool ScriptFault) →
     IfOk x (λ clean. (input : List ℕ) × (text : List ℕ) × (state : State) × Gives l input × Appends h h' text × IsAnswered TrustedLines (no_databases g) input clean text state) →
     IfErr x (λ fault. (input : List ℕ) × (text : List ℕ) × Gives l input × Appends h h' text × IsToldUntil fault TrustedLines (no_databases g) input text) →

@@ -1,4 +1,4 @@
--- What is left has the same text behind its blanks.
+-- The rest has the same text after its blanks.
 use Rattle.proof_prelude.proofs.{◌≡◌, length}
 use Rattle.doc_envelope.specs.{trimmed}
 use Rattle.doc_envelope.proofs.names.trimmed.Given as goal

@@ -1,4 +1,4 @@
--- The rows so far have been printed and counted, and those above the sequence are left.
+-- The rows so far have been printed and counted, and those after the sequence are left.
 use Rattle.proof_prelude.proofs.{◌≡◌, ◌++◌, ◌-◌, List, flat_map}
 use Rattle.couch_base.specs.{RowValue}
 use Rattle.read_commands.specs.{rows_left}

@@ -1,4 +1,4 @@
--- The rows so far have been printed, and those above the sequence are left.
+-- The rows so far have been printed, and those after the sequence are left.
 use Rattle.proof_prelude.proofs.{◌≡◌, ◌++◌, ◌-◌, flat_map}
 use Rattle.read_commands.specs.{rows_left}
 use Rattle.read_commands.proofs.feed.print_feed.Given as goal

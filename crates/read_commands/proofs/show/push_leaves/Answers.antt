@@ -2,7 +2,7 @@ use Rattle.proof_prelude.proofs.{ap, ◌∙◌, arith, both_ways, true_from_ne_f
 use Rattle.rev_tree.specs.{has}
 use Rattle.read_commands.proofs.show.push_leaves.Goals as goal
 
--- what holds of all holds of each
+-- what holds for all holds for each
 pub push_leaf-requires : goal.push_leaf-requires
 push_leaf-requires c =
     ap (has c.args.tree.now) c.leaf-item.is

@@ -1,4 +1,4 @@
--- A front of the bytes was read, and what it holds is written.
+-- A prefix of the bytes was read, and its contents are written.
 use Rattle.proof_prelude.proofs.{◌≡◌, ◌++◌, ℕ, List, length}
 use Rattle.response_parser.specs.{state_of}
 use Rattle.response_output.specs.{words_of_wording, Fed}

@@ -1,4 +1,4 @@
--- What was read so far is answers, and what they hold is written.
+-- What was read so far is responses, and their contents are written.
 use Rattle.proof_prelude.proofs.{◌≡◌, ◌-◌, false}
 use Rattle.response_parser.specs.{is_refused, state_of}
 use Rattle.script_engine.specs.{HasRead, AreChunks, max_reads}

@@ -1,4 +1,4 @@
--- What was read has been served, and its answers stand in the writer.
+-- What was read has been run, and its output is written.
 use Rattle.proof_prelude.proofs.{◌≡◌, ◌≤◌, ◌-◌, false, vec_capacity}
 use Rattle.script_engine.specs.{HasRead, AreChunks, max_reads, has_line_end, place_of}
 use Rattle.script_engine.proofs.{Ran}

@@ -1,4 +1,4 @@
--- What has been written is the front of what was left, and no call has failed.
+-- A prefix of the rest has been written, and no call has failed.
 use Rattle.proof_prelude.proofs.{◌≡◌, ◌++◌, ℕ, List, length, Appends}
 use Rattle.script_engine.proofs.lines.write_rest.Given as goal
 

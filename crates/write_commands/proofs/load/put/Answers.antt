@@ -26,7 +26,7 @@ returns-in_err-print_put-in-Ok c =
     refused_memory c.from_residual.result _ c.from_residual.ensures.1
     (served_only line (loads_named _ _ _ _ (Some l.0) l.1 (does s line (passes _ (ap (λ o. load_answer o doc) (sym l.1) ∙ c.in-Ok.ensures.answer) ∙ both refl state))))
 
--- one that is refused by a database
+-- an error of the database
 pub returns-then-has : goal.returns-then-has
 returns-then-has c =
     let doc = c.args.document.now in
@@ -36,6 +36,6 @@ returns-then-has c =
     unless_memory _ c.in-Err.ensures.answer kept
     (λ e. loads_named _ _ _ _ (Some l.0) there (does_nothing c.in-Err.refusal (stops _ (ap (λ o. load_answer o doc) (sym there) ∙ e)) kept))
 
--- or for want of one
+-- or there is no database
 pub put_new-requires-clause-absent : goal.put_new-requires-clause-absent
 put_new-requires-clause-absent c = is_absent c.load.new.self c.args.db.now (sym c.has.ensures ∙ c.if-has.false)

@@ -2,7 +2,7 @@ use denote.Text.{Utf8}
 use denote.Shadow.{shadow}
 use Rattle.couch_replicate.proofs.seen.Seen.note_sessions.Given as goal
 
--- the word before is a text
+-- the previous word is a string
 abbrev pub invariant-loop-word : goal.invariant-loop-word
 invariant-loop-word l =
     (goal.iterator-loop-word).can_next l.word-iterator × (goal.iterator-loop-word).is_finite l.word-iterator × shadow (Utf8 l.before)

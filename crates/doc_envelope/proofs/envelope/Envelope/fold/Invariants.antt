@@ -1,4 +1,4 @@
--- What the members behind will make of the texts so far is what all of them make.
+-- The remaining members will make of the texts so far what all members make.
 use Rattle.proof_prelude.proofs.{◌≡◌, [], ◌∷◌, drop, length}
 use Rattle.doc_envelope.specs.{members_in, texts_with, helds_by, made_of, held_of}
 use Rattle.doc_envelope.specs.declared.members.Mode.TheVariants.{Outside}

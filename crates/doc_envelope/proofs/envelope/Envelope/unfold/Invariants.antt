@@ -1,4 +1,4 @@
--- What is taken of the members behind the text so far is what is taken of all of them.
+-- What is unwrapped of the remaining members after the text so far is what is unwrapped of all.
 use Rattle.proof_prelude.proofs.{◌≡◌, [], ◌∷◌, drop, length}
 use Rattle.doc_envelope.specs.{members_in, all_taken, made_of}
 use Rattle.doc_envelope.specs.declared.members.Mode.TheVariants.{Outside}

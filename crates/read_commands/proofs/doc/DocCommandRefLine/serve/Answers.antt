@@ -31,7 +31,7 @@ returns-in_default-chosen g c =
 pub returns-in_err-found : goal.returns-in_err-found
 returns-in_err-found g c = refused_memory c.from_residual-in_err-found.result _ c.from_residual-in_err-found.ensures.1 gave_up
 
--- the document at the revision, where the database is the peer's
+-- a revision of a document in the peer's database
 at_peer : (base : DatabaseValue) (l : PeerValue) (id : List ℕ) (rev : RevId) (o : Option Document) → base ≡ l.db → o ≡ document_at base id rev → document_at l.db id rev ≡ o
 at_peer base l id rev o e h = sym (h ∙ ap (λ (d : DatabaseValue). document_at d id rev) e)
 

@@ -33,14 +33,14 @@ log_held-requires g c =
 pub returns-in_err-log : goal.returns-in_err-log
 returns-in_err-log g c = refused_memory c.from_residual-in_err-log.result _ c.from_residual-in_err-log.ensures.1 gave_up
 
--- a fault of the log's text
+-- an error of the log's text
 log_refused : (fault : LogFault) (expected : Result (List ℕ) LogFault) → GivesUnlessMemory (Err fault) expected → (told_as log_refusal expected ≡ Err (log_refusal fault)) ⊎ (log_refusal fault ≡ why.Memory)
 log_refused faults.BadMoment expected h = inl (ap (told_as log_refusal) (sym h))
 log_refused (faults.Older stored) expected h = inl (ap (told_as log_refusal) (sym h))
 log_refused faults.EmptyLog expected h = inl (ap (told_as log_refusal) (sym h))
 log_refused faults.Memory expected h = inr refl
 
--- the text of the log that is held, of the replication of the choice
+-- the text of the log of the selection's replication
 same_text : (side : Side) (s t : PeerValue) (rep : RepId) (chosen : Choice) (log : List EntryValue) → rep ≡ rep_between s t chosen → log ≡ log_held side s t rep.chosen → log_text rep log ≡ log_text (rep_between s t chosen) (log_held side s t chosen)
 same_text side s t rep chosen log is held = ap (log_text rep) (held ∙ ap (λ (r : RepId). log_held side s t r.chosen) is) ∙ ap (λ (r : RepId). log_text r (log_held side s t chosen)) is
 

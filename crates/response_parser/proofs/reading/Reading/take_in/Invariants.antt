@@ -1,4 +1,4 @@
--- The bytes so far were taken, and nothing was made whole by them.
+-- The bytes so far were read, and completed nothing.
 use Rattle.proof_prelude.proofs.{◌≡◌, ◌⊎◌, [], take}
 use Rattle.response_parser.specs.{state_of, after, given, pieces}
 use Rattle.response_parser.proofs.reading.Reading.take_in.Given as goal

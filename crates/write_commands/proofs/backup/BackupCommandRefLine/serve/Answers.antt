@@ -6,14 +6,14 @@ use Rattle.write_commands.specs.{BackupAsk, backup_asked, backup_done, backed_li
 use Rattle.command_api.proofs.{passes, stops, does, does_nothing, both, printed, unless_memory, handed_on, refused_memory}
 use Rattle.write_commands.proofs.backup.BackupCommandRefLine.serve.Goals as goal
 
--- a copy that was kept
+-- a backup that was saved
 kept : (old new : State) (ask : BackupAsk) (text : List ℕ) (seq : ℕ) (copy : Result BackupValue Refusal) → backed_answer old ask.db ask.name ≡ copy → backed_told copy ≡ Ok seq → new ≡ backed_by old ask.db ask.name copy → text ≡ backed_line ask.db ask.name seq → backup_done old ask ≡ Ok (text, new)
 kept old new ask text seq (Ok copy) is told left line =
     let same : copy.db.update_seq ≡ seq = cc told in
     passes _ is ∙ both (line ∙ ap (backed_line ask.db ask.name) (sym same)) left
 kept old new ask text seq (Err refusal) is told left line = cc told
 
--- a copy that was refused
+-- a backup that failed
 refused : (old : State) (ask : BackupAsk) (refusal : Refusal) (copy : Result BackupValue Refusal) → backed_answer old ask.db ask.name ≡ copy → backed_told copy ≡ Err refusal → backup_done old ask ≡ Err refusal
 refused old ask refusal (Ok copy) is told = cc told
 refused old ask refusal (Err why) is told = stops _ is ∙ cc told
