@@ -1,2 +1,2 @@
 pub mod Seen
-pub use Seen.{adds_quoted, adds_visible, seen_none, seen_then, told_by}
+pub use Seen.{adds_quoted, adds_visible, seen_none, seen_then, seen_trans, told_by}

@@ -7,7 +7,7 @@ use crate::places::push_place;
 use crate::sentences::sentence_of;
 use crate::texts::{push_named, push_words};
 use itoa::Buffer;
-use json_values::{ValueReader, is_same_text};
+use json_values::{LineValue, ValueReader, is_same_text};
 use std::alloc::{AllocError, Global};
 
 /// Appends one explanation: the number of the line, the error name, the command, member, document or database at fault
@@ -57,12 +57,20 @@ fn push_reason(
 ) -> Result<(), AllocError>
     ensures { OnOk result (AddsSeen (string_bytes text.old) (string_bytes text.new)) }
 {
-    if let Ok(line) = values.read_line(alloc, line) {
-        if is_same_text("BadCommand", name) {
-            return push_fault(text, &fault_of(line.value()));
-        }
-        push_place(text, name, line.value())?;
+    match values.read_line(alloc, line) {
+        Ok(line) => push_read_reason(text, name, line.value()),
+        Err(_) => push_words(text, sentence_of(name)),
     }
+}
+
+/// Appends what is at fault in an object, and the meaning of the error name.
+fn push_read_reason(text: &mut String, name: &str, object: &LineValue<'_>) -> Result<(), AllocError>
+    ensures { OnOk result (AddsSeen (string_bytes text.old) (string_bytes text.new)) }
+{
+    if is_same_text("BadCommand", name) {
+        return push_fault(text, &fault_of(object));
+    }
+    push_place(text, name, object)?;
     push_words(text, sentence_of(name))
 }
 
@@ -78,11 +86,16 @@ fn push_fault(text: &mut String, fault: &CommandFault<'_>) -> Result<(), AllocEr
         CommandFault::UnknownWord(word) => push_named(text, "unknown command ", word),
         CommandFault::UnknownMember(member) => push_named(text, "unknown member ", member),
         CommandFault::Missing(member) => push_named(text, "missing member ", member),
-        CommandFault::WrongKind(member, wanted) => {
-            push_named(text, "member ", member)?;
-            push_words(text, " ")?;
-            push_words(text, wanted)
-        }
+        CommandFault::WrongKind(member, wanted) => push_wrong_kind(text, member, wanted),
         CommandFault::NoneSeen => push_words(text, sentence_of("BadCommand")),
     }
+}
+
+/// Appends a member and the type that it must have.
+fn push_wrong_kind(text: &mut String, member: &str, wanted: &str) -> Result<(), AllocError>
+    ensures { OnOk result (AddsSeen (string_bytes text.old) (string_bytes text.new)) }
+{
+    push_named(text, "member ", member)?;
+    push_words(text, " ")?;
+    push_words(text, wanted)
 }

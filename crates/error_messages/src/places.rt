@@ -8,6 +8,7 @@ use json_values::{LineValue, is_same_text};
 use std::alloc::AllocError;
 
 /// Appends what is at fault and a colon. Appends nothing if that is unknown.
+#[tactic(auto, using(crate::proofs::Seen::seen_none))]
 pub(crate) fn push_place(
     text: &mut String,
     name: &str,
@@ -18,24 +19,68 @@ pub(crate) fn push_place(
     if !is_same_text("NoDatabase", name)
         && let Some(id) = id_of(object)
     {
-        push_named(text, "document ", id)?;
-        if let Some(member) = member_at_fault(name, object) {
-            push_named(text, ", member ", member)?;
-        }
-        return push_words(text, ": ");
+        return push_document(text, name, object, id);
     }
     if let Some(db) = text_of(object, "db") {
-        push_named(text, "database ", db)?;
-        return push_words(text, ": ");
+        return push_database(text, db);
     }
     if let Some(source) = text_of(object, "source") {
-        push_named(text, "from ", source)?;
-        if let Some(target) = text_of(object, "target") {
-            push_named(text, " to ", target)?;
-        }
-        return push_words(text, ": ");
+        return push_databases(text, object, source);
     }
     Ok(())
+}
+
+/// Appends a document, its member at fault if one is known, and a colon.
+fn push_document(
+    text: &mut String,
+    name: &str,
+    object: &LineValue<'_>,
+    id: &str,
+) -> Result<(), AllocError>
+    ensures { OnOk result (AddsSeen (string_bytes text.old) (string_bytes text.new)) }
+{
+    push_named(text, "document ", id)?;
+    push_member(text, name, object)?;
+    push_words(text, ": ")
+}
+
+/// Appends the member at fault, if one is known.
+#[tactic(auto, using(crate::proofs::Seen::seen_none))]
+fn push_member(text: &mut String, name: &str, object: &LineValue<'_>) -> Result<(), AllocError>
+    ensures { OnOk result (AddsSeen (string_bytes text.old) (string_bytes text.new)) }
+{
+    match member_at_fault(name, object) {
+        Some(member) => push_named(text, ", member ", member),
+        None => Ok(()),
+    }
+}
+
+/// Appends a database and a colon.
+fn push_database(text: &mut String, db: &str) -> Result<(), AllocError>
+    ensures { OnOk result (AddsSeen (string_bytes text.old) (string_bytes text.new)) }
+{
+    push_named(text, "database ", db)?;
+    push_words(text, ": ")
+}
+
+/// Appends a source, the target if the line has one, and a colon.
+fn push_databases(text: &mut String, object: &LineValue<'_>, source: &str) -> Result<(), AllocError>
+    ensures { OnOk result (AddsSeen (string_bytes text.old) (string_bytes text.new)) }
+{
+    push_named(text, "from ", source)?;
+    push_target(text, object)?;
+    push_words(text, ": ")
+}
+
+/// Appends the target, if the line has one.
+#[tactic(auto, using(crate::proofs::Seen::seen_none))]
+fn push_target(text: &mut String, object: &LineValue<'_>) -> Result<(), AllocError>
+    ensures { OnOk result (AddsSeen (string_bytes text.old) (string_bytes text.new)) }
+{
+    match text_of(object, "target") {
+        Some(target) => push_named(text, " to ", target),
+        None => Ok(()),
+    }
 }
 
 /// The document id that a line names, if it is a string.

@@ -1,0 +1,7 @@
+use Rattle.proof_prelude.proofs.{string_bytes}
+use Rattle.error_messages.proofs.{seen_then}
+use Rattle.error_messages.proofs.places.push_database.Goals as goal
+
+pub returns : goal.returns
+returns c =
+    seen_then c.push_words.result (string_bytes c.args.text.now) (string_bytes c.push_named.new.text) (string_bytes c.push_words.new.text) c.in_ok-push_named.ensures c.push_words.ensures
