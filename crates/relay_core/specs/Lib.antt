@@ -1,0 +1,4 @@
+pub mod Readings
+pub mod Exchanges
+pub mod Justified
+pub mod Known

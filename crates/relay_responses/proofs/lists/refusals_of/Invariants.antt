@@ -1,0 +1,11 @@
+-- What is read and what is left are all.
+use Rattle.proof_prelude.proofs.{◌≡◌, ◌++◌, codes, drop}
+use Rattle.json_values.specs.{line_items, line_members}
+use Rattle.serde_json.specs.Find.{as_str}
+use Rattle.relay_responses.specs.Read.{some_items, text_at, row_in, missing_in, refused_in, entry_in}
+use Rattle.relay_responses.specs.Seen.{refusals_of}
+use Rattle.relay_responses.proofs.lists.refusals_of.Given as goal
+
+abbrev pub invariant-loop-item : goal.invariant-loop-item
+invariant-loop-item l =
+    refusals_of l.refused ++ some_items refused_in (line_items (drop l.item-index l.item-items)) ≡ some_items refused_in (line_items l.item-items)
