@@ -1,4 +1,2 @@
-pub mod Readings
-pub mod Exchanges
-pub mod Justified
-pub mod Known
+pub mod Messages
+pub mod Views

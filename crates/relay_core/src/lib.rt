@@ -1,15 +1,15 @@
-//! What is asked of two servers, one thing after another, so that a checkpoint is asked for only where it is earned.
+//! Decides what a replication asks of two servers, and when it may record a checkpoint.
 #![tactic(auto)]
 
-mod logs;
-mod pages;
+mod messages;
 mod phase;
 mod relay;
-mod runs;
-mod tests_of;
-mod words;
+mod settings;
 
-pub use phase::{Phase, Tally, Turn, Window};
+pub use messages::{
+    ChangesPage, Checkpoint, Counts, DocLeaves, Fault, LogEntry, Notice, Operation, RefusedLeaf,
+    ReplicationLog, Request, Response, RowError, Side, Unaccounted,
+};
+pub use phase::{PageEnd, Phase, Recorded, Run, Stage, Start, Transfer};
 pub use relay::step;
-pub use runs::{Carrier, DriveFault, drive};
-pub use words::{Answer, Leaves, Log, LogEntry, Page, Refusal, Side};
+pub use settings::Settings;

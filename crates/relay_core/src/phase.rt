@@ -1,65 +1,192 @@
-//! How far a replication has come.
+//! The state of a run.
 
-use crate::words::{Leaves, Log, Refusal};
+use crate::messages::{
+    ChangesPage, Checkpoint, Counts, DocLeaves, Fault, Notice, ReplicationLog, Request, RowError,
+    Side,
+};
+use crate::settings::Settings;
+use std::alloc::{AllocError, Global};
 
-/// What was counted.
-#[derive(Clone, Copy, Drop)]
-pub struct Tally {
-    /// Documents that were asked about.
-    pub checked: u64,
-    /// Documents of which leaves were missing.
-    pub found: u64,
-    /// Documents of which leaves were refused.
-    pub failures: u64,
-    /// Pages behind the last checkpoint.
-    pub pages: u64,
-    /// How often the page was asked for again.
-    pub tries: u64,
-    /// How often the run began anew behind the last checkpoint.
-    pub anews: u64,
+/// A session, and a sequence up to which it has recorded.
+#[derive(Drop)]
+pub struct Recorded {
+    pub session_id: String,
+    pub seq: String,
 }
 
-/// What is settled of the source's changes: from where both logs stand, up to there.
+/// The sequence at which a session began, and the time.
 #[derive(Drop)]
-pub struct Window {
-    pub tally: Tally,
-    pub begin: String,
+pub struct Start {
+    pub time: String,
+    pub seq: String,
+}
+
+/// What a run keeps from one request to the next.
+#[derive(Drop)]
+pub struct Run {
+    /// The newest pair that both logs had when the window began.
+    pub begin: Option<Recorded>,
+    /// The sequence up to which all leaves are accounted for.
     pub since: String,
+    /// Whether there is anything to record.
+    pub is_open: bool,
+    /// The number of pages with rows in the window.
+    pub pages: u64,
+    /// Whether the last page was the end of the feed.
+    pub has_ended: bool,
+    /// Whether the next page is requested by longpoll.
+    pub waits: bool,
+    /// The number of documents of the next carry.
+    pub carry: u64,
+    /// How often the page was requested again.
+    pub tries: u64,
+    /// How often the run began anew since the feed's end was recorded.
+    pub restarts: u64,
+    pub counts: Counts,
+    pub start: Option<Start>,
+    /// The date of the last response that had one.
+    pub date: String,
 }
 
-/// A page behind a window: up to there, and whether more is to come.
+/// Where a page ends.
 #[derive(Drop)]
-pub struct Turn {
-    pub window: Window,
-    pub last: String,
-    pub more: bool,
+pub struct PageEnd {
+    pub last_seq: String,
+    pub is_last: bool,
+    pub pending: Option<String>,
+    /// The number of leaves of the page.
+    pub checked: u64,
 }
 
-/// How far a replication has come: what is asked, and what is known.
+/// A page of which leaves are carried.
 #[derive(Drop)]
-pub enum Phase {
-    /// The target's log is asked for.
-    TargetLog(Tally),
-    /// The source's log is asked for.
-    SourceLog(Tally, Log),
-    /// A page of the source's changes is asked for.
-    Changes(Window),
-    /// The target is asked which leaves of a page it lacks.
-    Diff(Turn, Vec<Leaves>),
-    /// The leaves that it lacks are carried.
-    Carry(Turn, Vec<Leaves>),
-    /// The target is asked again.
-    Again(Turn, Vec<Leaves>, Vec<Refusal>),
-    /// The target's log is asked for once more, before a checkpoint.
-    TargetAgain(Window, bool),
-    /// The source's log is.
-    SourceAgain(Window, bool, Log),
-    /// The target's log is written.
-    TargetPut(Window, bool, Log, Log),
-    /// The source's log is written.
-    SourcePut(Window, bool, Log),
-    /// All is done.
-    Done(Window),
-    /// An answer was none that could be.
-    Faulty,
+pub struct Transfer {
+    pub end: PageEnd,
+    /// The leaves that the target lacked.
+    pub missing: Vec<DocLeaves>,
+    /// The number of documents that were carried.
+    pub carried: usize,
+    /// The number of documents in the current carry.
+    pub size: usize,
+    /// The errors of rows so far.
+    pub errors: Vec<RowError>,
+}
+
+/// What a run waits for.
+#[derive(Drop)]
+pub enum Stage {
+    /// The target's log.
+    TargetLog,
+    /// The source's log, after the target's.
+    SourceLog(ReplicationLog),
+    /// A page of changes.
+    Changes,
+    /// The leaves of a page that the target lacks.
+    Diff(ChangesPage),
+    /// The rows of a carry.
+    Carry(Transfer),
+    /// The leaves that the target still lacks.
+    Again(Transfer),
+    /// That the target's log is stored. Then the source's is.
+    TargetPut(ReplicationLog, ReplicationLog, Checkpoint),
+    /// That the source's log is stored.
+    SourcePut(ReplicationLog, Checkpoint),
+    /// Nothing.
+    Done(Option<Fault>),
+}
+
+/// The state of a run: what it asks for next, and what it knows.
+#[derive(Drop)]
+pub struct Phase {
+    pub run: Run,
+    /// Notices for the user, printed before the stage's request.
+    pub notices: Vec<Notice>,
+    /// The number of notices that were printed.
+    pub told: usize,
+    pub stage: Stage,
+}
+
+impl Run {
+    /// Returns the last sequence that both servers recorded.
+    pub fn recorded(&self) -> &str {
+        match &self.begin {
+            Some(recorded) => recorded.seq.as_str(),
+            None => "0",
+        }
+    }
+}
+
+impl Phase {
+    /// Returns the state before the first request.
+    pub fn start(alloc: Global, settings: &Settings) -> Result<Phase, AllocError> {
+        let since = String::from_str(alloc, "0")?;
+        Ok(Phase {
+            run: Run {
+                begin: None,
+                since,
+                is_open: false,
+                pages: 0,
+                has_ended: false,
+                waits: false,
+                carry: settings.carry,
+                tries: 0,
+                restarts: 0,
+                counts: Counts {
+                    missing_checked: 0,
+                    missing_found: 0,
+                    docs_read: 0,
+                    docs_written: 0,
+                    doc_write_failures: 0,
+                },
+                start: None,
+                date: String::new(alloc),
+            },
+            notices: Vec::new(alloc),
+            told: 0,
+            stage: Stage::TargetLog,
+        })
+    }
+
+    /// Returns what the run asks for next.
+    pub fn request(&self) -> Request<'_> {
+        match self.notices.get(self.told) {
+            Some(notice) => Request::Tell(notice),
+            None => stage_request(&self.run, &self.stage),
+        }
+    }
+}
+
+/// Returns the timeout of the next page, if it is requested by longpoll.
+fn wait_of(run: &Run) -> Option<u32> {
+    if !run.waits {
+        return None;
+    }
+    Some(if run.is_open { 5000 } else { 60000 })
+}
+
+/// Returns the documents of the current carry.
+fn part_of(transfer: &Transfer) -> &[DocLeaves] {
+    let missing = transfer.missing.as_slice();
+    let from = transfer.carried.min(missing.len());
+    let rest = &missing[from..];
+    &rest[..transfer.size.min(rest.len())]
+}
+
+/// Returns what a stage asks for.
+fn stage_request<'a>(run: &'a Run, stage: &'a Stage) -> Request<'a> {
+    match stage {
+        Stage::TargetLog => Request::GetLog(Side::Target),
+        Stage::SourceLog(_) => Request::GetLog(Side::Source),
+        Stage::Changes => Request::GetChanges(run.since.as_str(), wait_of(run)),
+        Stage::Diff(page) => Request::RevsDiff(page.rows.as_slice()),
+        Stage::Carry(transfer) => Request::Carry(part_of(transfer)),
+        Stage::Again(transfer) => Request::RevsDiff(transfer.missing.as_slice()),
+        Stage::TargetPut(target, _, checkpoint) => Request::PutLog(
+            Side::Target,
+            target,
+            checkpoint,
+        ),
+        Stage::SourcePut(source, checkpoint) => Request::PutLog(Side::Source, source, checkpoint),
+        Stage::Done(fault) => Request::Done(fault.as_ref(), &run.counts, run.recorded()),
+    }
 }
