@@ -1,1 +1,6 @@
-pub mod Written
+pub mod Words
+pub mod Bodies
+pub mod Logs
+pub mod Kept
+pub mod Notices
+pub mod Requests

@@ -1,8 +1,13 @@
-//! The texts of requests.
+//! Writes the requests of the relay: docs/PROFILE.md, "Requests of the relay".
 #![tactic(auto)]
 
-mod carry;
-mod diff;
+mod bodies;
+mod faults;
+mod logs;
+mod notices;
+mod options;
+mod requests;
+mod words;
 
-pub use carry::put_carry;
-pub use diff::put_diff;
+pub use options::{RequestOptions, log_path};
+pub use requests::write_request;
