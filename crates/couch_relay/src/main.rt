@@ -1,11 +1,12 @@
-//! A program that decides what is asked of two CouchDB servers, and when a checkpoint may be written.
+//! Decides what is asked of two CouchDB servers in a replication, and when a checkpoint may be recorded.
 //!
-//! It reads answers on standard input, and writes requests on standard output: docs/PROFILE.md, "Relay".
+//! The program reads responses on standard input, and writes requests on standard output: docs/PROFILE.md, "Relay".
 #![tactic(auto)]
 
+mod exchange;
 mod inbox;
+mod options;
 mod program;
-mod requests;
 mod run;
 
 use std::process::ExitCode;

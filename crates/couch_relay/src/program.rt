@@ -1,59 +1,44 @@
-//! The program: its words, its standard input and output, and its exit status.
+//! The program: its command line, its standard input and output, and its exit status.
 
-use crate::requests::Job;
+use crate::options::{Options, matches_of, options_of};
 use crate::run::run;
-use md5::{Digest, Md5};
-use cli_common::{BAD_COMMAND_LINE, tell_no_memory, tell_no_words, words_of};
-use script_engine::{OverRead, OverWrite, ScriptFault, ScriptWrite};
-use std::alloc::{AllocError, Global};
+use cli_common::{tell_no_memory, tell_no_words, tell_words, words_of};
+use script_engine::{OverRead, OverWrite};
 use std::env::Env;
 use std::io;
 use std::io::{Eprint, Input, Print};
 
-/// The path of both logs: of the two addresses.
-fn log_path(alloc: Global, source: &str, target: &str) -> Result<String, AllocError> {
-    let mut digest = Md5::new();
-    digest.update(source.as_bytes());
-    digest.update(b"\n");
-    digest.update(target.as_bytes());
-    let digest = digest.finalize();
-    let text = hex::encode(alloc, digest.as_slice())?;
-    let mut path = String::from_str(alloc, "/_local/sandermauve-")?;
-    path.push_str(text.as_str())?;
-    Ok(path)
-}
-
-/// Runs the program, and gives its exit status.
-pub fn run_program<H: AllocGlobal + Env + Input + Print + Eprint>(rt: &H) -> u8 {
+/// Runs the program, and returns its exit status.
+pub(crate) fn run_program<H: AllocGlobal + Env + Input + Print + Eprint>(rt: &H) -> u8 {
     match words_of(rt) {
         Ok(words) => run_words(rt, words.as_slice()),
-        Err(error) => tell_no_words(rt, &error),
+        Err(error) => usage_status(tell_no_words(rt, &error)),
     }
 }
 
-/// Runs what the words ask for: SOURCE TARGET SESSION [BATCH].
+/// Returns the exit status of a command line for which nothing is run: 3, unless help was requested.
+fn usage_status(status: u8) -> u8 {
+    if status == 0 { 0 } else { 3 }
+}
+
+/// Runs what a command line requests.
 fn run_words<H: AllocGlobal + Input + Print + Eprint>(rt: &H, words: &[String]) -> u8 {
-    if words.len() < 4 {
-        let _ = eprintln!(rt; "error: wanted is `couch_relay SOURCE TARGET SESSION [BATCH]`");
-        return BAD_COMMAND_LINE;
+    match matches_of(rt.alloc(), words) {
+        Ok(matches) => run_standard(rt, &options_of(&matches)),
+        Err(error) => usage_status(tell_words(rt, &error)),
     }
-    let batch = if words.len() > 4 { words[4].as_str() } else { "500" };
-    let Ok(log) = log_path(rt.alloc(), words[1].as_str(), words[2].as_str()) else {
-        return tell_no_memory(rt);
-    };
-    let job = Job {
-        log: log.as_str(),
-        session: words[3].as_str(),
-        batch,
-    };
+}
+
+/// Runs a relay over standard input and output.
+fn run_standard<H: AllocGlobal + Input + Print + Eprint>(rt: &H, options: &Options<'_>) -> u8 {
     let Ok(mut writer) = OverWrite::new(rt.alloc(), io::writer(rt)) else {
         return tell_no_memory(rt);
     };
     let mut reader = OverRead::new(rt.reader());
-    match run(rt.alloc(), &job, &mut reader, &mut writer) {
+    match run(rt.alloc(), options, &mut reader, &mut writer) {
         Ok(status) => status,
         Err(fault) => {
-            let _ = eprintln!(rt; "{fault}");
+            let _ = eprintln!(rt; "error: {fault}");
             3
         }
     }

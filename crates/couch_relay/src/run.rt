@@ -1,82 +1,125 @@
 //! A run over any reader and writer.
+ghost use Rattle.std.specs.Prelude.{IfOk, IfSome};
+ghost use Rattle.couch_relay.specs.Inbox.{IsInbox};
 
+use crate::exchange::{receive, send};
 use crate::inbox::Inbox;
-use crate::requests::{Job, put_request};
-use json_values::ValueReader;
-use relay_core::{Answer, Phase, Tally, step};
-use relay_responses::answer_of;
-use script_engine::{ScriptFault, ScriptRead, ScriptWrite, write_all};
+use crate::options::Options;
+use json::Scratch;
+use relay_core::{Phase, Request, Settings, step};
+use relay_requests::{RequestOptions, log_path};
+use script_engine::{ScriptFault, ScriptRead, ScriptWrite};
 use std::alloc::{AllocError, Global};
+use std::str;
 
-/// The exit status of a phase that asks nothing more.
-fn status_of(phase: &Phase) -> Option<u8> {
-    match phase {
-        Phase::Done(window) => Some(if window.tally.failures > 0 { 1 } else { 0 }),
-        Phase::Faulty => Some(3),
+/// Returns a text on one line: its line ends are spaces, and none are at its ends.
+fn on_one_line(alloc: Global, text: &str) -> Result<String, AllocError> {
+    let text = text.trim();
+    let mut line = String::with_capacity(alloc, text.len())?;
+    for c in text.chars() {
+        line.push(if c == '\n' || c == '\r' { ' ' } else { c })?;
+    }
+    Ok(line)
+}
+
+/// Reads the selection of documents, or returns `None` if there is none.
+fn read_choice<R: ScriptRead>(
+    alloc: Global,
+    inbox: &mut Inbox,
+    reader: &mut R,
+) -> Result<Option<String>, ScriptFault>
+    requires { IsInbox inbox.old }
+    ensures { IfOk result (λ o. IfSome o (λ _. IsInbox inbox.new)) }
+{
+    let Some(head) = inbox.head(alloc, reader)? else {
+        return Ok(None);
+    };
+    if !inbox.has(reader, head.size)? {
+        return Ok(None);
+    }
+    let choice = match str::from_utf8(inbox.body(head.size)) {
+        Ok(text) => Some(on_one_line(alloc, text)?),
+        Err(_) => None,
+    };
+    inbox.take(head.size);
+    Ok(choice)
+}
+
+/// Returns the settings of a run.
+fn settings_of(alloc: Global, options: &Options<'_>) -> Result<Settings, AllocError> {
+    let session_id = String::from_str(alloc, options.session_id)?;
+    Ok(Settings {
+        session_id,
+        carry: options.carry,
+        every: options.every,
+        continuous: options.continuous,
+        progress: options.progress,
+        filtered: !options.filter.is_empty(),
+    })
+}
+
+/// Returns what does not change between requests.
+fn request_options(alloc: Global, options: &Options<'_>, choice: String) -> Result<RequestOptions, AllocError> {
+    let log_path = log_path(
+        alloc,
+        options.source,
+        options.target,
+        options.filter,
+        options.query,
+        choice.as_str(),
+        options.salt,
+    )?;
+    let session_id = String::from_str(alloc, options.session_id)?;
+    let filter = String::from_str(alloc, options.filter)?;
+    let query = String::from_str(alloc, options.query)?;
+    Ok(RequestOptions {
+        log_path,
+        session_id,
+        batch: options.batch,
+        filter,
+        query,
+        choice,
+    })
+}
+
+/// Returns the exit status if a request is the last.
+fn status_of(request: &Request<'_>) -> Option<u8> {
+    match request {
+        Request::Done(Some(_), _, _) => Some(3),
+        Request::Done(None, counts, _) => Some(if counts.doc_write_failures == 0 { 0 } else { 1 }),
         _ => None,
     }
 }
 
-/// Writes what a phase asks.
-fn ask<W: ScriptWrite>(
-    alloc: Global,
-    job: &Job<'_>,
-    phase: &Phase,
-    out: &mut Vec<u8>,
-    writer: &mut W,
-) -> Result<(), ScriptFault> {
-    out.clear();
-    put_request(alloc, out, job, phase)?;
-    write_all(writer, out.as_slice())?;
-    match writer.flush() {
-        Ok(()) => Ok(()),
-        Err(_) => Err(ScriptFault::Write),
-    }
-}
-
-/// Reads the answer to what a phase asks.
-fn hear<R: ScriptRead>(
-    alloc: Global,
-    phase: &Phase,
-    inbox: &mut Inbox,
-    values: &mut ValueReader,
-    reader: &mut R,
-) -> Result<Answer, ScriptFault> {
-    let Some(head) = inbox.head(reader)? else {
-        return Ok(Answer::Unfit);
-    };
-    if !inbox.has(reader, head.size)? {
-        return Ok(Answer::Unfit);
-    }
-    let answer = answer_of(alloc, values, phase, head.status, inbox.body(head.size))?;
-    inbox.take(head.size);
-    Ok(answer)
-}
-
-/// Runs a relay, and gives its exit status.
+/// Runs a relay, and returns its exit status: 3 if the input ends before the run.
 pub(crate) fn run<R: ScriptRead, W: ScriptWrite>(
     alloc: Global,
-    job: &Job<'_>,
+    options: &Options<'_>,
     reader: &mut R,
     writer: &mut W,
 ) -> Result<u8, ScriptFault> {
     let mut inbox = Inbox::new(alloc)?;
-    let mut values = ValueReader::new(alloc);
-    let mut out = Vec::new(alloc);
-    let mut phase = Phase::TargetLog(Tally {
-        checked: 0,
-        found: 0,
-        failures: 0,
-        pages: 0,
-        tries: 0,
-        anews: 0,
-    });
-    loop {
-        ask(alloc, job, &phase, &mut out, writer)?;
-        if let Some(status) = status_of(&phase) {
+    let mut choice = String::new(alloc);
+    if options.choice {
+        match read_choice(alloc, &mut inbox, reader)? {
+            Some(read) => choice = read,
+            None => return Ok(3),
+        }
+    }
+    let settings = settings_of(alloc, options)?;
+    let requests = request_options(alloc, options, choice)?;
+    let mut scratch = Scratch::new(alloc);
+    let mut phase = Phase::start(alloc, &settings)?;
+    for _turn in 0..u64::MAX {
+        let request = phase.request();
+        send(alloc, &requests, &request, writer)?;
+        if let Some(status) = status_of(&request) {
             return Ok(status);
         }
-        let answer = hear(alloc, &phase, &mut inbox, &mut values, reader)?;
-        phase = step(alloc, phase, answer)?;
+        let Some(dated) = receive(alloc, &request, &mut inbox, &mut scratch, reader)? else {
+            return Ok(3);
+        };
+        phase = step(alloc, &settings, phase, dated.response, dated.date.as_str())?;
     }
+    Ok(3)
 }
