@@ -1,8 +1,12 @@
 //! Decides what a replication asks of two servers, and when it may record a checkpoint.
 #![tactic(auto)]
 
+mod leaves;
+mod logs;
 mod messages;
+mod pages;
 mod phase;
+mod refusals;
 mod relay;
 mod settings;
 
