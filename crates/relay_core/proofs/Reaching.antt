@@ -1,13 +1,21 @@
 -- What is known of a history is known behind one exchange more.
-use Rattle.proof_prelude.proofs.{ℕ, ◌≡◌, ◌+◌, ◌-◌, ◌^◌, ◌≤◌, ◌⊎◌, inl, inr, Bool, true, false, ◌&&◌, ◌||◌, not, List, [], ◌∷◌, ◌++◌, Option, None, Some, min, refl, sym, ap, ap₂, subst, ◌∙◌, arith, append_assoc, append-nil, or_cases, or_left, or_right, cases_Bool, false≢true, list_any-append, and_parts, bytes_eq}
+use Rattle.proof_prelude.proofs.{ℕ, ◌≡◌, ◌+◌, ◌-◌, ◌^◌, ◌≤◌, ◌⊎◌, inl, inr, Bool, true, false, ◌&&◌, ◌||◌, not, List, [], ◌∷◌, ◌++◌, Option, None, Some, min, refl, sym, ap, ap₂, subst, ◌∙◌, arith, append_assoc, append-nil, or_cases, or_left, or_right, cases_Bool, false≢true, list_any-append, and_parts, and_from, bytes_eq, length}
 use Rattle.std.specs.List.{list_any}
 use Rattle.relay_core.specs.declared.messages.Side.{Side}
 use Rattle.relay_core.specs.declared.messages.Side.TheVariants.{Source, Target}
 use Rattle.relay_core.specs.Messages.{Text, DocView, PageView, RowErrorView, LogView, NoticeView, CheckpointView, RequestView, get_log, get_changes, revs_diff, carry_docs, put_log, tell, ResponseView, log_response, page_response, missing_response, row_errors_response, rejected_response, Exchange, exchange_of}
 use Rattle.relay_core.specs.Leaves.{names, are_distinct, have_leaves, leaf_count, docs_where, are_about, refusals_in, cover, too_large_rows, is_alone}
-use Rattle.relay_core.specs.Justified.{is_found, is_rejected, AreSettled, not_found, log_in, last_log, newest_common, seq_of, Reached, begun, paged, AreReady, IsReady, log_of}
+use Rattle.relay_core.specs.Justified.{is_too_large, is_found, is_rejected, AreSettled, not_found, log_in, last_log, newest_common, seq_of, Reached, begun, paged, AreReady, IsReady, log_of}
 use Rattle.relay_core.specs.Known.{IsReachedFrom, IsRead, IsOpen}
 use Rattle.relay_core.proofs.Filtering.{text_is, no_from_not, names-docs_where, docs_where-docs_where, docs_where_congr, are_distinct-docs_where, docs_where-all, about_covered}
+
+-- ---- numbers
+
+from_zero : (n : ℕ) → 0 ≤ n
+from_zero n = omega arith
+
+at_most : (n f k l top : ℕ) → l ≡ k → min n top ≤ f → min (n + k) top ≤ min (f + l) top
+at_most n f k l top e b = omega arith
 
 -- ---- one exchange more
 
@@ -28,7 +36,7 @@ IsReachedFrom-behind later r = record { rejected = r.rejected; reached = Reached
 
 -- a run begins
 pub begins : (h : List Exchange) (begin since : Text) (failures : ℕ) → begin ≡ since → IsReachedFrom h begin since failures
-begins h begin since failures is = record { rejected = 0; reached = begun is refl; counted = omega arith }
+begins h begin since failures is = record { rejected = 0; reached = begun is refl; counted = from_zero failures }
 
 -- ---- the logs
 
@@ -54,6 +62,10 @@ IsRead-told notice r k = record {
   target_is = k.target_is;
   reached = k.reached;
 }
+
+pub reached_by : {h : List Exchange} {begin since : Text} {failures : ℕ} {target : LogView} → IsRead h begin since failures target → IsReachedFrom h begin since failures
+reached_by {begin = begin} {since = since} {failures = failures} k =
+    subst (λ (xs : List Exchange). IsReachedFrom xs begin since failures) (sym k.is) (IsReachedFrom-behind k.later k.reached)
 
 -- the source's log is answered too, and both say where the run began
 pub readies : {h : List Exchange} {begin since : Text} {failures : ℕ} (target source : LogView) (r : ResponseView) → r ≡ log_response source → seq_of (newest_common target.history source.history) ≡ begin → IsRead h begin since failures target → AreReady (exchange_of (get_log Source) r ∷ h) target source since failures
@@ -82,7 +94,7 @@ readies_anew {h = h} target source r s count is same k =
       source_is = refl;
       rejected = 0;
       reached = begun same refl;
-      counted = omega arith;
+      counted = from_zero count;
     }
 
 -- the target's log is written, or a notice told
@@ -232,12 +244,12 @@ about_too_large id (r ∷ revs) key leaf about =
     ]
 
 -- one document alone is too large
-pub carries_too_large : {h : List Exchange} {begin since last : Text} {failures : ℕ} {missing : List DocView} {rows : List RowErrorView} (docs : List DocView) (d : DocView) (words : Text) (all : List RowErrorView) (r : ResponseView) → r ≡ rejected_response Target 413 words → docs ≡ d ∷ [] → all ≡ rows ++ too_large_rows d.0 d.1 → IsOpen h begin since last failures missing rows → IsOpen (exchange_of (carry_docs docs) r ∷ h) begin since last failures missing all
-carries_too_large {h = h} {begin = begin} {since = since} {last = last} {failures = failures} {missing = missing} docs d words all r is alone all_is o =
-    subst (λ (x : ResponseView). IsOpen (exchange_of (carry_docs docs) x ∷ h) begin since last failures missing all) (sym is)
-    (subst (λ (xs : List RowErrorView). IsOpen (exchange_of (carry_docs docs) (rejected_response Target 413 words) ∷ h) begin since last failures missing xs) (sym all_is)
-    (carries docs (rejected_response Target 413 words) (too_large_rows d.0 d.1)
-    (λ id leaf about. or_left (is_alone docs id) false (subst (λ (ds : List DocView). is_alone ds id ≡ true) (sym alone) (about_too_large d.0 d.1 id leaf about))) o))
+pub carries_too_large : {h : List Exchange} {begin since last : Text} {failures : ℕ} {missing : List DocView} {rows : List RowErrorView} (docs : List DocView) (d : DocView) (side : Side) (status : ℕ) (words : Text) (all : List RowErrorView) → is_too_large side status ≡ true → docs ≡ d ∷ [] → all ≡ rows ++ too_large_rows d.0 d.1 → IsOpen h begin since last failures missing rows → IsOpen (exchange_of (carry_docs docs) (rejected_response side status words) ∷ h) begin since last failures missing all
+carries_too_large {h = h} {begin = begin} {since = since} {last = last} {failures = failures} {missing = missing} docs d side status words all large alone all_is o =
+    subst (λ (xs : List RowErrorView). IsOpen (exchange_of (carry_docs docs) (rejected_response side status words) ∷ h) begin since last failures missing xs) (sym all_is)
+    (carries docs (rejected_response side status words) (too_large_rows d.0 d.1)
+    (λ id leaf about. or_left (is_too_large side status && is_alone docs id) false
+    (and_from (is_too_large side status) (is_alone docs id) large (subst (λ (ds : List DocView). is_alone ds id ≡ true) (sym alone) (about_too_large d.0 d.1 id leaf about)))) o)
 
 -- the page may be asked for again
 pub reached_before : {h : List Exchange} {begin since last : Text} {failures : ℕ} {missing : List DocView} {rows : List RowErrorView} → IsOpen h begin since last failures missing rows → IsReachedFrom h begin since failures
@@ -255,8 +267,14 @@ closes {since = since} {failures = failures} {missing = missing} {rows = rows} o
             let kept : names missing id leaf ≡ true = subst (λ (ds : List DocView). names ds id leaf ≡ true) (sym o.missing_is) (names-docs_where (λ k l. not (is_found o.after k l)) o.page.rows id leaf n (ap not fails)) in
             or_right (is_found o.after id leaf) (is_rejected o.after id leaf) (o.rejected id leaf (about_covered rows missing all id leaf kept))
       ]) o.last_is refl;
-  counted = at_most o.reached.rejected failures (leaf_count (not_found o.after o.page.rows)) (leaf_count missing) (ap leaf_count o.missing_is) o.reached.counted;
+  counted = at_most o.reached.rejected failures (leaf_count (not_found o.after o.page.rows)) (leaf_count missing) (2 ^ 64 - 1) (ap leaf_count o.missing_is) o.reached.counted;
 }
-  where
-    at_most : (n f k l : ℕ) → l ≡ k → min n (2 ^ 64 - 1) ≤ f → min (n + k) (2 ^ 64 - 1) ≤ min (f + l) (2 ^ 64 - 1)
-    at_most n f k l e b = omega arith
+
+pub closes_as : {h : List Exchange} {begin since last : Text} {failures : ℕ} {missing : List DocView} {rows : List RowErrorView} → IsOpen h begin since last failures missing rows → cover rows missing ≡ true → (k : ℕ) → k ≡ leaf_count missing → IsReachedFrom h begin last (min (failures + k) (2 ^ 64 - 1))
+closes_as {h = h} {begin = begin} {last = last} {failures = failures} o all k is =
+    subst (λ (n : ℕ). IsReachedFrom h begin last (min (failures + n) (2 ^ 64 - 1))) (sym is) (closes o all)
+
+-- no leaf is open
+pub closes_none : {h : List Exchange} {begin since last : Text} {failures : ℕ} {missing : List DocView} {rows : List RowErrorView} → IsOpen h begin since last failures missing rows → missing ≡ [] → (k : ℕ) → k ≡ 0 → IsReachedFrom h begin last (min (failures + k) (2 ^ 64 - 1))
+closes_none {rows = rows} o nil k is =
+    closes_as o (subst (λ (ds : List DocView). cover rows ds ≡ true) (sym nil) refl) k (is ∙ ap leaf_count (sym nil))

@@ -8,6 +8,7 @@ mod pages;
 mod phase;
 mod refusals;
 mod relay;
+mod runs;
 mod settings;
 
 pub use messages::{
@@ -16,4 +17,5 @@ pub use messages::{
 };
 pub use phase::{PageEnd, Phase, Recorded, Run, Stage, Start, Transfer};
 pub use relay::step;
+pub use runs::{Answered, Carrier, DriveFault, drive};
 pub use settings::Settings;

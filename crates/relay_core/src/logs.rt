@@ -273,9 +273,8 @@ fn next_window(alloc: Global, settings: &Settings, mut run: Run) -> Result<Run, 
     });
     run.is_open = false;
     run.pages = 0;
-    if run.has_ended {
-        run.restarts = 0;
-    }
+    let restarts = if run.has_ended { 0 } else { run.restarts };
+    run.restarts = restarts;
     Ok(run)
 }
 

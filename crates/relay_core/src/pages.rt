@@ -2,6 +2,7 @@
 ghost use Rattle.std.specs.Prelude.{◌≡◌, ◌+◌, ◌-◌, ◌^◌, [], ◌∷◌, List, IfOk, min, length, string_bytes};
 ghost use Rattle.relay_core.specs.Messages.{Exchange, exchange_of, get_changes, revs_diff, carry_docs, rejected_response};
 ghost use Rattle.relay_core.specs.Views.{docs_view, response_view};
+ghost use Rattle.relay_core.specs.Justified.{is_too_large};
 ghost use Rattle.relay_core.specs.Known.{begin_of, wait_of, part_of, IsReachedFrom, IsReached, IsOpenIn, IsOpenAt, Knows};
 
 use crate::leaves::{are_distinct, have_leaves, leaf_count, missing_of, name_all};
@@ -21,17 +22,20 @@ const TRIES: u64 = 5;
 pub(crate) fn behind(settings: &Settings, mut run: Run, notices: Vec<Notice>) -> Phase
     ensures { (h : List Exchange) → IsReached h run → Knows h result }
 {
-    let stage = if run.has_ended && !settings.continuous {
-        Stage::Done(None)
-    } else {
-        Stage::Changes
-    };
     run.waits = settings.continuous && (run.waits || run.has_ended);
+    if run.has_ended && !settings.continuous {
+        return Phase {
+            run,
+            notices,
+            told: 0,
+            stage: Stage::Done(None),
+        };
+    }
     Phase {
         run,
         notices,
         told: 0,
-        stage,
+        stage: Stage::Changes,
     }
 }
 
@@ -232,10 +236,20 @@ fn refuse(
     status: u16,
     words: String,
 ) -> Result<Phase, AllocError>
-    ensures { IfOk result (λ p. (h : List Exchange) → Knows h p) }
+    ensures { (h : List Exchange) → IfOk result (λ p. Knows h p) }
 {
     let id = String::from_str(alloc, doc.id.as_str())?;
     Ok(failed(alloc, run, Fault::Refused(id, side, status, words)))
+}
+
+/// Whether the target says that what it was given is too large.
+fn is_too_large(side: Side, status: u16) -> bool
+    ensures { result ≡ is_too_large side status }
+{
+    match side {
+        Side::Target => status == 413,
+        Side::Source => false,
+    }
 }
 
 /// Goes on after a carry that was rejected.
@@ -257,7 +271,7 @@ fn after_rejection(
     let Some(doc) = transfer.missing.get(transfer.carried) else {
         return Ok(failed(alloc, run, Fault::BadAnswer(Operation::Carry)));
     };
-    if status != 413 || side != Side::Target || transfer.size != 1 {
+    if !is_too_large(side, status) || transfer.size != 1 {
         return refuse(alloc, run, doc, side, status, words);
     }
     push_too_large(alloc, &mut transfer.refused, doc)?;

@@ -129,7 +129,7 @@ pub(crate) fn seq_of(pair: &Option<Recorded>) -> &str
 impl Phase {
     /// Returns the state before the first request.
     pub fn start(alloc: Global, settings: &Settings) -> Result<Phase, AllocError>
-        ensures { IfOk result (λ p. Knows [] p) }
+        ensures { (h : List Exchange) → IfOk result (λ p. Knows h p) }
     {
         let since = String::from_str(alloc, "0")?;
         Ok(quiet(

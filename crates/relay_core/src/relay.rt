@@ -1,5 +1,5 @@
 //! A step of a run.
-ghost use Rattle.std.specs.Prelude.{◌∷◌, List, IfOk};
+ghost use Rattle.std.specs.Prelude.{◌≡◌, ◌∷◌, List, IfOk};
 ghost use Rattle.relay_core.specs.Messages.{Exchange, exchange_of};
 ghost use Rattle.relay_core.specs.Views.{response_view};
 ghost use Rattle.relay_core.specs.Known.{asked_by, asked_of, KnowsAt, Knows};
@@ -28,12 +28,23 @@ fn stage_step(
         Stage::Diff(page) => after_diff(alloc, settings, run, page, response),
         Stage::Carry(transfer) => after_carry(alloc, settings, run, transfer, response),
         Stage::Again(transfer) => after_again(alloc, settings, run, transfer, response),
-        Stage::TargetPut(_, source, checkpoint) => after_target_put(
+        Stage::TargetPut(_target, source, checkpoint) => after_target_put(
             alloc, run, source, checkpoint, response,
         ),
-        Stage::SourcePut(_, _) => after_source_put(alloc, settings, run, response),
+        Stage::SourcePut(_source, _checkpoint) => after_source_put(alloc, settings, run, response),
         Stage::Done(fault) => Ok(quiet(alloc, run, Stage::Done(fault))),
     }
+}
+
+/// Notes the date of a response, if it has one.
+fn dated(alloc: Global, mut run: Run, date: &str) -> Result<Run, AllocError>
+    ensures { IfOk result (λ r. r ≡ record run { date = r.date }) }
+{
+    if date.is_empty() {
+        return Ok(run);
+    }
+    run.date = String::from_str(alloc, date)?;
+    Ok(run)
 }
 
 /// Goes on after a response to what the phase asks for. The date is that of the response, or empty.
@@ -49,19 +60,17 @@ pub fn step(
     ensures { (h : List Exchange) → Knows h phase → IfOk result (λ p. Knows (exchange_of (asked_of phase) (response_view response) ∷ h) p) }
 {
     let Phase {
-        mut run,
+        run,
         notices,
         told,
         stage,
     } = phase;
-    if !date.is_empty() {
-        run.date = String::from_str(alloc, date)?;
-    }
-    if told < notices.len() {
+    let run = dated(alloc, run, date)?;
+    if let Some(_notice) = notices.get(told) {
         return Ok(Phase {
             run,
             notices,
-            told: told + 1,
+            told: told.saturating_add(1),
             stage,
         });
     }
