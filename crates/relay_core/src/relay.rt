@@ -1,11 +1,11 @@
 //! A step of a run.
-ghost use Rattle.std.specs.Prelude.{◌≡◌, ◌∷◌, List, IfOk};
+ghost use Rattle.std.specs.Prelude.{◌≡◌, ◌∷◌, List, IfOk, is_some, slice_get};
 ghost use Rattle.relay_core.specs.Messages.{Exchange, exchange_of};
 ghost use Rattle.relay_core.specs.Views.{response_view};
 ghost use Rattle.relay_core.specs.Known.{asked_by, asked_of, KnowsAt, Knows};
 
 use crate::logs::{after_source_log, after_source_put, after_target_log, after_target_put};
-use crate::messages::Response;
+use crate::messages::{Notice, Response};
 use crate::pages::{after_again, after_carry, after_changes, after_diff};
 use crate::phase::{Phase, Run, Stage, quiet};
 use crate::settings::Settings;
@@ -47,6 +47,13 @@ fn dated(alloc: Global, mut run: Run, date: &str) -> Result<Run, AllocError>
     Ok(run)
 }
 
+/// Whether a notice is left to print.
+fn is_telling(notices: &Vec<Notice>, told: usize) -> bool
+    ensures { result ≡ is_some (slice_get notices.now.items told) }
+{
+    notices.get(told).is_some()
+}
+
 /// Goes on after a response to what the phase asks for. The date is that of the response, or empty.
 ///
 /// Whatever the response is: what the phase knows of the exchanges before it, the next phase knows of them and this one.
@@ -66,7 +73,7 @@ pub fn step(
         stage,
     } = phase;
     let run = dated(alloc, run, date)?;
-    if let Some(_notice) = notices.get(told) {
+    if is_telling(&notices, told) {
         return Ok(Phase {
             run,
             notices,
