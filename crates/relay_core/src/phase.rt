@@ -1,4 +1,10 @@
 //! The state of a run.
+ghost use Rattle.std.specs.Prelude.{◌≡◌, [], List, Some, IfOk, option_map};
+ghost use Rattle.relay_core.specs.declared.phase.Stage.{Stage};
+ghost use Rattle.relay_core.specs.Messages.{Exchange};
+ghost use Rattle.relay_core.specs.Views.{docs_view, request_view};
+ghost use Rattle.relay_core.specs.Justified.{seq_of};
+ghost use Rattle.relay_core.specs.Known.{pair_view, wait_of, part_of, asked_by, asked_of, Knows};
 
 use crate::messages::{
     ChangesPage, Checkpoint, Counts, DocLeaves, Fault, Notice, ReplicationLog, Request, RowError,
@@ -37,7 +43,7 @@ pub struct Run {
     /// Whether the next page is requested by longpoll.
     pub waits: bool,
     /// The number of documents of the next carry.
-    pub carry: u64,
+    pub carry: usize,
     /// How often the page was requested again.
     pub tries: u64,
     /// How often the run began anew since the feed's end was recorded.
@@ -54,6 +60,8 @@ pub struct PageEnd {
     pub last_seq: String,
     pub is_last: bool,
     pub pending: Option<String>,
+    /// Whether the page has rows.
+    pub has_rows: bool,
     /// The number of leaves of the page.
     pub checked: u64,
 }
@@ -68,8 +76,10 @@ pub struct Transfer {
     pub carried: usize,
     /// The number of documents in the current carry.
     pub size: usize,
-    /// The errors of rows so far.
-    pub errors: Vec<RowError>,
+    /// The rows so far that refuse a leaf.
+    pub refused: Vec<RowError>,
+    /// The other rows so far.
+    pub others: Vec<RowError>,
 }
 
 /// What a run waits for.
@@ -106,29 +116,32 @@ pub struct Phase {
     pub stage: Stage,
 }
 
-impl Run {
-    /// Returns the last sequence that both servers recorded.
-    pub fn recorded(&self) -> &str {
-        match &self.begin {
-            Some(recorded) => recorded.seq.as_str(),
-            None => "0",
-        }
+/// Returns the sequence of a pair, or that of the beginning.
+pub(crate) fn seq_of(pair: &Option<Recorded>) -> &str
+    ensures { result.now ≡ seq_of (option_map pair_view pair.now) }
+{
+    match pair {
+        Some(recorded) => recorded.seq.as_str(),
+        None => "0",
     }
 }
 
 impl Phase {
     /// Returns the state before the first request.
-    pub fn start(alloc: Global, settings: &Settings) -> Result<Phase, AllocError> {
+    pub fn start(alloc: Global, settings: &Settings) -> Result<Phase, AllocError>
+        ensures { (h : List Exchange) → IfOk result (λ p. Knows h p) }
+    {
         let since = String::from_str(alloc, "0")?;
-        Ok(Phase {
-            run: Run {
+        Ok(quiet(
+            alloc,
+            Run {
                 begin: None,
                 since,
                 is_open: false,
                 pages: 0,
                 has_ended: false,
                 waits: false,
-                carry: settings.carry,
+                carry: settings.carry as usize,
                 tries: 0,
                 restarts: 0,
                 counts: Counts {
@@ -141,14 +154,14 @@ impl Phase {
                 start: None,
                 date: String::new(alloc),
             },
-            notices: Vec::new(alloc),
-            told: 0,
-            stage: Stage::TargetLog,
-        })
+            Stage::TargetLog,
+        ))
     }
 
     /// Returns what the run asks for next.
-    pub fn request(&self) -> Request<'_> {
+    pub fn request(&self) -> Request<'_>
+        ensures { request_view result ≡ asked_of self.now }
+    {
         match self.notices.get(self.told) {
             Some(notice) => Request::Tell(notice),
             None => stage_request(&self.run, &self.stage),
@@ -156,8 +169,33 @@ impl Phase {
     }
 }
 
+/// Returns the phase of a stage, without notices.
+pub(crate) fn quiet(alloc: Global, run: Run, stage: Stage) -> Phase
+    ensures run { result.run ≡ run }
+    ensures stage { result.stage ≡ stage }
+    ensures notices { result.notices.items ≡ [] }
+{
+    Phase {
+        run,
+        notices: Vec::new(alloc),
+        told: 0,
+        stage,
+    }
+}
+
+/// Ends a run with a fault.
+pub(crate) fn failed(alloc: Global, run: Run, fault: Fault) -> Phase
+    ensures known { (h : List Exchange) → Knows h result }
+    ensures stage { result.stage ≡ Stage.Done (Some fault) }
+    ensures notices { result.notices.items ≡ [] }
+{
+    quiet(alloc, run, Stage::Done(Some(fault)))
+}
+
 /// Returns the timeout of the next page, if it is requested by longpoll.
-fn wait_of(run: &Run) -> Option<u32> {
+fn wait_of(run: &Run) -> Option<u32>
+    ensures { result ≡ wait_of run.now }
+{
     if !run.waits {
         return None;
     }
@@ -165,7 +203,9 @@ fn wait_of(run: &Run) -> Option<u32> {
 }
 
 /// Returns the documents of the current carry.
-fn part_of(transfer: &Transfer) -> &[DocLeaves] {
+pub(crate) fn part_of(transfer: &Transfer) -> &[DocLeaves]
+    ensures { docs_view result.now ≡ part_of transfer.now }
+{
     let missing = transfer.missing.as_slice();
     let from = transfer.carried.min(missing.len());
     let rest = &missing[from..];
@@ -173,7 +213,9 @@ fn part_of(transfer: &Transfer) -> &[DocLeaves] {
 }
 
 /// Returns what a stage asks for.
-fn stage_request<'a>(run: &'a Run, stage: &'a Stage) -> Request<'a> {
+fn stage_request<'a>(run: &'a Run, stage: &'a Stage) -> Request<'a>
+    ensures { request_view result ≡ asked_by run.now stage.now }
+{
     match stage {
         Stage::TargetLog => Request::GetLog(Side::Target),
         Stage::SourceLog(_) => Request::GetLog(Side::Source),
@@ -187,6 +229,6 @@ fn stage_request<'a>(run: &'a Run, stage: &'a Stage) -> Request<'a> {
             checkpoint,
         ),
         Stage::SourcePut(source, checkpoint) => Request::PutLog(Side::Source, source, checkpoint),
-        Stage::Done(fault) => Request::Done(fault.as_ref(), &run.counts, run.recorded()),
+        Stage::Done(fault) => Request::Done(fault.as_ref(), &run.counts, seq_of(&run.begin)),
     }
 }
