@@ -3,4 +3,4 @@ use Rattle.couch_relay.specs.Inbox.{IsInbox}
 use Rattle.couch_relay.proofs.run.run.Given as goal
 
 abbrev pub invariant-loop-turn : goal.invariant-loop-turn
-invariant-loop-turn l = IsInbox l.inbox
+invariant-loop-turn g l = IsInbox l.inbox
