@@ -1,0 +1,4 @@
+pub mod Lists
+pub mod Filtering
+pub mod Reaching
+pub mod Knowing

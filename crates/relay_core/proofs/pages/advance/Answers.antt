@@ -1,0 +1,4 @@
+use Rattle.relay_core.proofs.pages.advance.Goals as goal
+
+pub returns : goal.returns
+returns c = λ h o. c.ask_carry.ensures h o

@@ -1,0 +1,117 @@
+-- When a replication log may be asked to record a sequence. A history has its last exchange first.
+use Rattle.std.specs.Prelude.{ℕ, ◌≡◌, ◌+◌, ◌-◌, ◌^◌, ◌≤◌, ◌==◌, codes, Bool, true, false, ◌&&◌, ◌||◌, not, if◌then◌else◌, List, [], ◌∷◌, ◌++◌, Option, None, Some, min, bytes_eq}
+use Rattle.std.specs.List.{list_any}
+use Rattle.relay_core.specs.declared.messages.Side.{Side}
+use Rattle.relay_core.specs.declared.messages.Side.TheVariants.{Source, Target}
+use Rattle.relay_core.specs.Messages.{Text, DocView, PageView, EntryView, LogView, CheckpointView, RequestView, get_log, get_changes, revs_diff, carry_docs, put_log, tell, done, ResponseView, log_response, page_response, missing_response, row_errors_response, rejected_response, stored_response, conflict_response, noted_response, fault_response, Exchange, exchange_of}
+use Rattle.relay_core.specs.Leaves.{names, are_distinct, leaf_count, docs_where, refuses, is_alone}
+
+-- ---- what settles a leaf
+
+-- whether the target was asked for that leaf, of documents with distinct ids, and does not name it as missing
+abbrev pub finds : RequestView → ResponseView → Text → Text → Bool
+finds (revs_diff docs) (missing_response missing) id leaf = are_distinct docs && (names docs id leaf && not (names missing id leaf))
+finds q r id leaf = false
+
+-- whether the target refused a document, that it was given alone, as too large
+abbrev pub is_too_large : Side → ℕ → Bool
+is_too_large Target status = status == 413
+is_too_large Source status = false
+
+-- whether a carry was answered by a row that refuses that leaf, or was of that id alone and is too large
+abbrev pub rejects : RequestView → ResponseView → Text → Text → Bool
+rejects (carry_docs docs) (row_errors_response rows) id leaf = refuses rows id leaf
+rejects (carry_docs docs) (rejected_response side status words) id leaf = is_too_large side status && is_alone docs id
+rejects q r id leaf = false
+
+abbrev pub is_found : List Exchange → Text → Text → Bool
+is_found h id leaf = list_any (λ e. finds e.request e.response id leaf) h
+
+abbrev pub is_rejected : List Exchange → Text → Text → Bool
+is_rejected h id leaf = list_any (λ e. rejects e.request e.response id leaf) h
+
+-- each leaf of the rows is found or rejected
+abbrev pub AreSettled : List Exchange → List DocView → Type 0
+AreSettled h rows = (id leaf : Text) → names rows id leaf ≡ true → (is_found h id leaf || is_rejected h id leaf) ≡ true
+
+-- the leaves of the rows that are not found
+abbrev pub not_found : List Exchange → List DocView → List DocView
+not_found h rows = docs_where (λ id leaf. not (is_found h id leaf)) rows
+
+-- ---- the replication logs
+
+-- the log of a response, if it is one
+abbrev pub log_in : ResponseView → Option LogView
+log_in (log_response log) = Some log
+log_in r = None
+
+-- the log of a side after an exchange, given the log before
+abbrev pub log_after : Side → RequestView → ResponseView → Option LogView → Option LogView
+log_after Source (get_log Source) r before = log_in r
+log_after Target (get_log Target) r before = log_in r
+log_after side q r before = before
+
+-- the log of a side as last answered
+abbrev pub last_log : Side → List Exchange → Option LogView
+last_log side [] = None
+last_log side (e ∷ h) = log_after side e.request e.response (last_log side h)
+
+-- whether an entry has that session and that sequence
+abbrev pub has_pair : List EntryView → Text → Text → Bool
+has_pair entries session seq = list_any (λ e. bytes_eq e.session session && bytes_eq e.seq seq) entries
+
+-- the pair of the first of the target's entries that is in the source's too
+abbrev pub newest_common : List EntryView → List EntryView → Option (Text × Text)
+newest_common [] source = None
+newest_common (e ∷ target) source = if has_pair source e.session e.seq then Some (e.session, e.seq) else newest_common target source
+
+-- where a run begins, given that pair
+abbrev pub seq_of : Option (Text × Text) → Text
+seq_of None = codes "0"
+seq_of (Some pair) = pair.1
+
+-- ---- how far a run has come
+
+-- pages lead from a sequence to a sequence, and each leaf of each page was settled after that page. The number is of the
+-- leaves of these pages that were rejected and not found
+pub data Reached : Text → List Exchange → Text → ℕ → Type 0 where
+  begun : {begin : Text} {h : List Exchange} {s : Text} {n : ℕ} → begin ≡ s → n ≡ 0 → Reached begin h s n
+  paged : {begin : Text} {h : List Exchange} {s : Text} {n : ℕ} (before after rest : List Exchange) (since : Text) (wait : Option ℕ) (page : PageView) (m : ℕ) → h ≡ rest ++ (after ++ exchange_of (get_changes since wait) (page_response page) ∷ before) → Reached begin before since m → AreSettled after page.rows → page.last_seq ≡ s → n ≡ m + leaf_count (not_found after page.rows) → Reached begin h s n
+
+-- ---- the theorem
+
+abbrev pub log_of : Side → LogView → LogView → LogView
+log_of Target target source = target
+log_of Source target source = source
+
+-- both logs were read after all that, and a run that they let begin has reached that sequence
+pub record AreReady (h : List Exchange) (target source : LogView) (s : Text) (failures : ℕ) : Type 0 where
+  pub before : List Exchange
+  pub later : List Exchange
+  pub is : h ≡ later ++ before
+  pub target_is : last_log Target later ≡ Some target
+  pub source_is : last_log Source later ≡ Some source
+  pub rejected : ℕ
+  pub reached : Reached (seq_of (newest_common target.history source.history)) before s rejected
+  pub counted : min rejected (2 ^ 64 - 1) ≤ failures
+
+-- a log may be asked to record what is reached, before the history that it had when it was last read
+pub record IsReady (h : List Exchange) (side : Side) (log : LogView) (s : Text) (failures : ℕ) : Type 0 where
+  pub target : LogView
+  pub source : LogView
+  pub ready : AreReady h target source s failures
+  pub own : log ≡ log_of side target source
+
+abbrev pub MayAsk : List Exchange → RequestView → Type 0
+MayAsk h (get_log side) = Unit {0}
+MayAsk h (get_changes since wait) = Unit {0}
+MayAsk h (revs_diff docs) = Unit {0}
+MayAsk h (carry_docs docs) = Unit {0}
+MayAsk h (put_log side log checkpoint) = IsReady h side log checkpoint.seq checkpoint.counts.doc_write_failures
+MayAsk h (tell notice) = Unit {0}
+MayAsk h (done fault counts recorded) = Unit {0}
+
+-- each request of a history was allowed at its place
+abbrev pub IsJustified : List Exchange → Type 0
+IsJustified [] = Unit {0}
+IsJustified (e ∷ h) = MayAsk h e.request × IsJustified h

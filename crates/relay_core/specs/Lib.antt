@@ -1,0 +1,5 @@
+pub mod Messages
+pub mod Views
+pub mod Leaves
+pub mod Justified
+pub mod Known

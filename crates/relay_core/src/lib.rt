@@ -1,0 +1,21 @@
+//! Decides what a replication asks of two servers, and when it may record a checkpoint.
+#![tactic(auto)]
+
+mod leaves;
+mod logs;
+mod messages;
+mod pages;
+mod phase;
+mod refusals;
+mod relay;
+mod runs;
+mod settings;
+
+pub use messages::{
+    ChangesPage, Checkpoint, Counts, DocLeaves, Fault, LogEntry, Notice, Operation, RefusedLeaf,
+    ReplicationLog, Request, Response, RowError, Side, Unaccounted,
+};
+pub use phase::{PageEnd, Phase, Recorded, Run, Stage, Start, Transfer};
+pub use relay::step;
+pub use runs::{Answered, Carrier, DriveFault, drive};
+pub use settings::Settings;

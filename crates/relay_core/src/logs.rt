@@ -1,0 +1,302 @@
+//! The steps of the replication logs.
+ghost use Rattle.std.specs.Prelude.{ℕ, ◌≡◌, ◌∷◌, List, true, IfOk, option_map, string_bytes};
+ghost use Rattle.relay_core.specs.declared.messages.Side.TheVariants.{Source, Target};
+ghost use Rattle.relay_core.specs.Messages.{Text, Exchange, exchange_of, get_log};
+ghost use Rattle.relay_core.specs.Views.{entries_view, log_view, response_view};
+ghost use Rattle.relay_core.specs.Justified.{has_pair, newest_common, seq_of, AreReady, IsReady};
+ghost use Rattle.relay_core.specs.Known.{pair_view, begin_of, IsReached, IsRead, Knows};
+
+use crate::messages::{
+    Checkpoint, Fault, LogEntry, Notice, Operation, ReplicationLog, Response, Side,
+};
+use crate::pages::behind;
+use crate::phase::{Phase, Recorded, Run, Stage, Start, failed, quiet, seq_of};
+use crate::settings::Settings;
+use std::alloc::{AllocError, Global};
+
+/// How often a run begins anew before the end of the feed is recorded.
+const RESTARTS: u64 = 5;
+
+/// Returns the fault of a response, or else the given one.
+pub(crate) fn fault_of(response: Response, otherwise: Fault) -> Fault {
+    match response {
+        Response::Fault(fault) => fault,
+        _ => otherwise,
+    }
+}
+
+/// Whether an entry has that session and that sequence.
+fn has_pair(entries: &Vec<LogEntry>, session: &str, seq: &str) -> bool
+    ensures { result ≡ has_pair (entries_view entries.now.items) session.now seq.now }
+{
+    for entry in entries {
+        if entry.session_id.as_str() == session && entry.recorded_seq.as_str() == seq {
+            return true;
+        }
+    }
+    false
+}
+
+/// Returns the pair of the first of the target's entries that is in the source's log too.
+fn newest_common(
+    alloc: Global,
+    target: &ReplicationLog,
+    source: &ReplicationLog,
+) -> Result<Option<Recorded>, AllocError>
+    ensures { IfOk result (λ o. option_map pair_view o ≡ newest_common (entries_view target.now.history.items) (entries_view source.now.history.items)) }
+{
+    for entry in &target.history {
+        if has_pair(
+            &source.history,
+            entry.session_id.as_str(),
+            entry.recorded_seq.as_str(),
+        ) {
+            return Ok(Some(Recorded {
+                session_id: String::from_str(alloc, entry.session_id.as_str())?,
+                seq: String::from_str(alloc, entry.recorded_seq.as_str())?,
+            }));
+        }
+    }
+    Ok(None)
+}
+
+/// Whether two pairs are the same.
+fn is_same(a: &Option<Recorded>, b: &Option<Recorded>) -> bool
+    ensures { result ≡ true → option_map pair_view a.now ≡ option_map pair_view b.now }
+{
+    match (a, b) {
+        (Some(a), Some(b)) => a.session_id.as_str() == b.session_id.as_str()
+            && a.seq.as_str() == b.seq.as_str(),
+        (None, None) => true,
+        _ => false,
+    }
+}
+
+/// Returns what a new entry records.
+fn checkpoint_of(alloc: Global, run: &Run) -> Result<Checkpoint, AllocError>
+    ensures seq { IfOk result (λ c. string_bytes c.seq ≡ string_bytes run.now.since) }
+    ensures counts { IfOk result (λ c. c.counts ≡ run.now.counts) }
+{
+    let (time, first) = match &run.start {
+        Some(start) => (start.time.as_str(), start.seq.as_str()),
+        None => ("", ""),
+    };
+    Ok(Checkpoint {
+        start_time: String::from_str(alloc, time)?,
+        end_time: String::from_str(alloc, run.date.as_str())?,
+        start_last_seq: String::from_str(alloc, first)?,
+        seq: String::from_str(alloc, run.since.as_str())?,
+        counts: run.counts,
+    })
+}
+
+/// Returns when and where a run starts: as before, or now at a sequence.
+fn start_of(
+    alloc: Global,
+    start: Option<Start>,
+    date: &str,
+    seq: &str,
+) -> Result<Start, AllocError> {
+    match start {
+        Some(start) => Ok(start),
+        None => Ok(Start {
+            time: String::from_str(alloc, date)?,
+            seq: String::from_str(alloc, seq)?,
+        }),
+    }
+}
+
+/// Begins a window at the newest common pair. A window without such a pair is open, because a log that records 0 comes first.
+fn begin_window(
+    alloc: Global,
+    run: Run,
+    common: Option<Recorded>,
+    restarts: u64,
+) -> Result<Run, AllocError>
+    ensures begin { IfOk result (λ r. begin_of r ≡ seq_of (option_map pair_view common)) }
+    ensures since { IfOk result (λ r. string_bytes r.since ≡ seq_of (option_map pair_view common)) }
+{
+    let since = String::from_str(alloc, seq_of(&common))?;
+    let start = start_of(alloc, run.start, run.date.as_str(), since.as_str())?;
+    let is_open = common.is_none();
+    Ok(Run {
+        begin: common,
+        since,
+        is_open,
+        pages: 0,
+        has_ended: false,
+        waits: false,
+        carry: run.carry,
+        tries: 0,
+        restarts,
+        counts: run.counts,
+        start: Some(start),
+        date: run.date,
+    })
+}
+
+/// Returns the notice that a run begins anew, if it does.
+fn restart_notices(alloc: Global, is_anew: bool) -> Result<Vec<Notice>, AllocError> {
+    let mut notices = Vec::new(alloc);
+    if is_anew {
+        notices.push(Notice::Restarted)?;
+    }
+    Ok(notices)
+}
+
+/// Has the target's log written, and then the source's.
+fn put_target(
+    alloc: Global,
+    run: Run,
+    notices: Vec<Notice>,
+    target: ReplicationLog,
+    source: ReplicationLog,
+) -> Result<Phase, AllocError>
+    ensures { (h : List Exchange) → IsReached h run
+        → AreReady h (log_view target) (log_view source) (string_bytes run.since) run.counts.doc_write_failures
+        → IfOk result (λ p. Knows h p) }
+{
+    let checkpoint = checkpoint_of(alloc, &run)?;
+    Ok(Phase {
+        run,
+        notices,
+        told: 0,
+        stage: Stage::TargetPut(target, source, checkpoint),
+    })
+}
+
+/// Begins a window where both logs agree, or gives up.
+fn anew(
+    alloc: Global,
+    run: Run,
+    common: Option<Recorded>,
+    target: ReplicationLog,
+    source: ReplicationLog,
+) -> Result<Phase, AllocError>
+    ensures { (h : List Exchange)
+        → ((s : Text) (n : ℕ) → seq_of (option_map pair_view common) ≡ s → AreReady h (log_view target) (log_view source) s n)
+        → IfOk result (λ p. Knows h p) }
+{
+    let was_open = run.is_open;
+    let restarts = run.restarts.saturating_add(if was_open { 1 } else { 0 });
+    if restarts > RESTARTS && was_open {
+        return Ok(failed(alloc, run, Fault::LogChanged));
+    }
+    let notices = restart_notices(alloc, was_open)?;
+    let run = begin_window(alloc, run, common, restarts)?;
+    if run.is_open {
+        return put_target(alloc, run, notices, target, source);
+    }
+    Ok(Phase {
+        run,
+        notices,
+        told: 0,
+        stage: Stage::Changes,
+    })
+}
+
+/// Goes on after the target's log.
+pub(crate) fn after_target_log(alloc: Global, run: Run, response: Response) -> Phase
+    ensures { (h : List Exchange) → IsReached h run → Knows (exchange_of (get_log Target) (response_view response) ∷ h) result }
+{
+    match response {
+        Response::Log(target) => quiet(alloc, run, Stage::SourceLog(target)),
+        other => failed(alloc, run, fault_of(other, Fault::BadLog(Side::Target))),
+    }
+}
+
+/// Goes on after both logs: writes them if they still say that the window begins where it began, else begins anew.
+pub(crate) fn after_source_log(
+    alloc: Global,
+    run: Run,
+    target: ReplicationLog,
+    response: Response,
+) -> Result<Phase, AllocError>
+    ensures { (h : List Exchange) → IsRead h (begin_of run) (string_bytes run.since) run.counts.doc_write_failures (log_view target)
+        → IfOk result (λ p. Knows (exchange_of (get_log Source) (response_view response) ∷ h) p) }
+{
+    let source = match response {
+        Response::Log(source) => source,
+        other => return Ok(failed(alloc, run, fault_of(other, Fault::BadLog(Side::Source)))),
+    };
+    let common = newest_common(alloc, &target, &source)?;
+    if run.is_open && is_same(&common, &run.begin) {
+        return put_target(alloc, run, Vec::new(alloc), target, source);
+    }
+    anew(alloc, run, common, target, source)
+}
+
+/// Reads both logs anew after a conflict, or gives up.
+fn after_conflict(alloc: Global, mut run: Run) -> Phase
+    ensures { (h : List Exchange) → IsReached h run → Knows h result }
+{
+    if run.restarts >= RESTARTS {
+        return failed(alloc, run, Fault::LogChanged);
+    }
+    run.restarts = run.restarts.saturating_add(1);
+    quiet(alloc, run, Stage::TargetLog)
+}
+
+/// Goes on after the target's log is written: has the source's written, if the target stored its own.
+pub(crate) fn after_target_put(
+    alloc: Global,
+    run: Run,
+    source: ReplicationLog,
+    mut checkpoint: Checkpoint,
+    response: Response,
+) -> Result<Phase, AllocError>
+    ensures { (h : List Exchange) → IsReached h run
+        → IsReady h Source (log_view source) (string_bytes checkpoint.seq) checkpoint.counts.doc_write_failures
+        → IfOk result (λ p. Knows h p) }
+{
+    match response {
+        Response::Stored => {
+            checkpoint.end_time = String::from_str(alloc, run.date.as_str())?;
+            Ok(quiet(alloc, run, Stage::SourcePut(source, checkpoint)))
+        }
+        Response::Conflict => Ok(after_conflict(alloc, run)),
+        other => Ok(failed(
+            alloc,
+            run,
+            fault_of(other, Fault::BadAnswer(Operation::WriteLog)),
+        )),
+    }
+}
+
+/// Begins a window where both logs have just recorded.
+fn next_window(alloc: Global, settings: &Settings, mut run: Run) -> Result<Run, AllocError>
+    ensures { IfOk result (λ r. (h : List Exchange) → IsReached h r) }
+{
+    run.begin = Some(Recorded {
+        session_id: String::from_str(alloc, settings.session_id.as_str())?,
+        seq: String::from_str(alloc, run.since.as_str())?,
+    });
+    run.is_open = false;
+    run.pages = 0;
+    let restarts = if run.has_ended { 0 } else { run.restarts };
+    run.restarts = restarts;
+    Ok(run)
+}
+
+/// Goes on after the source's log is written: both logs have recorded.
+pub(crate) fn after_source_put(
+    alloc: Global,
+    settings: &Settings,
+    run: Run,
+    response: Response,
+) -> Result<Phase, AllocError>
+    ensures { (h : List Exchange) → IsReached h run → IfOk result (λ p. Knows h p) }
+{
+    match response {
+        Response::Stored => {
+            let run = next_window(alloc, settings, run)?;
+            Ok(behind(settings, run, Vec::new(alloc)))
+        }
+        Response::Conflict => Ok(after_conflict(alloc, run)),
+        other => Ok(failed(
+            alloc,
+            run,
+            fault_of(other, Fault::BadAnswer(Operation::WriteLog)),
+        )),
+    }
+}

@@ -1,0 +1,234 @@
+//! The state of a run.
+ghost use Rattle.std.specs.Prelude.{◌≡◌, [], List, Some, IfOk, option_map};
+ghost use Rattle.relay_core.specs.declared.phase.Stage.{Stage};
+ghost use Rattle.relay_core.specs.Messages.{Exchange};
+ghost use Rattle.relay_core.specs.Views.{docs_view, request_view};
+ghost use Rattle.relay_core.specs.Justified.{seq_of};
+ghost use Rattle.relay_core.specs.Known.{pair_view, wait_of, part_of, asked_by, asked_of, Knows};
+
+use crate::messages::{
+    ChangesPage, Checkpoint, Counts, DocLeaves, Fault, Notice, ReplicationLog, Request, RowError,
+    Side,
+};
+use crate::settings::Settings;
+use std::alloc::{AllocError, Global};
+
+/// A session, and a sequence up to which it has recorded.
+#[derive(Drop)]
+pub struct Recorded {
+    pub session_id: String,
+    pub seq: String,
+}
+
+/// The sequence at which a session began, and the time.
+#[derive(Drop)]
+pub struct Start {
+    pub time: String,
+    pub seq: String,
+}
+
+/// What a run keeps from one request to the next.
+#[derive(Drop)]
+pub struct Run {
+    /// The newest pair that both logs had when the window began.
+    pub begin: Option<Recorded>,
+    /// The sequence up to which all leaves are accounted for.
+    pub since: String,
+    /// Whether there is anything to record.
+    pub is_open: bool,
+    /// The number of pages with rows in the window.
+    pub pages: u64,
+    /// Whether the last page was the end of the feed.
+    pub has_ended: bool,
+    /// Whether the next page is requested by longpoll.
+    pub waits: bool,
+    /// The number of documents of the next carry.
+    pub carry: usize,
+    /// How often the page was requested again.
+    pub tries: u64,
+    /// How often the run began anew since the feed's end was recorded.
+    pub restarts: u64,
+    pub counts: Counts,
+    pub start: Option<Start>,
+    /// The date of the last response that had one.
+    pub date: String,
+}
+
+/// Where a page ends.
+#[derive(Drop)]
+pub struct PageEnd {
+    pub last_seq: String,
+    pub is_last: bool,
+    pub pending: Option<String>,
+    /// Whether the page has rows.
+    pub has_rows: bool,
+    /// The number of leaves of the page.
+    pub checked: u64,
+}
+
+/// A page of which leaves are carried.
+#[derive(Drop)]
+pub struct Transfer {
+    pub end: PageEnd,
+    /// The leaves that the target lacked.
+    pub missing: Vec<DocLeaves>,
+    /// The number of documents that were carried.
+    pub carried: usize,
+    /// The number of documents in the current carry.
+    pub size: usize,
+    /// The rows so far that refuse a leaf.
+    pub refused: Vec<RowError>,
+    /// The other rows so far.
+    pub others: Vec<RowError>,
+}
+
+/// What a run waits for.
+#[derive(Drop)]
+pub enum Stage {
+    /// The target's log.
+    TargetLog,
+    /// The source's log, after the target's.
+    SourceLog(ReplicationLog),
+    /// A page of changes.
+    Changes,
+    /// The leaves of a page that the target lacks.
+    Diff(ChangesPage),
+    /// The rows of a carry.
+    Carry(Transfer),
+    /// The leaves that the target still lacks.
+    Again(Transfer),
+    /// That the target's log is stored. Then the source's is.
+    TargetPut(ReplicationLog, ReplicationLog, Checkpoint),
+    /// That the source's log is stored.
+    SourcePut(ReplicationLog, Checkpoint),
+    /// Nothing.
+    Done(Option<Fault>),
+}
+
+/// The state of a run: what it asks for next, and what it knows.
+#[derive(Drop)]
+pub struct Phase {
+    pub run: Run,
+    /// Notices for the user, printed before the stage's request.
+    pub notices: Vec<Notice>,
+    /// The number of notices that were printed.
+    pub told: usize,
+    pub stage: Stage,
+}
+
+/// Returns the sequence of a pair, or that of the beginning.
+pub(crate) fn seq_of(pair: &Option<Recorded>) -> &str
+    ensures { result.now ≡ seq_of (option_map pair_view pair.now) }
+{
+    match pair {
+        Some(recorded) => recorded.seq.as_str(),
+        None => "0",
+    }
+}
+
+impl Phase {
+    /// Returns the state before the first request.
+    pub fn start(alloc: Global, settings: &Settings) -> Result<Phase, AllocError>
+        ensures { (h : List Exchange) → IfOk result (λ p. Knows h p) }
+    {
+        let since = String::from_str(alloc, "0")?;
+        Ok(quiet(
+            alloc,
+            Run {
+                begin: None,
+                since,
+                is_open: false,
+                pages: 0,
+                has_ended: false,
+                waits: false,
+                carry: settings.carry as usize,
+                tries: 0,
+                restarts: 0,
+                counts: Counts {
+                    missing_checked: 0,
+                    missing_found: 0,
+                    docs_read: 0,
+                    docs_written: 0,
+                    doc_write_failures: 0,
+                },
+                start: None,
+                date: String::new(alloc),
+            },
+            Stage::TargetLog,
+        ))
+    }
+
+    /// Returns what the run asks for next.
+    pub fn request(&self) -> Request<'_>
+        ensures { request_view result ≡ asked_of self.now }
+    {
+        match self.notices.get(self.told) {
+            Some(notice) => Request::Tell(notice),
+            None => stage_request(&self.run, &self.stage),
+        }
+    }
+}
+
+/// Returns the phase of a stage, without notices.
+pub(crate) fn quiet(alloc: Global, run: Run, stage: Stage) -> Phase
+    ensures run { result.run ≡ run }
+    ensures stage { result.stage ≡ stage }
+    ensures notices { result.notices.items ≡ [] }
+{
+    Phase {
+        run,
+        notices: Vec::new(alloc),
+        told: 0,
+        stage,
+    }
+}
+
+/// Ends a run with a fault.
+pub(crate) fn failed(alloc: Global, run: Run, fault: Fault) -> Phase
+    ensures known { (h : List Exchange) → Knows h result }
+    ensures stage { result.stage ≡ Stage.Done (Some fault) }
+    ensures notices { result.notices.items ≡ [] }
+{
+    quiet(alloc, run, Stage::Done(Some(fault)))
+}
+
+/// Returns the timeout of the next page, if it is requested by longpoll.
+fn wait_of(run: &Run) -> Option<u32>
+    ensures { result ≡ wait_of run.now }
+{
+    if !run.waits {
+        return None;
+    }
+    Some(if run.is_open { 5000 } else { 60000 })
+}
+
+/// Returns the documents of the current carry.
+pub(crate) fn part_of(transfer: &Transfer) -> &[DocLeaves]
+    ensures { docs_view result.now ≡ part_of transfer.now }
+{
+    let missing = transfer.missing.as_slice();
+    let from = transfer.carried.min(missing.len());
+    let rest = &missing[from..];
+    &rest[..transfer.size.min(rest.len())]
+}
+
+/// Returns what a stage asks for.
+fn stage_request<'a>(run: &'a Run, stage: &'a Stage) -> Request<'a>
+    ensures { request_view result ≡ asked_by run.now stage.now }
+{
+    match stage {
+        Stage::TargetLog => Request::GetLog(Side::Target),
+        Stage::SourceLog(_) => Request::GetLog(Side::Source),
+        Stage::Changes => Request::GetChanges(run.since.as_str(), wait_of(run)),
+        Stage::Diff(page) => Request::RevsDiff(page.rows.as_slice()),
+        Stage::Carry(transfer) => Request::Carry(part_of(transfer)),
+        Stage::Again(transfer) => Request::RevsDiff(transfer.missing.as_slice()),
+        Stage::TargetPut(target, _, checkpoint) => Request::PutLog(
+            Side::Target,
+            target,
+            checkpoint,
+        ),
+        Stage::SourcePut(source, checkpoint) => Request::PutLog(Side::Source, source, checkpoint),
+        Stage::Done(fault) => Request::Done(fault.as_ref(), &run.counts, seq_of(&run.begin)),
+    }
+}

@@ -1,0 +1,231 @@
+//! The rows of a carry's responses, and the leaves that they refuse.
+ghost use Rattle.std.specs.Prelude.{◌≡◌, ◌+◌, ◌++◌, IfOk, OnOk, option_map, length, string_bytes};
+ghost use Rattle.relay_core.specs.Views.{texts_of, docs_view, row_error_view, row_errors_view};
+ghost use Rattle.relay_core.specs.Leaves.{is_refusal, is_about, are_about, refusals_in, are_all_about, cover, too_large_row, too_large_rows, leaf_count};
+
+use crate::messages::{DocLeaves, RefusedLeaf, RowError, Unaccounted};
+use std::alloc::{AllocError, Global};
+
+/// Whether a row refuses its document.
+fn is_refusal(row: &RowError) -> bool
+    ensures { result ≡ is_refusal (row_error_view row.now) }
+{
+    row.error.as_str() == "forbidden" || row.error.as_str() == "unauthorized"
+}
+
+/// Puts the rows of a response behind the refusals and the other rows so far.
+pub(crate) fn sort_rows(
+    rows: Vec<RowError>,
+    refused: &mut Vec<RowError>,
+    others: &mut Vec<RowError>,
+) -> Result<(), AllocError>
+    ensures { OnOk result (row_errors_view refused.new.items ≡ row_errors_view refused.old.items ++ refusals_in (row_errors_view rows.items)) }
+{
+    for row in rows {
+        if is_refusal(&row) {
+            refused.push(row)?;
+        } else {
+            others.push(row)?;
+        }
+    }
+    Ok(())
+}
+
+/// Returns the row of a leaf whose document is too large for the target.
+fn too_large_row(alloc: Global, id: &str, leaf: &str) -> Result<RowError, AllocError>
+    ensures { IfOk result (λ r. row_error_view r ≡ too_large_row id.now leaf.now) }
+{
+    Ok(RowError {
+        id: String::from_str(alloc, id)?,
+        rev: Some(String::from_str(alloc, leaf)?),
+        error: String::from_str(alloc, "too_large")?,
+        reason: String::from_str(alloc, "status 413")?,
+    })
+}
+
+/// Appends the rows of a document that is too large for the target.
+pub(crate) fn push_too_large(
+    alloc: Global,
+    refused: &mut Vec<RowError>,
+    doc: &DocLeaves,
+) -> Result<(), AllocError>
+    ensures { OnOk result (row_errors_view refused.new.items ≡ row_errors_view refused.old.items ++ too_large_rows (string_bytes doc.now.id) (texts_of doc.now.revs.items)) }
+{
+    for rev in &doc.revs {
+        refused.push(too_large_row(alloc, doc.id.as_str(), rev.as_str())?)?;
+    }
+    Ok(())
+}
+
+/// Whether a row that names this revision, or none, is about a leaf.
+fn is_about(rev: &Option<String>, leaf: &str) -> bool
+    ensures { result ≡ is_about (option_map string_bytes rev.now) leaf.now }
+{
+    match rev {
+        Some(rev) => rev.as_str() == leaf,
+        None => true,
+    }
+}
+
+/// Whether one of the rows is about a leaf of an id.
+fn are_about(rows: &[RowError], id: &str, leaf: &str) -> bool
+    ensures { result ≡ are_about (row_errors_view rows.now) id.now leaf.now }
+{
+    for row in rows {
+        if row.id.as_str() == id && is_about(&row.rev, leaf) {
+            return true;
+        }
+    }
+    false
+}
+
+/// Whether the rows are about each of these leaves of an id.
+fn are_all_about(rows: &[RowError], id: &str, revs: &Vec<String>) -> bool
+    ensures { result ≡ are_all_about (row_errors_view rows.now) id.now (texts_of revs.now.items) }
+{
+    for rev in revs {
+        if !are_about(rows, id, rev.as_str()) {
+            return false;
+        }
+    }
+    true
+}
+
+/// Whether the rows are about each leaf.
+pub(crate) fn cover(rows: &[RowError], docs: &[DocLeaves]) -> bool
+    ensures { result ≡ cover (row_errors_view rows.now) (docs_view docs.now) }
+{
+    for doc in docs {
+        if !are_all_about(rows, doc.id.as_str(), &doc.revs) {
+            return false;
+        }
+    }
+    true
+}
+
+/// Returns the first row about a leaf of an id that names the leaf, or else the first that names no revision.
+fn row_about<'a>(rows: &'a [RowError], id: &str, leaf: &str) -> Option<&'a RowError> {
+    let mut general = None;
+    for row in rows {
+        if row.id.as_str() == id {
+            match &row.rev {
+                Some(rev) => {
+                    if rev.as_str() == leaf {
+                        return Some(row);
+                    }
+                }
+                None => {
+                    if general.is_none() {
+                        general = Some(row);
+                    }
+                }
+            }
+        }
+    }
+    general
+}
+
+/// Returns a refused leaf, with the error and the reason of the row about it.
+fn refused_leaf(
+    alloc: Global,
+    rows: &[RowError],
+    id: &str,
+    leaf: &str,
+) -> Result<RefusedLeaf, AllocError> {
+    let (error, reason) = match row_about(rows, id, leaf) {
+        Some(row) => (row.error.as_str(), row.reason.as_str()),
+        None => ("", ""),
+    };
+    Ok(RefusedLeaf {
+        id: String::from_str(alloc, id)?,
+        rev: String::from_str(alloc, leaf)?,
+        error: String::from_str(alloc, error)?,
+        reason: String::from_str(alloc, reason)?,
+    })
+}
+
+/// Appends a document's leaves, as refused.
+fn push_refused(
+    alloc: Global,
+    leaves: &mut Vec<RefusedLeaf>,
+    rows: &[RowError],
+    doc: &DocLeaves,
+) -> Result<(), AllocError>
+    ensures { OnOk result (length leaves.new.items ≡ length leaves.old.items + length doc.now.revs.items) }
+{
+    for rev in &doc.revs {
+        leaves.push(refused_leaf(alloc, rows, doc.id.as_str(), rev.as_str())?)?;
+    }
+    Ok(())
+}
+
+/// Returns the documents' leaves, as refused.
+pub(crate) fn refused_leaves(
+    alloc: Global,
+    rows: &[RowError],
+    docs: &[DocLeaves],
+) -> Result<Vec<RefusedLeaf>, AllocError>
+    ensures { IfOk result (λ v. length v.items ≡ leaf_count (docs_view docs.now)) }
+{
+    let mut leaves = Vec::new(alloc);
+    for doc in docs {
+        push_refused(alloc, &mut leaves, rows, doc)?;
+    }
+    Ok(leaves)
+}
+
+/// Returns the number of these leaves of an id that no row is about, and the first of them.
+fn first_open<'a>(rows: &[RowError], doc: &'a DocLeaves) -> (u64, Option<&'a str>) {
+    let mut count: u64 = 0;
+    let mut first = None;
+    for rev in &doc.revs {
+        if !are_about(rows, doc.id.as_str(), rev.as_str()) {
+            count = count.saturating_add(1);
+            if first.is_none() {
+                first = Some(rev.as_str());
+            }
+        }
+    }
+    (count, first)
+}
+
+/// Returns the error and the reason of the first row of an id.
+fn error_of(
+    alloc: Global,
+    others: &[RowError],
+    id: &str,
+) -> Result<Option<(String, String)>, AllocError> {
+    for row in others {
+        if row.id.as_str() == id {
+            let error = String::from_str(alloc, row.error.as_str())?;
+            let reason = String::from_str(alloc, row.reason.as_str())?;
+            return Ok(Some((error, reason)));
+        }
+    }
+    Ok(None)
+}
+
+/// Returns the first leaf that is missing and that no refusal is about, and the number of such leaves.
+pub(crate) fn unaccounted(
+    alloc: Global,
+    refused: &[RowError],
+    others: &[RowError],
+    docs: &[DocLeaves],
+) -> Result<Unaccounted, AllocError> {
+    let mut count: u64 = 0;
+    let mut found: Option<(&str, &str)> = None;
+    for doc in docs {
+        let (open, first) = first_open(refused, doc);
+        count = count.saturating_add(open);
+        if found.is_none() {
+            found = first.map(|leaf| (doc.id.as_str(), leaf));
+        }
+    }
+    let (id, leaf) = found.unwrap_or(("", ""));
+    Ok(Unaccounted {
+        id: String::from_str(alloc, id)?,
+        rev: String::from_str(alloc, leaf)?,
+        error: error_of(alloc, others, id)?,
+        count,
+    })
+}

@@ -1,0 +1,41 @@
+//! What does not change between the requests of a run.
+ghost use Rattle.std.specs.Prelude.{◌≡◌, IfOk, string_bytes};
+ghost use Rattle.relay_requests.specs.Logs.{log_path as log_path_of};
+
+use md5::{Digest, Md5};
+use std::alloc::{AllocError, Global};
+
+/// What does not change between the requests of a run. An empty text stands for none.
+#[derive(Drop)]
+pub struct RequestOptions {
+    /// The path of both replication logs.
+    pub log_path: String,
+    pub session_id: String,
+    /// The largest number of changes in a page.
+    pub batch: u64,
+    /// The name of a filter.
+    pub filter: String,
+    /// Further parameters of the feed, already encoded.
+    pub query: String,
+    /// The body of the request for changes, on one line.
+    pub choice: String,
+}
+
+/// Returns the path of both replication logs.
+pub fn log_path(
+    alloc: Global,
+    source: &str,
+    target: &str,
+    filter: &str,
+    query: &str,
+    choice: &str,
+    salt: &str,
+) -> Result<String, AllocError>
+    ensures { IfOk result (λ path. string_bytes path
+        ≡ log_path_of source.now target.now filter.now query.now choice.now salt.now) }
+{
+    let key = format!(in alloc; "{source}\n{target}\n{filter}\n{query}\n{choice}\n{salt}")?;
+    let digest = Md5::digest(key.as_bytes());
+    let text = hex::encode(alloc, digest.as_slice())?;
+    format!(in alloc; "/_local/sandermauve-{text}")
+}

@@ -1,0 +1,66 @@
+-- What the JSON of a response says. Where a name stands twice in an object, its last member counts.
+use Rattle.std.specs.Prelude.{ℕ, Bool, if◌then◌else◌, List, [], ◌∷◌, ◌++◌, Option, None, Some, option_and_then, codes}
+use Rattle.std.specs.Option.{option_map_or}
+use Rattle.std.specs.List.{list_all}
+use Rattle.std.specs.Char.{is_ascii_digit}
+use Rattle.std.specs.Str.{is_utf8}
+use Rattle.json.specs.Json.{Json, Items, no_items, item, document}
+use Rattle.json.specs.Find.{get, as_str, as_array, as_number}
+use Rattle.relay_core.specs.Messages.{Text}
+
+-- the value that a body is: one JSON value in UTF-8
+abbrev pub json_in : Text → Option Json
+json_in body = if is_utf8 body then document body else None
+
+-- a member that is a string
+abbrev pub text_at : Text → Json → Option Text
+text_at name j = option_and_then as_str (get name j)
+
+-- a member that is a list
+abbrev pub items_at : Text → Json → Option Items
+items_at name j = option_and_then as_array (get name j)
+
+abbrev pub both : {A B : Type 0} → Option A → Option B → Option (A × B)
+both (Some x) (Some y) = Some (x, y)
+both None y = None
+both (Some x) None = None
+
+-- ---- sequences
+
+-- the digits of an integer without a sign
+abbrev pub digits_in : Text → Option Text
+digits_in s = if list_all is_ascii_digit s then Some s else None
+
+-- one of two, the first if there is one
+abbrev pub or_else : Option Text → Option Text → Option Text
+or_else (Some x) o = Some x
+or_else None o = o
+
+-- a sequence is a string, or a non-negative integer by its digits
+abbrev pub sequence_in : Json → Option Text
+sequence_in j = or_else (as_str j) (option_and_then digits_in (as_number j))
+
+abbrev pub sequence_at : Text → Json → Option Text
+sequence_at name j = option_and_then sequence_in (get name j)
+
+-- ---- lists
+
+abbrev pub with_first : {A : Type 0} → Option A → Option (List A) → Option (List A)
+with_first None xs = None
+with_first (Some x) None = None
+with_first (Some x) (Some xs) = Some (x ∷ xs)
+
+-- a list of which each item is read
+abbrev pub each_item : {A : Type 0} → (Json → Option A) → Items → Option (List A)
+each_item reads no_items = Some []
+each_item reads (item j js) = with_first (reads j) (each_item reads js)
+
+-- the items of a list that can be read
+abbrev pub some_items : {A : Type 0} → (Json → Option A) → Items → List A
+some_items reads no_items = []
+some_items reads (item j js) = option_map_or (λ x. x ∷ some_items reads js) (reads j) (some_items reads js)
+
+-- what is read already, before what is left
+abbrev pub prepend : {A : Type 0} → List A → Option (List A) → Option (List A)
+prepend xs None = None
+prepend xs (Some ys) = Some (xs ++ ys)
