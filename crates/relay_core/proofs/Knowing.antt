@@ -1,5 +1,5 @@
 -- What is known of a history in a phase.
-use Rattle.proof_prelude.proofs.{◌≡◌, Bool, true, false, List, ◌∷◌, Option, None, Some, is_some, slice_get, option_map_or, false≢true, String, Global, refl, sym, ap, subst, subst₂, ◌∙◌}
+use Rattle.proof_prelude.proofs.{◌≡◌, true, false, List, ◌∷◌, Option, None, Some, is_some, slice_get, option_map_or, false≢true, String, Global, refl, sym, ap, subst, subst₂, ◌∙◌}
 use Rattle.relay_core.specs.declared.phase.Run.{Run}
 use Rattle.relay_core.specs.declared.phase.Stage.{Stage}
 use Rattle.relay_core.specs.declared.phase.Stage.TheVariants as stages

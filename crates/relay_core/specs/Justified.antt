@@ -3,7 +3,7 @@ use Rattle.std.specs.Prelude.{ℕ, ◌≡◌, ◌+◌, ◌-◌, ◌^◌, ◌≤�
 use Rattle.std.specs.List.{list_any}
 use Rattle.relay_core.specs.declared.messages.Side.{Side}
 use Rattle.relay_core.specs.declared.messages.Side.TheVariants.{Source, Target}
-use Rattle.relay_core.specs.Messages.{Text, DocView, PageView, EntryView, LogView, CheckpointView, RequestView, get_log, get_changes, revs_diff, carry_docs, put_log, tell, done, ResponseView, log_response, page_response, missing_response, row_errors_response, rejected_response, stored_response, conflict_response, noted_response, fault_response, Exchange, exchange_of}
+use Rattle.relay_core.specs.Messages.{Text, DocView, PageView, EntryView, LogView, RequestView, get_log, get_changes, revs_diff, carry_docs, put_log, tell, done, ResponseView, log_response, page_response, missing_response, row_errors_response, rejected_response, stored_response, Exchange, exchange_of}
 use Rattle.relay_core.specs.Leaves.{names, are_distinct, leaf_count, docs_where, refuses, is_alone}
 
 -- ---- what settles a leaf

@@ -1,5 +1,5 @@
 -- What a phase asks for, and what is known of the history in it.
-use Rattle.std.specs.Prelude.{ℕ, ◌≡◌, ◌-◌, ◌^◌, ◌≤◌, Bool, true, if◌then◌else◌, List, [], ◌∷◌, ◌++◌, Option, None, Some, min, map, option_map, take, drop, slice_get, string_bytes}
+use Rattle.std.specs.Prelude.{ℕ, ◌≡◌, ◌-◌, ◌^◌, ◌≤◌, true, if◌then◌else◌, List, [], ◌∷◌, ◌++◌, Option, None, Some, min, option_map, take, drop, slice_get, string_bytes}
 use Rattle.std.specs.Option.{option_map_or}
 use Rattle.relay_core.specs.declared.messages.Side.TheVariants.{Source, Target}
 use Rattle.relay_core.specs.declared.phase.Recorded.{Recorded}
