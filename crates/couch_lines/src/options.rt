@@ -15,7 +15,7 @@ const ABOUT: &str =
 
 /// The description of the tasks for `--help`.
 const TASKS_HELP: &str = "Reads standard input and writes standard output.
-DB is a name of 1 to 32 letters, digits, `-` or `_`; N is an integer.
+DB is a name of 1 to 32 letters, digits, `-` or `_`; N is a positive integer.
 
   couch_lines load DB [--whole]
       Print a `load` line for each document in responses of CouchDB (_bulk_get?revs=true,
@@ -29,8 +29,8 @@ DB is a name of 1 to 32 letters, digits, `-` or `_`; N is an integer.
       Without N, print one body.
   couch_lines diff [N]
       Print bodies of _revs_diff requests for the leaves in a response of
-      _changes?style=all_docs: N documents per body, one body per line. Without N, print
-      one body.
+      _changes?style=all_docs or of _revs_diff: N documents per body, one body per line.
+      Without N, print one body.
   couch_lines leaves DB
       Print a `doc` line for each leaf in the `change` lines of a script's output.
   couch_lines bulk [N] [--whole]
@@ -44,7 +44,8 @@ DB is a name of 1 to 32 letters, digits, `-` or `_`; N is an integer.
       and of sessions; and the sessions of `log`.
 
 A document is an object whose first member is `_id`, or one that a response of CouchDB
-contains. Its text is copied unchanged. An entry that contains no document is skipped, and
+contains. Its text is copied; only white space outside strings may change. An entry that
+contains no document, or for ids and diff no leaf, is skipped, and
 the number of skipped entries is printed on standard error; `bulk` fails on an object that
 contains no document.
 
@@ -52,8 +53,9 @@ With --whole, `load` puts all members except _id, _rev, _revisions and _deleted 
 string member `whole`, and does not interpret them. So numbers such as 12.5, attachments
 and all other members pass through couch_replicate unchanged. `bulk --whole` restores them.
 
-Exit status: 0 success; 1 an entry was skipped; 2 usage error; 3 the input is an error of
-CouchDB, is none of the above or is truncated, or reading, writing or an allocation failed.";
+Exit status: 0 success; 1 an entry was skipped, or `trees` ran out of memory for a line;
+2 usage error; 3 the input is an error of CouchDB, is none of the above or is truncated, or
+reading, writing or an allocation failed.";
 
 /// Why a command line names no task.
 #[derive(Drop)]

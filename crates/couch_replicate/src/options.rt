@@ -34,14 +34,14 @@ Database and backup names have 1 to 32 letters, digits, `-` or `_`.
       List the documents changed after a sequence (default 0), with their leaves.
   {\"do\":\"replicate\",\"source\":\"a\",\"target\":\"b\"}
       Replicate from `a` to `b`, starting at the last common checkpoint. Optional members: \"session\"
-      (UUID), \"workers\", \"batch\", \"at\", \"stop_after\" (number of windows), \"alone\" (true: one thread),
+      (UUID), \"workers\", \"batch\", \"at\", \"stop_after\" (number of windows of `batch` changes), \"alone\" (true: one thread),
       \"progress\" (true: also print counts), \"doc_ids\" (replicate only these documents; each list has
       its own checkpoint).
   {\"do\":\"log\",\"source\":\"a\",\"target\":\"b\",\"side\":\"source\"}
       Print the replication log on one side, `source` or `target`. Optional: \"doc_ids\".
   {\"do\":\"audit\",\"source\":\"a\",\"target\":\"b\"}
-      Check that `b` has, or has refused, everything that the common checkpoint claims. Prints `clean`,
-      or the first missing revision. Optional: \"doc_ids\".
+      Check that `b` has, or has refused, everything that the common checkpoint claims, and print
+      `clean`. Optional: \"doc_ids\".
   {\"do\":\"backup\",\"db\":\"a\",\"name\":\"k\"}
       Save a copy of `a` as `k`. Fails if `a` has been a replication target.
   {\"do\":\"restore\",\"db\":\"a\",\"name\":\"k\"}
@@ -52,8 +52,8 @@ Database and backup names have 1 to 32 letters, digits, `-` or `_`.
   {\"do\":\"conflicts\",\"db\":\"a\"}
       List the documents with more than one live leaf.
   {\"do\":\"docs\",\"db\":\"a\",\"since\":1}
-      Print every leaf of the documents changed after a sequence, in the form that `load` accepts.
-      Optional: \"doc_ids\".
+      Print every leaf of the documents changed after a sequence, as a value for the member `doc` of
+      `load`. Optional: \"doc_ids\".
   {\"do\":\"info\",\"db\":\"a\"}
       Print the numbers of documents, leaves, conflicts, revisions and sessions.
   {\"do\":\"ledger\",\"target\":\"b\",\"session\":\"11111111111141118111111111111111\"}
@@ -65,8 +65,8 @@ Blank lines are ignored. A command that fails prints `refused LINE NAME` and cha
 that a failed replication keeps what it has already copied. docs/PROFILE.md, \"Names of refusals\",
 explains each NAME; so does --explain.
 
-Exit status: 0 if every command succeeded, 1 if one failed, 2 for a usage error, 3 if reading, writing
-or a memory allocation failed.";
+Exit status: 0 if every command succeeded, 1 if one failed, 2 for a usage error, 3 if the script
+stopped early, because reading, writing or an allocation failed.";
 
 /// The options of a command line.
 #[derive(Drop)]

@@ -118,7 +118,10 @@ static SENTENCES: &[(&str, &str)] = &[
         "only part of a window was written: no memory, or no update sequence, was left",
     ),
     ("TooManyChosen", "doc_ids must have at most 1000 ids"),
-    ("TooManyWorkers", "workers must be 1 to 64"),
+    (
+        "TooManyWorkers",
+        "workers must be 1 to 64, unless alone is true",
+    ),
     (
         "Uncovered",
         "a leaf of a window is missing in what was fetched",
