@@ -59,7 +59,11 @@ fn settings_of(alloc: Global, options: &Options<'_>) -> Result<Settings, AllocEr
 }
 
 /// Returns what does not change between requests.
-fn request_options(alloc: Global, options: &Options<'_>, choice: String) -> Result<RequestOptions, AllocError> {
+fn request_options(
+    alloc: Global,
+    options: &Options<'_>,
+    choice: String,
+) -> Result<RequestOptions, AllocError> {
     let log_path = log_path(
         alloc,
         options.source,
