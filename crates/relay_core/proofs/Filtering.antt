@@ -1,6 +1,5 @@
 -- Leaves that pass a test.
-use Rattle.proof_prelude.proofs.{◌≡◌, ℕ, inl, inr, Bool, true, false, ◌&&◌, ◌||◌, not, if◌then◌else◌, List, [], ◌∷◌, ◌++◌, filter, bytes_eq, refl, sym, ap, ap₂, subst, ◌∙◌, append_assoc, append-nil, or_cases, or_left, or_right, and_parts, and_from, and-false, or-false, false≢true, cases_Bool, list_any-append, bytes_eq-Decides}
-use Rattle.std.specs.List.{list_any, list_all}
+use Rattle.proof_prelude.proofs.{◌≡◌, inl, inr, Bool, true, false, ◌&&◌, ◌||◌, not, if◌then◌else◌, List, [], ◌∷◌, ◌++◌, filter, bytes_eq, refl, sym, ap, ap₂, subst, ◌∙◌, append_assoc, append-nil, or_cases, or_left, or_right, and_parts, and_from, and-false, or-false, false≢true, cases_Bool, list_any-append, bytes_eq-Decides}
 use Rattle.relay_core.specs.Messages.{Text, DocView, RowErrorView}
 use Rattle.relay_core.specs.Leaves.{has_text, names, has_id, are_distinct, is_filled, have_leaves, doc_if_any, docs_where, are_about, are_all_about, cover}
 

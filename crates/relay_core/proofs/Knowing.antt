@@ -1,5 +1,5 @@
 -- What is known of a history in a phase.
-use Rattle.proof_prelude.proofs.{◌≡◌, Bool, true, false, List, ◌∷◌, Option, None, Some, is_some, slice_get, option_map_or, false≢true, String, Global, refl, sym, ap, subst, subst₂, ◌∙◌}
+use Rattle.proof_prelude.proofs.{◌≡◌, true, false, List, ◌∷◌, Option, None, Some, is_some, slice_get, option_map_or, false≢true, String, Global, refl, sym, ap, subst, subst₂, ◌∙◌}
 use Rattle.relay_core.specs.declared.phase.Run.{Run}
 use Rattle.relay_core.specs.declared.phase.Stage.{Stage}
 use Rattle.relay_core.specs.declared.phase.Stage.TheVariants as stages
@@ -24,7 +24,7 @@ KnowsAt-told h run (stages.Diff page) notice r k = IsOpen-told notice r k
 KnowsAt-told h run (stages.Carry t) notice r k = IsOpen-told notice r k
 KnowsAt-told h run (stages.Again t) notice r k = IsOpen-told notice r k
 KnowsAt-told h run (stages.TargetPut target source checkpoint) notice r k = (IsReachedFrom-more (exchange_of (tell notice) r) k.0, AreReady-told notice r k.1)
-KnowsAt-told h run (stages.SourcePut source checkpoint) notice r k = (IsReachedFrom-more (exchange_of (tell notice) r) k.0, IsReady-told notice r k.1)
+KnowsAt-told h run (stages.SourcePut source checkpoint) notice r k = (IsReachedFrom-more (exchange_of (tell notice) r) k.0, IsReady-told notice r k.1, k.2)
 KnowsAt-told h run (stages.Done fault) notice r k = tt
 
 -- the date of a run is changed
@@ -80,8 +80,8 @@ may_ask_at h run stages.Changes k = tt
 may_ask_at h run (stages.Diff page) k = tt
 may_ask_at h run (stages.Carry t) k = tt
 may_ask_at h run (stages.Again t) k = tt
-may_ask_at h run (stages.TargetPut target source checkpoint) k = ready_for Target k.1
-may_ask_at h run (stages.SourcePut source checkpoint) k = k.1
+may_ask_at h run (stages.TargetPut target source checkpoint) k = (ready_for Target k.1, tt)
+may_ask_at h run (stages.SourcePut source checkpoint) k = (k.1, k.2)
 may_ask_at h run (stages.Done fault) k = tt
 
 may_ask_or : (h : List Exchange) (run : Run) (stage : Stage) (o : Option Notice) → KnowsAt h run stage → MayAsk h (option_map_or (λ x. tell (notice_view x)) o (asked_by run stage))

@@ -3,7 +3,7 @@ use Rattle.proof_prelude.proofs.{◌≡◌, ℕ, ◌+◌, ◌-◌, ◌<◌, suc,
 use Rattle.std.proofs.lemmas.List.{take_min, drop_min, take_all}
 use Rattle.relay_core.specs.declared.messages.Fault.{Fault}
 use Rattle.relay_core.specs.declared.messages.DocLeaves.{DocLeaves}
-use Rattle.relay_core.specs.Messages.{Text, DocView, FaultView}
+use Rattle.relay_core.specs.Messages.{Text, DocView}
 use Rattle.relay_core.specs.Views.{texts_of, doc_view, docs_view, fault_view}
 use Rattle.relay_core.specs.Leaves.{doc_if_any, docs_where}
 

@@ -1,13 +1,12 @@
 -- What is known of a history is known behind one exchange more.
-use Rattle.proof_prelude.proofs.{ℕ, ◌≡◌, ◌+◌, ◌-◌, ◌^◌, ◌≤◌, ◌⊎◌, inl, inr, Bool, true, false, ◌&&◌, ◌||◌, not, List, [], ◌∷◌, ◌++◌, Option, None, Some, min, refl, sym, ap, ap₂, subst, ◌∙◌, arith, append_assoc, append-nil, or_cases, or_left, or_right, cases_Bool, false≢true, list_any-append, and_parts, and_from, bytes_eq, length}
-use Rattle.std.specs.List.{list_any}
+use Rattle.proof_prelude.proofs.{ℕ, ◌≡◌, ◌+◌, ◌-◌, ◌^◌, ◌≤◌, inl, inr, Bool, true, false, ◌&&◌, ◌||◌, not, List, [], ◌∷◌, ◌++◌, Option, min, refl, sym, ap, subst, ◌∙◌, arith, append-nil, or_cases, or_left, or_right, cases_Bool, false≢true, list_any-append, and_parts, and_from, bytes_eq}
 use Rattle.relay_core.specs.declared.messages.Side.{Side}
 use Rattle.relay_core.specs.declared.messages.Side.TheVariants.{Source, Target}
-use Rattle.relay_core.specs.Messages.{Text, DocView, PageView, RowErrorView, LogView, NoticeView, CheckpointView, RequestView, get_log, get_changes, revs_diff, carry_docs, put_log, tell, ResponseView, log_response, page_response, missing_response, row_errors_response, rejected_response, Exchange, exchange_of}
+use Rattle.relay_core.specs.Messages.{Text, DocView, PageView, RowErrorView, LogView, NoticeView, CheckpointView, get_log, get_changes, revs_diff, carry_docs, put_log, tell, ResponseView, log_response, page_response, missing_response, row_errors_response, rejected_response, Exchange, exchange_of}
 use Rattle.relay_core.specs.Leaves.{names, are_distinct, have_leaves, leaf_count, docs_where, are_about, refusals_in, cover, too_large_rows, is_alone}
-use Rattle.relay_core.specs.Justified.{is_too_large, is_found, is_rejected, AreSettled, not_found, log_in, last_log, newest_common, seq_of, Reached, begun, paged, AreReady, IsReady, log_of}
+use Rattle.relay_core.specs.Justified.{is_too_large, is_found, is_rejected, not_found, newest_common, seq_of, Reached, begun, paged, AreReady, IsReady, log_of}
 use Rattle.relay_core.specs.Known.{IsReachedFrom, IsRead, IsOpen}
-use Rattle.relay_core.proofs.Filtering.{text_is, no_from_not, names-docs_where, docs_where-docs_where, docs_where_congr, are_distinct-docs_where, docs_where-all, about_covered}
+use Rattle.relay_core.proofs.Filtering.{names-docs_where, docs_where-docs_where, docs_where_congr, are_distinct-docs_where, docs_where-all, about_covered}
 
 -- ---- numbers
 

@@ -3,7 +3,7 @@ use Rattle.std.specs.Prelude.{ℕ, ◌≡◌, ◌+◌, ◌-◌, ◌^◌, ◌≤�
 use Rattle.std.specs.List.{list_any}
 use Rattle.relay_core.specs.declared.messages.Side.{Side}
 use Rattle.relay_core.specs.declared.messages.Side.TheVariants.{Source, Target}
-use Rattle.relay_core.specs.Messages.{Text, DocView, PageView, EntryView, LogView, CheckpointView, RequestView, get_log, get_changes, revs_diff, carry_docs, put_log, tell, done, ResponseView, log_response, page_response, missing_response, row_errors_response, rejected_response, stored_response, conflict_response, noted_response, fault_response, Exchange, exchange_of}
+use Rattle.relay_core.specs.Messages.{Text, DocView, PageView, EntryView, LogView, RequestView, get_log, get_changes, revs_diff, carry_docs, put_log, tell, done, ResponseView, log_response, page_response, missing_response, row_errors_response, rejected_response, stored_response, Exchange, exchange_of}
 use Rattle.relay_core.specs.Leaves.{names, are_distinct, leaf_count, docs_where, refuses, is_alone}
 
 -- ---- what settles a leaf
@@ -102,12 +102,28 @@ pub record IsReady (h : List Exchange) (side : Side) (log : LogView) (s : Text) 
   pub ready : AreReady h target source s failures
   pub own : log ≡ log_of side target source
 
+-- whether an exchange is that the target stored its log, which records that sequence; or a notice, after such an exchange
+abbrev pub IsStoring : RequestView → ResponseView → Text → Type 0 → Type 0
+IsStoring (put_log Target log checkpoint) stored_response s before = checkpoint.seq ≡ s
+IsStoring (tell notice) r s before = before
+IsStoring q r s before = ⊥
+
+-- the target has just stored its log, which records that sequence
+abbrev pub IsStored : List Exchange → Text → Type 0
+IsStored [] s = ⊥
+IsStored (e ∷ h) s = IsStoring e.request e.response s (IsStored h s)
+
+-- the source's log is written only after the target's
+abbrev pub IsInOrder : List Exchange → Side → Text → Type 0
+IsInOrder h Target s = Unit {0}
+IsInOrder h Source s = IsStored h s
+
 abbrev pub MayAsk : List Exchange → RequestView → Type 0
 MayAsk h (get_log side) = Unit {0}
 MayAsk h (get_changes since wait) = Unit {0}
 MayAsk h (revs_diff docs) = Unit {0}
 MayAsk h (carry_docs docs) = Unit {0}
-MayAsk h (put_log side log checkpoint) = IsReady h side log checkpoint.seq checkpoint.counts.doc_write_failures
+MayAsk h (put_log side log checkpoint) = IsReady h side log checkpoint.seq checkpoint.counts.doc_write_failures × IsInOrder h side checkpoint.seq
 MayAsk h (tell notice) = Unit {0}
 MayAsk h (done fault counts recorded) = Unit {0}
 

@@ -1,5 +1,5 @@
 -- What a phase asks for, and what is known of the history in it.
-use Rattle.std.specs.Prelude.{ℕ, ◌≡◌, ◌-◌, ◌^◌, ◌≤◌, Bool, true, if◌then◌else◌, List, [], ◌∷◌, ◌++◌, Option, None, Some, min, map, option_map, take, drop, slice_get, string_bytes}
+use Rattle.std.specs.Prelude.{ℕ, ◌≡◌, ◌-◌, ◌^◌, ◌≤◌, true, if◌then◌else◌, List, [], ◌∷◌, ◌++◌, Option, None, Some, min, option_map, take, drop, slice_get, string_bytes}
 use Rattle.std.specs.Option.{option_map_or}
 use Rattle.relay_core.specs.declared.messages.Side.TheVariants.{Source, Target}
 use Rattle.relay_core.specs.declared.phase.Recorded.{Recorded}
@@ -11,7 +11,7 @@ use Rattle.relay_core.specs.declared.phase.Phase.{Phase}
 use Rattle.relay_core.specs.Messages.{Text, DocView, PageView, RowErrorView, LogView, RequestView, get_log, get_changes, revs_diff, carry_docs, put_log, tell, done, page_response, Exchange, exchange_of}
 use Rattle.relay_core.specs.Views.{docs_view, row_errors_view, log_view, fault_view, checkpoint_view, notice_view}
 use Rattle.relay_core.specs.Leaves.{are_distinct, are_about}
-use Rattle.relay_core.specs.Justified.{is_rejected, not_found, last_log, seq_of, Reached, AreReady, IsReady}
+use Rattle.relay_core.specs.Justified.{is_rejected, not_found, last_log, seq_of, Reached, AreReady, IsReady, IsStored}
 
 -- ---- what is asked for
 
@@ -90,7 +90,7 @@ KnowsAt h run (stages.Diff page) = IsOpenIn h run (string_bytes page.last_seq) (
 KnowsAt h run (stages.Carry t) = IsOpenAt h run t
 KnowsAt h run (stages.Again t) = IsOpenAt h run t
 KnowsAt h run (stages.TargetPut target source checkpoint) = IsReached h run × AreReady h (log_view target) (log_view source) (string_bytes checkpoint.seq) checkpoint.counts.doc_write_failures
-KnowsAt h run (stages.SourcePut source checkpoint) = IsReached h run × IsReady h Source (log_view source) (string_bytes checkpoint.seq) checkpoint.counts.doc_write_failures
+KnowsAt h run (stages.SourcePut source checkpoint) = IsReached h run × IsReady h Source (log_view source) (string_bytes checkpoint.seq) checkpoint.counts.doc_write_failures × IsStored h (string_bytes checkpoint.seq)
 KnowsAt h run (stages.Done fault) = Unit {0}
 
 abbrev pub Knows : List Exchange → Phase → Type 0

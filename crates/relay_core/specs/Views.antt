@@ -1,5 +1,5 @@
 -- The messages of the code, as messages without memory.
-use Rattle.std.specs.Prelude.{List, Option, map, option_map, String, Vec, string_bytes}
+use Rattle.std.specs.Prelude.{List, map, option_map, String, string_bytes}
 use Rattle.std.specs.Global.{Global}
 use Rattle.relay_core.specs.declared.messages.DocLeaves.{DocLeaves}
 use Rattle.relay_core.specs.declared.messages.ChangesPage.{ChangesPage}

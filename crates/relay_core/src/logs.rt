@@ -1,9 +1,9 @@
 //! The steps of the replication logs.
 ghost use Rattle.std.specs.Prelude.{ℕ, ◌≡◌, ◌∷◌, List, true, IfOk, option_map, string_bytes};
 ghost use Rattle.relay_core.specs.declared.messages.Side.TheVariants.{Source, Target};
-ghost use Rattle.relay_core.specs.Messages.{Text, Exchange, exchange_of, get_log};
+ghost use Rattle.relay_core.specs.Messages.{Text, Exchange, exchange_of, get_log, stored_response};
 ghost use Rattle.relay_core.specs.Views.{entries_view, log_view, response_view};
-ghost use Rattle.relay_core.specs.Justified.{has_pair, newest_common, seq_of, AreReady, IsReady};
+ghost use Rattle.relay_core.specs.Justified.{has_pair, newest_common, seq_of, AreReady, IsReady, IsStored};
 ghost use Rattle.relay_core.specs.Known.{pair_view, begin_of, IsReached, IsRead, Knows};
 
 use crate::messages::{
@@ -247,6 +247,7 @@ pub(crate) fn after_target_put(
 ) -> Result<Phase, AllocError>
     ensures { (h : List Exchange) → IsReached h run
         → IsReady h Source (log_view source) (string_bytes checkpoint.seq) checkpoint.counts.doc_write_failures
+        → (response_view response ≡ stored_response → IsStored h (string_bytes checkpoint.seq))
         → IfOk result (λ p. Knows h p) }
 {
     match response {

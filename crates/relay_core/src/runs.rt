@@ -62,7 +62,11 @@ fn is_over(phase: &Phase) -> bool {
 /// Makes a run from its start to its end, and returns the last phase, whose request is `Done`.
 ///
 /// Whatever the responses are, and wherever the run stops: each request that was made was allowed.
-pub fn drive<C: Carrier>(alloc: Global, settings: &Settings, carrier: &mut C) -> Result<Phase, DriveFault>
+pub fn drive<C: Carrier>(
+    alloc: Global,
+    settings: &Settings,
+    carrier: &mut C,
+) -> Result<Phase, DriveFault>
     ensures { IsJustified (C.history carrier.old) → IsJustified (C.history carrier.new) }
 {
     let mut phase = Phase::start(alloc, settings)?;
@@ -73,7 +77,13 @@ pub fn drive<C: Carrier>(alloc: Global, settings: &Settings, carrier: &mut C) ->
         let Some(answered) = carrier.ask(&phase) else {
             return Err(DriveFault::Lost);
         };
-        phase = step(alloc, settings, phase, answered.response, answered.date.as_str())?;
+        phase = step(
+            alloc,
+            settings,
+            phase,
+            answered.response,
+            answered.date.as_str(),
+        )?;
     }
     Err(DriveFault::Many)
 }

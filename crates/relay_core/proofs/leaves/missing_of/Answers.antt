@@ -1,4 +1,4 @@
-use Rattle.proof_prelude.proofs.{Bool, arith}
+use Rattle.proof_prelude.proofs.{Bool}
 use Rattle.relay_core.specs.Messages.{Text}
 use Rattle.relay_core.specs.Views.{texts_of, docs_view}
 use Rattle.relay_core.specs.Leaves.{names}

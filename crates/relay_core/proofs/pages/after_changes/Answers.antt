@@ -1,4 +1,4 @@
-use Rattle.proof_prelude.proofs.{ℕ, ◌≡◌, ◌∷◌, [], true, List, length, string_bytes, ap, sym, ◌∙◌}
+use Rattle.proof_prelude.proofs.{◌≡◌, ◌∷◌, true, List, length, string_bytes, ap, sym, ◌∙◌}
 use Rattle.relay_core.specs.declared.messages.DocLeaves.{DocLeaves}
 use Rattle.relay_core.specs.Messages.{exchange_of, get_changes}
 use Rattle.relay_core.specs.Views.{docs_view, page_view, response_view}

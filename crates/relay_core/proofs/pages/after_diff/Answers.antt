@@ -1,6 +1,6 @@
-use Rattle.proof_prelude.proofs.{ℕ, ◌≡◌, ◌+◌, ◌-◌, ◌^◌, ◌∷◌, List, min, length, string_bytes, ap, ap₂, sym, subst, subst₂, ◌∙◌}
+use Rattle.proof_prelude.proofs.{◌≡◌, ◌+◌, ◌-◌, ◌^◌, ◌∷◌, List, min, length, string_bytes, ap, ap₂, sym, subst, subst₂, ◌∙◌}
 use Rattle.relay_core.specs.declared.messages.DocLeaves.{DocLeaves}
-use Rattle.relay_core.specs.Messages.{Text, DocView, RowErrorView, exchange_of, revs_diff}
+use Rattle.relay_core.specs.Messages.{Text, RowErrorView, exchange_of, revs_diff}
 use Rattle.relay_core.specs.Views.{docs_view, row_errors_view, response_view}
 use Rattle.relay_core.specs.Leaves.{names, docs_where}
 use Rattle.relay_core.specs.Known.{begin_of, IsReachedFrom, IsOpenIn}

@@ -1,7 +1,6 @@
-use Rattle.proof_prelude.proofs.{◌≡◌, ℕ, ◌-◌, List, take, drop, min, length, sym, ap, subst, ◌∙◌}
+use Rattle.proof_prelude.proofs.{◌≡◌, ℕ, ◌-◌, List, take, drop, min, length, ap, ◌∙◌}
 use Rattle.relay_core.specs.declared.messages.DocLeaves.{DocLeaves}
 use Rattle.relay_core.specs.Views.{docs_view}
-use Rattle.relay_core.specs.Known.{part_of}
 use Rattle.relay_core.proofs.Lists.{part_is}
 use Rattle.relay_core.proofs.phase.part_of.Goals as goal
 

@@ -1,9 +1,10 @@
 -- Each stage's step keeps what is known.
-use Rattle.proof_prelude.proofs.{◌∷◌, IfOk, sym, subst}
+use Rattle.proof_prelude.proofs.{◌∷◌, IfOk, refl, sym, subst, string_bytes}
 use Rattle.relay_core.specs.declared.phase.Stage.{Stage}
 use Rattle.relay_core.specs.declared.messages.Side.TheVariants.{Source, Target}
-use Rattle.relay_core.specs.Messages.{exchange_of, put_log}
+use Rattle.relay_core.specs.Messages.{ResponseView, exchange_of, put_log}
 use Rattle.relay_core.specs.Views.{log_view, checkpoint_view, response_view}
+use Rattle.relay_core.specs.Justified.{IsStored}
 use Rattle.relay_core.specs.Known.{asked_by, KnowsAt, Knows}
 use Rattle.relay_core.proofs.Reaching.{IsReachedFrom-more, AreReady-put, ready_for}
 use Rattle.relay_core.proofs.Knowing.{knows_by}
@@ -37,7 +38,8 @@ pub returns-in-TargetPut : goal.returns-in-TargetPut
 returns-in-TargetPut c = λ h k.
     subst (λ (s : Stage). KnowsAt h c.args.run s → IfOk c.after_target_put.result (λ p. Knows (exchange_of (asked_by c.args.run s) (response_view c.args.response) ∷ h) p)) (sym c.in-TargetPut.is) (λ r.
     c.after_target_put.ensures (exchange_of (put_log Target (log_view c.in-TargetPut._target) (checkpoint_view c.in-TargetPut.checkpoint)) (response_view c.args.response) ∷ h)
-    (IsReachedFrom-more _ r.0) (ready_for Source (AreReady-put Target (log_view c.in-TargetPut._target) (checkpoint_view c.in-TargetPut.checkpoint) (response_view c.args.response) r.1))) k
+    (IsReachedFrom-more _ r.0) (ready_for Source (AreReady-put Target (log_view c.in-TargetPut._target) (checkpoint_view c.in-TargetPut.checkpoint) (response_view c.args.response) r.1))
+    (λ is. subst (λ (x : ResponseView). IsStored (exchange_of (put_log Target (log_view c.in-TargetPut._target) (checkpoint_view c.in-TargetPut.checkpoint)) x ∷ h) (string_bytes c.in-TargetPut.checkpoint.seq)) (sym is) refl)) k
 
 pub returns-in-SourcePut : goal.returns-in-SourcePut
 returns-in-SourcePut c = λ h k.
