@@ -49,7 +49,14 @@ pub(crate) fn receive<R: ScriptRead>(
     if !inbox.has(reader, head.size)? {
         return Ok(None);
     }
-    let response = read_response(alloc, scratch, request, head.status, head.who, inbox.body(head.size))?;
+    let response = read_response(
+        alloc,
+        scratch,
+        request,
+        head.status,
+        head.who,
+        inbox.body(head.size),
+    )?;
     inbox.take(head.size);
     Ok(Some(Dated {
         response,

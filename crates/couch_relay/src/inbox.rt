@@ -87,7 +87,8 @@ impl Inbox {
         let Ok(count) = reader.read(self.buffer.as_mut_slice()) else {
             return Err(ScriptFault::Read);
         };
-        self.held.extend_from_slice(&self.buffer.as_slice()[..count])?;
+        self.held
+            .extend_from_slice(&self.buffer.as_slice()[..count])?;
         Ok(count > 0)
     }
 
@@ -108,7 +109,11 @@ impl Inbox {
     }
 
     /// Returns the head of the next response, or `None` if the input ends or is not a head.
-    pub(crate) fn head<R: ScriptRead>(&mut self, alloc: Global, reader: &mut R) -> Result<Option<Head>, ScriptFault>
+    pub(crate) fn head<R: ScriptRead>(
+        &mut self,
+        alloc: Global,
+        reader: &mut R,
+    ) -> Result<Option<Head>, ScriptFault>
         requires { IsInbox self.old }
         ensures { IfOk result (λ o. IfSome o (λ _. IsInbox self.new)) }
     {
@@ -122,7 +127,11 @@ impl Inbox {
     }
 
     /// Reads until `size` bytes are held, and returns whether there were that many.
-    pub(crate) fn has<R: ScriptRead>(&mut self, reader: &mut R, size: usize) -> Result<bool, ScriptFault>
+    pub(crate) fn has<R: ScriptRead>(
+        &mut self,
+        reader: &mut R,
+        size: usize,
+    ) -> Result<bool, ScriptFault>
         requires { IsInbox self.old }
         ensures { IfOk result (λ found. found ≡ true → Holds self.new size) }
     {

@@ -5,10 +5,12 @@ use cli_common::{flag, program};
 use std::alloc::{AllocError, Global};
 
 /// What the program says of itself.
-const ABOUT: &str = "Decides what is asked of two CouchDB servers in a replication, and when a checkpoint may be recorded.";
+const ABOUT: &str =
+    "Decides what is asked of two CouchDB servers in a replication, and when a checkpoint may be recorded.";
 
 /// The protocol, for `--help`.
-const PROTOCOL: &str = "The program has no network. It writes a request to standard output, reads the response from
+const PROTOCOL: &str =
+    "The program has no network. It writes a request to standard output, reads the response from
 standard input, and repeats this until it writes `done`. Another program carries them.
 
 A request is two lines: `WHO METHOD PATH`, and a JSON body or an empty line.
@@ -72,28 +74,75 @@ fn text<'a>(alloc: Global, name: &'a str, value: &'a str, help: &'a str) -> Arg<
 /// Returns the command line with its arguments.
 fn with_arguments<'a>(alloc: Global, command: Command<'a>) -> Result<Command<'a>, AllocError> {
     command
-        .arg(required(alloc, "SOURCE", "URL of the source database, without credentials and without a final slash"))?
-        .arg(required(alloc, "TARGET", "URL of the target database, without credentials and without a final slash"))?
-        .arg(required(alloc, "SESSION", "Id of this session: 32 random hexadecimal digits"))
+        .arg(required(
+            alloc,
+            "SOURCE",
+            "URL of the source database, without credentials and without a final slash",
+        ))?
+        .arg(required(
+            alloc,
+            "TARGET",
+            "URL of the target database, without credentials and without a final slash",
+        ))?
+        .arg(required(
+            alloc,
+            "SESSION",
+            "Id of this session: 32 random hexadecimal digits",
+        ))
 }
 
 /// Returns the command line with its numbers.
 fn with_numbers<'a>(alloc: Global, command: Command<'a>) -> Result<Command<'a>, AllocError> {
     command
-        .arg(number(alloc, "batch", "Maximum number of changes per page [default: 500]"))?
-        .arg(number(alloc, "carry", "Maximum number of documents per carry [default: 500]"))?
-        .arg(number(alloc, "every", "Number of pages between two checkpoints [default: 10]"))
+        .arg(number(
+            alloc,
+            "batch",
+            "Maximum number of changes per page [default: 500]",
+        ))?
+        .arg(number(
+            alloc,
+            "carry",
+            "Maximum number of documents per carry [default: 500]",
+        ))?
+        .arg(number(
+            alloc,
+            "every",
+            "Number of pages between two checkpoints [default: 10]",
+        ))
 }
 
 /// Returns the command line with its other options.
 fn with_options<'a>(alloc: Global, command: Command<'a>) -> Result<Command<'a>, AllocError> {
     command
-        .arg(flag(alloc, "continuous", "Wait for changes at the end of the feed"))?
+        .arg(flag(
+            alloc,
+            "continuous",
+            "Wait for changes at the end of the feed",
+        ))?
         .arg(flag(alloc, "progress", "Report the counts after each page"))?
-        .arg(text(alloc, "filter", "NAME", "Request only the changes that pass this filter"))?
-        .arg(text(alloc, "query", "WORDS", "Append these parameters to requests for changes"))?
-        .arg(text(alloc, "salt", "TEXT", "Text that makes the id of the replication logs distinct"))?
-        .arg(flag(alloc, "choice", "Read a selection of documents as the first response"))
+        .arg(text(
+            alloc,
+            "filter",
+            "NAME",
+            "Request only the changes that pass this filter",
+        ))?
+        .arg(text(
+            alloc,
+            "query",
+            "WORDS",
+            "Append these parameters to requests for changes",
+        ))?
+        .arg(text(
+            alloc,
+            "salt",
+            "TEXT",
+            "Text that makes the id of the replication logs distinct",
+        ))?
+        .arg(flag(
+            alloc,
+            "choice",
+            "Read a selection of documents as the first response",
+        ))
 }
 
 /// Returns the command line.

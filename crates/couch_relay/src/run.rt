@@ -59,7 +59,11 @@ fn settings_of(alloc: Global, options: &Options<'_>) -> Result<Settings, AllocEr
 }
 
 /// Returns what does not change between requests.
-fn request_options(alloc: Global, options: &Options<'_>, choice: String) -> Result<RequestOptions, AllocError> {
+fn request_options(
+    alloc: Global,
+    options: &Options<'_>,
+    choice: String,
+) -> Result<RequestOptions, AllocError> {
     let log_path = log_path(
         alloc,
         options.source,
@@ -91,7 +95,34 @@ fn status_of(request: &Request<'_>) -> Option<u8> {
     }
 }
 
-/// Runs a relay, and returns its exit status: 3 if the input ends before the run.
+/// Makes requests until the run is over, and returns its exit status: 3 if the input ends before the run.
+fn make_requests<R: ScriptRead, W: ScriptWrite>(
+    alloc: Global,
+    settings: &Settings,
+    requests: &RequestOptions,
+    inbox: &mut Inbox,
+    reader: &mut R,
+    writer: &mut W,
+) -> Result<u8, ScriptFault>
+    requires { IsInbox inbox.old }
+{
+    let mut scratch = Scratch::new(alloc);
+    let mut phase = Phase::start(alloc, settings)?;
+    for _turn in 0..u64::MAX {
+        let request = phase.request();
+        send(alloc, requests, &request, writer)?;
+        if let Some(status) = status_of(&request) {
+            return Ok(status);
+        }
+        let Some(dated) = receive(alloc, &request, inbox, &mut scratch, reader)? else {
+            return Ok(3);
+        };
+        phase = step(alloc, settings, phase, dated.response, dated.date.as_str())?;
+    }
+    Ok(3)
+}
+
+/// Runs a relay, and returns its exit status.
 pub(crate) fn run<R: ScriptRead, W: ScriptWrite>(
     alloc: Global,
     options: &Options<'_>,
@@ -108,18 +139,5 @@ pub(crate) fn run<R: ScriptRead, W: ScriptWrite>(
     }
     let settings = settings_of(alloc, options)?;
     let requests = request_options(alloc, options, choice)?;
-    let mut scratch = Scratch::new(alloc);
-    let mut phase = Phase::start(alloc, &settings)?;
-    for _turn in 0..u64::MAX {
-        let request = phase.request();
-        send(alloc, &requests, &request, writer)?;
-        if let Some(status) = status_of(&request) {
-            return Ok(status);
-        }
-        let Some(dated) = receive(alloc, &request, &mut inbox, &mut scratch, reader)? else {
-            return Ok(3);
-        };
-        phase = step(alloc, &settings, phase, dated.response, dated.date.as_str())?;
-    }
-    Ok(3)
+    make_requests(alloc, &settings, &requests, &mut inbox, reader, writer)
 }
