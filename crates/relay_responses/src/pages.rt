@@ -119,6 +119,16 @@ fn merged(alloc: Global, rows: &[DocLeaves]) -> Result<Vec<DocLeaves>, AllocErro
     copied_docs(alloc, &docs)
 }
 
+/// Whether a text has no control character, so that a line that names it is one line.
+fn is_plain(text: &str) -> bool {
+    text.as_bytes().iter().all(|b| *b >= 32 && *b != 127)
+}
+
+/// Whether no revision of a row has a control character.
+fn has_plain_revs(row: &DocLeaves) -> bool {
+    row.revs.iter().all(|rev| is_plain(rev.as_str()))
+}
+
 /// Returns the number of documents after a page, if it is given.
 fn pending_of(alloc: Global, value: &Value<'_>) -> Result<Option<Option<String>>, AllocError>
     ensures { IfOk result (λ o. option_map (option_map string_bytes) o
@@ -152,6 +162,9 @@ pub(crate) fn page_of(alloc: Global, value: &Value<'_>) -> Result<Option<Changes
     let Some(rows) = rows_of(alloc, items)? else {
         return Ok(None);
     };
+    if !rows.iter().all(|row| has_plain_revs(row)) {
+        return Ok(None);
+    }
     let Some(last_seq) = sequence_at(value, "last_seq") else {
         return Ok(None);
     };
