@@ -14,6 +14,6 @@ abbrev pub read_if_any : Option Data → Result (Option Document) DocFault
 read_if_any None = Ok None
 read_if_any (Some value) = doc_read value >>= λ doc. Ok (Some doc)
 
--- what is read from the envelope of the text `document`: nothing if the text has no envelope, or the envelope is not JSON
+-- the result for the text `document`: `None` if the text has no envelope, or its envelope is not JSON
 abbrev pub envelope_read : List ℕ → Result (Option Document) DocFault
 envelope_read document = read_if_any (option_and_then read_text (enveloped document))
