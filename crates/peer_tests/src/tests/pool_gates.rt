@@ -305,3 +305,61 @@ fn a_stop_at_each_place(rt: HostRuntime) {
         }
     }
 }
+
+// A writer that recorded a window before it asked the gate would satisfy its contract.
+#[test]
+fn a_stop_before_a_window_is_recorded(rt: HostRuntime) {
+    const RECORDED: [u64; 3] = [0, 6, 9];
+    for window in 0..3u64 {
+        let gate = StopsOnce::new(3, window, false);
+        let mut bench = Bench::new(rt.alloc(), 1);
+        bench.run(&rt, OPEN_PEERS);
+        bench.run(&rt, DOCUMENTS);
+        expect_stop(&rt, rt.alloc(), &mut bench, &gate, 3, window);
+        expect_recorded(&rt, rt.alloc(), &mut bench, RECORDED[window as usize % 3]);
+    }
+}
+
+/// Asserts what the first session has recorded at the target.
+fn expect_recorded<R: Abort + Threads + Wait + Sync>(
+    rt: &R,
+    alloc: Global,
+    bench: &mut Bench,
+    recorded: u64,
+) {
+    let answer = bench.answer(rt, &Call::Entry(B, S1)).expect(rt, "an entry");
+    let wanted = format!(in alloc; "session 1 from 0 to {recorded} ").expect(rt, "memory");
+    assert!(rt;
+        answer.starts_with(wanted.as_str()),
+        "{answer}, not {recorded}"
+    );
+}
+
+/// A source of 20 documents, and a target that has no sequence left.
+static FULL: Rows = &[
+    (Call::Peer(1, None), "made"),
+    (Call::PeerAt(2, 9_007_199_254_740_991), "made"),
+    (Call::Fill(A, 20), "Changed { seq: 20 }"),
+];
+
+// Both channels together hold eight windows. A writer that left after an error would block the
+// fetchers for ever; it would satisfy its contract.
+#[test]
+fn more_windows_than_channels_hold(rt: HostRuntime) {
+    const ONE_BY_ONE: How = How {
+        session: S1,
+        workers: None,
+        batch: 1,
+        stop_after: None,
+    };
+    for may_block in [true, false] {
+        let gate = StopsOnce::new(5, 0, may_block);
+        let mut bench = Bench::new(rt.alloc(), 2);
+        bench.run(&rt, FULL);
+        let answer = bench
+            .replicate(&rt, &gate, A, B, ONE_BY_ONE)
+            .expect(&rt, "a run");
+        assert!(rt; answer.starts_with("Refused(Stopped"), "{answer}");
+        bench.run(&rt, CLEAN);
+    }
+}
