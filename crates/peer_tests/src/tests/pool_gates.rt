@@ -306,35 +306,6 @@ fn a_stop_at_each_place(rt: HostRuntime) {
     }
 }
 
-// A writer that recorded a window before it asked the gate would satisfy its contract.
-#[test]
-fn a_stop_before_a_window_is_recorded(rt: HostRuntime) {
-    const RECORDED: [u64; 3] = [0, 6, 9];
-    for window in 0..3u64 {
-        let gate = StopsOnce::new(3, window, false);
-        let mut bench = Bench::new(rt.alloc(), 1);
-        bench.run(&rt, OPEN_PEERS);
-        bench.run(&rt, DOCUMENTS);
-        expect_stop(&rt, rt.alloc(), &mut bench, &gate, 3, window);
-        expect_recorded(&rt, rt.alloc(), &mut bench, RECORDED[window as usize % 3]);
-    }
-}
-
-/// Asserts what the first session has recorded at the target.
-fn expect_recorded<R: Abort + Threads + Wait + Sync>(
-    rt: &R,
-    alloc: Global,
-    bench: &mut Bench,
-    recorded: u64,
-) {
-    let answer = bench.answer(rt, &Call::Entry(B, S1)).expect(rt, "an entry");
-    let wanted = format!(in alloc; "session 1 from 0 to {recorded} ").expect(rt, "memory");
-    assert!(rt;
-        answer.starts_with(wanted.as_str()),
-        "{answer}, not {recorded}"
-    );
-}
-
 /// A source of 20 documents, and a target that has no sequence left.
 static FULL: Rows = &[
     (Call::Peer(1, None), "made"),
@@ -359,7 +330,7 @@ fn more_windows_than_channels_hold(rt: HostRuntime) {
         let answer = bench
             .replicate(&rt, &gate, A, B, ONE_BY_ONE)
             .expect(&rt, "a run");
-        assert!(rt; answer.starts_with("Refused(Stopped"), "{answer}");
+        assert!(rt; answer.starts_with("Stopped "), "{answer}");
         bench.run(&rt, CLEAN);
     }
 }
