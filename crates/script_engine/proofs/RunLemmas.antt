@@ -30,7 +30,7 @@ Gives-end (Some a) (Some b) x p e = p ∙ ap (λ z. x ++ z) e ∙ append-nil x
 -- ---- a chunk
 
 -- the reader was at its end
-pub no_chunk : {more : Bool} (left left' : Option (List ℕ)) (chunk : List ℕ) → more ≡ false → ReadsChunk more left left' chunk → Keeps left left' × IsAtEnd left'
+pub no_chunk : {more : Bool} (left left' : Option (List ℕ)) (chunk : List ℕ) → more ≡ false → ReadsChunk more left left' chunk → Keeps left left' × IsAtEnd left' × (chunk ≡ [])
 no_chunk left left' chunk e h = subst (λ b. ReadsChunk b left left' chunk) e h
 
 -- there was a chunk
@@ -233,6 +233,63 @@ Ran-end {left = left} {left'} left'' r k = record {
   written = r.written;
   few = r.few;
 }
+
+-- ---- what the reads returned
+
+-- a run, and the bytes that it served are those that the reads returned
+pub record Took {S : Type 0} (f : Answering S (List ℕ)) (g : S) (p : Place S) (left left' taken taken' held held' : Option (List ℕ)) (turns : ℕ) : Type 0 where
+  pub ran : Ran f g p left left' held held' turns
+  pub took : Appends taken taken' ran.input
+
+pub Took-none : {S : Type 0} {f : Answering S (List ℕ)} {g : S} (p : Place S) (left taken held : Option (List ℕ)) (turns : ℕ) → p ≡ start g → Took f g p left left taken taken held held turns
+unfolding Ran-none
+Took-none p left taken held turns e = record { ran = Ran-none p left held turns e; took = Appends-nil taken }
+
+pub Took-more : {S : Type 0} {f : Answering S (List ℕ)} {g : S} {p : Place S} {left left' taken taken' held held' : Option (List ℕ)} {turns : ℕ} (q : Place S) (left'' taken'' held'' : Option (List ℕ)) (bytes : List ℕ) (turns' : ℕ) → turns' ≡ turns + 1 → Took f g p left left' taken taken' held held' turns → Consumes left' left'' bytes → Appends taken' taken'' bytes → length bytes ≤ 65536 → Feeds f p bytes q held' held'' →
+    Took f g q left left'' taken taken'' held held'' turns'
+unfolding Ran-more
+Took-more {taken = taken} {taken'} q left'' taken'' held'' bytes turns' e r c a most (t, s, w) = record {
+  ran = Ran-more q left'' held'' bytes turns' e r.ran c most (t, s, w);
+  took = Appends-trans taken taken' taken'' r.ran.input bytes r.took a;
+}
+
+pub Took-kept : {S : Type 0} {f : Answering S (List ℕ)} {g : S} {p : Place S} {left left' taken taken' held held' : Option (List ℕ)} {turns : ℕ} (held'' : Option (List ℕ)) → Took f g p left left' taken taken' held held' turns → Keeps held' held'' → Took f g p left left' taken taken' held held'' turns
+unfolding Ran-kept
+Took-kept held'' r k = record { ran = Ran-kept held'' r.ran k; took = r.took }
+
+-- the input ended
+pub Took-end : {S : Type 0} {f : Answering S (List ℕ)} {g : S} {p : Place S} {left left' taken taken' held held' : Option (List ℕ)} {turns : ℕ} (left'' taken'' : Option (List ℕ)) (chunk : List ℕ) → Took f g p left left' taken taken' held held' turns → Keeps left' left'' → Appends taken' taken'' chunk → chunk ≡ [] → Took f g p left left'' taken taken'' held held' turns
+unfolding Ran-end
+Took-end {taken = taken} {taken'} left'' taken'' chunk r k a e = record {
+  ran = Ran-end left'' r.ran k;
+  took = subst (λ z. Appends taken taken'' z) (ap (λ z. r.ran.input ++ z) e ∙ append-nil r.ran.input) (Appends-trans taken taken' taken'' r.ran.input chunk r.took a);
+}
+
+-- the run, as if the reader had held the bytes that were served, and a rest
+pub Ran-before : {S : Type 0} {f : Answering S (List ℕ)} {g : S} {p : Place S} {left left' held held' : Option (List ℕ)} {turns : ℕ} (rest : List ℕ) (r : Ran f g p left left' held held' turns) → Ran f g p (Some (r.input ++ rest)) (Some rest) held held' turns
+Ran-before rest r = record { input = r.input; text = r.text; served = r.served; taken = refl; written = r.written; few = r.few }
+
+-- the run, as if the reader had held exactly the bytes that were served
+pub Ran-all : {S : Type 0} {f : Answering S (List ℕ)} {g : S} {p : Place S} {left left' held held' : Option (List ℕ)} {turns : ℕ} (r : Ran f g p left left' held held' turns) → Ran f g p (Some r.input) (Some []) held held' turns
+Ran-all r = record { input = r.input; text = r.text; served = r.served; taken = sym (append-nil r.input); written = r.written; few = r.few }
+
+-- the text is a prefix of the output for what the reads returned
+pub SoFar-took : {S : Type 0} {fault : ScriptFault} {f : Answering S (List ℕ)} {g : S} {held held' : Option (List ℕ)} (taken taken' : Option (List ℕ)) (bytes : List ℕ) → Appends taken taken' bytes → SoFar fault f g (Some bytes) held held' →
+    (input : List ℕ) × (text : List ℕ) × Appends taken taken' input × Appends held held' text × IsToldUntil fault f g input text
+SoFar-took taken taken' bytes a s = (s.input, s.text, subst (λ z. Appends taken taken' z) s.gives a, s.written, s.answered)
+
+-- the text is the output for what the reads returned
+pub Took-finished : {S : Type 0} {f : Answering S (List ℕ)} {g : S} {p : Place S} {left left' taken taken' held held' : Option (List ℕ)} {turns : ℕ} (q : Place S) (held'' : Option (List ℕ)) → Took f g p left left' taken taken' held held' turns → Finishes f p q held' held'' →
+    (input : List ℕ) × (text : List ℕ) × Appends taken taken' input × Appends held held'' text × IsAnswered f g input q.clean text q.state
+Took-finished {taken = taken} {taken'} q held'' r h =
+    let e = Ran-finished q held'' (Ran-all r.ran) refl h in
+    (e.0, e.1, subst (λ z. Appends taken taken' z) e.2 r.took, e.3, e.4)
+
+-- the text is the output of all lines that end in what the reads returned
+pub Took-ended : {S : Type 0} {f : Answering S (List ℕ)} {g : S} {p : Place S} {left left' taken taken' held held' : Option (List ℕ)} {turns : ℕ} (taken'' : Option (List ℕ)) → Took f g p left left' taken taken' held held' turns → Keeps taken' taken'' → has_line_end p.begun ≡ false →
+    (input : List ℕ) × (text : List ℕ) × Appends taken taken'' input × Appends held held' text × AnswersEnded f g input text p.state
+Took-ended {p = p} {taken = taken} {taken'} taken'' r k e =
+    (r.ran.input, r.ran.text, Appends-kept taken taken' taken'' r.ran.input r.took k, r.ran.written, (r.ran.served.lines, p.begun, r.ran.served.told, r.ran.served.cut, e, r.ran.served.run, r.ran.served.text_is))
 
 -- ---- the device that failed
 
