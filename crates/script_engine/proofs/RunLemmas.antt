@@ -1,8 +1,9 @@
 -- A script as far as it was read.
 use Rattle.proof_prelude.proofs.{inl, inr, ◌≡◌, Bool, ℕ, ◌+◌, ◌*◌, ◌<◌, ◌≤◌, List, [], ◌++◌, length, true, false, refl, sym, ap, subst, ◌∙◌, arith, append_assoc, append-nil, length-append, Option, Some, None, unwrap_or, min, Consumes, Appends, Keeps, IsAtEnd, Appends-nil, Appends-trans, Appends-kept, Consumes-nil, Consumes-trans, Consumes-kept}
-use Rattle.script_engine.specs.{ReadsChunk, Gives, full, FeedsUntil, IsInAnswer, IsOfWriter, IsFaultOf, IsToldUntil, LeavesAs, ScriptFault, has_line_end, lines_of, Answering, AnswersEnded, IsAnswered, IsAnsweredSoFar, AnswersFirst, Place, start, Begins, Feeds, Finishes, FinishesInPart}
+use Rattle.script_engine.specs.{ReadsChunk, Gives, full, FeedsUntil, IsInAnswer, IsOfWriter, IsFaultOf, IsToldUntil, LeavesAs, ScriptFault, has_line_end, lines_of, Answering, AnswersEnded, IsAnswered, IsAnsweredSoFar, AnswersFirst, Place, start, Begins, Cuts, Feeds, Finishes, FinishesCut, FinishesInPart}
 use Rattle.script_engine.specs.declared.fault.ScriptFault.TheVariants.{Read, Write, Memory, Cut}
 use Rattle.script_engine.specs.Served.{Served}
+use Rattle.script_engine.proofs.CutLemmas.{Cuts-begins, Cuts-joined, Cuts-more, answers_cut}
 use Rattle.script_engine.proofs.ServedLemmas.{Served-none, Served-joined, Begins-joined, Begins-more, is_answered, is_answered_so_far}
 
 -- these bytes were read in this number of reads, and run, and their output is written
@@ -123,7 +124,7 @@ so_far : {S : Type 0} (f : Answering S (List ℕ)) (g : S) (input text : List �
 so_far f g input text Read h = h.0
 so_far f g input text Write h = h
 so_far f g input text Memory h = h.0
-so_far f g input text Cut h = h
+so_far f g input text Cut h = h.0
 
 -- in addition a write failed
 SoFar-write : {S : Type 0} {fault : ScriptFault} {f : Answering S (List ℕ)} {g : S} {left held held' : Option (List ℕ)} → SoFar fault f g left held held' → SoFar Write f g left held held'
@@ -149,13 +150,15 @@ SoFar-fed {left = left} {left'} Write left'' held'' bytes r c (t, b, w) = record
   written = Appends-trans _ _ _ r.text t r.written w;
   answered = is_answered_so_far ((r.input ++ bytes) ++ unwrap_or left'' []) (Begins-more (unwrap_or left'' []) (Begins-joined r.served b)) refl;
 }
-SoFar-fed {left = left} {left'} Cut left'' held'' bytes r c (t, b, w) = record {
-  input = (r.input ++ bytes) ++ unwrap_or left'' [];
-  text = r.text ++ t;
-  gives = Gives-left left left'' (r.input ++ bytes) (Consumes-trans left left' left'' r.input bytes r.taken c);
-  written = Appends-trans _ _ _ r.text t r.written w;
-  answered = is_answered_so_far ((r.input ++ bytes) ++ unwrap_or left'' []) (Begins-more (unwrap_or left'' []) (Begins-joined r.served b)) refl;
-}
+SoFar-fed {left = left} {left'} Cut left'' held'' bytes r c (t, b, w) =
+    let cut = Cuts-more (unwrap_or left'' []) (Cuts-joined r.served b) in
+    record {
+      input = (r.input ++ bytes) ++ unwrap_or left'' [];
+      text = r.text ++ t;
+      gives = Gives-left left left'' (r.input ++ bytes) (Consumes-trans left left' left'' r.input bytes r.taken c);
+      written = Appends-trans _ _ _ r.text t r.written w;
+      answered = (is_answered_so_far ((r.input ++ bytes) ++ unwrap_or left'' []) (Cuts-begins cut) refl, answers_cut ((r.input ++ bytes) ++ unwrap_or left'' []) cut refl);
+    }
 SoFar-fed {left = left} {left'} Memory left'' held'' bytes r c (new, rest, fed) = record {
   input = (r.input ++ bytes) ++ unwrap_or left'' [];
   text = r.text ++ fed.feeds.0;
@@ -203,12 +206,25 @@ SoFar-finished {left = left} {left'} held'' r e (bytes, l, (t, b, w)) = record {
   answered = is_answered_so_far r.input (Begins-joined r.served b) (same_lines bytes r.served l);
 }
 
--- the script stopped within a line's output
-pub SoFar-in_answer : {S : Type 0} {f : Answering S (List ℕ)} {g : S} {left held held' : Option (List ℕ)} (fault : ScriptFault) (w w' : ℕ) → IsInAnswer fault w w' → SoFar Write f g left held held' → SoFar fault f g left held held'
-SoFar-in_answer Read w w' h s = absurd h
-SoFar-in_answer Write w w' h s = s
-SoFar-in_answer Memory w w' h s = absurd h
-SoFar-in_answer Cut w w' h s = record { input = s.input; text = s.text; gives = s.gives; written = s.written; answered = s.answered }
+-- the script stopped within the output of its last line
+pub SoFar-cut : {S : Type 0} {f : Answering S (List ℕ)} {g : S} {p : Place S} {left left' held held' : Option (List ℕ)} {turns : ℕ} (held'' : Option (List ℕ)) → Ran f g p left left' held held' turns → IsAtEnd left' → FinishesCut f p held' held'' → SoFar Cut f g left held held''
+SoFar-cut {left = left} {left'} held'' r e (bytes, l, (t, b, w)) =
+    let cut = Cuts-joined r.served b in
+    let same = same_lines bytes r.served l in
+    record {
+      input = r.input;
+      text = r.text ++ t;
+      gives = Gives-end left left' r.input r.taken e;
+      written = Appends-trans _ _ _ r.text t r.written w;
+      answered = (is_answered_so_far r.input (Cuts-begins cut) same, answers_cut r.input cut same);
+    }
+
+-- the script stopped while a line's output was written
+pub SoFar-in_answer : {S : Type 0} {f : Answering S (List ℕ)} {g : S} {left held held' : Option (List ℕ)} (fault : ScriptFault) (w w' : ℕ) → IsInAnswer fault w w' → SoFar Write f g left held held' → (fault ≡ Cut → SoFar Cut f g left held held') → SoFar fault f g left held held'
+SoFar-in_answer Read w w' h s k = absurd h
+SoFar-in_answer Write w w' h s k = s
+SoFar-in_answer Memory w w' h s k = absurd h
+SoFar-in_answer Cut w w' h s k = k refl
 
 -- the script stopped when the output of all lines was flushed
 pub FinishesInPart-whole : {S : Type 0} {f : Answering S (List ℕ)} {p q : Place S} (held held' held'' : Option (List ℕ)) → Finishes f p q held held' → Keeps held' held'' → FinishesInPart f p held held''
