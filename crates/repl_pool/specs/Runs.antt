@@ -171,7 +171,7 @@ pub record RunsOn {F : Type 0} (refuses : F → Document → Bool) (may_fill : T
   pub later : IsLaterPeer target.1 target'.1
   pub tied : (chosen : Choice) (backups : List BackupValue) → IsTiedWith backups source.1 target.1 chosen
       → IsTiedWith backups source'.1 target'.1 chosen
-  -- every third peer stays tied to the two
+  -- another peer stays tied to the source and to the target; in two of four cases it must have a UUID of its own
   pub others : KeepsOthersTied source.1 target.1 source'.1 target'.1
   -- an audit of the returned peers is clean if they were tied
   pub audited : (chosen : Choice) → IsTiedPair source.1 target.1 chosen

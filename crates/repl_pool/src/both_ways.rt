@@ -42,7 +42,8 @@ pub struct SyncRan<F: WriteFilter> {
 /// The guarantees on success are those of `sync_alone`: for consistent peers (docs/PROFILE.md, "Tied peers"), each side
 /// has every leaf of the other, for each document that both plans select and neither side has refused; if the trees
 /// agreed before and had complete histories, both sides have the same document. Consistent peers stay consistent in
-/// both directions, whatever the result, and each of the two stays consistent with every third peer.
+/// both directions, whatever the result. Each of the two also stays consistent with every other peer that it was
+/// consistent with, if that peer has a UUID of its own.
 ///
 /// Blocks until the runs end. That they end is not proved.
 pub fn sync<F: WriteFilter + Send + Sync, G: Gate + Sync, R: Threads + Wait + Sync>(

@@ -291,7 +291,8 @@ fn run_with<F: WriteFilter + Send + Sync, G: Gate + Sync, R: Threads + Wait + Sy
 ///
 /// Whatever the result, only the source's log changes, and the target is the given one, or the given one after the
 /// session has begun and calls of this session with messages of the source. The target keeps everything it had,
-/// consistent peers stay consistent, and so does every third peer with each of the two. An audit of consistent peers is
+/// and consistent peers stay consistent. Another peer that was consistent with one of the two stays consistent with it;
+/// in two of the four cases the other peer needs a UUID of its own (`KeepsOthersTied`). An audit of consistent peers is
 /// then clean.
 ///
 /// Blocks until the run ends. That it ends is not proved.

@@ -73,8 +73,8 @@ impl Plan {
 ///
 /// Consistent peers (docs/PROFILE.md, "Tied peers") stay consistent, for every selection and whatever the result; an
 /// audit is then clean. If the call also succeeds, each leaf of the source's complete selected feed is covered,
-/// including those below the start. Every third peer stays consistent with each of the two, as a source and as a
-/// target.
+/// including those below the start. Another peer that was consistent with one of the two stays consistent with it, as a
+/// source and as a target. In two of these four cases the other peer needs a UUID of its own (`KeepsOthersTied`).
 ///
 /// # Errors
 ///

@@ -1,8 +1,9 @@
 -- A script as far as it was read.
 use Rattle.proof_prelude.proofs.{inl, inr, ◌≡◌, Bool, ℕ, ◌+◌, ◌*◌, ◌<◌, ◌≤◌, List, [], ◌++◌, length, true, false, refl, sym, ap, subst, ◌∙◌, arith, append_assoc, append-nil, length-append, Option, Some, None, unwrap_or, min, Consumes, Appends, Keeps, IsAtEnd, Appends-nil, Appends-trans, Appends-kept, Consumes-nil, Consumes-trans, Consumes-kept}
-use Rattle.script_engine.specs.{ReadsChunk, Gives, full, FeedsUntil, IsInAnswer, IsOfWriter, IsFaultOf, IsToldUntil, LeavesAs, ScriptFault, has_line_end, lines_of, Answering, AnswersEnded, IsAnswered, IsAnsweredSoFar, AnswersFirst, Place, start, Begins, Feeds, Finishes, FinishesInPart}
+use Rattle.script_engine.specs.{ReadsChunk, Gives, full, FeedsUntil, IsInAnswer, IsOfWriter, IsFaultOf, IsToldUntil, LeavesAs, ScriptFault, has_line_end, lines_of, Answering, AnswersEnded, IsAnswered, IsAnsweredSoFar, AnswersFirst, Place, start, Begins, Cuts, Feeds, Finishes, FinishesCut, FinishesInPart}
 use Rattle.script_engine.specs.declared.fault.ScriptFault.TheVariants.{Read, Write, Memory, Cut}
 use Rattle.script_engine.specs.Served.{Served}
+use Rattle.script_engine.proofs.CutLemmas.{Cuts-begins, Cuts-joined, Cuts-more, answers_cut}
 use Rattle.script_engine.proofs.ServedLemmas.{Served-none, Served-joined, Begins-joined, Begins-more, is_answered, is_answered_so_far}
 
 -- these bytes were read in this number of reads, and run, and their output is written
@@ -30,7 +31,7 @@ Gives-end (Some a) (Some b) x p e = p ∙ ap (λ z. x ++ z) e ∙ append-nil x
 -- ---- a chunk
 
 -- the reader was at its end
-pub no_chunk : {more : Bool} (left left' : Option (List ℕ)) (chunk : List ℕ) → more ≡ false → ReadsChunk more left left' chunk → Keeps left left' × IsAtEnd left'
+pub no_chunk : {more : Bool} (left left' : Option (List ℕ)) (chunk : List ℕ) → more ≡ false → ReadsChunk more left left' chunk → Keeps left left' × IsAtEnd left' × (chunk ≡ [])
 no_chunk left left' chunk e h = subst (λ b. ReadsChunk b left left' chunk) e h
 
 -- there was a chunk
@@ -123,7 +124,7 @@ so_far : {S : Type 0} (f : Answering S (List ℕ)) (g : S) (input text : List �
 so_far f g input text Read h = h.0
 so_far f g input text Write h = h
 so_far f g input text Memory h = h.0
-so_far f g input text Cut h = h
+so_far f g input text Cut h = h.0
 
 -- in addition a write failed
 SoFar-write : {S : Type 0} {fault : ScriptFault} {f : Answering S (List ℕ)} {g : S} {left held held' : Option (List ℕ)} → SoFar fault f g left held held' → SoFar Write f g left held held'
@@ -149,13 +150,15 @@ SoFar-fed {left = left} {left'} Write left'' held'' bytes r c (t, b, w) = record
   written = Appends-trans _ _ _ r.text t r.written w;
   answered = is_answered_so_far ((r.input ++ bytes) ++ unwrap_or left'' []) (Begins-more (unwrap_or left'' []) (Begins-joined r.served b)) refl;
 }
-SoFar-fed {left = left} {left'} Cut left'' held'' bytes r c (t, b, w) = record {
-  input = (r.input ++ bytes) ++ unwrap_or left'' [];
-  text = r.text ++ t;
-  gives = Gives-left left left'' (r.input ++ bytes) (Consumes-trans left left' left'' r.input bytes r.taken c);
-  written = Appends-trans _ _ _ r.text t r.written w;
-  answered = is_answered_so_far ((r.input ++ bytes) ++ unwrap_or left'' []) (Begins-more (unwrap_or left'' []) (Begins-joined r.served b)) refl;
-}
+SoFar-fed {left = left} {left'} Cut left'' held'' bytes r c (t, b, w) =
+    let cut = Cuts-more (unwrap_or left'' []) (Cuts-joined r.served b) in
+    record {
+      input = (r.input ++ bytes) ++ unwrap_or left'' [];
+      text = r.text ++ t;
+      gives = Gives-left left left'' (r.input ++ bytes) (Consumes-trans left left' left'' r.input bytes r.taken c);
+      written = Appends-trans _ _ _ r.text t r.written w;
+      answered = (is_answered_so_far ((r.input ++ bytes) ++ unwrap_or left'' []) (Cuts-begins cut) refl, answers_cut ((r.input ++ bytes) ++ unwrap_or left'' []) cut refl);
+    }
 SoFar-fed {left = left} {left'} Memory left'' held'' bytes r c (new, rest, fed) = record {
   input = (r.input ++ bytes) ++ unwrap_or left'' [];
   text = r.text ++ fed.feeds.0;
@@ -203,12 +206,25 @@ SoFar-finished {left = left} {left'} held'' r e (bytes, l, (t, b, w)) = record {
   answered = is_answered_so_far r.input (Begins-joined r.served b) (same_lines bytes r.served l);
 }
 
--- the script stopped within a line's output
-pub SoFar-in_answer : {S : Type 0} {f : Answering S (List ℕ)} {g : S} {left held held' : Option (List ℕ)} (fault : ScriptFault) (w w' : ℕ) → IsInAnswer fault w w' → SoFar Write f g left held held' → SoFar fault f g left held held'
-SoFar-in_answer Read w w' h s = absurd h
-SoFar-in_answer Write w w' h s = s
-SoFar-in_answer Memory w w' h s = absurd h
-SoFar-in_answer Cut w w' h s = record { input = s.input; text = s.text; gives = s.gives; written = s.written; answered = s.answered }
+-- the script stopped within the output of its last line
+pub SoFar-cut : {S : Type 0} {f : Answering S (List ℕ)} {g : S} {p : Place S} {left left' held held' : Option (List ℕ)} {turns : ℕ} (held'' : Option (List ℕ)) → Ran f g p left left' held held' turns → IsAtEnd left' → FinishesCut f p held' held'' → SoFar Cut f g left held held''
+SoFar-cut {left = left} {left'} held'' r e (bytes, l, (t, b, w)) =
+    let cut = Cuts-joined r.served b in
+    let same = same_lines bytes r.served l in
+    record {
+      input = r.input;
+      text = r.text ++ t;
+      gives = Gives-end left left' r.input r.taken e;
+      written = Appends-trans _ _ _ r.text t r.written w;
+      answered = (is_answered_so_far r.input (Cuts-begins cut) same, answers_cut r.input cut same);
+    }
+
+-- the script stopped while a line's output was written
+pub SoFar-in_answer : {S : Type 0} {f : Answering S (List ℕ)} {g : S} {left held held' : Option (List ℕ)} (fault : ScriptFault) (w w' : ℕ) → IsInAnswer fault w w' → SoFar Write f g left held held' → (fault ≡ Cut → SoFar Cut f g left held held') → SoFar fault f g left held held'
+SoFar-in_answer Read w w' h s k = absurd h
+SoFar-in_answer Write w w' h s k = s
+SoFar-in_answer Memory w w' h s k = absurd h
+SoFar-in_answer Cut w w' h s k = k refl
 
 -- the script stopped when the output of all lines was flushed
 pub FinishesInPart-whole : {S : Type 0} {f : Answering S (List ℕ)} {p q : Place S} (held held' held'' : Option (List ℕ)) → Finishes f p q held held' → Keeps held' held'' → FinishesInPart f p held held''
@@ -233,6 +249,63 @@ Ran-end {left = left} {left'} left'' r k = record {
   written = r.written;
   few = r.few;
 }
+
+-- ---- what the reads returned
+
+-- a run, and the bytes that it served are those that the reads returned
+pub record Took {S : Type 0} (f : Answering S (List ℕ)) (g : S) (p : Place S) (left left' taken taken' held held' : Option (List ℕ)) (turns : ℕ) : Type 0 where
+  pub ran : Ran f g p left left' held held' turns
+  pub took : Appends taken taken' ran.input
+
+pub Took-none : {S : Type 0} {f : Answering S (List ℕ)} {g : S} (p : Place S) (left taken held : Option (List ℕ)) (turns : ℕ) → p ≡ start g → Took f g p left left taken taken held held turns
+unfolding Ran-none
+Took-none p left taken held turns e = record { ran = Ran-none p left held turns e; took = Appends-nil taken }
+
+pub Took-more : {S : Type 0} {f : Answering S (List ℕ)} {g : S} {p : Place S} {left left' taken taken' held held' : Option (List ℕ)} {turns : ℕ} (q : Place S) (left'' taken'' held'' : Option (List ℕ)) (bytes : List ℕ) (turns' : ℕ) → turns' ≡ turns + 1 → Took f g p left left' taken taken' held held' turns → Consumes left' left'' bytes → Appends taken' taken'' bytes → length bytes ≤ 65536 → Feeds f p bytes q held' held'' →
+    Took f g q left left'' taken taken'' held held'' turns'
+unfolding Ran-more
+Took-more {taken = taken} {taken'} q left'' taken'' held'' bytes turns' e r c a most (t, s, w) = record {
+  ran = Ran-more q left'' held'' bytes turns' e r.ran c most (t, s, w);
+  took = Appends-trans taken taken' taken'' r.ran.input bytes r.took a;
+}
+
+pub Took-kept : {S : Type 0} {f : Answering S (List ℕ)} {g : S} {p : Place S} {left left' taken taken' held held' : Option (List ℕ)} {turns : ℕ} (held'' : Option (List ℕ)) → Took f g p left left' taken taken' held held' turns → Keeps held' held'' → Took f g p left left' taken taken' held held'' turns
+unfolding Ran-kept
+Took-kept held'' r k = record { ran = Ran-kept held'' r.ran k; took = r.took }
+
+-- the input ended
+pub Took-end : {S : Type 0} {f : Answering S (List ℕ)} {g : S} {p : Place S} {left left' taken taken' held held' : Option (List ℕ)} {turns : ℕ} (left'' taken'' : Option (List ℕ)) (chunk : List ℕ) → Took f g p left left' taken taken' held held' turns → Keeps left' left'' → Appends taken' taken'' chunk → chunk ≡ [] → Took f g p left left'' taken taken'' held held' turns
+unfolding Ran-end
+Took-end {taken = taken} {taken'} left'' taken'' chunk r k a e = record {
+  ran = Ran-end left'' r.ran k;
+  took = subst (λ z. Appends taken taken'' z) (ap (λ z. r.ran.input ++ z) e ∙ append-nil r.ran.input) (Appends-trans taken taken' taken'' r.ran.input chunk r.took a);
+}
+
+-- the run, as if the reader had held the bytes that were served, and a rest
+pub Ran-before : {S : Type 0} {f : Answering S (List ℕ)} {g : S} {p : Place S} {left left' held held' : Option (List ℕ)} {turns : ℕ} (rest : List ℕ) (r : Ran f g p left left' held held' turns) → Ran f g p (Some (r.input ++ rest)) (Some rest) held held' turns
+Ran-before rest r = record { input = r.input; text = r.text; served = r.served; taken = refl; written = r.written; few = r.few }
+
+-- the run, as if the reader had held exactly the bytes that were served
+pub Ran-all : {S : Type 0} {f : Answering S (List ℕ)} {g : S} {p : Place S} {left left' held held' : Option (List ℕ)} {turns : ℕ} (r : Ran f g p left left' held held' turns) → Ran f g p (Some r.input) (Some []) held held' turns
+Ran-all r = record { input = r.input; text = r.text; served = r.served; taken = sym (append-nil r.input); written = r.written; few = r.few }
+
+-- the text is a prefix of the output for what the reads returned
+pub SoFar-took : {S : Type 0} {fault : ScriptFault} {f : Answering S (List ℕ)} {g : S} {held held' : Option (List ℕ)} (taken taken' : Option (List ℕ)) (bytes : List ℕ) → Appends taken taken' bytes → SoFar fault f g (Some bytes) held held' →
+    (input : List ℕ) × (text : List ℕ) × Appends taken taken' input × Appends held held' text × IsToldUntil fault f g input text
+SoFar-took taken taken' bytes a s = (s.input, s.text, subst (λ z. Appends taken taken' z) s.gives a, s.written, s.answered)
+
+-- the text is the output for what the reads returned
+pub Took-finished : {S : Type 0} {f : Answering S (List ℕ)} {g : S} {p : Place S} {left left' taken taken' held held' : Option (List ℕ)} {turns : ℕ} (q : Place S) (held'' : Option (List ℕ)) → Took f g p left left' taken taken' held held' turns → Finishes f p q held' held'' →
+    (input : List ℕ) × (text : List ℕ) × Appends taken taken' input × Appends held held'' text × IsAnswered f g input q.clean text q.state
+Took-finished {taken = taken} {taken'} q held'' r h =
+    let e = Ran-finished q held'' (Ran-all r.ran) refl h in
+    (e.0, e.1, subst (λ z. Appends taken taken' z) e.2 r.took, e.3, e.4)
+
+-- the text is the output of all lines that end in what the reads returned
+pub Took-ended : {S : Type 0} {f : Answering S (List ℕ)} {g : S} {p : Place S} {left left' taken taken' held held' : Option (List ℕ)} {turns : ℕ} (taken'' : Option (List ℕ)) → Took f g p left left' taken taken' held held' turns → Keeps taken' taken'' → has_line_end p.begun ≡ false →
+    (input : List ℕ) × (text : List ℕ) × Appends taken taken'' input × Appends held held' text × AnswersEnded f g input text p.state
+Took-ended {p = p} {taken = taken} {taken'} taken'' r k e =
+    (r.ran.input, r.ran.text, Appends-kept taken taken' taken'' r.ran.input r.took k, r.ran.written, (r.ran.served.lines, p.begun, r.ran.served.told, r.ran.served.cut, e, r.ran.served.run, r.ran.served.text_is))
 
 -- ---- the device that failed
 

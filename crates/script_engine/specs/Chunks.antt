@@ -1,5 +1,5 @@
 -- Reading in chunks: docs/PROFILE.md, "Limits".
-use Rattle.std.specs.Prelude.{◌≡◌, ◌<◌, ◌≤◌, ◌⊎◌, ℕ, length, List, Bool, true, false, Option}
+use Rattle.std.specs.Prelude.{◌≡◌, ◌<◌, ◌≤◌, ◌⊎◌, ℕ, length, List, [], Bool, true, false, Option}
 use Rattle.std.specs.Io.KnownBytes.{Consumes, IsAtEnd, Keeps}
 use Rattle.script_engine.specs.Device.{FailsOnce, counted}
 use Rattle.script_engine.specs.declared.chunks.Chunks.{Chunks}
@@ -19,7 +19,7 @@ pub record AreChunks (c : Chunks) : Type 0 where
 -- after.
 abbrev pub ReadsChunk : Bool → Option (List ℕ) → Option (List ℕ) → List ℕ → Type 0
 ReadsChunk true left left' chunk = Consumes left left' chunk × (0 < length chunk) × (length chunk ≤ 65536)
-ReadsChunk false left left' chunk = Keeps left left' × IsAtEnd left'
+ReadsChunk false left left' chunk = Keeps left left' × IsAtEnd left' × (chunk ≡ [])
 
 -- `turns` reads were made, and none of them failed; the reader's counts of reads and of failures, before and after
 pub record HasRead (turns reads reads' failures failures' : ℕ) : Type 0 where

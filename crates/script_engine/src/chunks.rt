@@ -1,6 +1,6 @@
 //! Reads a reader in chunks.
-ghost use Rattle.std.specs.Prelude.{◌≡◌, ◌+◌, ℕ, IfOk, IfErr, OnOk, OnErr};
-ghost use Rattle.std.specs.Io.KnownBytes.{Keeps};
+ghost use Rattle.std.specs.Prelude.{◌≡◌, ◌+◌, ℕ, IfOk, IfErr, OnOk, OnErr, false};
+ghost use Rattle.std.specs.Io.KnownBytes.{Appends, Keeps};
 ghost use Rattle.script_engine.specs.Chunks.{HasRead, AreChunks, ReadsChunk, StopsReading};
 ghost use Rattle.script_engine.specs.Stored.{chunk_of};
 ghost use Rattle.script_engine.specs.declared.fault.ScriptFault.TheVariants.{Read};
@@ -49,6 +49,8 @@ impl Chunks {
         requires room { AreChunks self.old }
         ensures chunk { IfOk result (λ more.
             ReadsChunk more (R.left reader.old) (R.left reader.new) (chunk_of self.new)) }
+        ensures took { OnOk result (Appends (R.taken reader.old) (R.taken reader.new) (chunk_of self.new)) }
+        ensures ended { IfOk result (λ more. more ≡ false → R.ended reader.new) }
         ensures room { OnOk result (AreChunks self.new) }
         ensures counted { OnOk result (R.failures reader.new ≡ R.failures reader.old) }
         ensures turns { OnOk result (self.new.turns ≡ self.old.turns + 1) }
@@ -57,6 +59,7 @@ impl Chunks {
             → OnOk result (HasRead self.new.turns reads (R.reads reader.new) failures (R.failures reader.new)) }
         ensures fault { IfErr result (λ fault. fault ≡ Read) }
         ensures kept { OnErr result (Keeps (R.left reader.old) (R.left reader.new)) }
+        ensures none_taken { OnErr result (Keeps (R.taken reader.old) (R.taken reader.new)) }
         ensures stops { (reads failures : ℕ)
             → HasRead self.old.turns reads (R.reads reader.old) failures (R.failures reader.old)
             → OnErr result (StopsReading reads (R.reads reader.new) failures (R.failures reader.new)) }

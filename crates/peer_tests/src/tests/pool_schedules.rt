@@ -275,17 +275,40 @@ fn different(sorted: &[u64]) -> u64 {
     found
 }
 
+/// The number of seeds of one test: each test has a minute, and a machine may give this process little of its processors.
+const SEEDS: u64 = 250;
+
+/// Performs runs in the orders of `SEEDS` seeds. More than half of these orders must be different.
 // The target's own sequences depend on the order of the run; everything else that is read at the end is the same.
+fn run_orders<R: Abort + Threads + Wait + Sync>(rt: &R, alloc: Global, first: u64) {
+    let mut orders = Vec::new(alloc);
+    for number in 0..SEEDS {
+        let order = run_drawn(rt, alloc, first.saturating_add(number));
+        orders.push(order).expect(rt, "memory");
+    }
+    orders.sort().expect(rt, "memory");
+    let found = different(&orders);
+    assert!(rt; found > SEEDS / 2, "{found} orders");
+}
+
 #[test]
 fn every_order_ends_alike(rt: HostRuntime) {
-    let mut orders = Vec::new(rt.alloc());
-    for seed in 0..1_000u64 {
-        let order = run_drawn(&rt, rt.alloc(), seed);
-        orders.push(order).expect(&rt, "memory");
-    }
-    orders.sort().expect(&rt, "memory");
-    let found = different(&orders);
-    assert!(rt; found > 500, "{found} orders");
+    run_orders(&rt, rt.alloc(), 0);
+}
+
+#[test]
+fn further_orders_end_alike(rt: HostRuntime) {
+    run_orders(&rt, rt.alloc(), SEEDS);
+}
+
+#[test]
+fn later_orders_end_alike(rt: HostRuntime) {
+    run_orders(&rt, rt.alloc(), 500);
+}
+
+#[test]
+fn last_orders_end_alike(rt: HostRuntime) {
+    run_orders(&rt, rt.alloc(), 750);
 }
 
 /// Performs a run in the order of a seed that stops at one of the places, and a further run that completes the copy.
@@ -302,9 +325,19 @@ fn stop_drawn<R: Abort + Threads + Wait + Sync>(rt: &R, alloc: Global, seed: u64
     assert!(rt; !ran_out, "out of turns at {seed}");
 }
 
+/// Stops one run of each of 150 seeds: ten at each place.
+fn stop_orders<R: Abort + Threads + Wait + Sync>(rt: &R, alloc: Global, first: u64) {
+    for number in 0..150u64 {
+        stop_drawn(rt, alloc, first.saturating_add(number));
+    }
+}
+
 #[test]
 fn a_stop_in_every_order(rt: HostRuntime) {
-    for seed in 0..300u64 {
-        stop_drawn(&rt, rt.alloc(), seed);
-    }
+    stop_orders(&rt, rt.alloc(), 0);
+}
+
+#[test]
+fn a_stop_in_further_orders(rt: HostRuntime) {
+    stop_orders(&rt, rt.alloc(), 150);
 }

@@ -40,8 +40,8 @@ pub enum SyncFault {
 /// histories, the document is the same on both sides: revisions, parents, contents of leaves and winner. The trees then
 /// agree again and have complete histories.
 ///
-/// Consistent peers stay consistent in both directions, whatever the result, and each of the two stays consistent with
-/// every third peer.
+/// Consistent peers stay consistent in both directions, whatever the result. Each of the two also stays consistent with
+/// every other peer that it was consistent with, if that peer has a UUID of its own.
 pub fn sync_alone<F: WriteFilter, G: WriteFilter>(
     alloc: Global,
     a: &mut Peer<F>,

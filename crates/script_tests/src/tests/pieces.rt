@@ -1,5 +1,5 @@
 //! Output in pieces: a server that prints a line, and then its line end.
-ghost use Rattle.std.specs.Prelude.{◌≡◌, ◌++◌, Ok, codes};
+ghost use Rattle.std.specs.Prelude.{◌≡◌, ◌++◌, Ok, OnOk, codes};
 
 use script_engine::{OverRead, OverWrite, ScriptFault, Serve, run_lines};
 use std::alloc::{AllocError, Global};
@@ -9,7 +9,7 @@ use std::test::Fail;
 #[derive(Drop)]
 pub(crate) struct LineEnd;
 
-/// Prints each line, and then its line end, for which an allocation may fail.
+/// Prints each line after a `>`, and then its line end, for which an allocation may fail.
 #[derive(Drop)]
 pub(crate) struct Echo {
     alloc: Global,
@@ -18,7 +18,7 @@ pub(crate) struct Echo {
 }
 
 impl Serve for Echo {
-    ghost answers = { λ _ line told _. told ≡ Ok (line ++ codes "\n") };
+    ghost answers = { λ _ line told _. told ≡ Ok ((codes ">" ++ line) ++ codes "\n") };
 
     type Rest = LineEnd;
 
@@ -29,7 +29,7 @@ impl Serve for Echo {
         line: &[u8],
         answer: &mut Vec<u8>,
     ) -> Result<Option<LineEnd>, &'static str> {
-        match answer.extend_from_slice(line) {
+        match push_marked(answer, line) {
             Ok(()) => Ok(Some(LineEnd)),
             Err(_) => Err("Memory"),
         }
@@ -44,8 +44,19 @@ impl Serve for Echo {
     fn observe(&mut self, _number: u64, _line: &[u8], _refused: Option<&'static str>) {}
 }
 
+/// Appends a line after a `>`.
+fn push_marked(answer: &mut Vec<u8>, line: &[u8]) -> Result<(), AllocError>
+    ensures { OnOk result (answer.new.items ≡ answer.old.items ++ (codes ">" ++ line.now)) }
+{
+    answer.extend_from_slice(b">")?;
+    answer.extend_from_slice(line)
+}
+
 /// The output with enough memory, and if the allocation after the first piece fails.
-static ROOMS: &[(usize, bool, &str)] = &[(1, true, "one\ntwo three\n"), (usize::MAX, false, "one")];
+static ROOMS: &[(usize, bool, &str)] = &[
+    (1, true, ">one\n>two three\n"),
+    (usize::MAX, false, ">one"),
+];
 
 #[test]
 fn gives_answers_in_pieces(rt: HostRuntime) -> Result<(), Fail> {

@@ -17,3 +17,8 @@ pub returns-in-Ok-clause-ok : goal.returns-in-Ok-clause-ok
 returns-in-Ok-clause-ok g c =
     let some : c.args.script.now.begun.items ≢ [] = λ e. c.if-begun-eq0.false (c.len-begun.ensures ∙ c.args.script.now.begun.ok.0 ∙ ap length e) in
     (10 ∷ [], lines_of-ended c.args.script.now.begun.items c.requires.open some, c.in-Ok.ensures.begun, c.in-Ok.ensures.ok)
+
+pub returns-in-Err-clause-cut : goal.returns-in-Err-clause-cut
+returns-in-Err-clause-cut g c = λ e.
+    let some : c.args.script.now.begun.items ≢ [] = λ e. c.if-begun-eq0.false (c.len-begun.ensures ∙ c.args.script.now.begun.ok.0 ∙ ap length e) in
+    (10 ∷ [], lines_of-ended c.args.script.now.begun.items c.requires.open some, c.in-Err.ensures.cut e)

@@ -1,7 +1,7 @@
 -- What was read has been run, and its output is written.
 use Rattle.proof_prelude.proofs.{◌≡◌, ◌≤◌, ◌-◌, false, vec_capacity}
 use Rattle.script_engine.specs.{HasRead, AreChunks, max_reads, has_line_end, place_of}
-use Rattle.script_engine.proofs.{Ran}
+use Rattle.script_engine.proofs.{Took}
 use Rattle.script_engine.proofs.lines.run_lines.Given as goal
 
 abbrev pub invariant-loop-script : goal.invariant-loop-script
@@ -10,7 +10,7 @@ invariant-loop-script g l =
     let R = g.R.ScriptRead in
     let W = g.W.ScriptWrite in
     record {
-      ran : Ran S.answers l.fn.server (place_of l.server l.script) (R.left l.fn.reader) (R.left l.reader) (W.held l.fn.writer) (W.held l.writer) l.chunks.turns;
+      took : Took S.answers l.fn.server (place_of l.server l.script) (R.left l.fn.reader) (R.left l.reader) (R.taken l.fn.reader) (R.taken l.reader) (W.held l.fn.writer) (W.held l.writer) l.chunks.turns;
       begun : has_line_end l.script.begun.items ≡ false;
       chunks : AreChunks l.chunks;
       reads : HasRead l.chunks.turns (R.reads l.fn.reader) (R.reads l.reader) (R.failures l.fn.reader) (R.failures l.reader);

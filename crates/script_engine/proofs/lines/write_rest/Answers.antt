@@ -1,5 +1,14 @@
 use Rattle.proof_prelude.proofs.{◌++◌, [], sym, ap, ◌∙◌, append_assoc, if◌then◌else◌, Appends-trans}
+use Rattle.script_engine.proofs.{write_not_cut}
 use Rattle.script_engine.proofs.lines.write_rest.Goals as goal
+
+pub returns-in-Err-clause-cut : goal.returns-in-Err-clause-cut
+returns-in-Err-clause-cut g c =
+    let i = c.loop-more.invariant in
+    λ e. (i.written.0, g.S.Serve.left c.args.server.now c.loop-more.rest, i.written.2, i.written.1, i.left)
+
+pub returns-in-Err-write_all-clause-cut : goal.returns-in-Err-write_all-clause-cut
+returns-in-Err-write_all-clause-cut g c = λ e. absurd (write_not_cut (sym c.in-Err-write_all.ensures.fault ∙ e))
 
 pub returns-in-Err-write_all-clause-err : goal.returns-in-Err-write_all-clause-err
 returns-in-Err-write_all-clause-err g c =
@@ -25,6 +34,7 @@ loop-more-preserved g c =
     let tail = if c.in-Ok.more then left else [] in
     record {
       fits = c.in-Ok.ensures.fits;
+      left = (c.in-Ok.ensures.some c.if-not-more.false).1;
       written = (
         i.0 ++ bytes,
         Appends-trans _ _ _ i.0 bytes i.1 ok.0,

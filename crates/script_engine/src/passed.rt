@@ -1,0 +1,36 @@
+//! The history of a stream, for contracts only.
+ghost use Rattle.std.specs.Prelude.{◌≡◌, ℕ, List};
+ghost use Rattle.std.specs.Borrow.{ftrue};
+
+use std::marker::Model;
+
+/// All bytes that came through a stream, in order. The value takes no memory: only contracts can see the bytes.
+#[derive(Drop)]
+pub struct Passed {
+    pub ghost bytes: { List ℕ },
+}
+
+impl Model for Passed {
+    ghost also_owns = { λ _. ftrue };
+}
+
+/// A step of a stream's history.
+#[derive(Clone, Copy, Drop)]
+pub(crate) enum Pass<'a> {
+    /// The start of the history: no bytes.
+    Nothing,
+    /// The history so far, and the bytes that follow it.
+    More(&'a Passed, &'a [u8]),
+}
+
+impl Passed {
+    ghost use Rattle.script_engine.specs.Passed.{passed_bytes};
+
+    /// Returns the history after this step.
+    #[inline(always)]
+    pub(crate) fn of(_pass: &Pass<'_>) -> Passed
+        ensures { result.bytes ≡ passed_bytes _pass.now }
+    {
+        Passed {}
+    }
+}
