@@ -1,12 +1,17 @@
 -- The guarantees of a task, by those of its parser and its formatter.
-use Rattle.proof_prelude.proofs.{◌≡◌, ℕ, List, true, false, Option, Some, Result, Ok, Err, IfOk, IfErr, refl, subst, true≢false}
+use Rattle.proof_prelude.proofs.{◌≡◌, ℕ, List, Bool, OnOk, true, false, Option, Some, Result, Ok, Err, IfOk, IfErr, refl, subst, true≢false}
 use Rattle.response_parser.specs.{wants_documents, is_strict, Piece, IsAnswered, IsChangeScript}
 use Rattle.response_parser.specs.LineGrammar.{IsScript}
 use Rattle.response_parser.specs.declared.place.Wanted.{Wanted}
 use Rattle.response_parser.specs.declared.place.Wanted.TheVariants.{Changes}
 use Rattle.response_output.specs.Words.{Words}
 use Rattle.response_output.specs.{Answered, Stopped, ReadsAnswers, AnswerFault}
+use Rattle.response_output.specs.Runs.{CountsOf}
+use Rattle.script_engine.specs.{IsFaultOf, ScriptFault}
+use Rattle.diagrams.specs.{Form}
+use Rattle.diagrams.specs.Drawing.{IsPictured, IsPicturedUntil}
 use Rattle.couch_lines.specs.{IsDone, Makes, is_drawn, wanted_of, words_of_task, Task}
+use Rattle.couch_lines.specs.Runs.{DrawnCounts, IsOrUntil, RunCounts}
 use Rattle.couch_lines.specs.declared.tasks.Task.TheVariants.{Load, Ids, Diff, Leaves, Bulk, Trees}
 
 module _ (left held held' : Option (List ℕ)) (x : Result ℕ AnswerFault) where
@@ -45,3 +50,18 @@ module _ (left held held' : Option (List ℕ)) (x : Result ℕ AnswerFault) wher
   makes task w words lines e f forms scripts changes =
       makes_by task lines (subst (λ z. Forms (wanted_of task) z) f (subst (λ z. Forms z words) e forms)) (subst (λ z. Scripts (wanted_of task) z) f (subst (λ z. Scripts z words) e scripts))
       (subst (λ z. Changing (wanted_of task) z) f (subst (λ z. Changing z words) e changes))
+
+-- ---- a result by its two cases
+
+pub or_until : (form : Form) (db left held held' : Option (List ℕ)) (r : Result Bool ScriptFault) → IfOk r (λ clean. IsPictured form db clean left held held')
+    → IfErr r (λ fault. IsPicturedUntil fault form db left held held') → IsOrUntil form db left held held' r
+or_until form db left held held' (Ok clean) ok err = ok
+or_until form db left held held' (Err fault) ok err = err
+
+pub drawn_counts : (r : Result Bool ScriptFault) (n n' a a' b b' : ℕ) → OnOk r ((a' ≡ a) × (b' ≡ b)) → IfErr r (λ fault. IsFaultOf fault n n' a a' b b') → DrawnCounts r n n' a a' b b'
+drawn_counts (Ok clean) n n' a a' b b' ok err = ok
+drawn_counts (Err fault) n n' a a' b b' ok err = err
+
+pub run_counts : (r : Result ℕ AnswerFault) (n n' a a' b b' : ℕ) → OnOk r ((a' ≡ a) × (b' ≡ b)) → IfErr r (λ fault. CountsOf fault n n' a a' b b') → RunCounts r n n' a a' b b'
+run_counts (Ok passed) n n' a a' b b' ok err = ok
+run_counts (Err fault) n n' a a' b b' ok err = err

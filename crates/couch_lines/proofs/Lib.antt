@@ -1,2 +1,2 @@
 pub mod Doing
-pub use Doing.{is_done, makes}
+pub use Doing.{drawn_counts, is_done, makes, or_until, run_counts}

@@ -1,5 +1,5 @@
 -- Running the program over any reader and writer: docs/PROFILE.md, "CouchDB's answers".
-use Rattle.std.specs.Prelude.{◌≡◌, ℕ, List, Bool, true, false, Option, Some, Result, Ok, Err, IfOk, String, string_bytes, option_map, ⊤}
+use Rattle.std.specs.Prelude.{◌≡◌, ℕ, List, Bool, true, false, Option, Some, Result, Ok, Err, String, string_bytes, option_map, ⊤}
 use Rattle.std.specs.declared.alloc.Global.{Global}
 use Rattle.response_parser.specs.Reading.{Piece}
 use Rattle.response_parser.specs.Grammar.{IsAnswered}
@@ -8,9 +8,11 @@ use Rattle.response_parser.specs.ChangeGrammar.{IsChangeScript}
 use Rattle.response_parser.specs.declared.place.Wanted.{Wanted}
 use Rattle.response_parser.specs.declared.place.Wanted.TheVariants.{Documents, Enveloped, Bodies, Unfolded, Leaves as InFeed, Changes}
 use Rattle.response_output.specs.Words.{Words, loads_of, asked_of, diffs_of, docs_of, bodies_of}
-use Rattle.response_output.specs.Runs.{Answered, Stopped, ReadsAnswers}
+use Rattle.response_output.specs.Runs.{Answered, Stopped, CountsOf, ReadsAnswers}
 use Rattle.response_output.specs.declared.run.AnswerFault.{AnswerFault}
-use Rattle.diagrams.specs.Drawing.{IsPictured}
+use Rattle.script_engine.specs.Faults.{IsFaultOf}
+use Rattle.script_engine.specs.declared.fault.ScriptFault.{ScriptFault}
+use Rattle.diagrams.specs.Drawing.{IsPictured, IsPicturedUntil}
 use Rattle.diagrams.specs.declared.form.Form.{Form}
 use Rattle.diagrams.specs.declared.form.Form.TheVariants.{Text, Svg}
 use Rattle.couch_lines.specs.Tasks.{Says, Refuses}
@@ -68,12 +70,33 @@ Makes (Bulk n whole) left held held' result = (answers : List ℕ) → (document
     → IsScript (wanted_of (Bulk n whole)) answers documents → ReadsAnswers (bodies_of n) documents held held' result
 Makes (Trees db svg) left held held' result = ⊥
 
--- arguments without a task, or a failed allocation: nothing is read or written; otherwise the task is run, and only
--- `trees` draws
+-- A picture of what the reader has left is written, or a prefix of such a picture before an error.
+abbrev pub IsOrUntil : Form → Option (List ℕ) → Option (List ℕ) → Option (List ℕ) → Option (List ℕ) → Result Bool ScriptFault → Type 0
+IsOrUntil form db left held held' (Ok clean) = IsPictured form db clean left held held'
+IsOrUntil form db left held held' (Err fault) = IsPicturedUntil fault form db left held held'
+
+-- If the arguments have no task, or an allocation fails, the run reads and writes no byte. Otherwise the task is run, and
+-- only `trees` draws.
 abbrev pub RunsWords : List (List ℕ) → Option (List ℕ) → Option (List ℕ) → Option (List ℕ) → Option (List ℕ) → Ended → Type 0
 RunsWords words left left' held held' (NotRun why) = Refuses words why × (left' ≡ left) × (held' ≡ held)
 RunsWords words left left' held held' (Ran run) =
     (task : Task) × Says words task × IsDone task left held held' run.ended × Makes task left held held' run.ended
 RunsWords words left left' held held' (Drawn ended) =
     (db : Option (String Global)) × (svg : Bool) × Says words (Trees db svg)
-    × IfOk ended (λ clean. IsPictured (form_of svg) (option_map string_bytes db) left held held' clean)
+    × IsOrUntil (form_of svg) (option_map string_bytes db) left held held' ended
+
+-- The device that an error names failed in this call, and no other. The arguments are the reader's counts of reads,
+-- before and after, then the failure counts of the reader and of the writer.
+abbrev pub RunCounts : Result ℕ AnswerFault → ℕ → ℕ → ℕ → ℕ → ℕ → ℕ → Type 0
+RunCounts (Ok passed) reads reads' reader reader' writer writer' = (reader' ≡ reader) × (writer' ≡ writer)
+RunCounts (Err fault) reads reads' reader reader' writer writer' = CountsOf fault reads reads' reader reader' writer writer'
+
+abbrev pub DrawnCounts : Result Bool ScriptFault → ℕ → ℕ → ℕ → ℕ → ℕ → ℕ → Type 0
+DrawnCounts (Ok clean) reads reads' reader reader' writer writer' = (reader' ≡ reader) × (writer' ≡ writer)
+DrawnCounts (Err fault) reads reads' reader reader' writer writer' = IsFaultOf fault reads reads' reader reader' writer writer'
+
+abbrev pub EndedCounts : Ended → ℕ → ℕ → ℕ → ℕ → ℕ → ℕ → Type 0
+EndedCounts (NotRun why) reads reads' reader reader' writer writer' =
+    (reads' ≡ reads) × (reader' ≡ reader) × (writer' ≡ writer)
+EndedCounts (Ran run) reads reads' reader reader' writer writer' = RunCounts run.ended reads reads' reader reader' writer writer'
+EndedCounts (Drawn ended) reads reads' reader reader' writer writer' = DrawnCounts ended reads reads' reader reader' writer writer'
