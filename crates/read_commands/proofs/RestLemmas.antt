@@ -1,9 +1,10 @@
 -- The rest of an output about existing databases.
-use Rattle.proof_prelude.proofs.{◌≡◌, List, [], ℕ, ◌++◌, Option, Some, None, Result, Ok, Err, Bool, sym, ap, subst, ◌∙◌, IsErrAnd, if◌then◌else◌, IfOk, IfErr}
+use Rattle.proof_prelude.proofs.{◌≡◌, ◌<◌, ◌≤◌, ◌+◌, arith, length, length-append, true, List, [], ◌∷◌, ℕ, ◌++◌, Option, Some, None, Result, Ok, Err, Bool, sym, ap, subst, ◌∙◌, IsErrAnd, if◌then◌else◌, IfOk, IfErr}
 use Rattle.repl_peer.specs.{PeerValue}
-use Rattle.script_engine.specs.{Answering, MayTell, gave_up, text_with}
+use Rattle.script_engine.specs.{Answering, IsSplit, MayTell, gave_up, text_with}
 use Rattle.script_databases.specs.{State, peer_at, name_of, Refusal}
 use Rattle.script_databases.specs.declared.refusal.Refusal.TheVariants as why
+use Rattle.command_api.specs.{ended}
 use Rattle.read_commands.specs.{rest_left, told_begun, told_from, left_in, holds_in}
 use Rattle.read_commands.specs.declared.rest.Rest.{Rest}
 
@@ -37,3 +38,19 @@ memory_from s r h = handed_from s why.Memory r h gave_up
 pub piece_given : {E : Type 0} (s view : State) (rest rest' : Rest) (old new : List ℕ) (r : Result Bool E) → s ≡ view → old ≡ [] → IfOk r (λ more. new ++ (if more then rest_left s rest' else []) ≡ old ++ rest_left s rest) → IfOk r (λ more. new ++ (if more then rest_left view rest' else []) ≡ rest_left view rest)
 piece_given s view rest rest' old new (Ok m) e n h = subst (λ (x : State). new ++ (if m then rest_left x rest' else []) ≡ rest_left x rest) e (h ∙ ap (λ t. t ++ rest_left s rest) n)
 piece_given s view rest rest' old new (Err x) e n h = h
+
+-- the rest of an output is not empty, because its last line has a line end
+pub left_some : (s : State) {name db : List ℕ} {l : PeerValue} (front line : PeerValue → List ℕ) → db ≡ name → peer_at s name ≡ Some l → 0 < length (left_in (peer_at s db) (λ x. front x ++ ended (line x)))
+left_some s {l = l} front line e f =
+    let some : 0 < length (front l ++ (line l ++ (10 ∷ []))) = omega (arith, length-append (front l) (line l ++ (10 ∷ [])), length-append (line l) (10 ∷ [])) in
+    subst (λ (z : List ℕ). 0 < length z) (sym (left_found s (λ x. front x ++ ended (line x)) e f)) some
+
+-- a smaller minimum size of the first piece
+pub split_least : {R : Type 0} (least more : ℕ) (left : R → List ℕ) (accepted : Bool) (piece : List ℕ) (rest : Option R) → least ≤ more → IsSplit more left accepted piece rest → IsSplit least left accepted piece rest
+split_least least more left accepted piece None e h = tt
+split_least least more left accepted piece (Some rest) e (is, size, some) = (is, omega (arith, e, size), some)
+
+-- a piece that is not the last is not empty, in a state with this view
+pub piece_some : {E : Type 0} (s view : State) (rest : Rest) (new : List ℕ) (r : Result Bool E) → s ≡ view → IfOk r (λ more. more ≡ true → (65536 ≤ length new) × (0 < length (rest_left s rest))) → IfOk r (λ more. more ≡ true → (0 < length new) × (0 < length (rest_left view rest)))
+piece_some s view rest new (Ok m) e h = λ is. let p = h is in (omega (arith, p.0), subst (λ (x : State). 0 < length (rest_left x rest)) e p.1)
+piece_some s view rest new (Err x) e h = h

@@ -1,5 +1,5 @@
 //! `compare`: prints what a target lacks of a source, without using logs.
-ghost use Rattle.std.specs.Prelude.{◌≡◌, ◌++◌, ◌<◌, [], length, true, if◌then◌else◌, IfOk, OnOk};
+ghost use Rattle.std.specs.Prelude.{◌≡◌, ◌++◌, ◌<◌, ◌≤◌, [], length, true, if◌then◌else◌, IfOk, OnOk};
 ghost use Rattle.json_values.specs.LineView.{line_view};
 ghost use Rattle.read_commands.specs.Compare.{FitsCompare, compare_left, compared_line, compared_part, comparison_lines, contradicts_line, found_part};
 
@@ -98,7 +98,8 @@ impl CompareRest {
         ensures piece { IfOk result
             (λ more. piece.new.items ++ (if more then compare_left databases.now self.new else [])
             ≡ piece.old.items ++ compare_left databases.now self.old) }
-        ensures some { IfOk result (λ more. more ≡ true → 0 < length piece.new.items) }
+        ensures some { IfOk result (λ more. more ≡ true → (65536 ≤ length piece.new.items)
+            × (0 < length (compare_left databases.now self.new))) }
         ensures fits { OnOk result (FitsCompare databases.now self.new) }
     {
         let Some(source) = databases.find(self.source.as_str()) else {

@@ -1,5 +1,5 @@
 //! `conflicts`: prints the documents with two or more live leaves.
-ghost use Rattle.std.specs.Prelude.{◌≡◌, ◌++◌, ◌<◌, [], length, true, if◌then◌else◌, IfOk, OnOk};
+ghost use Rattle.std.specs.Prelude.{◌≡◌, ◌++◌, ◌<◌, ◌≤◌, [], length, true, if◌then◌else◌, IfOk, OnOk};
 ghost use Rattle.json_values.specs.LineView.{line_view};
 ghost use Rattle.read_commands.specs.Conflicts.{FitsConflicts, conflicts_left, conflicts_line};
 
@@ -84,7 +84,8 @@ impl ConflictsRest {
         ensures piece { IfOk result
             (λ more. piece.new.items ++ (if more then conflicts_left databases.now self.new else [])
             ≡ piece.old.items ++ conflicts_left databases.now self.old) }
-        ensures some { IfOk result (λ more. more ≡ true → 0 < length piece.new.items) }
+        ensures some { IfOk result (λ more. more ≡ true → (65536 ≤ length piece.new.items)
+            × (0 < length (conflicts_left databases.now self.new))) }
         ensures fits { OnOk result (FitsConflicts databases.now self.new) }
     {
         let Some(peer) = databases.find(self.db.as_str()) else {

@@ -1,5 +1,5 @@
 //! `docs`: prints every leaf of the documents of a database.
-ghost use Rattle.std.specs.Prelude.{◌≡◌, ◌++◌, ◌<◌, [], length, true, if◌then◌else◌, IfOk, OnOk};
+ghost use Rattle.std.specs.Prelude.{◌≡◌, ◌++◌, ◌<◌, ◌≤◌, [], length, true, if◌then◌else◌, IfOk, OnOk};
 ghost use Rattle.std.specs.List.{flat_map};
 ghost use Rattle.json_values.specs.LineView.{line_view};
 ghost use Rattle.read_commands.specs.Docs.{doc_line, docs_left};
@@ -88,7 +88,8 @@ impl DocsRest {
         ensures piece { IfOk result
             (λ more. piece.new.items ++ (if more then docs_left databases.now self.new else [])
             ≡ piece.old.items ++ docs_left databases.now self.old) }
-        ensures some { IfOk result (λ more. more ≡ true → 0 < length piece.new.items) }
+        ensures some { IfOk result (λ more. more ≡ true → (65536 ≤ length piece.new.items)
+            × (0 < length (docs_left databases.now self.new))) }
     {
         let Some(peer) = databases.find(self.db.as_str()) else {
             return Ok(false);

@@ -1,6 +1,6 @@
 //! Prints rows of a changes feed, page by page, until a piece of output is full (docs/PROFILE.md, "Changes feed" and
 //! "Answers").
-ghost use Rattle.std.specs.Prelude.{◌≡◌, ◌++◌, ◌∷◌, ◌<◌, [], List, length, true, false, OnOk, IfOk};
+ghost use Rattle.std.specs.Prelude.{◌≡◌, ◌++◌, ◌∷◌, ◌<◌, ◌≤◌, [], List, length, true, false, OnOk, IfOk};
 ghost use Rattle.std.specs.List.{flat_map};
 ghost use Rattle.couch_base.specs.Feed.{RowValue};
 ghost use Rattle.read_commands.specs.Walks.{rows_left};
@@ -67,7 +67,7 @@ pub fn fill<P: RowPrinter>(
     ensures text { OnOk result (piece.new.items ++ flat_map (P.row_text printer.now) (rows_left database.now walk.new)
         ≡ piece.old.items ++ flat_map (P.row_text printer.now) (rows_left database.now walk.old)) }
     ensures chosen { OnOk result (walk.new.chosen ≡ walk.old.chosen) }
-    ensures full { IfOk result (λ more. more ≡ true → 0 < length piece.new.items) }
+    ensures full { IfOk result (λ more. more ≡ true → 65536 ≤ length piece.new.items) }
     ensures end { IfOk result (λ more. more ≡ false → rows_left database.now walk.new ≡ []) }
     ensures counted { OnOk result ((earlier : List RowValue) → P.counts printer.now tally.old earlier
         → (later : List RowValue) × P.counts printer.now tally.new later

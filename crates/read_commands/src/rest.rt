@@ -1,5 +1,5 @@
 //! The rest of an output that is produced in pieces (docs/PROFILE.md, "Answers").
-ghost use Rattle.std.specs.Prelude.{◌≡◌, ◌++◌, ◌<◌, [], length, true, if◌then◌else◌, OnOk, IfOk};
+ghost use Rattle.std.specs.Prelude.{◌≡◌, ◌++◌, ◌<◌, ◌≤◌, [], length, true, if◌then◌else◌, OnOk, IfOk};
 ghost use Rattle.read_commands.specs.Rest.{FitsRest, rest_left};
 
 use crate::compare::CompareRest;
@@ -18,7 +18,7 @@ pub enum Rest {
 }
 
 impl Rest {
-    /// Appends output to a piece until it is full. Returns whether more is left.
+    /// Appends output to a piece until it has at least 65,536 bytes. Returns whether more is left.
     pub fn more(
         &mut self,
         alloc: Global,
@@ -29,7 +29,8 @@ impl Rest {
         ensures piece { IfOk result
             (λ more. piece.new.items ++ (if more then rest_left databases.now self.new else [])
             ≡ piece.old.items ++ rest_left databases.now self.old) }
-        ensures some { IfOk result (λ more. more ≡ true → 0 < length piece.new.items) }
+        ensures some { IfOk result (λ more. more ≡ true → (65536 ≤ length piece.new.items)
+            × (0 < length (rest_left databases.now self.new))) }
         ensures fits { OnOk result (FitsRest databases.now self.new) }
     {
         match self {

@@ -1,6 +1,6 @@
 //! Commands whose output is produced in pieces.
-ghost use Rattle.std.specs.Prelude.{◌≡◌, ℕ, List, [], option_map, IfOk, IfErr};
-ghost use Rattle.script_engine.specs.Serving.{Fits, MayTell, text_with};
+ghost use Rattle.std.specs.Prelude.{◌≡◌, ℕ, List, [], true, option_map, IfOk, IfErr};
+ghost use Rattle.script_engine.specs.Serving.{Fits, IsSplit, MayTell, text_with};
 ghost use Rattle.script_databases.specs.Databases.{State};
 ghost use Rattle.script_databases.specs.declared.refusal.Refusal.TheVariants.{Memory};
 ghost use Rattle.command_api.specs.Checks.{needed};
@@ -44,7 +44,8 @@ pub trait StreamingCommand<L>: Sized + Drop {
         ensures fits { IfOk result (λ rest. FitsRest databases.now rest) };
 }
 
-/// Runs a command whose output is produced in pieces: returns its first piece, and the rest.
+/// Runs a command whose output is produced in pieces: returns its first piece, and the rest. If a rest is returned, the
+/// first piece has at least 65,536 bytes.
 #[inline(never)]
 pub fn begin_in<L, A: StreamingCommand<L>>(
     alloc: Global,
@@ -56,6 +57,7 @@ pub fn begin_in<L, A: StreamingCommand<L>>(
     ensures told { MayTell (AnswersIn A.answers) databases.now (A.asked_in (A.seen line))
         (told_begun databases.now result answer.new.items) databases.now }
     ensures fits { IfOk result (λ rest. Fits (FitsRest databases.now) rest) }
+    ensures split { IfOk result (λ rest. IsSplit 65536 (rest_left databases.now) true answer.new.items rest) }
 {
     let ask = match A::read(line) {
         Some(ask) => ask,
@@ -80,6 +82,7 @@ fn give(
     ensures told { IfOk result (λ left. text_with (rest_left databases.now) answer.new.items left
         ≡ rest_left databases.now rest) }
     ensures fits { IfOk result (λ left. Fits (FitsRest databases.now) left) }
+    ensures split { IfOk result (λ left. IsSplit 65536 (rest_left databases.now) true answer.new.items left) }
     ensures memory { IfErr result (λ refusal. refusal ≡ Memory) }
 {
     if rest.more(alloc, databases, answer)? {
@@ -92,6 +95,8 @@ fn give(
 pub fn whole(served: Result<(), Refusal>) -> Result<Option<Rest>, Refusal>
     ensures told { (s : State) → (text : List ℕ) → told_begun s result text ≡ told_by served text }
     ensures fits { (s : State) → IfOk result (λ rest. Fits (FitsRest s) rest) }
+    ensures split { (s : State) → (piece : List ℕ)
+        → IfOk result (λ rest. IsSplit 65536 (rest_left s) true piece rest) }
 {
     match served {
         Ok(()) => Ok(None),

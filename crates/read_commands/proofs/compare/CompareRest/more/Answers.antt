@@ -1,11 +1,12 @@
-use Rattle.proof_prelude.proofs.{◌≡◌, ◌++◌, List, [], refl, sym, ap, subst, ◌∙◌, append-nil, string_bytes, flat_map}
+use Rattle.proof_prelude.proofs.{◌≡◌, ◌<◌, ◌++◌, ℕ, List, [], length, refl, sym, ap, subst, ◌∙◌, append-nil, string_bytes, flat_map}
 use Rattle.doc_json.specs.{Choice}
 use Rattle.couch_base.specs.{DatabaseValue, RowValue, chosen_feed}
 use Rattle.repl_peer.specs.{PeerValue}
 use Rattle.repl_inspect.specs.{comparisons, total_of}
 use Rattle.script_databases.specs.{peer_at}
-use Rattle.read_commands.specs.{left_in, holds_in, rows_left, rows_walked, compared_line, compared_lines}
-use Rattle.read_commands.proofs.{Counted, compare_rest, left_found, holds_found, held_found}
+use Rattle.read_commands.specs.{left_in, holds_in, rows_left, rows_walked, compared_line, compared_lines, Walk}
+use Rattle.read_commands.specs.Compare.{compared_part, found_part}
+use Rattle.read_commands.proofs.{Counted, compare_rest, left_found, left_some, holds_found, held_found}
 use Rattle.command_api.proofs.{piece_on, piece_last}
 use Rattle.read_commands.proofs.compare.CompareRest.more.Goals as goal
 
@@ -111,3 +112,17 @@ returns-clause-fits c =
     let now_t = subst (λ (y : DatabaseValue). Counted c.fill.new.tally d y on) c.db.ensures.value now in
     let now_a = subst (λ (x : DatabaseValue). Counted c.fill.new.tally x b.db on) c.db-ours.ensures.value now_t in
     holds_found s (λ (x : PeerValue). holds_in (peer_at s named) (λ (y : PeerValue). Counted c.fill.new.tally x.db y.db on)) there is (holds_found s (λ (y : PeerValue). Counted c.fill.new.tally a.db y.db on) there2 is2 now_a)
+
+-- the last line of the output
+abbrev totals : DatabaseValue → DatabaseValue → Walk → List ℕ
+totals a b on = compared_part (total_of (comparisons a b (rows_walked a on))) ++ found_part (total_of (comparisons a b (rows_walked a on)))
+
+pub returns-then-branch-clause-some : goal.returns-then-branch-clause-some
+returns-then-branch-clause-some c =
+    let s = c.args.databases.now in
+    let a = c.in-Some.source.now.1 in
+    let on = c.fill.new.walk in
+    let named = string_bytes c.args.self.now.target in
+    let outer = left_found s (λ (x : PeerValue). left_in (peer_at s named) (λ (y : PeerValue). compare_rest x.db y.db on)) (sym c.as_str.ensures.value) (sym c.in-Some.ensures) in
+    let some = left_some s (λ (y : PeerValue). flat_map (compared_lines a.db y.db) (rows_left a.db on)) (λ (y : PeerValue). totals a.db y.db on) (sym c.as_str-2.ensures.value) (sym c.in-Some-find.ensures) in
+    λ e. (c.in_ok-fill.ensures.full c.if-branch.true, subst (λ (z : List ℕ). 0 < length z) (sym outer) some)

@@ -1,11 +1,11 @@
-use Rattle.proof_prelude.proofs.{◌≡◌, ◌++◌, ℕ, List, [], None, map, refl, sym, ap, subst, ◌∙◌, append-nil, flat_map}
+use Rattle.proof_prelude.proofs.{◌≡◌, ◌++◌, ℕ, List, [], codes, decimal, None, map, refl, sym, ap, subst, ◌∙◌, append-nil, flat_map}
 use Rattle.doc_json.specs.{Choice}
 use Rattle.couch_base.specs.{DatabaseValue, tree_of, RowValue, chosen_feed}
 use Rattle.repl_peer.specs.{PeerValue}
 use Rattle.repl_inspect.specs.{census_of, trees, Census}
 use Rattle.repl_inspect.proofs.{trees_all}
 use Rattle.read_commands.specs.{rows_left, rows_walked, conflict_line, conflicts_line, Walk}
-use Rattle.read_commands.proofs.{left_found, holds_found, held_found}
+use Rattle.read_commands.proofs.{left_found, left_some, holds_found, held_found}
 use Rattle.command_api.proofs.{piece_on, piece_last}
 use Rattle.read_commands.proofs.conflicts.ConflictsRest.more.Goals as goal
 
@@ -86,3 +86,12 @@ returns-clause-fits c =
     let k = c.in_ok-fill.ensures.counted at.0 at.1 in
     let now : Counted c.fill.new.tally d on = (k.0, k.1, k.2 ∙ at.2 ∙ ap (λ (x : Choice). chosen_feed x d 0 d.update_seq) (sym c.in_ok-fill.ensures.chosen), c.in_ok-fill.ensures.chosen ∙ at.3) in
     holds_found s (λ (x : PeerValue). Counted c.fill.new.tally x.db on) there is (subst (λ (x : DatabaseValue). Counted c.fill.new.tally x on) c.db-database.ensures.value now)
+
+-- the last line of the output
+abbrev counts : Census → List ℕ
+counts n = codes "conflicts " ++ decimal n.conflicts ++ codes " of " ++ decimal n.documents ++ codes " documents"
+
+pub returns-then-branch-clause-some : goal.returns-then-branch-clause-some
+returns-then-branch-clause-some c =
+    let on = c.fill.new.walk in
+    λ e. (c.in_ok-fill.ensures.full c.if-branch.true, left_some c.args.databases.now (λ (l : PeerValue). flat_map (conflict_line l.db) (rows_left l.db on)) (λ (l : PeerValue). counts (census_of (trees l.db))) (sym c.as_str.ensures.value) (sym c.in-Some.ensures))
