@@ -1,2 +1,2 @@
 pub mod Doing
-pub use Doing.{drawn_counts, is_done, makes, or_until, run_counts}
+pub use Doing.{done_took, drawn_counts, is_done, makes, run_counts, standard}

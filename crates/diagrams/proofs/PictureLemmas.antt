@@ -1,10 +1,10 @@
 -- A complete picture, and what is written of a picture before an error.
-use Rattle.proof_prelude.proofs.{◌≡◌, ℕ, List, [], ◌++◌, Bool, Option, refl, sym, ap, ◌∙◌, append_assoc, append-nil, chars, Appends, Keeps, Appends-trans, Appends-kept}
-use Rattle.script_engine.specs.{Gives, AnswersFirst, IsAnswered, IsAnsweredSoFar, IsToldUntil, ScriptFault, lines_of}
+use Rattle.proof_prelude.proofs.{◌≡◌, ℕ, List, [], ◌++◌, Bool, Option, refl, sym, ap, ◌∙◌, append_assoc, append-nil, chars, Appends, Appends-trans}
+use Rattle.script_engine.specs.{Gives, IsAnswered, IsAnsweredSoFar, IsToldUntil, ScriptFault, lines_of}
 use Rattle.script_engine.specs.declared.fault.ScriptFault.TheVariants.{Read, Write, Memory, Cut}
 use Rattle.script_engine.proofs.RunLemmas.{SoFar-none}
 use Rattle.diagrams.specs.declared.form.Form.{Form}
-use Rattle.diagrams.specs.Drawing.{BeginsPicture, IsDrawnUntil, IsPictureOf, IsPictured, IsPicturedUntil, Pictures, Sketch, first_sketch}
+use Rattle.diagrams.specs.Drawing.{IsDrawnUntil, IsPictureOf, IsPictured, IsPicturedUntil, Pictures, Sketch, first_sketch}
 use Rattle.diagrams.specs.{Draws}
 use Rattle.diagrams.proofs.ShownTexts.{safe_shown}
 
@@ -65,13 +65,13 @@ module _ (form : Form) (db left held : Option (List ℕ)) where
   drawn_so_far Read input head text h a = (head, h, text, a.1, refl)
   drawn_so_far Write input head text h a = tt
   drawn_so_far Memory input head text h a = (head, h, text, a.1, refl)
-  drawn_so_far Cut input head text h a = tt
+  drawn_so_far Cut input head text h a = (head, h, text, a.1, refl)
 
   told_so_far : (fault : ScriptFault) (input text : List ℕ) → IsToldUntil fault Pictures (first_sketch form db) input text → IsAnsweredSoFar Pictures (first_sketch form db) input text
   told_so_far Read input text a = a.0
   told_so_far Write input text a = a
   told_so_far Memory input text a = a.0
-  told_so_far Cut input text a = a
+  told_so_far Cut input text a = a.0
 
   -- a line is not reached, or its drawing is interrupted
   pub until_lines : (fault : ScriptFault) (input head text : List ℕ) (held1 held2 : Option (List ℕ)) → Gives left input → Draws [] head [] → IsToldUntil fault Pictures (first_sketch form db) input text

@@ -1,6 +1,6 @@
 -- A run of drawing, by the open document only.
-use Rattle.proof_prelude.proofs.{ℕ, List, [], ◌∷◌, ◌++◌, ap, Bool}
-use Rattle.script_engine.specs.{Answering, MayTell, Told, gave_up, in_full, served_only, AnswersFirst, IsAnswered, IsAnsweredSoFar, IsToldUntil, ScriptFault, Run, Step, blank, served}
+use Rattle.proof_prelude.proofs.{ℕ, List, [], ◌∷◌, ◌++◌, ap, Bool, Ok}
+use Rattle.script_engine.specs.{Answering, MayTell, Told, gave_up, in_full, served_only, AnswersCut, AnswersFirst, IsAnswered, IsAnsweredSoFar, IsToldUntil, ScriptFault, Run, Step, blank, served}
 use Rattle.script_engine.specs.declared.fault.ScriptFault.TheVariants.{Read, Write, Memory, Cut}
 
 module _ {S T : Type 0} (answers : Answering S (List ℕ)) (others : Answering T (List ℕ)) (view : S → T) (seen : (old : S) (line : List ℕ) (told : Told) (new : S) → answers old line told new → others (view old) line told (view new)) where
@@ -28,8 +28,12 @@ module _ {S T : Type 0} (answers : Answering S (List ℕ)) (others : Answering T
   first_as : (old : S) (input text : List ℕ) → AnswersFirst answers old input text → AnswersFirst others (view old) input text
   first_as old input text (lines, rest, told, new, cut, h, is) = (lines, rest, told, view new, cut, run old new lines told h, is)
 
+  cut_as : (old : S) (input text : List ℕ) → AnswersCut answers old input text → AnswersCut others (view old) input text
+  cut_as old input text (lines, line, rest, told, mid, begun, more, new, cut, h, one, is, some, other) =
+      (lines, line, rest, told, view mid, begun, more, view new, cut, run old mid lines told h, step mid new line (Ok (begun ++ more)) one, is, some, other)
+
   pub until_as : (fault : ScriptFault) (old : S) (input text : List ℕ) → IsToldUntil fault answers old input text → IsToldUntil fault others (view old) input text
   until_as Read old input text h = (so_far_as old input text h.0, first_as old input text h.1)
   until_as Write old input text h = so_far_as old input text h
   until_as Memory old input text h = (so_far_as old input text h.0, first_as old input text h.1)
-  until_as Cut old input text h = so_far_as old input text h
+  until_as Cut old input text h = (so_far_as old input text h.0, cut_as old input text h.1)

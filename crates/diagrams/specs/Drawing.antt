@@ -1,5 +1,5 @@
 -- The pictures of a script's output: docs/PROFILE.md, "Pictures".
-use Rattle.std.specs.Prelude.{◌≡◌, ℕ, ◌<◌, ◌≤◌, Bool, true, false, List, [], ◌∷◌, ◌++◌, Option, Some, None, Ok, Err, IsPermutation, map, codes, option_map, String, string_bytes, Vec, vec_len, chars, ⊤}
+use Rattle.std.specs.Prelude.{◌≡◌, ℕ, ◌<◌, ◌≤◌, Bool, true, false, List, [], ◌∷◌, ◌++◌, Option, Some, None, Result, Ok, Err, IsPermutation, map, codes, option_map, String, string_bytes, Vec, vec_len, chars, ⊤}
 use Rattle.std.specs.declared.alloc.Global.{Global}
 use Rattle.std.specs.Borrow.{Bor}
 use Rattle.std.specs.Io.KnownBytes.{Appends}
@@ -7,7 +7,7 @@ use Rattle.rev_core.specs.Rev.{RevId}
 use Rattle.rev_core.specs.Ancestry.{head_of}
 use Rattle.script_engine.specs.Device.{Gives}
 use Rattle.script_engine.specs.Serving.{Answering}
-use Rattle.script_engine.specs.Script.{AnswersFirst, IsAnswered}
+use Rattle.script_engine.specs.Script.{AnswersCut, AnswersFirst, IsAnswered}
 use Rattle.script_engine.specs.declared.fault.ScriptFault.{ScriptFault}
 use Rattle.script_engine.specs.declared.fault.ScriptFault.TheVariants.{Read, Write, Memory, Cut}
 use Rattle.output_parser.specs.Lines.{Tells}
@@ -148,18 +148,17 @@ pub record IsPictured (form : Form) (db : Option (List ℕ)) (clean : Bool) (lef
   pub pictured : IsPictureOf form db input clean picture
   pub written : Appends held held' picture
 
--- The start of a picture, and the complete drawings for the first lines.
-abbrev pub BeginsPicture : Form → Option (List ℕ) → List ℕ → List ℕ → Type 0
-BeginsPicture form db input text =
-    (head : List ℕ) × Draws [] head [] × (drawn : List ℕ) × AnswersFirst Pictures (first_sketch form db) input drawn
-    × (text ≡ head ++ drawn)
+-- The start of a picture, and drawings of which this holds.
+abbrev pub BeginsPicture : (List ℕ → Type 0) → List ℕ → Type 0
+BeginsPicture holds text = (head : List ℕ) × Draws [] head [] × (drawn : List ℕ) × holds drawn × (text ≡ head ++ drawn)
 
--- The text that is written before this error. If no write failed, each drawing in it is complete.
+-- The text that is written before this error. After `Read` and `Memory` each drawing in it is complete, and after `Cut` it
+-- ends within a drawing.
 abbrev pub IsDrawnUntil : ScriptFault → Form → Option (List ℕ) → List ℕ → List ℕ → Type 0
-IsDrawnUntil Read form db input text = BeginsPicture form db input text
+IsDrawnUntil Read form db input text = BeginsPicture (AnswersFirst Pictures (first_sketch form db) input) text
 IsDrawnUntil Write form db input text = ⊤
-IsDrawnUntil Memory form db input text = BeginsPicture form db input text
-IsDrawnUntil Cut form db input text = ⊤
+IsDrawnUntil Memory form db input text = BeginsPicture (AnswersFirst Pictures (first_sketch form db) input) text
+IsDrawnUntil Cut form db input text = BeginsPicture (AnswersCut Pictures (first_sketch form db) input) text
 
 -- After an error, a prefix of a picture of what the reader has left is written. The last arguments are what the reader
 -- has left, and what the writer has accepted, before and after.
@@ -174,3 +173,8 @@ pub record IsPicturedUntil (fault : ScriptFault) (form : Form) (db : Option (Lis
   pub parts : picture ≡ text ++ missing
   pub written : Appends held held' text
   pub drawn : IsDrawnUntil fault form db input text
+
+-- A picture of what the reader has left is written, or after an error a prefix of such a picture.
+abbrev pub PicturedBy : Result Bool ScriptFault → Form → Option (List ℕ) → Option (List ℕ) → Option (List ℕ) → Option (List ℕ) → Type 0
+PicturedBy (Ok clean) form db left held held' = IsPictured form db clean left held held'
+PicturedBy (Err fault) form db left held held' = IsPicturedUntil fault form db left held held'

@@ -5,7 +5,7 @@ ghost use Rattle.script_engine.specs.Device.{FailsOnce};
 ghost use Rattle.script_engine.specs.Faults.{IsFaultOf};
 ghost use Rattle.script_engine.specs.declared.fault.ScriptFault.TheVariants.{Write};
 ghost use Rattle.diagrams.specs.Ink.{Draws, signs_of, signs_of_found, signs_of_log, signs_of_row};
-ghost use Rattle.diagrams.specs.Drawing.{IsDrawn, IsPicture, IsPictured, IsPicturedUntil, Pictures, Takes, sketch_of};
+ghost use Rattle.diagrams.specs.Drawing.{IsDrawn, IsPicture, PicturedBy, Pictures, Takes, sketch_of};
 
 use crate::document::Document;
 use crate::form::Form;
@@ -171,7 +171,8 @@ impl Drawer<'_> {
 /// - `Read` or `Write`: that device failed in this call; `Read` also after 4,294,967,295 reads.
 /// - `Memory`: an allocation failed between lines, or for the end of the picture.
 ///
-/// A prefix of the picture was written. Unless a write failed, it ends after the drawing for a line.
+/// A prefix of the picture was written. Unless a write failed, it ends after the drawing for a line. The contract also
+/// allows `Cut`, after which it ends within a drawing.
 pub fn draw_answers<R: ScriptRead, W: ScriptWrite>(
     alloc: Global,
     form: Form,
@@ -179,13 +180,15 @@ pub fn draw_answers<R: ScriptRead, W: ScriptWrite>(
     reader: &mut R,
     writer: &mut W,
 ) -> Result<bool, ScriptFault>
-    ensures ok { IfOk result (λ clean. IsPictured form (option_map (λ s. s.now) db.entry) clean
-        (R.left reader.old) (W.held writer.old) (W.held writer.new)) }
+    ensures pictured { PicturedBy result form (option_map (λ s. s.now) db.entry)
+        (R.left reader.old) (W.held writer.old) (W.held writer.new) }
     ensures end { OnOk result (IsAtEnd (R.left reader.new)) }
+    // The same for the bytes that the reads returned; on success they returned everything.
+    ensures took { (input : List ℕ) × Appends (R.taken reader.old) (R.taken reader.new) input
+        × PicturedBy result form (option_map (λ s. s.now) db.entry) (Some input) (W.held writer.old) (W.held writer.new) }
+    ensures ended { OnOk result (R.ended reader.new) }
     ensures counted { OnOk result ((R.failures reader.new ≡ R.failures reader.old)
         × (W.failures writer.new ≡ W.failures writer.old)) }
-    ensures fault { IfErr result (λ fault. IsPicturedUntil fault form (option_map (λ s. s.now) db.entry)
-        (R.left reader.old) (W.held writer.old) (W.held writer.new)) }
     ensures counts { IfErr result (λ fault. IsFaultOf fault (R.reads reader.old) (R.reads reader.new)
         (R.failures reader.old) (R.failures reader.new) (W.failures writer.old) (W.failures writer.new)) }
 {

@@ -1,4 +1,4 @@
--- Several bytes of a value, read at once: docs/PROFILE.md, "CouchDB's answers".
+-- Several bytes of a value, read at once.
 use Rattle.std.specs.Prelude.{◌≡◌, ℕ, ◌==◌, length, take, List, [], ◌∷◌, ◌++◌, Bool, true, false}
 use Rattle.response_parser.specs.State.{State, more}
 use Rattle.response_parser.specs.Reading.{after, pieces}

@@ -178,8 +178,8 @@ impl Spot {
     }
 }
 
-/// Whether a byte belongs to a number, a word, a colon or a comma, among others. False for quotation marks, brackets and
-/// white space.
+/// Whether a byte belongs to a number, a keyword, a colon or a comma, among others. False for quotation marks, brackets
+/// and white space.
 #[inline(always)]
 fn is_solid(byte: u8) -> bool
     ensures { result ≡ (nat_le 35 byte && nat_le byte 90 || nat_le 97 byte && nat_le byte 122) }
