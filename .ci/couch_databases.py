@@ -99,7 +99,7 @@ class Database:
         self.locals = {}        # the _local documents
         self.security = {}      # the _security object
         self.shards = 1         # a sequence is a number if there is one shard, otherwise a number for each
-        self.behind = 0         # how many of the latest changes the replicas that answer lack (one shard only)
+        self.offset = 0         # what the replicas that answer subtract from the number of a sequence
         self.form = {}          # how responses are written: options of `spelled`
         self.instance = "0"     # when the database was created, as CouchDB 3.4 says; older versions say 0
         self.names_pending = True           # whether _changes says how many rows follow a page (CouchDB 1 does not)
@@ -127,7 +127,7 @@ class Database:
     def spelled_sequence(self, number):
         """Returns a sequence as CouchDB 3 writes it: the sum of the shards' numbers, and an opaque rest that differs each time."""
         rest = base64.urlsafe_b64encode(random.randbytes(150)).decode()
-        text = "%d-g1AAAA%s" % (number if isinstance(number, int) else sum(number), rest)
+        text = "%d-g1AAAA%s" % ((number if isinstance(number, int) else sum(number)) - self.offset, rest)
         self.given[text] = number
         return text
 
@@ -137,7 +137,7 @@ class Database:
     def position(self):
         """Returns the update sequence: a number, or a number for each shard."""
         if self.shards == 1:
-            return self.sequence - self.behind
+            return self.sequence
         return tuple(max([0, *(number for name, number in self.changed.items() if self.shard(name) == shard)])
                      for shard in range(self.shards))
 
@@ -175,7 +175,7 @@ class Database:
         for name in reversed(self.changed):
             if self.shards == 1 and self.changed[name] <= since:
                 break
-            if self.shards == 1 and self.changed[name] <= self.sequence - self.behind:
+            if self.shards == 1:
                 rows.append((self.changed[name], name))
         if self.shards == 1:
             return rows[::-1]
