@@ -217,6 +217,12 @@ def drawn(n):
         leaf % (digest(i, k), digest(i, k), digest(i, "b"), digest(i, "a")) for k in (2, 1, 0)]]
 
 
+def branched(n):
+    """The output of `show` for one document of n leaves of one root, for `couch_lines trees`."""
+    return ['doc "doc" winner 2-%s leaves %d revs %d' % (digest(0), n, n + 1)] + [
+        "leaf 2-%s live 2-%s,1-%s" % (digest(i), digest(i), digest("a")) for i in range(n)]
+
+
 def read_in(n):
     """A CouchDB response with n documents, for `couch_lines load`."""
     return ['{"results":['] + [json.dumps({"id": "doc-%d" % i, "docs": [{"ok": load(

@@ -1,15 +1,32 @@
-//! `run` of the pool with one fetcher and one writer. After a failed allocation both peers are returned, an audit is
-//! clean, and a further run ends at the goal.
+//! `run` of the pool: by one worker on the caller's thread, and by two fetchers and two writers, each a thread. After a
+//! failed allocation both peers are returned, an audit is clean, and a further run ends at the goal.
 use crate::peers::load;
 use crate::replications::{is_clean, is_memory, plan};
 use anyhow::{Result, bail};
 use repl_log::Moment;
-use repl_pool::{Open, PoolFault, Ran, run as run_pool};
-use repl_target::{Peer, Report, Rules};
+use repl_pool::{Gate, Open, Place, PoolFault, Ran, Turn, run as run_pool};
+use repl_target::{Peer, Plan, Report, Rules};
 use std::alloc::Global;
 use std::mem;
 use std::sync::Wait;
 use std::thread::Threads;
+
+/// A gate that claims that it may block, although it never does: then each fetcher and each writer is a thread.
+struct Separate;
+
+impl Gate for Separate {
+    ghost may_stop = { λ _ _. ⊥ };
+
+    fn at<R: Wait>(&self, _rt: &R, _place: Place) -> Turn {
+        Turn::Go
+    }
+}
+
+/// A kind of run: its gate, and its number of workers.
+struct Kind<'a, G: Gate> {
+    gate: &'a G,
+    workers: u64,
+}
 
 /// Takes a peer for a run.
 fn taken(alloc: Global, place: &mut Peer<Rules>) -> Peer<Rules> {
@@ -17,16 +34,23 @@ fn taken(alloc: Global, place: &mut Peer<Rules>) -> Peer<Rules> {
 }
 
 /// Runs a session between two peers, and puts them back.
-fn once<R: Threads + Wait + Sync>(
+fn once<G: Gate + Sync, R: Threads + Wait + Sync>(
     rt: &R,
     alloc: Global,
+    kind: &Kind<'_, G>,
     source: &mut Peer<Rules>,
     target: &mut Peer<Rules>,
     session: u128,
-    at: Moment,
 ) -> Result<Report, PoolFault> {
+    let Ok(at) = Moment::new(10) else {
+        return Err(PoolFault::Memory);
+    };
     let (from, into) = (taken(alloc, source), taken(alloc, target));
-    let ran = run_pool(rt, alloc, from, into, &plan(session, at), &Open);
+    let plan = Plan {
+        workers: kind.workers,
+        ..plan(session, at)
+    };
+    let ran = run_pool(rt, alloc, from, into, &plan, kind.gate);
     let Ran {
         source: from,
         target: into,
@@ -48,25 +72,25 @@ fn is_want(fault: PoolFault) -> bool {
 }
 
 /// Runs; retries with another session if an allocation fails.
-fn replicate<R: Threads + Wait + Sync>(
+fn replicate<G: Gate + Sync, R: Threads + Wait + Sync>(
     rt: &R,
     alloc: Global,
+    kind: &Kind<'_, G>,
     source: &mut Peer<Rules>,
     target: &mut Peer<Rules>,
-    at: Moment,
 ) -> Option<Report> {
-    match once(rt, alloc, source, target, 1, at) {
+    match once(rt, alloc, kind, source, target, 1) {
         Ok(report) => Some(report),
         Err(fault) => {
             if !is_want(fault) || !is_clean(alloc, source, target) {
                 return None;
             }
-            once(rt, alloc, source, target, 2, at).ok()
+            once(rt, alloc, kind, source, target, 2).ok()
         }
     }
 }
 
-/// Loads two conflicting edits of a document.
+/// Loads two conflicting edits of a document, and another document.
 fn fill(alloc: Global, source: &mut Peer<Rules>) -> Option<()> {
     load(
         alloc,
@@ -78,23 +102,22 @@ fn fill(alloc: Global, source: &mut Peer<Rules>) -> Option<()> {
         source,
         r#"{"_id":"d","_rev":"2-b","_revisions":{"start":2,"ids":["b","r"]}}"#,
     )?;
+    load(alloc, source, r#"{"_id":"e","_rev":"1-a"}"#)?;
     Some(())
 }
 
 /// Returns what the last run recorded, the target's sequence, and whether an audit is clean.
-fn ended<R: Threads + Wait + Sync>(
+fn ended<G: Gate + Sync, R: Threads + Wait + Sync>(
     rt: &R,
     alloc: Global,
+    kind: &Kind<'_, G>,
     source: &mut Peer<Rules>,
     target: &mut Peer<Rules>,
 ) -> Option<(u64, u64, bool)> {
-    let Ok(at) = Moment::new(10) else {
-        return None;
-    };
     let Some(()) = fill(alloc, source) else {
         return None;
     };
-    let Some(report) = replicate(rt, alloc, source, target, at) else {
+    let Some(report) = replicate(rt, alloc, kind, source, target) else {
         return None;
     };
     let clean = is_clean(alloc, source, target);
@@ -102,25 +125,57 @@ fn ended<R: Threads + Wait + Sync>(
 }
 
 /// Runs into a target. A function of its own, because each value beside a peer adds to the proof.
-fn into_target<R: Threads + Wait + Sync>(
+fn into_target<G: Gate + Sync, R: Threads + Wait + Sync>(
     rt: &R,
     alloc: Global,
+    kind: &Kind<'_, G>,
     source: &mut Peer<Rules>,
 ) -> Option<(u64, u64, bool)> {
     let mut target = Peer::new(alloc, 2, Rules { deny: None });
-    ended(rt, alloc, source, &mut target)
+    ended(rt, alloc, kind, source, &mut target)
 }
 
 /// Runs between a source and a target.
-fn between<R: Threads + Wait + Sync>(rt: &R, alloc: Global) -> Option<(u64, u64, bool)> {
+fn between<G: Gate + Sync, R: Threads + Wait + Sync>(
+    rt: &R,
+    alloc: Global,
+    kind: &Kind<'_, G>,
+) -> Option<(u64, u64, bool)> {
     let mut source = Peer::new(alloc, 1, Rules { deny: None });
-    into_target(rt, alloc, &mut source)
+    into_target(rt, alloc, kind, &mut source)
+}
+
+/// Returns the result of a run by one worker, and of one by two fetchers and two writers.
+fn both<R: Threads + Wait + Sync>(
+    rt: &R,
+    alloc: Global,
+) -> Option<((u64, u64, bool), (u64, u64, bool))> {
+    let alone = between(
+        rt,
+        alloc,
+        &Kind {
+            gate: &Open,
+            workers: 1,
+        },
+    )?;
+    let apart = between(
+        rt,
+        alloc,
+        &Kind {
+            gate: &Separate,
+            workers: 2,
+        },
+    )?;
+    Some((alone, apart))
 }
 
 pub(crate) fn run<R: Print + Threads + Wait + Sync>(rt: &R, alloc: Global) -> Result<()> {
-    let Some((recorded, sequence, clean)) = between(rt, alloc) else {
+    let Some((alone, apart)) = both(rt, alloc) else {
         bail!("pools: another answer");
     };
+    let (recorded, sequence, clean) = alone;
     println!(rt; "pools as wanted: recorded {recorded}, sequence {sequence}, clean {clean}")?;
+    let (recorded, sequence, clean) = apart;
+    println!(rt; "two of each as wanted: recorded {recorded}, sequence {sequence}, clean {clean}")?;
     Ok(())
 }

@@ -1,2 +1,2 @@
 pub mod Doing
-pub use Doing.{is_done, makes}
+pub use Doing.{done_took, drawn_counts, is_done, makes, run_counts, standard}

@@ -1,5 +1,5 @@
 -- Running the program over any reader and writer: docs/PROFILE.md, "CouchDB's answers".
-use Rattle.std.specs.Prelude.{◌≡◌, ℕ, List, Bool, true, false, Option, Some, Result, Ok, Err, IfOk, String, string_bytes, option_map, ⊤}
+use Rattle.std.specs.Prelude.{◌≡◌, ◌⊎◌, ◌++◌, [], ℕ, List, OnOk, Bool, true, false, Option, Some, Result, Ok, Err, String, string_bytes, option_map, ⊤}
 use Rattle.std.specs.declared.alloc.Global.{Global}
 use Rattle.response_parser.specs.Reading.{Piece}
 use Rattle.response_parser.specs.Grammar.{IsAnswered}
@@ -8,12 +8,15 @@ use Rattle.response_parser.specs.ChangeGrammar.{IsChangeScript}
 use Rattle.response_parser.specs.declared.place.Wanted.{Wanted}
 use Rattle.response_parser.specs.declared.place.Wanted.TheVariants.{Documents, Enveloped, Bodies, Unfolded, Leaves as InFeed, Changes}
 use Rattle.response_output.specs.Words.{Words, loads_of, asked_of, diffs_of, docs_of, bodies_of}
-use Rattle.response_output.specs.Runs.{Answered, Stopped, ReadsAnswers}
+use Rattle.response_output.specs.Runs.{Converts, CountsOf, ReadsAnswers}
 use Rattle.response_output.specs.declared.run.AnswerFault.{AnswerFault}
-use Rattle.diagrams.specs.Drawing.{IsPictured}
+use Rattle.script_engine.specs.Faults.{IsFaultOf}
+use Rattle.script_engine.specs.declared.fault.ScriptFault.{ScriptFault}
+use Rattle.diagrams.specs.Drawing.{PicturedBy}
 use Rattle.diagrams.specs.declared.form.Form.{Form}
 use Rattle.diagrams.specs.declared.form.Form.TheVariants.{Text, Svg}
 use Rattle.couch_lines.specs.Tasks.{Says, Refuses}
+use Rattle.couch_lines.specs.Status.{unflushed}
 use Rattle.couch_lines.specs.declared.tasks.Task.{Task}
 use Rattle.couch_lines.specs.declared.tasks.Task.TheVariants.{Load, Ids, Diff, Leaves, Bulk, Trees}
 use Rattle.couch_lines.specs.declared.run.Ended.{Ended}
@@ -51,8 +54,7 @@ form_of false = Text
 
 -- The arguments are what the reader has left, and what the writer has accepted, before and after.
 abbrev pub IsDone : Task → Option (List ℕ) → Option (List ℕ) → Option (List ℕ) → Result ℕ AnswerFault → Type 0
-IsDone task left held held' (Ok passed) = Answered (wanted_of task) (words_of_task task) left held held' passed
-IsDone task left held held' (Err fault) = Stopped (wanted_of task) (words_of_task task) left held held' fault
+IsDone task left held held' result = Converts result (wanted_of task) (words_of_task task) left held held'
 
 -- The guarantees for input with known contents: each document in CouchDB responses gives a `load` line, in order, by
 -- its text or in its envelope; the documents in a script's output are written into bodies, and each leaf of its changes
@@ -68,12 +70,42 @@ Makes (Bulk n whole) left held held' result = (answers : List ℕ) → (document
     → IsScript (wanted_of (Bulk n whole)) answers documents → ReadsAnswers (bodies_of n) documents held held' result
 Makes (Trees db svg) left held held' result = ⊥
 
--- arguments without a task, or a failed allocation: nothing is read or written; otherwise the task is run, and only
--- `trees` draws
+-- If the arguments have no task, or an allocation fails, the run reads and writes no byte. Otherwise the task is run, and
+-- only `trees` draws.
 abbrev pub RunsWords : List (List ℕ) → Option (List ℕ) → Option (List ℕ) → Option (List ℕ) → Option (List ℕ) → Ended → Type 0
 RunsWords words left left' held held' (NotRun why) = Refuses words why × (left' ≡ left) × (held' ≡ held)
 RunsWords words left left' held held' (Ran run) =
     (task : Task) × Says words task × IsDone task left held held' run.ended × Makes task left held held' run.ended
 RunsWords words left left' held held' (Drawn ended) =
     (db : Option (String Global)) × (svg : Bool) × Says words (Trees db svg)
-    × IfOk ended (λ clean. IsPictured (form_of svg) (option_map string_bytes db) left held held' clean)
+    × PicturedBy ended (form_of svg) (option_map string_bytes db) left held held'
+
+-- The device that an error names failed in this call, and no other. The arguments are the reader's counts of reads,
+-- before and after, then the failure counts of the reader and of the writer.
+abbrev pub RunCounts : Result ℕ AnswerFault → ℕ → ℕ → ℕ → ℕ → ℕ → ℕ → Type 0
+RunCounts (Ok passed) reads reads' reader reader' writer writer' = (reader' ≡ reader) × (writer' ≡ writer)
+RunCounts (Err fault) reads reads' reader reader' writer writer' = CountsOf fault reads reads' reader reader' writer writer'
+
+abbrev pub DrawnCounts : Result Bool ScriptFault → ℕ → ℕ → ℕ → ℕ → ℕ → ℕ → Type 0
+DrawnCounts (Ok clean) reads reads' reader reader' writer writer' = (reader' ≡ reader) × (writer' ≡ writer)
+DrawnCounts (Err fault) reads reads' reader reader' writer writer' = IsFaultOf fault reads reads' reader reader' writer writer'
+
+abbrev pub EndedCounts : Ended → ℕ → ℕ → ℕ → ℕ → ℕ → ℕ → Type 0
+EndedCounts (NotRun why) reads reads' reader reader' writer writer' =
+    (reads' ≡ reads) × (reader' ≡ reader) × (writer' ≡ writer)
+EndedCounts (Ran run) reads reads' reader reader' writer writer' = RunCounts run.ended reads reads' reader reader' writer writer'
+EndedCounts (Drawn ended) reads reads' reader reader' writer writer' = DrawnCounts ended reads reads' reader reader' writer writer'
+
+-- If the run succeeded, this holds.
+abbrev pub IfDone : Ended → Type 0 → Type 0
+IfDone (NotRun why) holds = ⊤
+IfDone (Ran run) holds = OnOk run.ended holds
+IfDone (Drawn ended) holds = OnOk ended holds
+
+-- A run of the program on its standard streams. The arguments are the command line, the bytes that the reads returned,
+-- and whether they came to the end of the input. Then come the bytes that the output has accepted, and how the run ended.
+-- If the last output cannot be flushed, its rest is missing, and the run ends as `unflushed` says.
+abbrev pub RunsStandard : List (List ℕ) → List ℕ → Type 0 → List ℕ → Ended → Type 0
+RunsStandard words input all text ended =
+    (first : Ended) × (rest : List ℕ) × RunsWords words (Some input) (Some []) (Some []) (Some (text ++ rest)) first
+    × IfDone first all × (((rest ≡ []) × (ended ≡ first)) ⊎ (ended ≡ unflushed first))

@@ -1,5 +1,7 @@
 //! The program: its arguments, standard input and output, and exit status.
-ghost use Rattle.std.specs.Prelude.{◌≡◌, ◌≤◌};
+ghost use Rattle.std.specs.Prelude.{◌≡◌, ◌≤◌, ◌⊎◌, ℕ, List, Some, IfOk, map, string_bytes};
+ghost use Rattle.std.specs.Io.KnownBytes.{Keeps};
+ghost use Rattle.couch_lines.specs.Runs.{RunsStandard};
 ghost use Rattle.couch_lines.specs.Status.{drawn_status, ended_status, status_of, undrawn, unflushed, unwritten};
 
 use crate::options::NoTask;
@@ -10,9 +12,9 @@ use cli_common::{
 };
 use response_output::AnswerFault;
 use response_parser::Refusal;
-use script_engine::{OverRead, OverWrite, ScriptFault, ScriptWrite};
+use script_engine::{OverRead, OverWrite, Recorder, ScriptFault, ScriptRead, ScriptWrite};
 use std::env::Env;
-use std::io::{Eprint, Input, Print};
+use std::io::{Eprint, Input, Print, Printer, Write};
 use std::{io, str};
 
 /// Runs the program. Returns the exit status: 0; 1 if something was skipped; 2 for a usage error; 3 if the input is not
@@ -21,21 +23,47 @@ pub fn run_program<H: AllocGlobal + Env + Input + Print + Eprint>(rt: &H) -> u8
     ensures { result ≤ 3 }
 {
     match words_of(rt) {
-        Ok(words) => tell(rt, &run_standard(rt, words.as_slice())),
+        Ok(words) => match run_standard(rt, words.as_slice()) {
+            Ok((ended, _reader, _writer)) => tell(rt, &ended),
+            Err(_) => report_out_of_memory(rt),
+        },
         Err(error) => report_bad_arguments(rt, &error),
     }
 }
 
-/// Runs the program on standard input and output. Output is buffered, and flushed at the end.
-fn run_standard<H: AllocGlobal + Input + Print>(rt: &H, words: &[String]) -> Ended {
-    let Ok(mut writer) = OverWrite::new(rt.alloc(), io::writer(rt)) else {
-        return Ended::NotRun(NoTask::Memory);
-    };
+/// Runs the program on standard input and output. Returns how the run ended, and both streams, whose bytes the contract
+/// names. Output is buffered, and flushed at the end.
+///
+/// # Errors
+///
+/// `OutOfMemory`: the output buffer cannot be allocated. Nothing has been read or written.
+fn run_standard<'a, H>(
+    rt: &'a H,
+    words: &[String],
+) -> io::Result<(Ended, OverRead<H::Reader>, Recorder<Printer<'a, H>>)>
+where
+    H: AllocGlobal + Input + Print,
+    ensures { IfOk result (λ ran. (input : List ℕ) × (text : List ℕ)
+        × (⟦<OverRead<H::Reader> as ScriptRead>⟧.taken ran.1 ≡ Some input)
+        × (⟦<Recorder<Printer<'a, H>> as Write>⟧.contents ran.2 ≡ Some text)
+        × RunsStandard (map string_bytes words.now) input (⟦<OverRead<H::Reader> as ScriptRead>⟧.ended ran.1) text
+        ran.0) }
+{
+    let mut writer = OverWrite::new(rt.alloc(), Recorder::new(io::writer(rt)))?;
     let mut reader = OverRead::new(rt.reader());
-    let ended = run_words(rt.alloc(), words, &mut reader, &mut writer);
+    let first = run_words(rt.alloc(), words, &mut reader, &mut writer);
+    let ended = flushed(&mut writer, first);
+    Ok((ended, reader, writer.into_inner()))
+}
+
+/// Flushes the output. Returns how the run ended after that.
+fn flushed<W: ScriptWrite>(writer: &mut W, first: Ended) -> Ended
+    ensures kept { Keeps (W.held writer.old) (W.held writer.new) }
+    ensures flushed { (Keeps (W.held writer.new) (W.sent writer.new) × (result ≡ first)) ⊎ (result ≡ unflushed first) }
+{
     match writer.flush() {
-        Ok(()) => ended,
-        Err(_) => unflushed(ended),
+        Ok(()) => first,
+        Err(_) => unflushed(first),
     }
 }
 

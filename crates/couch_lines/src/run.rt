@@ -1,8 +1,9 @@
 //! A run of the program over any reader and writer.
-ghost use Rattle.std.specs.Prelude.{◌≡◌, IfOk, false, map, option_map, string_bytes};
+ghost use Rattle.std.specs.Prelude.{◌≡◌, ℕ, List, [], Some, IfOk, OnOk, false, map, option_map, string_bytes};
 ghost use Rattle.response_output.specs.Stored.{words_of_wording};
-ghost use Rattle.diagrams.specs.Drawing.{IsPictured};
-ghost use Rattle.couch_lines.specs.Runs.{RunsWords, IsDone, Makes, form_of, is_drawn, wanted_of, words_of_task};
+ghost use Rattle.std.specs.Io.KnownBytes.{Appends};
+ghost use Rattle.diagrams.specs.Drawing.{PicturedBy};
+ghost use Rattle.couch_lines.specs.Runs.{RunsWords, IfDone, EndedCounts, DrawnCounts, RunCounts, IsDone, Makes, form_of, is_drawn, wanted_of, words_of_task};
 
 use crate::options::{NoTask, read_words};
 use crate::tasks::Task;
@@ -41,8 +42,15 @@ pub fn run_words<'a, R: ScriptRead, W: ScriptWrite>(
     reader: &mut R,
     writer: &mut W,
 ) -> Ended
-    ensures { RunsWords (map string_bytes words.entry.now) (R.left reader.old) (R.left reader.new)
+    ensures runs { RunsWords (map string_bytes words.entry.now) (R.left reader.old) (R.left reader.new)
         (W.held writer.old) (W.held writer.new) result }
+    // The same for the bytes that the reads returned; on success they returned everything.
+    ensures took { (input : List ℕ) × Appends (R.taken reader.old) (R.taken reader.new) input
+        × RunsWords (map string_bytes words.entry.now) (Some input) (Some []) (W.held writer.old)
+        (W.held writer.new) result }
+    ensures ended { IfDone result (R.ended reader.new) }
+    ensures counts { EndedCounts result (R.reads reader.old) (R.reads reader.new) (R.failures reader.old)
+        (R.failures reader.new) (W.failures writer.old) (W.failures writer.new) }
 {
     let task = match read_words(alloc, words) {
         Ok(task) => task,
@@ -65,8 +73,14 @@ fn draw<R: ScriptRead, W: ScriptWrite>(
     reader: &mut R,
     writer: &mut W,
 ) -> Result<bool, ScriptFault>
-    ensures { IfOk result (λ clean. IsPictured (form_of svg) (option_map string_bytes db.now)
-        (R.left reader.old) (W.held writer.old) (W.held writer.new) clean) }
+    ensures drawn { PicturedBy result (form_of svg) (option_map string_bytes db.now)
+        (R.left reader.old) (W.held writer.old) (W.held writer.new) }
+    ensures took { (input : List ℕ) × Appends (R.taken reader.old) (R.taken reader.new) input
+        × PicturedBy result (form_of svg) (option_map string_bytes db.now) (Some input) (W.held writer.old)
+        (W.held writer.new) }
+    ensures ended { OnOk result (R.ended reader.new) }
+    ensures counts { DrawnCounts result (R.reads reader.old) (R.reads reader.new) (R.failures reader.old)
+        (R.failures reader.new) (W.failures writer.old) (W.failures writer.new) }
 {
     let form = form_of(svg);
     match db {
@@ -123,6 +137,12 @@ fn run_task<R: ScriptRead, W: ScriptWrite>(
     requires lines { is_drawn task.now ≡ false }
     ensures done { IsDone task.now (R.left reader.old) (W.held writer.old) (W.held writer.new) result.ended }
     ensures makes { Makes task.now (R.left reader.old) (W.held writer.old) (W.held writer.new) result.ended }
+    ensures took { (input : List ℕ) × Appends (R.taken reader.old) (R.taken reader.new) input
+        × IsDone task.now (Some input) (W.held writer.old) (W.held writer.new) result.ended
+        × Makes task.now (Some input) (W.held writer.old) (W.held writer.new) result.ended }
+    ensures ended { OnOk result.ended (R.ended reader.new) }
+    ensures counts { RunCounts result.ended (R.reads reader.old) (R.reads reader.new) (R.failures reader.old)
+        (R.failures reader.new) (W.failures writer.old) (W.failures writer.new) }
 {
     let mut reading = Reading::new(alloc, wanted_of(task));
     let ended = run_answers(alloc, &mut reading, &mut wording, reader, writer);

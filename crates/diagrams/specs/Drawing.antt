@@ -1,5 +1,5 @@
 -- The pictures of a script's output: docs/PROFILE.md, "Pictures".
-use Rattle.std.specs.Prelude.{◌≡◌, ℕ, ◌<◌, ◌≤◌, Bool, true, false, List, [], ◌∷◌, ◌++◌, Option, Some, None, Ok, Err, IsPermutation, map, codes, option_map, String, string_bytes, Vec, vec_len, chars}
+use Rattle.std.specs.Prelude.{◌≡◌, ℕ, ◌<◌, ◌≤◌, Bool, true, false, List, [], ◌∷◌, ◌++◌, Option, Some, None, Result, Ok, Err, IsPermutation, map, codes, option_map, String, string_bytes, Vec, vec_len, chars, ⊤}
 use Rattle.std.specs.declared.alloc.Global.{Global}
 use Rattle.std.specs.Borrow.{Bor}
 use Rattle.std.specs.Io.KnownBytes.{Appends}
@@ -7,7 +7,9 @@ use Rattle.rev_core.specs.Rev.{RevId}
 use Rattle.rev_core.specs.Ancestry.{head_of}
 use Rattle.script_engine.specs.Device.{Gives}
 use Rattle.script_engine.specs.Serving.{Answering}
-use Rattle.script_engine.specs.Script.{IsAnswered}
+use Rattle.script_engine.specs.Script.{AnswersCut, AnswersFirst, IsAnswered}
+use Rattle.script_engine.specs.declared.fault.ScriptFault.{ScriptFault}
+use Rattle.script_engine.specs.declared.fault.ScriptFault.TheVariants.{Read, Write, Memory, Cut}
 use Rattle.output_parser.specs.Lines.{Tells}
 use Rattle.output_parser.specs.declared.told.Found.{Found}
 use Rattle.output_parser.specs.declared.told.Log.{Log}
@@ -118,17 +120,61 @@ Pictures old line (Ok text) new = Takes old line new text
 Pictures old line (Err name) new =
     (name ≡ codes "Memory") × (new.begun ≡ None) × (new.form ≡ old.form) × (new.db ≡ old.db)
 
--- The picture of what the reader has left: a start, the drawings for its lines, and an end. No character of an input
--- text in it is hidden, and in SVG none is markup.
-pub record IsPictured (form : Form) (db : Option (List ℕ)) (left held held' : Option (List ℕ)) (clean : Bool) : Type 0 where
-  pub input : List ℕ
-  pub gives : Gives left input
+-- ---- everything from a reader
+
+-- Before the first line.
+abbrev pub first_sketch : Form → Option (List ℕ) → Sketch
+first_sketch form db = record { form = form; db = db; begun = None }
+
+-- A picture of a script's output: a start, the drawings for its lines, and an end. The flag says whether memory was
+-- sufficient for every line. No character of an input text in it is hidden, and in SVG none is markup.
+pub record IsPictureOf (form : Form) (db : Option (List ℕ)) (input : List ℕ) (clean : Bool) (picture : List ℕ) : Type 0 where
   pub head : List ℕ
   pub head_drawn : Draws [] head []
   pub text : List ℕ
   pub left_open : Sketch
-  pub answered : IsAnswered Pictures (record { form = form; db = db; begun = None }) input clean text left_open
+  pub answered : IsAnswered Pictures (first_sketch form db) input clean text left_open
   pub tail : List ℕ
   pub tail_drawn : Draws [] tail []
-  pub written : Appends held held' ((head ++ text) ++ tail)
+  pub parts : picture ≡ (head ++ text) ++ tail
   pub safe : (shows : List ℕ) → IsSafe form (shown form (chars shows))
+
+-- A picture of what the reader has left is written. The last arguments are what the reader has left, and what the
+-- writer has accepted, before and after.
+pub record IsPictured (form : Form) (db : Option (List ℕ)) (clean : Bool) (left held held' : Option (List ℕ)) : Type 0 where
+  pub input : List ℕ
+  pub gives : Gives left input
+  pub picture : List ℕ
+  pub pictured : IsPictureOf form db input clean picture
+  pub written : Appends held held' picture
+
+-- The start of a picture, and drawings of which this holds.
+abbrev pub BeginsPicture : (List ℕ → Type 0) → List ℕ → Type 0
+BeginsPicture holds text = (head : List ℕ) × Draws [] head [] × (drawn : List ℕ) × holds drawn × (text ≡ head ++ drawn)
+
+-- The text that is written before this error. After `Read` and `Memory` each drawing in it is complete, and after `Cut` it
+-- ends within a drawing.
+abbrev pub IsDrawnUntil : ScriptFault → Form → Option (List ℕ) → List ℕ → List ℕ → Type 0
+IsDrawnUntil Read form db input text = BeginsPicture (AnswersFirst Pictures (first_sketch form db) input) text
+IsDrawnUntil Write form db input text = ⊤
+IsDrawnUntil Memory form db input text = BeginsPicture (AnswersFirst Pictures (first_sketch form db) input) text
+IsDrawnUntil Cut form db input text = BeginsPicture (AnswersCut Pictures (first_sketch form db) input) text
+
+-- After an error, a prefix of a picture of what the reader has left is written. The last arguments are what the reader
+-- has left, and what the writer has accepted, before and after.
+pub record IsPicturedUntil (fault : ScriptFault) (form : Form) (db : Option (List ℕ)) (left held held' : Option (List ℕ)) : Type 0 where
+  pub input : List ℕ
+  pub gives : Gives left input
+  pub clean : Bool
+  pub picture : List ℕ
+  pub pictured : IsPictureOf form db input clean picture
+  pub text : List ℕ
+  pub missing : List ℕ
+  pub parts : picture ≡ text ++ missing
+  pub written : Appends held held' text
+  pub drawn : IsDrawnUntil fault form db input text
+
+-- A picture of what the reader has left is written, or after an error a prefix of such a picture.
+abbrev pub PicturedBy : Result Bool ScriptFault → Form → Option (List ℕ) → Option (List ℕ) → Option (List ℕ) → Option (List ℕ) → Type 0
+PicturedBy (Ok clean) form db left held held' = IsPictured form db clean left held held'
+PicturedBy (Err fault) form db left held held' = IsPicturedUntil fault form db left held held'

@@ -1,8 +1,11 @@
 //! Draws the output of a script.
-ghost use Rattle.std.specs.Prelude.{◌≡◌, [], Some, None, IfOk, OnOk, OnErr, option_map, string_bytes};
-ghost use Rattle.std.specs.Io.KnownBytes.{Keeps};
+ghost use Rattle.std.specs.Prelude.{◌≡◌, ℕ, List, ◌++◌, [], Some, None, IfOk, IfErr, OnOk, OnErr, option_map, string_bytes};
+ghost use Rattle.std.specs.Io.KnownBytes.{Appends, IsAtEnd, Keeps};
+ghost use Rattle.script_engine.specs.Device.{FailsOnce};
+ghost use Rattle.script_engine.specs.Faults.{IsFaultOf};
+ghost use Rattle.script_engine.specs.declared.fault.ScriptFault.TheVariants.{Write};
 ghost use Rattle.diagrams.specs.Ink.{Draws, signs_of, signs_of_found, signs_of_log, signs_of_row};
-ghost use Rattle.diagrams.specs.Drawing.{IsDrawn, IsPicture, IsPictured, Pictures, Takes, sketch_of};
+ghost use Rattle.diagrams.specs.Drawing.{IsDrawn, IsPicture, PicturedBy, Pictures, Takes, sketch_of};
 
 use crate::document::Document;
 use crate::form::Form;
@@ -165,8 +168,11 @@ impl Drawer<'_> {
 ///
 /// # Errors
 ///
-/// `Read` or `Write` if that device failed; `Memory` if an allocation failed between lines. A prefix of the output was
-/// written. The contract says nothing about errors.
+/// - `Read` or `Write`: that device failed in this call; `Read` also after 4,294,967,295 reads.
+/// - `Memory`: an allocation failed between lines, or for the end of the picture.
+///
+/// A prefix of the picture was written. Unless a write failed, it ends after the drawing for a line. The contract also
+/// allows `Cut`, after which it ends within a drawing.
 pub fn draw_answers<R: ScriptRead, W: ScriptWrite>(
     alloc: Global,
     form: Form,
@@ -174,8 +180,17 @@ pub fn draw_answers<R: ScriptRead, W: ScriptWrite>(
     reader: &mut R,
     writer: &mut W,
 ) -> Result<bool, ScriptFault>
-    ensures { IfOk result (λ clean. IsPictured form (option_map (λ s. s.now) db.entry)
-        (R.left reader.old) (W.held writer.old) (W.held writer.new) clean) }
+    ensures pictured { PicturedBy result form (option_map (λ s. s.now) db.entry)
+        (R.left reader.old) (W.held writer.old) (W.held writer.new) }
+    ensures end { OnOk result (IsAtEnd (R.left reader.new)) }
+    // The same for the bytes that the reads returned; on success they returned everything.
+    ensures took { (input : List ℕ) × Appends (R.taken reader.old) (R.taken reader.new) input
+        × PicturedBy result form (option_map (λ s. s.now) db.entry) (Some input) (W.held writer.old) (W.held writer.new) }
+    ensures ended { OnOk result (R.ended reader.new) }
+    ensures counted { OnOk result ((R.failures reader.new ≡ R.failures reader.old)
+        × (W.failures writer.new ≡ W.failures writer.old)) }
+    ensures counts { IfErr result (λ fault. IsFaultOf fault (R.reads reader.old) (R.reads reader.new)
+        (R.failures reader.old) (R.failures reader.new) (W.failures writer.old) (W.failures writer.new)) }
 {
     let mut drawer = Drawer {
         alloc,
@@ -187,17 +202,42 @@ pub fn draw_answers<R: ScriptRead, W: ScriptWrite>(
             height: 0,
         },
     };
-    write_all(writer, head_of(form).as_bytes())?;
-    let clean = run_lines(alloc, &mut drawer, reader, writer)?;
+    match write_all(writer, head_of(form).as_bytes()) {
+        Ok(()) => {}
+        Err(fault) => return Err(fault),
+    }
+    let clean = match run_lines(alloc, &mut drawer, reader, writer) {
+        Ok(clean) => clean,
+        Err(stopped) => return Err(stopped),
+    };
     let tail = tail_of(alloc, form, drawer.extent)?;
-    write_all(writer, tail.as_slice())?;
-    pass_on(writer)?;
-    Ok(clean)
+    match end(writer, tail.as_slice()) {
+        Ok(()) => Ok(clean),
+        Err(fault) => Err(fault),
+    }
+}
+
+/// Writes the end of a picture, and flushes the output.
+fn end<W: ScriptWrite>(writer: &mut W, tail: &[u8]) -> Result<(), ScriptFault>
+    ensures ok { OnOk result (Appends (W.held writer.old) (W.held writer.new) tail.now
+        × (W.failures writer.new ≡ W.failures writer.old)) }
+    ensures err { OnErr result ((front : List ℕ) × (back : List ℕ) × (tail.now ≡ front ++ back)
+        × Appends (W.held writer.old) (W.held writer.new) front
+        × FailsOnce (W.failures writer.old) (W.failures writer.new)) }
+    ensures fault { IfErr result (λ fault. fault ≡ Write) }
+{
+    match write_all(writer, tail) {
+        Ok(()) => pass_on(writer),
+        Err(fault) => Err(fault),
+    }
 }
 
 /// Flushes the output.
 fn pass_on<W: ScriptWrite>(writer: &mut W) -> Result<(), ScriptFault>
-    ensures { OnOk result (Keeps (W.held writer.old) (W.held writer.new)) }
+    ensures kept { Keeps (W.held writer.old) (W.held writer.new) }
+    ensures counted { OnOk result (W.failures writer.new ≡ W.failures writer.old) }
+    ensures err { IfErr result (λ fault. (fault ≡ Write)
+        × FailsOnce (W.failures writer.old) (W.failures writer.new)) }
 {
     match writer.flush() {
         Ok(()) => Ok(()),

@@ -18,6 +18,15 @@ pub struct Row {
     pub below: Vec<u32>,
 }
 
+/// A row off which a later leaf may branch.
+#[derive(Drop)]
+struct Branch {
+    /// The generation of the revision from which the row branches off.
+    hang: u32,
+    /// The index of the row.
+    row: usize,
+}
+
 impl Row {
     /// Whether a branch at this generation goes below the row.
     pub fn is_open(&self, generation: u32) -> bool {
@@ -30,13 +39,15 @@ pub fn rows_of(alloc: Global, leaves: &[Leaf]) -> Result<Vec<Row>, AllocError>
     ensures { IfOk result (λ rows. vec_len rows ≡ length leaves.now) }
 {
     let mut rows = Vec::new(alloc);
+    let mut branches = Vec::new(alloc);
     for i in 0..leaves.len() {
         let hang = if i == 0 {
             0
         } else {
             hang_of(&leaves[i - 1], &leaves[i])
         };
-        let parent = parent_of(rows.as_slice(), hang);
+        let parent = parent_of(&mut branches, hang);
+        branches.push(Branch { hang, row: i })?;
         rows.push(Row {
             hang,
             parent,
@@ -60,12 +71,15 @@ fn hang_of(before: &Leaf, leaf: &Leaf) -> u32 {
         .map_or(0, |rev| rev.generation())
 }
 
-/// The last row in which a revision of this generation is drawn.
-fn parent_of(rows: &[Row], hang: u32) -> usize {
-    for i in (0..rows.len()).rev() {
-        if rows[i].hang < hang {
-            return i;
+/// The last row in which a revision of this generation is drawn. Drops the rows after it: a later leaf that branches off
+/// one of them would branch off the row of this leaf instead.
+fn parent_of(branches: &mut Vec<Branch>, hang: u32) -> usize {
+    for _ in 0..branches.len() {
+        match branches.last() {
+            Some(branch) if branch.hang < hang => return branch.row,
+            _ => {}
         }
+        branches.pop();
     }
     0
 }

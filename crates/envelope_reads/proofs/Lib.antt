@@ -1,3 +1,3 @@
 pub mod Depths
 pub mod Sparing
-pub use Sparing.{doc_spares, given_spares, made_envelope, read_spared}
+pub use Sparing.{doc_spares, failed_read, given_spares, made_envelope, nothing_read, read_spared}

@@ -1,5 +1,7 @@
 -- The data of an envelope, and the errors of reading it as a document.
-use Rattle.proof_prelude.proofs.{◌≡◌, ℕ, List, [], ◌∷◌, ◌&&◌, ◌||◌, Bool, true, false, cond, codes, not, refl, sym, ap, subst, ◌∙◌, Option, Some, None, option_map, option_and_then, is_some, if◌then◌else◌, Result, Ok, Err, IfErr, inl, inr, length, ◌==◌, bytes_eq, nat_cmp, match_ordering, is_eq, slice_cmp, bytes_eq-Decides, is_eq-slice_cmp, is_utf8, Ordering, Less, Equal, Greater, filter}
+use Rattle.proof_prelude.proofs.{◌≡◌, ◌⊎◌, ℕ, List, [], ◌∷◌, ◌&&◌, ◌||◌, Bool, true, false, cond, codes, not, refl, sym, ap, subst, ◌∙◌, Option, Some, None, option_map, option_and_then, is_some, if◌then◌else◌, Result, Ok, Err, IfErr, inl, inr, length, ◌==◌, bytes_eq, nat_cmp, match_ordering, is_eq, slice_cmp, bytes_eq-Decides, is_eq-slice_cmp, is_utf8, Ordering, Less, Equal, Greater, filter}
+use Rattle.std.specs.Str.{IsUtf8}
+use Rattle.std.proofs.lemmas.Str.{IsUtf8-from_is_utf8}
 use Rattle.json.specs.Json as json
 use Rattle.json.specs.Token.{Token}
 use Rattle.json.specs.Lex.{tokens}
@@ -12,7 +14,8 @@ use Rattle.rev_core.specs.{◌>>=◌, or_refused, refused_if, named, RevId, rev_
 use Rattle.doc_envelope.specs.{may_stand, all_may_stand, is_envelope_value, is_envelope, envelope_of, enveloped, goes, members_of, joined}
 use Rattle.doc_json.specs.{has_unknown, is_unknown, plain_members, is_special, is_design, doc_id_read, doc_read, id_of, flag_of, revs_read, rev_of_text, rev_member, with_revisions, revisions_read, numbered_from, start_of, ids_read, alone, matched, agrees, GivesUnlessMemory, DocFault}
 use Rattle.doc_json.specs.declared.fault.DocFault.TheVariants as faults
-use Rattle.envelope_reads.specs.{looks_into, may_be, AllMayBe, IsSpared}
+use Rattle.doc_json.specs.Document.{Document}
+use Rattle.envelope_reads.specs.{looks_into, may_be, envelope_read, read_if_any, AllMayBe, IsSpared}
 use Rattle.envelope_reads.proofs.Depths.{value_within}
 
 -- ---- from JSON to data
@@ -297,6 +300,27 @@ pub given_spares : {A : Type 0} (r : Result A DocFault) (expected : Result A Doc
 given_spares (Ok x) expected h g = tt
 given_spares (Err e) expected h (inl is) = subst Spares is h
 given_spares (Err e) expected h (inr p) = ap looks_into p.0
+
+-- an error of reading a value as a document, unless an allocation failed
+pub failed_read : (d : Data) (why : DocFault) → GivesUnlessMemory {A = Document} (Err why) (doc_read d) → (read_if_any (Some d) ≡ Err why) ⊎ (why ≡ faults.Memory)
+failed_read d why (inl is) = inl (ap (λ r. r >>= λ doc. Ok (Some doc)) is)
+failed_read d why (inr p) = inr p.0
+
+-- the text of an envelope is UTF-8
+made_utf8 : (x made : List ℕ) → enveloped x ≡ Some made → IsUtf8 made
+made_utf8 x made e = by (is_utf8 (joined (filter goes (members_of x)))) (is_envelope (envelope_of x)) refl e where
+  first : (b c : Bool) → (b && c) ≡ true → b ≡ true
+  first true c h = refl
+  first false c h = absurd (cc)
+
+  by : (u i : Bool) → is_envelope (envelope_of x) ≡ i → cond (u && i) (Some (envelope_of x)) None ≡ Some made → IsUtf8 made
+  by true true h e = IsUtf8-from_is_utf8 made (subst (λ t. is_utf8 t ≡ true) (same_some (envelope_of x) made e) (first (is_utf8 (envelope_of x)) (is_envelope_value (json.document (envelope_of x))) h))
+  by true false h e = absurd (cc)
+  by false i h e = absurd (cc)
+
+-- a text that is UTF-8 and not read holds nothing
+pub nothing_read : (x made : List ℕ) → enveloped x ≡ Some made → (IsUtf8 made → read made ≡ None) → envelope_read x ≡ Ok None
+nothing_read x made e none = ap (λ o. read_if_any (option_and_then read o)) e ∙ ap read_if_any (none (made_utf8 x made e))
 
 -- the text of an envelope is the result
 pub made_envelope : (x made : List ℕ) → enveloped x ≡ Some made → is_envelope_value (json.document made) ≡ true

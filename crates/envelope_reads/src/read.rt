@@ -1,6 +1,8 @@
 //! Reading envelopes as documents.
-ghost use Rattle.std.specs.Prelude.{◌≡◌, false, IfErr};
+ghost use Rattle.std.specs.Prelude.{◌≡◌, ◌⊎◌, false, Some, Ok, Err, IfOk, IfErr};
 ghost use Rattle.envelope_reads.specs.Spared.{looks_into, IsSpared};
+ghost use Rattle.envelope_reads.specs.EnvelopeReads.{envelope_read, read_if_any};
+ghost use Rattle.doc_json.specs.declared.fault.DocFault.TheVariants as faults;
 ghost use Rattle.json_values.specs.LineView.{line_view};
 
 use doc_envelope::Envelope;
@@ -11,15 +13,19 @@ use std::alloc::Global;
 /// Wraps a document, and reads the envelope in the way `couch_replicate` reads the document of a `load` line. Returns
 /// `None` if the document cannot be wrapped, or the envelope is not read as JSON.
 ///
-/// The contract says only which errors do not occur: `Attachments`, `SpecialMember` and `Fraction`. Other errors may,
-/// for example for the id or the revisions. A successful result may be any value.
+/// # Errors
+///
+/// Those of `read_line_doc` for the envelope, except `Attachments`, `SpecialMember` and `Fraction`, which never occur;
+/// and `Memory` if an allocation failed.
 pub fn read_envelope(
     alloc: Global,
     envelope: &mut Envelope,
     reader: &mut ValueReader,
     document: &[u8],
 ) -> Result<Option<Doc>, DocFault>
-    ensures { IfErr result (λ why. looks_into why ≡ false) }
+    ensures ok { IfOk result (λ read. envelope_read document.now ≡ Ok read) }
+    ensures err { IfErr result (λ why. (envelope_read document.now ≡ Err why) ⊎ (why ≡ faults.Memory)) }
+    ensures spared { IfErr result (λ why. looks_into why ≡ false) }
 {
     if !envelope.put(document)? {
         return Ok(None);
@@ -35,7 +41,9 @@ pub fn read_envelope(
 /// Reads a line that is an envelope as a document.
 fn read_spared(alloc: Global, part: &LinePart<'_, '_>) -> Result<Option<Doc>, DocFault>
     requires { IsSpared (line_view part.now) }
-    ensures { IfErr result (λ why. looks_into why ≡ false) }
+    ensures ok { IfOk result (λ read. read_if_any (Some (line_view part.now)) ≡ Ok read) }
+    ensures err { IfErr result (λ why. (read_if_any (Some (line_view part.now)) ≡ Err why) ⊎ (why ≡ faults.Memory)) }
+    ensures spared { IfErr result (λ why. looks_into why ≡ false) }
 {
     match read_line_doc(alloc, part) {
         Ok(doc) => Ok(Some(doc)),

@@ -81,7 +81,7 @@ fn are_named(docs: &[DocLeaves], id: &str, revs: &Vec<String>) -> bool
 }
 
 /// Whether the first documents name each leaf of the second.
-pub(crate) fn name_all(docs: &[DocLeaves], named: &[DocLeaves]) -> bool
+pub fn name_all(docs: &[DocLeaves], named: &[DocLeaves]) -> bool
     ensures { result ≡ name_all (docs_view docs.now) (docs_view named.now) }
 {
     for doc in named {
@@ -128,7 +128,7 @@ fn push_doc(
 }
 
 /// Returns those of the documents' leaves that a response names as missing.
-pub(crate) fn missing_of(
+pub fn missing_of(
     alloc: Global,
     docs: &[DocLeaves],
     named: &[DocLeaves],

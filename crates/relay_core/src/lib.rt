@@ -11,6 +11,7 @@ mod relay;
 mod runs;
 mod settings;
 
+pub use leaves::{missing_of, name_all};
 pub use messages::{
     ChangesPage, Checkpoint, Counts, DocLeaves, Fault, LogEntry, Notice, Operation, RefusedLeaf,
     ReplicationLog, Request, Response, RowError, Side, Unaccounted,

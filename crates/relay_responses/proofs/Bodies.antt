@@ -1,5 +1,5 @@
 -- Bodies that are UTF-8, and bodies that are not.
-use Rattle.std.proofs.Common.{◌≡◌, Bool, true, false, Option, None, ◌∙◌, sym, refl, subst}
+use Rattle.std.proofs.Common.{◌≡◌, Bool, true, false, Option, None, sym, refl, subst}
 use Rattle.std.specs.Str.{IsUtf8, is_utf8}
 use Rattle.std.proofs.lemmas.Str.{IsUtf8-from_is_utf8, is_utf8-from_IsUtf8}
 use Rattle.json.specs.Json.{Json, document}

@@ -4,3 +4,4 @@ pub mod Diffs
 pub mod Logs
 pub mod Responses
 pub mod Parsed
+pub mod Maps

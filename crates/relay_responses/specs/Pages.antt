@@ -1,10 +1,22 @@
 -- A page of changes: docs/PROFILE.md, "Responses to the relay".
-use Rattle.std.specs.Prelude.{Bool, true, false, ◌||◌, if◌then◌else◌, List, [], ◌∷◌, ◌++◌, Option, None, Some, option_map, option_and_then, codes, fold, bytes_eq}
-use Rattle.std.specs.List.{list_any}
+use Rattle.std.specs.Prelude.{ℕ, ◌==◌, ◌&&◌, not, nat_le, Bool, false, if◌then◌else◌, List, [], ◌∷◌, ◌++◌, Option, None, Some, option_map, option_and_then, codes, fold, bytes_eq}
+use Rattle.std.specs.List.{list_any, list_all}
 use Rattle.json.specs.Json.{Json, null, boolean, number, string, array, object}
 use Rattle.json.specs.Find.{get}
 use Rattle.relay_core.specs.Messages.{Text, DocView, PageView}
 use Rattle.relay_responses.specs.Read.{text_at, items_at, both, sequence_at, each_item}
+
+-- whether a byte is not a control character of ASCII
+abbrev pub is_plain_byte : ℕ → Bool
+is_plain_byte b = nat_le 32 b && not (b == 127)
+
+-- a text that has no control character
+abbrev pub plain : Text → Option Text
+plain s = if list_all is_plain_byte s then Some s else None
+
+-- the revision of a change
+abbrev pub rev_in : Json → Option Text
+rev_in j = option_and_then plain (text_at (codes "rev") j)
 
 -- the leaves of a row, of which there must be one
 abbrev pub some_leaf : List Text → Option (List Text)
@@ -13,7 +25,7 @@ some_leaf (r ∷ rs) = Some (r ∷ rs)
 
 -- a document's id and its leaves
 abbrev pub row_in : Json → Option DocView
-row_in j = both (text_at (codes "id") j) (option_and_then some_leaf (option_and_then (each_item (text_at (codes "rev"))) (items_at (codes "changes") j)))
+row_in j = both (text_at (codes "id") j) (option_and_then some_leaf (option_and_then (each_item rev_in) (items_at (codes "changes") j)))
 
 abbrev pub rows_in : Json → Option (List DocView)
 rows_in j = option_and_then (each_item row_in) (items_at (codes "results") j)

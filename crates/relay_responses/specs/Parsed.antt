@@ -1,6 +1,5 @@
 -- What was parsed of a response.
 use Rattle.std.specs.Prelude.{⊤}
-use Rattle.std.specs.Global.{Global}
 use Rattle.json.specs.Json.{Json}
 use Rattle.json.specs.Tree.{HasNumbers}
 use Rattle.json.specs.Value.{value_view}

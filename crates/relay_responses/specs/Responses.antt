@@ -1,5 +1,5 @@
 -- A response of a server, as its request has it read: docs/PROFILE.md, "Responses to the relay" and "Faults of the relay".
-use Rattle.std.specs.Prelude.{ℕ, Bool, ◌==◌, ◌&&◌, ◌||◌, not, nat_le, nat_lt, ◌≡◌, ⊤, if◌then◌else◌, List, ◌++◌, Option, None, Some, option_and_then, codes}
+use Rattle.std.specs.Prelude.{ℕ, Bool, ◌==◌, ◌&&◌, ◌||◌, not, nat_le, nat_lt, if◌then◌else◌, List, ◌++◌, Option, None, Some, option_and_then, codes}
 use Rattle.std.specs.Option.{option_map_or}
 use Rattle.json.specs.Json.{Json}
 use Rattle.relay_core.specs.declared.messages.Side.{Side}
@@ -82,13 +82,3 @@ response_in (carry_docs docs) status who body = carry_response_in (side_or who S
 response_in (put_log side log checkpoint) status who body = put_response_in (side_or who side) status body
 response_in (tell notice) status who body = noted_response
 response_in (done fault counts recorded) status who body = noted_response
-
--- the response is what its request has it read as; of a page and of missing leaves nothing is said here
-abbrev pub IsReadAs : RequestView → ℕ → Option Side → Text → ResponseView → Type 0
-IsReadAs (get_log side) status who body r = r ≡ response_in (get_log side) status who body
-IsReadAs (get_changes since wait) status who body r = ⊤
-IsReadAs (revs_diff docs) status who body r = ⊤
-IsReadAs (carry_docs docs) status who body r = r ≡ response_in (carry_docs docs) status who body
-IsReadAs (put_log side log checkpoint) status who body r = r ≡ response_in (put_log side log checkpoint) status who body
-IsReadAs (tell notice) status who body r = r ≡ response_in (tell notice) status who body
-IsReadAs (done fault counts recorded) status who body r = r ≡ response_in (done fault counts recorded) status who body

@@ -1,19 +1,28 @@
 //! The missing leaves that a response to `_revs_diff` names.
+ghost use Rattle.std.specs.Prelude.{◌≡◌, [], IfOk, option_map};
+ghost use Rattle.json.specs.Find.{as_str};
+ghost use Rattle.json.specs.Value.{value_view, items_view, members_view};
+ghost use Rattle.relay_core.specs.Views.{texts_of, doc_view, docs_view};
+ghost use Rattle.relay_responses.specs.Read.{each_item};
+ghost use Rattle.relay_responses.specs.Diffs.{last_members, missing_at, each_missing, only_named, diff_in};
+ghost use Rattle.relay_responses.specs.Maps.{values_in};
 
 use crate::values::items_at;
-use indexmap::{IndexMap, IndexSet};
+use indexmap::IndexMap;
 use json::Value;
-use relay_core::DocLeaves;
+use relay_core::{DocLeaves, missing_of, name_all};
 use std::alloc::{AllocError, Global};
 
-/// An id and a revision.
-type Leaf<'a> = (&'a str, &'a str);
+/// The members of an object, by name.
+type Members<'v, 'a> = IndexMap<&'a str, &'v Value<'a>>;
 
 /// Returns the members of an object, each name once: its last member counts.
 fn last_members<'v, 'a>(
     alloc: Global,
     members: &'v Vec<(&'a str, Value<'a>)>,
-) -> Result<IndexMap<&'a str, &'v Value<'a>>, AllocError> {
+) -> Result<Members<'v, 'a>, AllocError>
+    ensures { IfOk result (λ m. values_in m.entries ≡ last_members [] (members_view members.now.items)) }
+{
     let mut found = IndexMap::new(alloc);
     for member in members {
         found.insert(member.0, &member.1)?;
@@ -21,94 +30,67 @@ fn last_members<'v, 'a>(
     Ok(found)
 }
 
-/// Adds the missing leaves of a document, and returns whether the value is a list of them.
-fn add_missing<'a>(
-    leaves: &mut Vec<Leaf<'a>>,
-    id: &'a str,
-    value: &Value<'a>,
-) -> Result<bool, AllocError> {
-    let Some(items) = items_at(value, "missing") else {
-        return Ok(false);
-    };
+/// Returns the strings of a list, if each item is a string.
+fn strings_of(alloc: Global, items: &Vec<Value<'_>>) -> Result<Option<Vec<String>>, AllocError>
+    ensures { IfOk result (λ o. option_map (λ v. texts_of v.items) o ≡ each_item as_str (items_view items.now.items)) }
+{
+    let mut strings = Vec::new(alloc);
     for item in items {
-        let Some(rev) = item.as_str() else {
-            return Ok(false);
-        };
-        leaves.push((id, rev))?;
-    }
-    Ok(true)
-}
-
-/// Returns the leaves that an object names as missing.
-fn named_in<'a>(
-    alloc: Global,
-    members: &Vec<(&'a str, Value<'a>)>,
-) -> Result<Option<Vec<Leaf<'a>>>, AllocError> {
-    let last = last_members(alloc, members)?;
-    let mut leaves = Vec::new(alloc);
-    for (id, value) in last.iter() {
-        if !add_missing(&mut leaves, id, value)? {
+        let Some(text) = item.as_str() else {
             return Ok(None);
-        }
+        };
+        strings.push(String::from_str(alloc, text)?)?;
     }
-    Ok(Some(leaves))
+    Ok(Some(strings))
 }
 
-/// Returns all leaves of documents.
-fn all_leaves<'a>(alloc: Global, docs: &'a [DocLeaves]) -> Result<Vec<Leaf<'a>>, AllocError> {
-    let mut leaves = Vec::new(alloc);
-    for doc in docs {
-        for rev in &doc.revs {
-            leaves.push((doc.id.as_str(), rev.as_str()))?;
-        }
-    }
-    Ok(leaves)
+/// Returns the missing leaves of a document, if the value names them.
+fn missing_at(alloc: Global, id: &str, value: &Value<'_>) -> Result<Option<DocLeaves>, AllocError>
+    ensures { IfOk result (λ o. option_map doc_view o ≡ missing_at (id.now, value_view value.now)) }
+{
+    let Some(items) = items_at(value, "missing") else {
+        return Ok(None);
+    };
+    let Some(revs) = strings_of(alloc, items)? else {
+        return Ok(None);
+    };
+    let id = String::from_str(alloc, id)?;
+    Ok(Some(DocLeaves { id, revs }))
 }
 
-/// Returns leaves as a set.
-fn set_of<'a>(alloc: Global, leaves: &[Leaf<'a>]) -> Result<IndexSet<Leaf<'a>>, AllocError> {
-    let mut set = IndexSet::with_capacity(alloc, leaves.len())?;
-    for leaf in leaves {
-        set.insert(*leaf)?;
-    }
-    Ok(set)
-}
-
-/// Returns the revisions of a document that are among these leaves.
-fn only_revs(
+/// Returns the missing leaves that members name, if each of them names leaves.
+fn each_missing(
     alloc: Global,
-    leaves: &IndexSet<Leaf<'_>>,
-    doc: &DocLeaves,
-) -> Result<Vec<String>, AllocError> {
-    let mut revs = Vec::new(alloc);
-    for rev in &doc.revs {
-        if leaves.contains(&(doc.id.as_str(), rev.as_str())) {
-            revs.push(String::from_str(alloc, rev.as_str())?)?;
+    members: &Members<'_, '_>,
+) -> Result<Option<Vec<DocLeaves>>, AllocError>
+    ensures { IfOk result (λ o. option_map (λ v. docs_view v.items) o ≡ each_missing (values_in members.now.entries)) }
+{
+    let mut docs = Vec::new(alloc);
+    for i in 0..members.len() {
+        let Some((id, value)) = members.get_index(i) else {
+            return Ok(Some(docs));
+        };
+        match missing_at(alloc, id, value)? {
+            Some(doc) => docs.push(doc)?,
+            None => return Ok(None),
         }
     }
-    Ok(revs)
+    Ok(Some(docs))
 }
 
-/// Returns of each document the leaves that are among these.
-fn only(
+/// Returns those of the documents' leaves that a response names as missing, if it names no other leaf.
+fn only_named(
     alloc: Global,
-    leaves: &IndexSet<Leaf<'_>>,
     docs: &[DocLeaves],
-) -> Result<Vec<DocLeaves>, AllocError> {
-    let mut found = Vec::new(alloc);
-    for doc in docs {
-        let revs = only_revs(alloc, leaves, doc)?;
-        if !revs.is_empty() {
-            let id = String::from_str(alloc, doc.id.as_str())?;
-            found.push(DocLeaves { id, revs })?;
-        }
+    named: &[DocLeaves],
+) -> Result<Option<Vec<DocLeaves>>, AllocError>
+    ensures { IfOk result (λ o. option_map (λ v. docs_view v.items) o ≡ only_named (docs_view docs.now) (docs_view named.now)) }
+{
+    if !name_all(docs, named) {
+        return Ok(None);
     }
-    Ok(found)
-}
-
-/// Returns whether each leaf is among these.
-fn are_among(leaves: &[Leaf<'_>], set: &IndexSet<Leaf<'_>>) -> bool {
-    leaves.iter().all(|leaf| set.contains(leaf))
+    let missing = missing_of(alloc, docs, named)?;
+    Ok(Some(missing))
 }
 
 /// Returns the missing leaves that a value names, in the order of the request. None but requested leaves may be named.
@@ -116,19 +98,15 @@ pub(crate) fn diff_of(
     alloc: Global,
     docs: &[DocLeaves],
     value: &Value<'_>,
-) -> Result<Option<Vec<DocLeaves>>, AllocError> {
+) -> Result<Option<Vec<DocLeaves>>, AllocError>
+    ensures { IfOk result (λ o. option_map (λ v. docs_view v.items) o ≡ diff_in (docs_view docs.now) (value_view value.now)) }
+{
     let Value::Object(members) = value else {
         return Ok(None);
     };
-    let Some(named) = named_in(alloc, members)? else {
+    let members = last_members(alloc, members)?;
+    let Some(named) = each_missing(alloc, &members)? else {
         return Ok(None);
     };
-    let requested = all_leaves(alloc, docs)?;
-    let requested = set_of(alloc, requested.as_slice())?;
-    if !are_among(named.as_slice(), &requested) {
-        return Ok(None);
-    }
-    let named = set_of(alloc, named.as_slice())?;
-    let found = only(alloc, &named, docs)?;
-    Ok(Some(found))
+    only_named(alloc, docs, named.as_slice())
 }

@@ -3,8 +3,10 @@ ghost use Rattle.std.specs.Prelude.{◌≡◌, IfOk, OnOk, codes, map, option_ma
 ghost use Rattle.json.specs.Value.{value_view, items_view};
 ghost use Rattle.json.specs.Find.{get};
 ghost use Rattle.relay_core.specs.Views.{texts_of, doc_view, docs_view, page_view};
-ghost use Rattle.relay_responses.specs.Read.{text_at, each_item};
-ghost use Rattle.relay_responses.specs.Pages.{some_leaf, row_in, add_revs, add_row, merged, pending_of, is_zero, page_in};
+ghost use Rattle.std.specs.List.{list_all};
+ghost use Rattle.relay_responses.specs.Read.{each_item};
+ghost use Rattle.relay_responses.specs.Maps.{texts_in, texts_or_none, docs_in};
+ghost use Rattle.relay_responses.specs.Pages.{is_plain_byte, plain, rev_in, some_leaf, row_in, add_revs, add_row, merged, pending_of, is_zero, page_in};
 
 use crate::values::{copied, items_at, sequence_at, text_at};
 use indexmap::{IndexMap, IndexSet};
@@ -15,14 +17,42 @@ use std::alloc::{AllocError, Global};
 /// The leaves of documents, by id.
 type Docs<'a> = IndexMap<&'a str, IndexSet<&'a str>>;
 
+/// Returns whether no byte is a control character of ASCII.
+fn are_plain(bytes: &[u8]) -> bool
+    ensures { result ≡ list_all is_plain_byte bytes.now }
+{
+    bytes.iter().all(|b| *b >= 32 && *b != 127)
+}
+
+/// Returns a text that has no control character, so that a line that has the text is one line.
+fn plain<'a>(text: &'a str) -> Option<&'a str>
+    ensures { option_map (λ s. s.now) result ≡ plain text.now }
+{
+    if are_plain(text.as_bytes()) {
+        Some(text)
+    } else {
+        None
+    }
+}
+
+/// Returns the revision of a change.
+fn rev_of<'v, 'a>(change: &'v Value<'a>) -> Option<&'a str>
+    ensures { option_map (λ s. s.now) result ≡ rev_in (value_view change.now) }
+{
+    match text_at(change, "rev") {
+        Some(rev) => plain(rev),
+        None => None,
+    }
+}
+
 /// Returns the revisions of a list of changes.
 fn revs_of(alloc: Global, changes: &Vec<Value<'_>>) -> Result<Option<Vec<String>>, AllocError>
     ensures { IfOk result (λ o. option_map (λ v. texts_of v.items) o
-        ≡ each_item (text_at (codes "rev")) (items_view changes.now.items)) }
+        ≡ each_item rev_in (items_view changes.now.items)) }
 {
     let mut revs = Vec::new(alloc);
     for change in changes {
-        let Some(rev) = text_at(change, "rev") else {
+        let Some(rev) = rev_of(change) else {
             return Ok(None);
         };
         revs.push(String::from_str(alloc, rev)?)?;
@@ -65,26 +95,40 @@ fn rows_of(alloc: Global, items: &Vec<Value<'_>>) -> Result<Option<Vec<DocLeaves
 }
 
 /// Adds those of the revisions that are new.
-fn add_revs<'a>(known: &mut IndexSet<&'a str>, revs: &'a [String]) -> Result<(), AllocError> {
+fn add_revs<'a>(known: &mut IndexSet<&'a str>, revs: &'a [String]) -> Result<(), AllocError>
+    ensures { OnOk result (texts_in known.new.keys ≡ add_revs (texts_in known.old.keys) (texts_of revs.now)) }
+{
     for rev in revs {
         known.insert(rev.as_str())?;
     }
     Ok(())
 }
 
-/// Adds the leaves of a row.
-fn add_row<'a>(alloc: Global, docs: &mut Docs<'a>, row: &'a DocLeaves) -> Result<(), AllocError> {
-    let mut revs = match docs.insert(row.id.as_str(), IndexSet::new(alloc))? {
+/// Returns a set, or an empty set if there is none.
+fn known_or_empty<'a>(alloc: Global, known: Option<IndexSet<&'a str>>) -> IndexSet<&'a str>
+    ensures { texts_in result.keys ≡ texts_or_none known.entry }
+{
+    match known {
         Some(known) => known,
         None => IndexSet::new(alloc),
-    };
+    }
+}
+
+/// Adds the leaves of a row.
+fn add_row<'a>(alloc: Global, docs: &mut Docs<'a>, row: &'a DocLeaves) -> Result<(), AllocError>
+    ensures { OnOk result (docs_in docs.new.entries ≡ add_row (docs_in docs.old.entries) (doc_view row.now)) }
+{
+    let known = docs.insert(row.id.as_str(), IndexSet::new(alloc))?;
+    let mut revs = known_or_empty(alloc, known);
     add_revs(&mut revs, row.revs.as_slice())?;
     docs.insert(row.id.as_str(), revs)?;
     Ok(())
 }
 
 /// Returns copies of revisions.
-fn copied_revs(alloc: Global, revs: &[&str]) -> Result<Vec<String>, AllocError> {
+fn copied_revs(alloc: Global, revs: &[&str]) -> Result<Vec<String>, AllocError>
+    ensures { IfOk result (λ v. texts_of v.items ≡ texts_in revs.now) }
+{
     let mut copies = Vec::with_capacity(alloc, revs.len())?;
     for rev in revs {
         copies.push(String::from_str(alloc, rev)?)?;
@@ -93,40 +137,37 @@ fn copied_revs(alloc: Global, revs: &[&str]) -> Result<Vec<String>, AllocError> 
 }
 
 /// Returns a document with its leaves.
-fn copied_doc(alloc: Global, id: &str, revs: &IndexSet<&str>) -> Result<DocLeaves, AllocError> {
+fn copied_doc(alloc: Global, id: &str, revs: &IndexSet<&str>) -> Result<DocLeaves, AllocError>
+    ensures { IfOk result (λ d. doc_view d ≡ (id.now, texts_in revs.now.keys)) }
+{
     let id = String::from_str(alloc, id)?;
     let revs = copied_revs(alloc, revs.as_slice())?;
     Ok(DocLeaves { id, revs })
 }
 
 /// Returns documents with their leaves.
-fn copied_docs(alloc: Global, docs: &Docs<'_>) -> Result<Vec<DocLeaves>, AllocError> {
+fn copied_docs(alloc: Global, docs: &Docs<'_>) -> Result<Vec<DocLeaves>, AllocError>
+    ensures { IfOk result (λ v. docs_view v.items ≡ docs_in docs.now.entries) }
+{
     let mut copies = Vec::with_capacity(alloc, docs.len())?;
     for i in 0..docs.len() {
-        if let Some((id, revs)) = docs.get_index(i) {
-            copies.push(copied_doc(alloc, id, revs)?)?;
-        }
+        let Some((id, revs)) = docs.get_index(i) else {
+            return Ok(copies);
+        };
+        copies.push(copied_doc(alloc, id, revs)?)?;
     }
     Ok(copies)
 }
 
 /// Returns each document once, with the leaves of all its rows.
-fn merged(alloc: Global, rows: &[DocLeaves]) -> Result<Vec<DocLeaves>, AllocError> {
+fn merged(alloc: Global, rows: &[DocLeaves]) -> Result<Vec<DocLeaves>, AllocError>
+    ensures { IfOk result (λ v. docs_view v.items ≡ merged (docs_view rows.now)) }
+{
     let mut docs = IndexMap::new(alloc);
     for row in rows {
         add_row(alloc, &mut docs, row)?;
     }
     copied_docs(alloc, &docs)
-}
-
-/// Whether a text has no control character, so that a line that names it is one line.
-fn is_plain(text: &str) -> bool {
-    text.as_bytes().iter().all(|b| *b >= 32 && *b != 127)
-}
-
-/// Whether no revision of a row has a control character.
-fn has_plain_revs(row: &DocLeaves) -> bool {
-    row.revs.iter().all(|rev| is_plain(rev.as_str()))
 }
 
 /// Returns the number of documents after a page, if it is given.
@@ -155,16 +196,15 @@ fn is_zero(pending: &Option<String>) -> bool
 }
 
 /// Returns the page that a value is.
-pub(crate) fn page_of(alloc: Global, value: &Value<'_>) -> Result<Option<ChangesPage>, AllocError> {
+pub(crate) fn page_of(alloc: Global, value: &Value<'_>) -> Result<Option<ChangesPage>, AllocError>
+    ensures { IfOk result (λ o. option_map page_view o ≡ page_in (value_view value.now)) }
+{
     let Some(items) = items_at(value, "results") else {
         return Ok(None);
     };
     let Some(rows) = rows_of(alloc, items)? else {
         return Ok(None);
     };
-    if !rows.iter().all(|row| has_plain_revs(row)) {
-        return Ok(None);
-    }
     let Some(last_seq) = sequence_at(value, "last_seq") else {
         return Ok(None);
     };

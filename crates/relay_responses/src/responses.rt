@@ -4,7 +4,7 @@ ghost use Rattle.relay_core.specs.declared.messages.Operation.TheVariants.{ReadL
 ghost use Rattle.relay_core.specs.Messages.{log_response};
 ghost use Rattle.relay_responses.specs.Logs.{no_log};
 ghost use Rattle.relay_core.specs.Views.{docs_view, request_view, response_view};
-ghost use Rattle.relay_responses.specs.Responses.{is_rejection, json_response, side_or, log_response_in, page_response_in, diff_response_in, carry_response_in, put_response_in, IsReadAs};
+ghost use Rattle.relay_responses.specs.Responses.{is_rejection, json_response, side_or, log_response_in, page_response_in, diff_response_in, carry_response_in, put_response_in, response_in};
 
 use crate::diffs::diff_of;
 use crate::logs::{is_stored, log_of};
@@ -62,7 +62,9 @@ fn page_response(
     from: Side,
     status: u16,
     body: &[u8],
-) -> Result<Response, AllocError> {
+) -> Result<Response, AllocError>
+    ensures { IfOk result (λ r. response_view r ≡ page_response_in from status body.now) }
+{
     match parsed_if_success(alloc, scratch, from, Operation::Changes, status, body)? {
         Parsed::Json(value) => match page_of(alloc, &value)? {
             Some(page) => Ok(Response::Page(page)),
@@ -80,7 +82,9 @@ fn diff_response(
     from: Side,
     status: u16,
     body: &[u8],
-) -> Result<Response, AllocError> {
+) -> Result<Response, AllocError>
+    ensures { IfOk result (λ r. response_view r ≡ diff_response_in (docs_view docs.now) from status body.now) }
+{
     match parsed_if_success(alloc, scratch, from, Operation::RevsDiff, status, body)? {
         Parsed::Json(value) => match diff_of(alloc, docs, &value)? {
             Some(missing) => Ok(Response::Missing(missing)),
@@ -166,7 +170,7 @@ pub fn read_response(
     who: Option<Side>,
     body: &[u8],
 ) -> Result<Response, AllocError>
-    ensures { IfOk result (λ r. IsReadAs (request_view request.now) status who body.now (response_view r)) }
+    ensures { IfOk result (λ r. response_view r ≡ response_in (request_view request.now) status who body.now) }
 {
     match request {
         Request::GetLog(side) => log_response(

@@ -12,4 +12,4 @@ pub use Places.{IsOnTheWay, at_of, changed_at, down, down_ended, down_hop, each_
 pub use Places.{takes_next, takes_refused, there_at, tied_two, two_filters, unchanged_at, up, up_ended, up_hop, whole_vector}
 pub use Chains.{gathers_next, hub_spread, spreads_next}
 pub use Closed.{added_net, edit_net, hop_net, load_net}
-pub use Makes.{added_made, edit_made, hop_made, made_agree}
+pub use Makes.{added_made, edit_made, hop_made, load_made, made_agree}

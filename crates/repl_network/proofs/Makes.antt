@@ -2,9 +2,10 @@
 use Rattle.proof_prelude.proofs.{◌≡◌, ℕ, Bool, true, false, List, [], ◌∷◌, ◌++◌, ◌⊎◌, length, Option, Some, None, is_some, Result, Ok, Err, refl, sym, ap, ◌∙◌, subst, inl, inr, bytes_eq, option_to_list, get, get-empty, eq_by_cmp, false≢true, cases_Bool, cond_both, same_Some, bytes_eq-Decides}
 use Rattle.rev_core.specs.{RevId, rev_cmp, rev_tie_is, edges_of, edit_rev}
 use Rattle.rev_tree.specs.{ContentValue, TreeValue, at_head, Agree, IsGrownBy}
+use Rattle.doc_json.specs.Document.{Document}
 use Rattle.couch_base.specs.{Id, tree_of, content_of, edited, edit_document, BaseFault}
-use Rattle.repl_peer.specs.{PeerValue, new_peer, after_edit}
-use Rattle.repl_network.specs.{Hop, IsAt, peers_of, tree_alone, IsRooted, IsRootedAt, IsChangedAt, EditValue, Makes, IsMadeBy, AllMadeBy, HaveNoCollision, IsOneOf, MadeAgree, StaysMade}
+use Rattle.repl_peer.specs.{PeerValue, new_peer, after_edit, after_load}
+use Rattle.repl_network.specs.{Hop, IsAt, peers_of, tree_alone, IsRooted, IsRootedAt, IsChangedAt, EditValue, Makes, IsMadeBy, AllMadeBy, HaveNoCollision, IsOneOf, MadeAgree, StaysMade, StaysMadeExcept}
 use Rattle.repl_network.specs.Hopped.{Hopped}
 use Rattle.repl_network.proofs.Trees.{alone, IsWhole-grown}
 use Rattle.repl_network.proofs.Edits.{edit_rooted, edit_makes, sig_of}
@@ -52,6 +53,11 @@ module _ (among : EditValue → Bool) where
       let x = was peers hop peers' h n p at in
       grown (tree_of x.0.db.docs id) (tree_of h.source.db.docs id) (tree_of p.db.docs id) (x.2.grown id) (made n x.0 x.1) (made hop.from h.source h.from)
 
+  other_stays : (peers : List PeerValue) (place : ℕ) (d : Document) (peers' : List PeerValue) → IsChangedAt place (λ p. after_load p d) peers peers' → (other : Id) → bytes_eq d.id other ≡ false → AllMadeBy among peers other → AllMadeBy among peers' other
+  other_stays peers place d peers' w other apart made n p at =
+      let x = writes.same_at peers place d peers' w other apart n p at (writes.where_is peers place d peers' w n) in
+      subst (IsMadeBy among) (sym x.2) (made n x.0 x.1)
+
   -- the document of an edit, without its origin
   module _ (id : Id) (deleted : Bool) (body : List ℕ) (rev : RevId) where
     edge_of : (before : Option RevId) → edit_rev before deleted body ≡ Ok rev → among (record { before = before; deleted = deleted; body = body }) ≡ true → (c p : RevId) → get (tree_alone (edit_document id (rev, before) deleted body)).parents c ≡ Some p
@@ -72,38 +78,43 @@ module _ (among : EditValue → Bool) where
         (sym (alone (at_head (rev ∷ option_to_list before) (content_of deleted body)) r) ∙ h)
 
   module _ (peers : List PeerValue) (place : ℕ) (id : Id) (parent : Option RevId) (deleted : Bool) (body : List ℕ) (peers' : List PeerValue) (w : IsChangedAt place (λ p. after_edit p id parent deleted body) peers peers')
-      (one : IsOneOf among peers place id parent deleted body) where
-    own_made : (e : RevId × Option RevId) → edited w.before.db id parent deleted body ≡ Ok e → AllMadeBy among peers id → AllMadeBy among peers' id
-    own_made e is made n p at =
-        let d = edit_document id e deleted body in
-        let put = writes.put_of peers place id parent deleted body peers' w e is in
-        let x = writes.tree_at peers place d peers' put n p at (writes.where_is peers place d peers' put n) in
-        let was = made n x.0 x.1 in
-        let makes = edit_makes w.before.db id parent deleted body e is in
-        let rooted : IsRootedAt peers place d = λ q here. subst (λ (y : PeerValue). IsRooted y.db d) (writes.one_peer peers place w.before q w.at here) (edit_rooted w.before.db id parent deleted body e is) in
-        record {
-          parents = λ c q h. elim (x.2.parents c q h) [ inl own ↦ was.parents c q own | inr new ↦ edge_of id deleted body e.0 e.1 makes (one w.before w.at e is) c q new ];
-          contents = λ r b h. elim (x.2.contents r b h) [ inl own ↦ was.contents r b own | inr new ↦ content_at id deleted body e.0 e.1 makes (one w.before w.at e is) r b new ];
-          whole = writes.wrote_whole peers place d peers' put (λ m q k. (made m q k).whole) rooted n p at;
-        }
+    where
+      own_made : IsOneOf among peers place id parent deleted body → (e : RevId × Option RevId) → edited w.before.db id parent deleted body ≡ Ok e → AllMadeBy among peers id → AllMadeBy among peers' id
+      own_made one e is made n p at =
+          let d = edit_document id e deleted body in
+          let put = writes.put_of peers place id parent deleted body peers' w e is in
+          let x = writes.tree_at peers place d peers' put n p at (writes.where_is peers place d peers' put n) in
+          let was = made n x.0 x.1 in
+          let makes = edit_makes w.before.db id parent deleted body e is in
+          let rooted : IsRootedAt peers place d = λ q here. subst (λ (y : PeerValue). IsRooted y.db d) (writes.one_peer peers place w.before q w.at here) (edit_rooted w.before.db id parent deleted body e is) in
+          record {
+            parents = λ c q h. elim (x.2.parents c q h) [ inl own ↦ was.parents c q own | inr new ↦ edge_of id deleted body e.0 e.1 makes (one w.before w.at e is) c q new ];
+            contents = λ r b h. elim (x.2.contents r b h) [ inl own ↦ was.contents r b own | inr new ↦ content_at id deleted body e.0 e.1 makes (one w.before w.at e is) r b new ];
+            whole = writes.wrote_whole peers place d peers' put (λ m q k. (made m q k).whole) rooted n p at;
+          }
 
-    other_made : (e : RevId × Option RevId) → edited w.before.db id parent deleted body ≡ Ok e → (other : Id) → bytes_eq id other ≡ false → AllMadeBy among peers other → AllMadeBy among peers' other
-    other_made e is other apart made n p at =
-        let d = edit_document id e deleted body in
-        let put = writes.put_of peers place id parent deleted body peers' w e is in
-        let x = writes.same_at peers place d peers' put other apart n p at (writes.where_is peers place d peers' put n) in
-        subst (IsMadeBy among) (sym x.2) (made n x.0 x.1)
+      other_made : (e : RevId × Option RevId) → edited w.before.db id parent deleted body ≡ Ok e → (other : Id) → bytes_eq id other ≡ false → AllMadeBy among peers other → AllMadeBy among peers' other
+      other_made e is other apart made n p at =
+          other_stays peers place (edit_document id e deleted body) peers' (writes.put_of peers place id parent deleted body peers' w e is) other apart made n p at
 
-    made_by : (r : Result (RevId × Option RevId) BaseFault) → edited w.before.db id parent deleted body ≡ r → (at : Id) → AllMadeBy among peers at → AllMadeBy among peers' at
-    made_by (Err why) is at made = λ n p here. made n p (writes.before_at peers peers' (writes.none_of peers place id parent deleted body peers' w why is) n p here)
-    made_by (Ok e) is at made =
-        elim (cases_Bool (bytes_eq id at)) [
-          | inl same ↦ (let equal = (bytes_eq-Decides id at).0 same in subst (AllMadeBy among peers') equal (own_made e is (subst (AllMadeBy among peers) (sym equal) made)))
-          | inr apart ↦ other_made e is at apart made
-        ]
+      made_by : (r : Result (RevId × Option RevId) BaseFault) → edited w.before.db id parent deleted body ≡ r → (at : Id) → (at ≡ id → IsOneOf among peers place id parent deleted body) → AllMadeBy among peers at → AllMadeBy among peers' at
+      made_by (Err why) is at one made = λ n p here. made n p (writes.before_at peers peers' (writes.none_of peers place id parent deleted body peers' w why is) n p here)
+      made_by (Ok e) is at one made =
+          elim (cases_Bool (bytes_eq id at)) [
+            | inl same ↦ (let equal = (bytes_eq-Decides id at).0 same in subst (AllMadeBy among peers') equal (own_made (one (sym equal)) e is (subst (AllMadeBy among peers) (sym equal) made)))
+            | inr apart ↦ other_made e is at apart made
+          ]
 
-    pub edit_made : (at : Id) → AllMadeBy among peers at → AllMadeBy among peers' at
-    edit_made at made = made_by (edited w.before.db id parent deleted body) refl at made
+      pub edit_made : (at : Id) → (at ≡ id → IsOneOf among peers place id parent deleted body) → AllMadeBy among peers at → AllMadeBy among peers' at
+      edit_made at one made = made_by (edited w.before.db id parent deleted body) refl at one made
+
+-- documents with another id than a loaded one
+pub load_made : (peers : List PeerValue) (place : ℕ) (d : Document) (peers' : List PeerValue) → IsChangedAt place (λ p. after_load p d) peers peers' → StaysMadeExcept d.id peers peers'
+load_made peers place d peers' w among other apart made =
+    elim (cases_Bool (bytes_eq d.id other)) [
+      | inl same ↦ absurd (apart (sym ((bytes_eq-Decides d.id other).0 same)))
+      | inr differ ↦ other_stays among peers place d peers' w other differ made
+    ]
 
 -- a new peer has no documents
 in_old_or_new : (among : EditValue → Bool) (peers : List PeerValue) (uuid : ℕ) (id : Id) → AllMadeBy among peers id → (n : ℕ) (p : PeerValue) → IsAt peers n p ⊎ ((n ≡ length peers) × (new_peer uuid ≡ p)) → IsMadeBy among (tree_of p.db.docs id)

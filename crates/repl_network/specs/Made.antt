@@ -1,5 +1,5 @@
 -- Documents that were made only by edits: docs/PROFILE.md, "Nets" and "Ids of local edits".
-use Rattle.std.specs.Prelude.{◌≡◌, ℕ, Bool, true, List, Option, Some, Ok}
+use Rattle.std.specs.Prelude.{◌≡◌, ◌≢◌, ℕ, Bool, true, List, Option, Some, Ok}
 use Rattle.std.specs.FinMap.{get}
 use Rattle.rev_core.specs.Rev.{RevId}
 use Rattle.rev_core.specs.NewRev.{edit_sig, edit_rev}
@@ -50,6 +50,17 @@ abbrev pub MadeAgree : List PeerValue → Type 0
 MadeAgree peers =
     (among : EditValue → Bool) → HaveNoCollision among → (id : Id) → AllMadeBy among peers id
     → AllAgree peers id × AllWhole peers id
+
+-- documents with another id stay made by the edits, whichever edits made them
+abbrev pub StaysMadeExcept : Id → List PeerValue → List PeerValue → Type 0
+StaysMadeExcept id peers peers' =
+    (among : EditValue → Bool) (other : Id) → other ≢ id → AllMadeBy among peers other → AllMadeBy among peers' other
+
+-- a document made by a set of edits stays so after an edit of `id`; an edit of that same document must be in the set
+abbrev pub StaysMadeByEdit : ℕ → Id → Option RevId → Bool → List ℕ → List PeerValue → List PeerValue → Type 0
+StaysMadeByEdit place id parent deleted body peers peers' =
+    (among : EditValue → Bool) (at : Id) → (at ≡ id → IsOneOf among peers place id parent deleted body)
+    → AllMadeBy among peers at → AllMadeBy among peers' at
 
 -- documents made by the edits stay so
 abbrev pub StaysMade : List PeerValue → List PeerValue → Type 0

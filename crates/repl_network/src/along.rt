@@ -1,7 +1,7 @@
 //! Replications in a network.
 ghost use Rattle.std.specs.Prelude.{◌≡◌, Bool, ◌≢◌, ◌<◌, ◌≤◌, length, OnOk, OnErr, slice_get};
 ghost use Rattle.repl_network.specs.Nets.{peers_of, filters_of, AreTied, IsNet, Spread, FitsIn, IsRootedAt, EditFits, KeepsAgreement};
-ghost use Rattle.repl_network.specs.Made.{EditValue, IsOneOf, AllMadeBy, StaysMade};
+ghost use Rattle.repl_network.specs.Made.{StaysMade, StaysMadeByEdit, StaysMadeExcept};
 ghost use Rattle.repl_network.specs.Hopped.{Carried, Hopped, Ended, AllHopped, AllLawful, IsChangedAt};
 ghost use Rattle.repl_network.specs.Taken.{IsHop, TakesHop, TakesHops, AnswersAt};
 ghost use Rattle.repl_target.specs.replication.Replication.{Replicates};
@@ -65,6 +65,7 @@ pub fn load_at<F: WriteFilter>(
     ensures net { IsNet (peers_of peers.old) → IsNet (peers_of peers.new) }
     ensures ok { OnOk result (IsChangedAt place (λ p. after_load p doc.now) (peers_of peers.old) (peers_of peers.new)) }
     ensures err { OnErr result (peers_of peers.new ≡ peers_of peers.old) }
+    ensures made { StaysMadeExcept doc.now.id (peers_of peers.old) (peers_of peers.new) }
     ensures agree { FitsIn (peers_of peers.old) doc.now → IsRootedAt (peers_of peers.old) place doc.now → (id : Id)
         → KeepsAgreement (peers_of peers.old) (peers_of peers.new) id }
 {
@@ -98,8 +99,7 @@ pub fn edit_at<F: WriteFilter>(
     ensures ok { OnOk result
         (IsChangedAt place (λ p. after_edit p id.now parent deleted body.now) (peers_of peers.old) (peers_of peers.new)) }
     ensures err { OnErr result (peers_of peers.new ≡ peers_of peers.old) }
-    ensures made { (among : EditValue → Bool) → IsOneOf among (peers_of peers.old) place id.now parent deleted body.now
-        → (at : Id) → AllMadeBy among (peers_of peers.old) at → AllMadeBy among (peers_of peers.new) at }
+    ensures made { StaysMadeByEdit place id.now parent deleted body.now (peers_of peers.old) (peers_of peers.new) }
     ensures agree { EditFits (peers_of peers.old) place id.now parent deleted body.now → (at : Id)
         → KeepsAgreement (peers_of peers.old) (peers_of peers.new) at }
 {

@@ -46,7 +46,7 @@ impl<F: WriteFilter> Net<F> {
     ghost use Rattle.repl_peer.specs.peer.Writing.{after_load, after_edit};
     ghost use Rattle.repl_target.specs.declared.auditing.found.Audit.TheVariants.{Clean};
     ghost use Rattle.repl_network.specs.Nets.{IsNet, Spread, FitsIn, IsRootedAt, EditFits, KeepsAgreement};
-    ghost use Rattle.repl_network.specs.Made.{EditValue, IsOneOf, AllMadeBy, MadeAgree, StaysMade};
+    ghost use Rattle.repl_network.specs.Made.{MadeAgree, StaysMade, StaysMadeByEdit, StaysMadeExcept};
     ghost use Rattle.repl_network.specs.Hopped.{IsChangedAt};
     ghost use Rattle.repl_network.specs.Hubs.{HubSpread};
     ghost use Rattle.repl_network.specs.Taken.{TakesHops, TakesHub, AnswersAt, IsNotAdded, Audits};
@@ -109,6 +109,7 @@ impl<F: WriteFilter> Net<F> {
         ensures filters { filters_of self.new ≡ filters_of self.old }
         ensures ok { OnOk result (IsChangedAt place (λ p. after_load p doc.now) (peers_of self.old) (peers_of self.new)) }
         ensures err { OnErr result (peers_of self.new ≡ peers_of self.old) }
+        ensures made { StaysMadeExcept doc.now.id (peers_of self.old) (peers_of self.new) }
         ensures agree { FitsIn (peers_of self.old) doc.now → IsRootedAt (peers_of self.old) place doc.now → (id : Id)
             → KeepsAgreement (peers_of self.old) (peers_of self.new) id }
     {
@@ -130,8 +131,7 @@ impl<F: WriteFilter> Net<F> {
         ensures ok { OnOk result
             (IsChangedAt place (λ p. after_edit p id.now parent deleted body.now) (peers_of self.old) (peers_of self.new)) }
         ensures err { OnErr result (peers_of self.new ≡ peers_of self.old) }
-        ensures made { (among : EditValue → Bool) → IsOneOf among (peers_of self.old) place id.now parent deleted body.now
-            → (at : Id) → AllMadeBy among (peers_of self.old) at → AllMadeBy among (peers_of self.new) at }
+        ensures made { StaysMadeByEdit place id.now parent deleted body.now (peers_of self.old) (peers_of self.new) }
         ensures agree { EditFits (peers_of self.old) place id.now parent deleted body.now → (at : Id)
             → KeepsAgreement (peers_of self.old) (peers_of self.new) at }
     {

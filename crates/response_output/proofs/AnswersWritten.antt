@@ -5,11 +5,12 @@ use Rattle.response_parser.specs.{wants_documents, is_strict, start, step, is_re
 use Rattle.response_parser.specs.State.{State}
 use Rattle.response_parser.specs.LineGrammar.{IsScript}
 use Rattle.response_output.specs.Words.{Words}
-use Rattle.response_output.specs.{Answered, Stopped, ReadsAnswers, all_text, AnswerFault}
+use Rattle.response_output.specs.{Answered, Converts, Stopped, ReadsAnswers, all_text, ended_of, judged_by, AnswerFault}
 use Rattle.response_parser.specs.declared.place.Place.TheVariants.{Between, Refused}
 use Rattle.response_parser.specs.declared.place.Wanted.{Wanted}
 use Rattle.response_parser.specs.declared.place.Wanted.TheVariants.{Changes}
 use Rattle.response_output.specs.declared.run.AnswerFault.TheVariants.{Device, Refused as Refusing}
+use Rattle.response_output.proofs.Running.{Ran, Stopped-refused}
 use Rattle.response_parser.proofs.{after-append, pieces-append, answers_read, changes_read, lines_read, ends_lines, lines_end, stood_before, line_end_given}
 
 refused_is : (p : Place) → is_refused p ≡ true → (why : Refusal) × (p ≡ Refused why)
@@ -96,3 +97,14 @@ pub reads_changes : (wanted : Wanted) → wanted ≡ Changes → (w : Words) (le
     → IfOk x (Answered wanted w left held held') → IfErr x (Stopped wanted w left held held')
     → (t : List ℕ) (ps : List Piece) → left ≡ Some t → IsChangeScript t ps → ReadsAnswers w ps held held' x
 reads_changes wanted is w left held held' x ok err t ps e h = let read = changes_read wanted is (t ++ 10 ∷ []) ps h in reads_lines wanted t ps read.0 read.1 w left held held' x e ok err
+
+-- ---- a run that ended at a rejected byte
+
+converts_by : (wanted : Wanted) (w : Words) (left held held' : Option (List ℕ)) (o : Result (Unit {0}) Refusal) (x : Result ℕ AnswerFault) (passed taken : ℕ) → x ≡ judged_by passed taken o → (o ≡ Ok tt → ⊥) → IfErr x (Stopped wanted w left held held') → Converts x wanted w left held held'
+converts_by wanted w left held held' (Ok u) x passed taken is bad h = absurd (bad refl)
+converts_by wanted w left held held' (Err why) x passed taken is bad h =
+    subst (λ z. Converts z wanted w left held held') (sym is) (subst (λ z. IfErr z (Stopped wanted w left held held')) is h)
+
+pub Converts-refused : {wanted : Wanted} {w : Words} {s : State} {w' : Words} {left left' held held' : Option (List ℕ)} (r : Ran wanted w s w' left left' held held') (x : Result ℕ AnswerFault) → x ≡ ended_of s → is_refused s.place ≡ true → Converts x wanted w left held held'
+Converts-refused {wanted} {w} {s} {left = left} {held = held} {held'} r x is h =
+    converts_by wanted w left held held' (end_of s.place) x s.passed s.taken is (refused_not_ok s.place h) (Stopped-refused r x is h)

@@ -1,5 +1,5 @@
 pub mod Running
 pub mod AnswersWritten
-pub use Running.{Answered-end, Begins-in, Begins-none, Begins-part, Begins-taken, Fed-joined, Fed-taken, Finishes-end, Ran, Ran-end, Ran-more}
-pub use Running.{Ran-none, Stopped-before, Stopped-end, Stopped-in, Stopped-none, Stopped-refused, start_going}
-pub use AnswersWritten.{reads_answers, reads_changes, reads_script}
+pub use Running.{Answered-end, Begins-in, Begins-none, Begins-part, Begins-taken, Fed-joined, Fed-taken, Finishes-end, Ran, Ran-end, Ran-fed, Ran-more}
+pub use Running.{Converts-end, Ran-none, Stopped-before, Stopped-between, Stopped-end, Stopped-in, Stopped-none, Stopped-refused, Stopped-within, start_going}
+pub use AnswersWritten.{Converts-refused, reads_answers, reads_changes, reads_script}

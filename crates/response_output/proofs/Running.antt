@@ -1,12 +1,12 @@
 -- Responses as far as they were read, and the output for them.
-use Rattle.proof_prelude.proofs.{◌≡◌, ℕ, List, [], ◌∷◌, ◌++◌, true, false, Option, Result, Ok, Err, IfOk, IfErr, refl, sym, ap, subst, ◌∙◌, append_assoc, append-nil, inl, inr, take, drop, take-append-drop, unwrap_or, Appends, Consumes, Keeps, IsAtEnd, Appends-nil, Appends-trans, Consumes-nil, Consumes-trans, Consumes-kept, Keeps-refl}
+use Rattle.proof_prelude.proofs.{◌≡◌, ℕ, List, [], ◌∷◌, ◌++◌, true, false, Option, Some, Result, Ok, Err, IfOk, IfErr, refl, sym, ap, subst, ◌∙◌, append_assoc, append-nil, inl, inr, take, drop, take-append-drop, unwrap_or, Appends, Consumes, Keeps, IsAtEnd, Appends-nil, Appends-trans, Consumes-nil, Consumes-trans, Consumes-kept, Keeps-refl}
 use Rattle.script_engine.specs.{ScriptFault}
 use Rattle.script_engine.specs.declared.fault.ScriptFault.TheVariants.{Write}
 use Rattle.script_engine.proofs.{Gives-left, Gives-end}
 use Rattle.response_parser.specs.State.{State}
 use Rattle.response_parser.specs.{start, is_refused, Piece, after, given, piece_of, pieces, end_of, last_end, whole, Refusal, Found}
 use Rattle.response_output.specs.Words.{Words}
-use Rattle.response_output.specs.{text_for, words_then, texts, words_behind, last_text, Fed, IsWhole, Begins, EndsAnswers, Finishes, IsAll, IsLeft, Answered, Stopped, all_text, judged_by, ended_of, AnswerFault}
+use Rattle.response_output.specs.{text_for, words_then, texts, words_behind, last_text, Fed, IsWhole, Begins, EndsAnswers, Finishes, IsAll, IsLeft, Answered, Converts, Stopped, all_text, judged_by, ended_of, AnswerFault}
 use Rattle.response_parser.specs.declared.place.Wanted.{Wanted}
 use Rattle.response_parser.specs.declared.place.Wanted.TheVariants.{Documents}
 use Rattle.response_parser.specs.declared.place.Found.TheVariants.{Nothing, Document, Id, Rev}
@@ -281,6 +281,26 @@ module _ {wanted : Wanted} {w : Words} {s : State} {w' : Words} {left left' held
       failed = e.failed;
     }),
   )
+
+-- ---- as if the reader had held exactly the bytes that its reads returned
+
+module _ {wanted : Wanted} {w : Words} {s : State} {w' : Words} {held held' : Option (List ℕ)} {input : List ℕ} (r : Ran wanted w s w' (Some input) (Some []) held held') where
+  -- and then these
+  ran_ahead : (bytes : List ℕ) → Ran wanted w s w' (Some (input ++ bytes)) (Some bytes) held held'
+  ran_ahead bytes = record { input = r.input; fed = r.fed; taken = ap (λ l. l ++ bytes) (r.taken ∙ append-nil r.input) }
+
+  pub Ran-fed : (bytes : List ℕ) (s'' : State) (w'' : Words) (held'' : Option (List ℕ)) → Fed s w' bytes s'' w'' held' held'' → Ran wanted w s'' w'' (Some (input ++ bytes)) (Some []) held held''
+  Ran-fed bytes s'' w'' held'' f = Ran-more (ran_ahead bytes) s'' w'' (Some []) held'' bytes (sym (append-nil bytes)) f
+
+  pub Stopped-within : (fault : ScriptFault) (held'' : Option (List ℕ)) (bytes : List ℕ) → Begins fault w' (pieces s bytes) held' held'' → Stopped wanted w (Some (input ++ bytes)) held held'' (Device fault)
+  Stopped-within fault held'' bytes b = Stopped-in (ran_ahead bytes) fault (Some []) held'' bytes (sym (append-nil bytes)) b
+
+  pub Stopped-between : (fault : ScriptFault) → IsWhole fault [] → Stopped wanted w (Some input) held held' (Device fault)
+  Stopped-between fault is_whole = Stopped-before r fault (Some []) (Keeps-refl (Some [])) is_whole
+
+  pub Converts-end : (held'' : Option (List ℕ)) (x : Result ℕ AnswerFault) → is_refused s.place ≡ false → Finishes s w' held' held'' x → Converts x wanted w (Some input) held held''
+  Converts-end held'' (Ok passed) going f = Answered-end r held'' (Ok passed) refl going f
+  Converts-end held'' (Err fault) going f = Stopped-end r held'' (Err fault) refl going f
 
 -- no byte is rejected before the first one
 pub start_going : (w : Wanted) → is_refused (start w).place ≡ false

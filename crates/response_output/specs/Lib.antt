@@ -4,5 +4,5 @@ pub mod Stored
 pub mod Runs
 pub use Words.{last_text, text_for, texts, words_behind, words_then}
 pub use Stored.{words_of_wording}
-pub use Runs.{Answered, Begins, EndsAnswers, Fed, Finishes, IsAll, IsLeft, IsWhole, ReadsAnswers, Stopped, all_text, ended_of, judged_by}
+pub use Runs.{Answered, Begins, Converts, EndsAnswers, Fed, Finishes, IsAll, IsLeft, IsWhole, ReadsAnswers, Stopped, all_text, ended_of, judged_by}
 pub use declared.run.AnswerFault.{AnswerFault}

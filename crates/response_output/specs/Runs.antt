@@ -109,6 +109,11 @@ Stopped wanted w left held held' (Device fault) =
     (read : List ℕ) × IsLeft wanted left read
     × (Begins fault w (pieces (start wanted) read) held held' ⊎ EndsInPart fault (all_text w (pieces (start wanted) read)) held held')
 
+-- The guarantees of a run for any input, by its result.
+abbrev pub Converts : Result ℕ AnswerFault → Wanted → Words → Option (List ℕ) → Option (List ℕ) → Option (List ℕ) → Type 0
+Converts (Ok passed) wanted w left held held' = Answered wanted w left held held' passed
+Converts (Err fault) wanted w left held held' = Stopped wanted w left held held' fault
+
 -- The output for responses with these contents: they are written, and the input is not rejected.
 abbrev pub ReadsAnswers : Words → List Piece → Option (List ℕ) → Option (List ℕ) → Result ℕ AnswerFault → Type 0
 ReadsAnswers w all held held' (Ok passed) = Appends held held' (all_text w all)

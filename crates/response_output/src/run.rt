@@ -15,7 +15,7 @@ ghost use Rattle.response_parser.specs.ChangeGrammar.{IsChangeScript};
 ghost use Rattle.response_output.specs.Words.{texts, words_behind};
 ghost use Rattle.script_engine.specs.declared.fault.ScriptFault.TheVariants.{Memory};
 ghost use Rattle.response_output.specs.declared.run.AnswerFault.TheVariants.{Device};
-ghost use Rattle.response_output.specs.Runs.{Fed, Begins, EndsAnswers, Finishes, Answered, Stopped, CountsOf, CountsOfWriter, ReadsAnswers, ended_of};
+ghost use Rattle.response_output.specs.Runs.{Fed, Begins, EndsAnswers, Finishes, Answered, Stopped, Converts, CountsOf, CountsOfWriter, ReadsAnswers, ended_of};
 
 use crate::wording::Wording;
 use response_parser::{Reading, Refusal};
@@ -182,6 +182,10 @@ fn run_chunks<R: ScriptRead, W: ScriptWrite>(
     ensures ok { IfOk result (λ passed. Answered reading.old.wanted (words_of_wording wording.old)
         (R.left reader.old) (W.held writer.old) (W.held writer.new) passed) }
     ensures end { OnOk result (IsAtEnd (R.left reader.new)) }
+    ensures took { (input : List ℕ) × Appends (R.taken reader.old) (R.taken reader.new) input
+        × Converts result reading.old.wanted (words_of_wording wording.old) (Some input) (W.held writer.old)
+        (W.held writer.new) }
+    ensures ended { OnOk result (R.ended reader.new) }
     ensures counted { OnOk result ((R.failures reader.new ≡ R.failures reader.old)
         × (W.failures writer.new ≡ W.failures writer.old)) }
     ensures fault { IfErr result (λ fault. Stopped reading.old.wanted (words_of_wording wording.old)
@@ -246,6 +250,11 @@ pub fn run_answers<R: ScriptRead, W: ScriptWrite>(
     ensures ok { IfOk result (λ passed. Answered reading.old.wanted (words_of_wording wording.old)
         (R.left reader.old) (W.held writer.old) (W.held writer.new) passed) }
     ensures end { OnOk result (IsAtEnd (R.left reader.new)) }
+    // The same for the bytes that the reads returned; on success they returned everything.
+    ensures took { (input : List ℕ) × Appends (R.taken reader.old) (R.taken reader.new) input
+        × Converts result reading.old.wanted (words_of_wording wording.old) (Some input) (W.held writer.old)
+        (W.held writer.new) }
+    ensures ended { OnOk result (R.ended reader.new) }
     ensures counted { OnOk result ((R.failures reader.new ≡ R.failures reader.old)
         × (W.failures writer.new ≡ W.failures writer.old)) }
     ensures fault { IfErr result (λ fault. Stopped reading.old.wanted (words_of_wording wording.old)

@@ -1,5 +1,5 @@
 -- Bytes in order.
-use Rattle.proof_prelude.proofs.{◌≡◌, ℕ, ◌+◌, ◌<◌, List, [], ◌∷◌, ◌++◌, take, get_or, length, Bool, false, ◌||◌, refl, sym, ap, ◌∙◌, append_assoc, append-nil, take_more}
+use Rattle.proof_prelude.proofs.{◌≡◌, ℕ, ◌+◌, ◌-◌, ◌<◌, List, [], ◌∷◌, ◌++◌, take, drop, get_or, length, Bool, false, ◌||◌, refl, sym, ap, ◌∙◌, append_assoc, append-nil, take_more, take-add, take_all, length-drop, arith}
 use Rattle.response_parser.specs.State.{State}
 use Rattle.response_parser.specs.{step, is_refused, after, given, pieces, piece_of, is_piece, stops, Found}
 use Rattle.response_parser.specs.declared.place.Found.TheVariants.{Nothing}
@@ -36,6 +36,21 @@ module _ (s m n : State) (bytes : List ℕ) (i : ℕ) where
       pieces_more s bytes i h ∙ ap (λ l. l ++ given (step (after s (take i bytes)) (get_or bytes i 0))) none
       ∙ ap given (sym (one ∙ ap (λ z. step z (get_or bytes i 0)) come))
 
+-- a slice up to the end
+pub rest_of : (bytes : List ℕ) (i : ℕ) → take (length bytes - i) (drop i bytes) ≡ drop i bytes
+rest_of bytes i = take_all (length bytes - i) (drop i bytes) (omega (arith, length-drop i bytes))
+
+-- the same after more bytes, from a parser in this state
+module _ (s m n : State) (bytes : List ℕ) (i k : ℕ) where
+  pub after_copied : m ≡ after s (take i bytes) → n ≡ after m (take k (drop i bytes)) → n ≡ after s (take (i + k) bytes)
+  after_copied come more =
+      more ∙ ap (λ z. after z (take k (drop i bytes))) come ∙ sym (after-append s (take i bytes) (take k (drop i bytes))) ∙ ap (after s) (sym (take-add i k bytes))
+
+  pub pieces_copied : m ≡ after s (take i bytes) → pieces m (take k (drop i bytes)) ≡ [] → pieces s (take i bytes) ≡ [] → pieces s (take (i + k) bytes) ≡ []
+  pieces_copied come more none =
+      ap (pieces s) (take-add i k bytes) ∙ pieces-append s (take i bytes) (take k (drop i bytes))
+      ∙ ap (λ l. l ++ pieces (after s (take i bytes)) (take k (drop i bytes))) none ∙ ap (λ z. pieces z (take k (drop i bytes))) (sym come) ∙ more
+
 none_of : (f : Found) (text : List ℕ) (b : Bool) → (is_piece f || b) ≡ false → piece_of f text ≡ []
 none_of Nothing text b h = refl
 none_of _ text b h = absurd (cc)
@@ -43,3 +58,10 @@ none_of _ text b h = absurd (cc)
 -- a parser that continues has completed nothing
 pub given_none : (s : State) → stops s ≡ false → given s ≡ []
 given_none s h = none_of s.found s.text (is_refused s.place) h
+
+nothing_of : (f : Found) (b : Bool) → (is_piece f || b) ≡ false → f ≡ Nothing
+nothing_of Nothing b h = refl
+nothing_of _ b h = absurd (cc)
+
+pub not_found : (s : State) → stops s ≡ false → s.found ≡ Nothing
+not_found s h = nothing_of s.found (is_refused s.place) h

@@ -8,6 +8,7 @@ pub mod Values
 pub mod Revs
 pub mod Steps
 pub mod Reading
+pub mod Runs
 pub mod Grammar
 pub mod LineGrammar
 pub mod ChangeGrammar

@@ -12,7 +12,7 @@ use Rattle.response_parser.specs.declared.place.Found.TheVariants as found
 
 -- ---- of a name with its quotation marks
 
--- when documents are requested; the flag says whether it is the first name of its object
+-- When documents are requested. The flag says whether the name is the first one of its object.
 abbrev pub document_name : Bool → List ℕ → Name
 document_name first t =
     cond (first && bytes_eq t (codes "\"_id\"")) Plain
@@ -21,15 +21,15 @@ document_name first t =
     (cond (bytes_eq t (codes "\"missing\"") || bytes_eq t (codes "\"error\"")) Passed
     (cond (bytes_eq t (codes "\"last_seq\"")) Last Other))))
 
--- when leaves are requested; the flags say whether it is in a document's list of revisions, and whether it is in the
--- entry of a document with missing revisions
+-- When leaves are requested: in a document's list of revisions only a revision has a meaning. In the entry of a document
+-- it is the list of missing revisions. The flags say whether the name is in one of these.
 abbrev pub leaf_name : Bool → Bool → List ℕ → Name
 leaf_name inner entry t =
     cond entry (cond (bytes_eq t (codes "\"missing\"")) Missing Other)
+    (cond inner (cond (bytes_eq t (codes "\"rev\"")) Rev Other)
     (cond (bytes_eq t (codes "\"results\"")) ListName
     (cond (bytes_eq t (codes "\"id\"")) Id
     (cond (bytes_eq t (codes "\"changes\"")) Changes
-    (cond (inner && bytes_eq t (codes "\"rev\"")) Rev
     (cond (bytes_eq t (codes "\"last_seq\"")) Last Other)))))
 
 -- when a script's changes are requested

@@ -5,6 +5,7 @@
 #![tactic(auto)]
 
 mod brackets;
+mod copies;
 mod cover;
 mod lines;
 mod members;
@@ -13,6 +14,7 @@ mod reading;
 mod revs;
 mod signs;
 mod spelling;
+mod strings;
 mod values;
 mod wanted;
 

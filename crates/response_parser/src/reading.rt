@@ -87,13 +87,16 @@ impl Reading {
             (λ count. pieces (state_of self.old) (take count bytes.now) ≡ given (state_of self.new)) }
         ensures all { IfOk result (λ count. stops (state_of self.new) ≡ false → count ≡ length bytes.now) }
     {
-        for (i, byte) in bytes.iter().enumerate() {
-            self.take(*byte)?;
+        let mut i = 0;
+        while i < bytes.len() {
+            self.take(bytes[i])?;
+            i += 1;
             if self.stops() {
-                return Ok(i + 1);
+                return Ok(i);
             }
+            i += self.copy(&bytes[i..])?;
         }
-        Ok(bytes.len())
+        Ok(i)
     }
 
     /// What the last byte completed.

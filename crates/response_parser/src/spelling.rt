@@ -102,14 +102,18 @@ fn name_of_leaves(inner: bool, entry: bool, text: &[u8]) -> Name
         } else {
             Name::Other
         }
+    } else if inner {
+        if is(text, b"\"rev\"") {
+            Name::Rev
+        } else {
+            Name::Other
+        }
     } else if is(text, b"\"results\"") {
         Name::List
     } else if is(text, b"\"id\"") {
         Name::Id
     } else if is(text, b"\"changes\"") {
         Name::Changes
-    } else if inner && is(text, b"\"rev\"") {
-        Name::Rev
     } else if is(text, b"\"last_seq\"") {
         Name::Last
     } else {

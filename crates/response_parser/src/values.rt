@@ -9,12 +9,13 @@ use crate::members::is_plain;
 use crate::place::{Found, Name, Place, Refusal};
 use crate::reading::Reading;
 use crate::spelling::{is_space, more};
+use crate::strings::is_plain_string;
 use crate::wanted::wants_documents;
 use doc_envelope::is_log;
 use std::alloc::AllocError;
 
 /// The maximum number of open brackets within a value.
-const MAX_NESTING: u8 = 128;
+pub(crate) const MAX_NESTING: u8 = 128;
 
 impl Reading {
     /// Whether the current text is JSON in UTF-8.
@@ -22,6 +23,9 @@ impl Reading {
         ensures value { IfOk result (λ json. json ≡ is_json self.old.text.items) }
         ensures same { OnOk result (state_of self.new ≡ state_of self.old) }
     {
+        if is_plain_string(self.text.as_slice()) {
+            return Ok(true);
+        }
         let Ok(text) = simdutf8::basic::from_utf8(self.text.as_slice()) else {
             return Ok(false);
         };

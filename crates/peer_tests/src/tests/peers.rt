@@ -340,7 +340,7 @@ pub(crate) fn make(
 }
 
 /// Creates the next peer, with a database at a sequence.
-fn make_at(
+pub(crate) fn make_at(
     alloc: Global,
     peers: &mut Vec<Peer<Rules>>,
     uuid: u128,

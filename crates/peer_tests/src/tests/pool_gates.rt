@@ -305,3 +305,32 @@ fn a_stop_at_each_place(rt: HostRuntime) {
         }
     }
 }
+
+/// A source of 20 documents, and a target that has no sequence left.
+static FULL: Rows = &[
+    (Call::Peer(1, None), "made"),
+    (Call::PeerAt(2, 9_007_199_254_740_991), "made"),
+    (Call::Fill(A, 20), "Changed { seq: 20 }"),
+];
+
+// Both channels together hold eight windows. A writer that left after an error would block the
+// fetchers for ever; it would satisfy its contract.
+#[test]
+fn more_windows_than_channels_hold(rt: HostRuntime) {
+    const ONE_BY_ONE: How = How {
+        session: S1,
+        workers: None,
+        batch: 1,
+        stop_after: None,
+    };
+    for may_block in [true, false] {
+        let gate = StopsOnce::new(5, 0, may_block);
+        let mut bench = Bench::new(rt.alloc(), 2);
+        bench.run(&rt, FULL);
+        let answer = bench
+            .replicate(&rt, &gate, A, B, ONE_BY_ONE)
+            .expect(&rt, "a run");
+        assert!(rt; answer.starts_with("Stopped "), "{answer}");
+        bench.run(&rt, CLEAN);
+    }
+}

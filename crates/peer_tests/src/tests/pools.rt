@@ -5,7 +5,7 @@ ghost use Rattle.pool_workers.specs.Boards.{WorksAt};
 
 use crate::tests::carried::{leaves, refused};
 use crate::tests::databases::tree;
-use crate::tests::peers::{Rep, entry, found_text, load, make, source_log, target_log};
+use crate::tests::peers::{Rep, entry, found_text, load, make, make_at, source_log, target_log};
 use crate::tests::records::{fault_text, report_text};
 use crate::tests::texts::{expect_answer, joined, place_text};
 use progress_board::{Board, BoardSeat};
@@ -35,6 +35,8 @@ pub(crate) struct How {
 pub(crate) enum Call<'a> {
     /// Create the next peer: its UUID, and the prefix that its filter refuses.
     Peer(u128, Option<&'a str>),
+    /// Create the next peer, with its UUID, and its database at a sequence.
+    PeerAt(u128, u64),
     /// Load this many documents d0, d1 and so on.
     Fill(usize, u64),
     /// Load a document.
@@ -110,6 +112,7 @@ impl Bench {
     fn answer_alone(&mut self, call: &Call) -> Option<String> {
         match *call {
             Call::Peer(uuid, deny) => make(self.alloc, &mut self.peers, uuid, deny),
+            Call::PeerAt(uuid, seq) => make_at(self.alloc, &mut self.peers, uuid, None, seq),
             Call::Common(source, target, _) | Call::Audit(source, target) => {
                 match (self.peers.get(source), self.peers.get(target)) {
                     (Some(source), Some(target)) => compare(self.alloc, source, target, call),

@@ -1,10 +1,11 @@
 -- What is read and what is left are all revisions.
-use Rattle.proof_prelude.proofs.{◌≡◌, codes, drop}
+use Rattle.proof_prelude.proofs.{◌≡◌, drop}
 use Rattle.json.specs.Value.{items_view}
 use Rattle.relay_core.specs.Views.{texts_of}
-use Rattle.relay_responses.specs.Read.{prepend, each_item, text_at}
+use Rattle.relay_responses.specs.Read.{prepend, each_item}
+use Rattle.relay_responses.specs.Pages.{rev_in}
 use Rattle.relay_responses.proofs.pages.revs_of.Given as goal
 
 abbrev pub invariant-loop-change : goal.invariant-loop-change
 invariant-loop-change l =
-    prepend (texts_of l.revs.items) (each_item (text_at (codes "rev")) (items_view (drop l.change-index l.change-items))) ≡ each_item (text_at (codes "rev")) (items_view l.change-items)
+    prepend (texts_of l.revs.items) (each_item rev_in (items_view (drop l.change-index l.change-items))) ≡ each_item rev_in (items_view l.change-items)

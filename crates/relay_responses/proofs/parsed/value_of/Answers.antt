@@ -1,4 +1,4 @@
-use Rattle.std.proofs.Common.{◌∙◌, rules, Some}
+use Rattle.std.proofs.Common.{Some}
 use Rattle.json.specs.Value.{value_view}
 use Rattle.relay_responses.proofs.Bodies.{json_in-not_utf8, json_in-utf8}
 use Rattle.relay_responses.proofs.parsed.value_of.Goals as goal

@@ -17,7 +17,7 @@ returns-in-Ok g c =
       net = edit_net (peers_of c.args.peers.now) c.args.place c.args.id.now c.args.parent c.args.deleted c.args.body.now _ changed;
       ok = changed;
       err = tt;
-      made = λ among one at. edit_made among (peers_of c.args.peers.now) c.args.place c.args.id.now c.args.parent c.args.deleted c.args.body.now _ changed one at;
+      made = λ among at one. edit_made among (peers_of c.args.peers.now) c.args.place c.args.id.now c.args.parent c.args.deleted c.args.body.now _ changed at one;
       agree = edit_agree (peers_of c.args.peers.now) c.args.place c.args.id.now c.args.parent c.args.deleted c.args.body.now _ changed;
     }
 
@@ -31,6 +31,6 @@ returns-in-Err g c =
       net = λ net. subst IsNet (sym kept) net;
       ok = tt;
       err = kept;
-      made = λ among _ at made. subst (λ ps. AllMadeBy among ps at) (sym kept) made;
+      made = λ among at _ made. subst (λ ps. AllMadeBy among ps at) (sym kept) made;
       agree = λ _ id. subst (λ ps. KeepsAgreement (peers_of c.args.peers.now) ps id) (sym kept) (λ agree whole. (agree, whole));
     }

@@ -1,7 +1,7 @@
 use Rattle.proof_prelude.proofs.{Ok, Err, refl, sym, subst, inl, inr, arith, length-map}
 use Rattle.repl_peer.specs.{after_load}
-use Rattle.repl_network.specs.{peers_of, AreTied, IsNet, KeepsAgreement}
-use Rattle.repl_network.proofs.{set_filters, changed_at, unchanged_at, there_at, wrote_tied, wrote_agree, load_net}
+use Rattle.repl_network.specs.{peers_of, AreTied, IsNet, KeepsAgreement, AllMadeBy}
+use Rattle.repl_network.proofs.{set_filters, changed_at, unchanged_at, there_at, wrote_tied, wrote_agree, load_net, load_made}
 use Rattle.repl_network.proofs.along.load_at.Goals as goal
 
 pub returns-then-place-peers-clause-answer : goal.returns-then-place-peers-clause-answer
@@ -17,6 +17,7 @@ returns-in-Ok g c =
       net = load_net (peers_of c.args.peers.now) c.args.place c.args.doc.now _ changed;
       ok = changed;
       err = tt;
+      made = load_made (peers_of c.args.peers.now) c.args.place c.args.doc.now _ changed;
       agree = wrote_agree (peers_of c.args.peers.now) c.args.place c.args.doc.now _ changed;
     }
 
@@ -30,5 +31,6 @@ returns-in-Err g c =
       net = λ net. subst IsNet (sym kept) net;
       ok = tt;
       err = kept;
+      made = λ among other _ made. subst (λ ps. AllMadeBy among ps other) (sym kept) made;
       agree = λ _ _ id. subst (λ ps. KeepsAgreement (peers_of c.args.peers.now) ps id) (sym kept) (λ agree whole. (agree, whole));
     }

@@ -1,4 +1,4 @@
-use Rattle.proof_prelude.proofs.{refl, err_from_is_err_and}
+use Rattle.proof_prelude.proofs.{[], Some, refl, err_from_is_err_and, Appends-nil}
 use Rattle.script_engine.specs.declared.fault.ScriptFault.TheVariants.{Memory}
 use Rattle.response_parser.specs.{state_of}
 use Rattle.response_output.specs.{words_of_wording}
@@ -24,3 +24,8 @@ pub returns-clause-changes : goal.returns-clause-changes
 returns-clause-changes g c = λ text held wanted left h.
     reads_changes (state_of c.args.reading.now).wanted wanted (words_of_wording c.args.wording.now) (g.R.ScriptRead.left c.args.reader.now) (g.W.ScriptWrite.held c.args.writer.now) (g.W.ScriptWrite.held c.run_chunks.new.writer) c.run_chunks.result
     c.run_chunks.ensures.ok c.run_chunks.ensures.fault text held left h
+
+pub returns-in_err-chunks-clause-took : goal.returns-in_err-chunks-clause-took
+returns-in_err-chunks-clause-took g c =
+    let p = err_from_is_err_and c.from_residual.result c.from_residual.ensures.1 in
+    rw (p.1, p.2) ([], Appends-nil (g.R.ScriptRead.taken c.args.reader.now), Stopped-none (state_of c.args.reading.now).wanted (words_of_wording c.args.wording.now) (Some []) (g.W.ScriptWrite.held c.args.writer.now) Memory refl)

@@ -1,5 +1,5 @@
 -- What was read so far is responses, and their contents are written.
-use Rattle.proof_prelude.proofs.{◌≡◌, ◌-◌, false}
+use Rattle.proof_prelude.proofs.{◌≡◌, ◌-◌, ℕ, List, [], Some, false, Appends}
 use Rattle.response_parser.specs.{is_refused, state_of}
 use Rattle.script_engine.specs.{HasRead, AreChunks, max_reads}
 use Rattle.response_output.specs.{words_of_wording}
@@ -12,6 +12,8 @@ invariant-loop-more g l =
     let W = g.W.ScriptWrite in
     record {
       ran : Ran l.fn.reading.wanted (words_of_wording l.fn.wording) (state_of l.reading) (words_of_wording l.wording) (R.left l.fn.reader) (R.left l.reader) (W.held l.fn.writer) (W.held l.writer);
+      took : (input : List ℕ) × Appends (R.taken l.fn.reader) (R.taken l.reader) input
+          × Ran l.fn.reading.wanted (words_of_wording l.fn.wording) (state_of l.reading) (words_of_wording l.wording) (Some input) (Some []) (W.held l.fn.writer) (W.held l.writer);
       going : is_refused (state_of l.reading).place ≡ false;
       chunks : AreChunks l.chunks;
       reads : HasRead l.chunks.turns (R.reads l.fn.reader) (R.reads l.reader) (R.failures l.fn.reader) (R.failures l.reader);

@@ -1,6 +1,6 @@
-use Rattle.proof_prelude.proofs.{◌≡◌, Bool, length, sym, ap, ◌∙◌, subst}
+use Rattle.proof_prelude.proofs.{◌≡◌, length, sym, ap, ◌∙◌, subst}
 use Rattle.couch_base.specs.{Id, EditGives, edit_answer}
-use Rattle.repl_network.specs.{peers_of, filters_of, EditFits, KeepsAgreement, EditValue, IsOneOf, AllMadeBy, AnswersAt}
+use Rattle.repl_network.specs.{peers_of, filters_of, EditFits, KeepsAgreement, StaysMadeByEdit, AnswersAt}
 use Rattle.repl_network.proofs.{whole_vector}
 use Rattle.repl_network.proofs.net.Net.edit.Goals as goal
 
@@ -20,9 +20,9 @@ returns-clause-made g c =
     let new = c.edit_at.new.peers in
     let len : length new ≡ c.self.inside.peers.len = search in
     let was : c.deref_mut.result.now ≡ items = search in
-    subst (λ ps. (among : EditValue → Bool) → IsOneOf among (peers_of c.args.self.now) c.args.place c.args.id.now c.args.parent c.args.deleted c.args.body.now → (at : Id) → AllMadeBy among (peers_of c.args.self.now) at → AllMadeBy among (peers_of ps) at) (sym (whole_vector items new c.self.inside.peers.len len))
-    (subst (λ ps. (among : EditValue → Bool) → IsOneOf among (peers_of ps) c.args.place c.args.id.now c.args.parent c.args.deleted c.args.body.now → (at : Id) → AllMadeBy among (peers_of ps) at → AllMadeBy among (peers_of new) at) c.self.view_is
-    (subst (λ ps. (among : EditValue → Bool) → IsOneOf among (peers_of ps) c.args.place c.args.id.now c.args.parent c.args.deleted c.args.body.now → (at : Id) → AllMadeBy among (peers_of ps) at → AllMadeBy among (peers_of new) at) was c.edit_at.ensures.made))
+    subst (λ ps. StaysMadeByEdit c.args.place c.args.id.now c.args.parent c.args.deleted c.args.body.now (peers_of c.args.self.now) (peers_of ps)) (sym (whole_vector items new c.self.inside.peers.len len))
+    (subst (λ ps. StaysMadeByEdit c.args.place c.args.id.now c.args.parent c.args.deleted c.args.body.now (peers_of ps) (peers_of new)) c.self.view_is
+    (subst (λ ps. StaysMadeByEdit c.args.place c.args.id.now c.args.parent c.args.deleted c.args.body.now (peers_of ps) (peers_of new)) was c.edit_at.ensures.made))
 
 pub returns-clause-filters : goal.returns-clause-filters
 returns-clause-filters g c =

@@ -1,0 +1,19 @@
+-- The result of reading the envelope of a document: docs/PROFILE.md, "Documents in envelopes" and "What `read_doc`
+-- accepts".
+use Rattle.std.specs.Prelude.{ℕ, List, Option, Some, None, option_and_then, Result, Ok}
+use Rattle.rev_core.specs.{◌>>=◌}
+use Rattle.serde_json.specs.Data.{Data}
+use Rattle.serde_json.specs.Read.{read as read_text}
+use Rattle.doc_json.specs.{doc_read}
+use Rattle.doc_json.specs.Document.{Document}
+use Rattle.doc_json.specs.declared.fault.DocFault.{DocFault}
+use Rattle.doc_envelope.specs.Envelopes.{enveloped}
+
+-- the document in a JSON value, if there is a value
+abbrev pub read_if_any : Option Data → Result (Option Document) DocFault
+read_if_any None = Ok None
+read_if_any (Some value) = doc_read value >>= λ doc. Ok (Some doc)
+
+-- the result for the text `document`: `None` if the text has no envelope, or its envelope is not JSON
+abbrev pub envelope_read : List ℕ → Result (Option Document) DocFault
+envelope_read document = read_if_any (option_and_then read_text (enveloped document))

@@ -1,0 +1,5 @@
+use Rattle.journal_core.proofs.{sealed}
+use Rattle.journal_core.proofs.seal.seal_block.Goals as goal
+
+pub returns : goal.returns
+returns g c = sealed c.args.chain.now c.args.seq.now c.in_ok-task.task c.run_task.new.task _ _ _ c.wrong.result c.in_ok-task.ensures c.wrong.ensures c.in_ok-run_task.ensures.ok

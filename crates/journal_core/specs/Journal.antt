@@ -1,0 +1,45 @@
+-- Journals: lines, and after each block of lines a line with its checksum.
+use Rattle.std.specs.Prelude.{◌≡◌, ◌≤◌, ℕ, List, [], ◌∷◌, ◌++◌, Bool, false, nat_eq, All, codes, decimal, length}
+use Rattle.std.specs.List.{starts_with}
+use Rattle.sha2.specs.Sha256.{sha256}
+use Rattle.hex.specs.Hex.{encode_lower}
+use Rattle.line_reader.specs.Lines.{joined}
+
+-- the hash of a block: the SHA-256 of the hash before it (`chain`), its sequence, and the bytes of its lines, in
+-- hexadecimal digits
+unfoldable pub block_hash : List ℕ → List ℕ → List ℕ → List ℕ
+block_hash chain seq body = encode_lower (sha256 (chain ++ codes " " ++ seq ++ codes "\n" ++ body))
+
+-- the start of the line that ends a block of `count` lines
+unfoldable pub sum_head : ℕ → List ℕ
+sum_head count = codes "sum " ++ decimal count ++ codes " "
+
+-- the line that ends a block of `count` lines
+unfoldable pub sum_line : ℕ → List ℕ → List ℕ → List ℕ
+sum_line count hash seq = sum_head count ++ hash ++ codes " " ++ seq
+
+-- whether a line ends a block
+unfoldable pub is_sum : List ℕ → Bool
+is_sum line = starts_with nat_eq line (codes "sum ")
+
+-- the hash before the first block
+unfoldable pub first_chain : List ℕ
+first_chain = codes "start"
+
+-- the sequence of a journal without blocks
+unfoldable pub first_seq : List ℕ
+first_seq = codes "0"
+
+-- The lines are blocks with right checksums. The last arguments are the hash and the sequence of the last block.
+pub data Confirmed : List (List ℕ) → List ℕ → List ℕ → Type 0 where
+  nothing : Confirmed [] first_chain first_seq
+  block : {lines : List (List ℕ)} {chain seq : List ℕ} (body : List (List ℕ)) (next : List ℕ) → Confirmed lines chain seq
+      → All (λ line. is_sum line ≡ false) body
+      → Confirmed (lines ++ (body ++ sum_line (length body) (block_hash chain next (joined body)) next ∷ [])) (block_hash chain next (joined body)) next
+
+-- the first `count` lines are blocks with right checksums, and no more lines are
+pub record IsGreatest (lines confirmed : List (List ℕ)) (chain seq : List ℕ) : Type 0 where
+  pub rest : List (List ℕ)
+  pub begins : lines ≡ confirmed ++ rest
+  pub sums : Confirmed confirmed chain seq
+  pub greatest : (front back : List (List ℕ)) (c s : List ℕ) → lines ≡ front ++ back → Confirmed front c s → length front ≤ length confirmed

@@ -1,0 +1,9 @@
+//! The checksums of a journal: seals blocks of lines, and confirms a journal block by block.
+#![tactic(auto)]
+
+mod blocks;
+mod seal;
+mod sums;
+
+pub use blocks::{Blocks, Took};
+pub use seal::{Seal, seal_block};

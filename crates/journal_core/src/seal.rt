@@ -1,0 +1,106 @@
+//! Seals a block.
+ghost use Rattle.std.specs.Prelude.{◌≡◌, IfOk, [], None};
+ghost use Rattle.journal_core.specs.Sealing.{EndsSeal, IsSealing, Seals, SealsBlock, wrong_after};
+
+use crate::sums::{added, hasher_of, hex_of, is_sum, sum_line};
+use line_reader::{LineTask, run_task};
+use script_engine::{ScriptFault, ScriptRead, ScriptWrite};
+use sha2::{Digest, Sha256};
+use std::alloc::{AllocError, Global};
+use std::mem;
+
+/// Returns the number of lines before the first wrong line, after a line that is wrong or not.
+fn wrong_after(before: Option<u64>, wrong: bool, count: u64) -> Option<u64>
+    ensures { result ≡ wrong_after before wrong count }
+{
+    match before {
+        Some(lines) => Some(lines),
+        None if wrong => Some(count),
+        None => None,
+    }
+}
+
+/// Computes the line that ends a block, from the block's lines.
+#[derive(Drop)]
+pub struct Seal {
+    alloc: Global,
+    hasher: Sha256,
+    seq: Vec<u8>,
+    count: u64,
+    wrong: Option<u64>,
+}
+
+impl Seal {
+    /// Begins a block after the block with the hash `chain`.
+    pub fn new(alloc: Global, chain: &[u8], seq: &[u8]) -> Result<Seal, AllocError>
+        ensures { IfOk result (λ seal. IsSealing chain.now seq.now [] seal) }
+    {
+        let hasher = hasher_of(chain, seq);
+        let seq = Vec::from_slice(alloc, seq)?;
+        Ok(Seal {
+            alloc,
+            hasher,
+            seq,
+            count: 0,
+            wrong: None,
+        })
+    }
+
+    /// Returns the number of lines before the first line that a block cannot contain, if there is one: a line that ends
+    /// a block, or a last line without a line end.
+    pub fn wrong(&self) -> Option<u64>
+        ensures { result ≡ self.now.wrong }
+    {
+        self.wrong
+    }
+}
+
+impl LineTask for Seal {
+    ghost steps = { Seals };
+
+    ghost ends = { EndsSeal };
+
+    fn line(&mut self, line: &[u8], _text: &mut Vec<u8>) -> Result<(), AllocError> {
+        self.wrong = wrong_after(self.wrong, is_sum(line), self.count);
+        self.hasher.update(line);
+        self.hasher.update(b"\n".as_slice());
+        self.count = added(self.count, 1)?;
+        Ok(())
+    }
+
+    fn end(&mut self, rest: &[u8], text: &mut Vec<u8>) -> Result<(), AllocError> {
+        self.wrong = wrong_after(self.wrong, !rest.is_empty(), self.count);
+        if self.wrong.is_some() {
+            return Ok(());
+        }
+        let hasher = mem::replace(&mut self.hasher, Sha256::new());
+        let hash = hex_of(self.alloc, hasher)?;
+        let line = sum_line(self.alloc, self.count, hash.as_bytes(), self.seq.as_slice())?;
+        text.extend_from_slice(line.as_slice())?;
+        text.push(b'\n')?;
+        Ok(())
+    }
+}
+
+/// Seals the block of lines that a reader has: writes the line that ends the block. `chain` is the hash of the block before
+/// it. Returns `None`, or the number of lines before the first line that a block cannot contain: a line that ends a block,
+/// or a last line without a line end. In that case nothing is written.
+///
+/// # Errors
+///
+/// - `Read`: the reader failed in this call, or 4,294,967,295 reads of at most 65,536 bytes were made.
+/// - `Write`: the writer failed in this call.
+/// - `Memory`: an allocation failed, or a count is at its maximum.
+pub fn seal_block<R: ScriptRead, W: ScriptWrite>(
+    alloc: Global,
+    chain: &[u8],
+    seq: &[u8],
+    reader: &mut R,
+    writer: &mut W,
+) -> Result<Option<u64>, ScriptFault>
+    ensures { IfOk result (λ wrong. SealsBlock chain.now seq.now (R.left reader.old) (W.held writer.old) (W.held writer.new) wrong) }
+{
+    let mut task = Seal::new(alloc, chain, seq)?;
+    run_task(alloc, &mut task, reader, writer)?;
+    Ok(task.wrong())
+}

@@ -1,0 +1,94 @@
+-- Bytes that were read, and what they wrote.
+use Rattle.proof_prelude.proofs.{◌≡◌, ℕ, zero, suc, ◌+◌, ◌-◌, ◌<◌, List, [], ◌∷◌, ◌++◌, length, take, drop, slice_index, true, false, Option, Some, Result, Ok, Err, OnOk, All, refl, sym, ap, subst, ◌∙◌, arith, eqb-true, append_assoc, append-nil, All-push, All-nil, Appends, Appends-nil, Appends-trans}
+use Rattle.memchr.specs.Find.{IsFirstByte, is_byte}
+use Rattle.script_engine.specs.{has_line_end, is_line_end, Gives}
+use Rattle.script_engine.proofs.{open-joined, rest_all}
+use Rattle.line_reader.specs.{AreLines, joined, HasRun, IsDone, Runs, Steps, more, none}
+
+pub joined-append : (lines : List (List ℕ)) (line : List ℕ) → joined (lines ++ line ∷ []) ≡ joined lines ++ (line ++ 10 ∷ [])
+joined-append [] line = refl
+joined-append (l ∷ lines) line = ap (λ z. l ++ 10 ∷ z) (joined-append lines line) ∙ sym (append_assoc l (10 ∷ joined lines) (line ++ 10 ∷ []))
+
+-- nothing was read
+pub HasRun-none : {S : Type 0} {steps : Steps S} (start : S) (held : Option (List ℕ)) (begun : List ℕ) → begun ≡ [] → HasRun steps start held [] start begun held
+HasRun-none start held begun e = record {
+  lines = [];
+  text = [];
+  splits = record { whole = sym e; lines_whole = All-nil _; rest_begun = ap has_line_end e };
+  runs = none;
+  written = Appends-nil held;
+}
+
+-- bytes without a line end were read
+pub HasRun-begun : {S : Type 0} {steps : Steps S} {start state : S} {held held' : Option (List ℕ)} {taken begun : List ℕ} (bytes begun' : List ℕ) → HasRun steps start held taken state begun held' → has_line_end bytes ≡ false → begun' ≡ begun ++ bytes → HasRun steps start held (taken ++ bytes) state begun' held'
+HasRun-begun {taken = taken} {begun} bytes begun' h none_ends e = record {
+  lines = h.lines;
+  text = h.text;
+  splits = record {
+    whole = ap (λ z. z ++ bytes) h.splits.whole ∙ append_assoc (joined h.lines) begun bytes ∙ ap (λ z. joined h.lines ++ z) (sym e);
+    lines_whole = h.splits.lines_whole;
+    rest_begun = ap has_line_end e ∙ open-joined begun bytes h.splits.rest_begun none_ends;
+  };
+  runs = h.runs;
+  written = h.written;
+}
+
+line_whole : (lines : List (List ℕ)) (taken begun : List ℕ) → taken ≡ joined lines ++ begun → taken ++ 10 ∷ [] ≡ joined (lines ++ begun ∷ []) ++ []
+line_whole lines taken begun e = ap (λ z. z ++ 10 ∷ []) e ∙ append_assoc (joined lines) begun (10 ∷ []) ∙ sym (joined-append lines begun) ∙ sym (append-nil (joined (lines ++ begun ∷ [])))
+
+-- a line end was read, and the line was run
+pub HasRun-line : {S : Type 0} {steps : Steps S} {start state : S} {held held' : Option (List ℕ)} {taken begun : List ℕ} (line added written : List ℕ) (new : S) (begun' : List ℕ) (held'' : Option (List ℕ)) → HasRun steps start held taken state begun held' → line ≡ begun → steps state line added new → written ≡ added → begun' ≡ [] → Appends held' held'' written → HasRun steps start held (taken ++ 10 ∷ []) new begun' held''
+HasRun-line {steps = steps} {start} {state} {held} {held'} {taken} {begun} line added written new begun' held'' h is step a e w = record {
+  lines = h.lines ++ begun ∷ [];
+  text = h.text ++ added;
+  splits = record {
+    whole = line_whole h.lines taken begun h.splits.whole ∙ ap (λ z. joined (h.lines ++ begun ∷ []) ++ z) (sym e);
+    lines_whole = All-push (λ line. has_line_end line ≡ false) h.lines begun h.splits.lines_whole h.splits.rest_begun;
+    rest_begun = ap has_line_end e;
+  };
+  runs = more begun added new h.runs (subst (λ z. steps state z added new) is step);
+  written = Appends-trans held held' held'' h.text added h.written (subst (Appends held' held'') a w);
+}
+
+-- the end of the input was read
+pub HasRun-done : {S : Type 0} {steps ends : Steps S} {start state : S} {held held' : Option (List ℕ)} {input begun : List ℕ} (left : Option (List ℕ)) (rest last_text written : List ℕ) (new : S) (held'' : Option (List ℕ)) → HasRun steps start held input state begun held' → Gives left input → rest ≡ begun → ends state rest last_text new → written ≡ last_text → Appends held' held'' written → IsDone steps ends start left held new held''
+HasRun-done {steps = steps} {ends} {start} {state} {held} {held'} {input} {begun} left rest last_text written new held'' h gives is ended a w = record {
+  input = input;
+  lines = h.lines;
+  rest = begun;
+  text = h.text;
+  last_text = last_text;
+  last = state;
+  gives = gives;
+  splits = h.splits;
+  runs = h.runs;
+  ended = subst (λ z. ends state z last_text new) is ended;
+  written = Appends-trans held held' held'' h.text last_text h.written (subst (Appends held' held'') a w);
+}
+
+-- the same bytes
+pub HasRun-same : {S : Type 0} {steps : Steps S} {start state : S} {held held' : Option (List ℕ)} {taken begun : List ℕ} (taken' : List ℕ) → taken ≡ taken' → HasRun steps start held taken state begun held' → HasRun steps start held taken' state begun held'
+HasRun-same {steps = steps} {start} {state} {held} {held'} {taken} {begun} taken' e h = subst (λ z. HasRun steps start held z state begun held') e h
+
+-- ---- bytes up to a line end
+
+pub regroup : (taken front piece : List ℕ) → ((taken ++ front) ++ piece) ++ 10 ∷ [] ≡ taken ++ (front ++ (piece ++ 10 ∷ []))
+regroup taken front piece = simp append_assoc
+
+cut_at : (xs : List ℕ) (i : ℕ) → i < length xs → is_line_end (slice_index xs i) ≡ true → take i xs ++ (10 ∷ drop (suc i) xs) ≡ xs
+cut_at [] i h e = absurd (omega arith)
+cut_at (x ∷ xs) zero h e = let is : x ≡ 10 = eqb-true x 10 e in ap (λ b. b ∷ xs) (sym is)
+cut_at (x ∷ xs) (suc i) h e = ap (λ z. x ∷ z) (cut_at xs i (omega arith) e)
+
+-- the bytes after the first line end
+pub after_line : (bytes front rest : List ℕ) (i : ℕ) → IsFirstByte (is_byte 10) rest (Some i) → bytes ≡ front ++ rest → bytes ≡ (front ++ (take i rest ++ 10 ∷ [])) ++ take (length rest - (i + 1)) (drop (i + 1) rest)
+after_line bytes front rest i h e =
+    let s : i + 1 ≡ suc i = omega arith in
+    let whole : take i rest ++ (10 ∷ drop (i + 1) rest) ≡ rest = ap (λ n. take i rest ++ (10 ∷ drop n rest)) s ∙ cut_at rest i h.0.high h.1 in
+    e ∙ ap (λ z. front ++ z) (sym whole) ∙ ap (λ z. front ++ z) (sym (append_assoc (take i rest) (10 ∷ []) (drop (i + 1) rest)))
+    ∙ sym (append_assoc front (take i rest ++ 10 ∷ []) (drop (i + 1) rest))
+    ∙ ap (λ z. (front ++ (take i rest ++ 10 ∷ [])) ++ z) (sym (rest_all rest (i + 1)))
+
+pub on_ok : {T E P Q : Type 0} (r : Result T E) → (P → Q) → OnOk r P → OnOk r Q
+on_ok (Ok x) f h = f h
+on_ok (Err e) f h = h

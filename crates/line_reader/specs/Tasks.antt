@@ -1,0 +1,41 @@
+-- Tasks that read lines.
+use Rattle.std.specs.Prelude.{◌≡◌, ℕ, List, [], ◌∷◌, ◌++◌, Option}
+use Rattle.std.specs.Io.KnownBytes.{Appends}
+use Rattle.script_engine.specs.Device.{Gives}
+use Rattle.line_reader.specs.Lines.{AreLines}
+
+-- What a line or the end of the input does: the state before it, its bytes, the text that is written, the state after it
+abbrev pub Steps : Type 0 → Type 1
+Steps S = S → List ℕ → List ℕ → S → Type 0
+
+-- the lines, read in this order from the state `start` on, write this text and leave this state
+pub data Runs {S : Type 0} (steps : Steps S) (start : S) : List (List ℕ) → List ℕ → S → Type 0 where
+  none : Runs steps start [] [] start
+  more : {lines : List (List ℕ)} {text : List ℕ} {mid : S} (line added : List ℕ) (new : S)
+      → Runs steps start lines text mid → steps mid line added new → Runs steps start (lines ++ line ∷ []) (text ++ added) new
+
+-- The bytes `taken` were read from the state `start` on: their lines were run, and the text is written. `begun` is the
+-- line that has no line end yet. `held` and `held'` are what the writer has accepted, before and after.
+pub record HasRun {S : Type 0} (steps : Steps S) (start : S) (held : Option (List ℕ)) (taken : List ℕ) (state : S)
+    (begun : List ℕ) (held' : Option (List ℕ)) : Type 0 where
+  pub lines : List (List ℕ)
+  pub text : List ℕ
+  pub splits : AreLines taken lines begun
+  pub runs : Runs steps start lines text state
+  pub written : Appends held held' text
+
+-- The whole input of the reader was run, and the text is written. `left` is what the reader has left before, and `held`
+-- and `held'` are what the writer has accepted, before and after.
+pub record IsDone {S : Type 0} (steps ends : Steps S) (start : S) (left held : Option (List ℕ)) (state : S)
+    (held' : Option (List ℕ)) : Type 0 where
+  pub input : List ℕ
+  pub lines : List (List ℕ)
+  pub rest : List ℕ
+  pub text : List ℕ
+  pub last_text : List ℕ
+  pub last : S
+  pub gives : Gives left input
+  pub splits : AreLines input lines rest
+  pub runs : Runs steps start lines text last
+  pub ended : ends last rest last_text state
+  pub written : Appends held held' (text ++ last_text)

@@ -1,0 +1,140 @@
+//! Runs a task over the lines of a reader.
+ghost use Rattle.std.specs.Prelude.{◌≡◌, ◌∷◌, [], ◌++◌, ℕ, List, Option, IfErr, OnOk};
+ghost use Rattle.std.specs.Io.KnownBytes.{IsAtEnd};
+ghost use Rattle.script_engine.specs.Chunks.{AreChunks};
+ghost use Rattle.script_engine.specs.Device.{Gives};
+ghost use Rattle.script_engine.specs.Faults.{IsOfWriter, IsFaultOf};
+ghost use Rattle.line_reader.specs.Tasks.{HasRun, IsDone};
+
+use crate::task::LineTask;
+use memchr::memchr;
+use script_engine::{Chunks, ScriptFault, ScriptRead, ScriptWrite, write_all};
+use std::alloc::{AllocError, Global};
+
+/// The state of a run between two bytes of its input.
+#[derive(Drop)]
+struct Progress {
+    /// The bytes of the current line so far, without a line end.
+    begun: Vec<u8>,
+    /// The buffer for text.
+    text: Vec<u8>,
+}
+
+/// Runs the current line at its line end, and writes its text.
+fn end_line<T: LineTask, W: ScriptWrite>(
+    task: &mut T,
+    progress: &mut Progress,
+    writer: &mut W,
+) -> Result<(), ScriptFault>
+    ensures ok { OnOk result ((start : T) (held : Option (List ℕ)) (taken : List ℕ)
+        → HasRun T.steps start held taken task.old progress.old.begun.items (W.held writer.old)
+        → HasRun T.steps start held (taken ++ 10 ∷ []) task.new progress.new.begun.items (W.held writer.new)) }
+    ensures counted { OnOk result (W.failures writer.new ≡ W.failures writer.old) }
+    ensures fault { IfErr result (λ fault. IsOfWriter fault (W.failures writer.old) (W.failures writer.new)) }
+{
+    progress.text.clear();
+    task.line(progress.begun.as_slice(), &mut progress.text)?;
+    match write_all(writer, progress.text.as_slice()) {
+        Ok(()) => {}
+        Err(fault) => return Err(fault),
+    }
+    progress.begun.clear();
+    Ok(())
+}
+
+/// Appends bytes without a line end to the current line.
+fn take_in(progress: &mut Progress, bytes: &[u8]) -> Result<(), AllocError>
+    ensures { OnOk result (progress.new.begun.items ≡ progress.old.begun.items ++ bytes.now) }
+{
+    progress.begun.extend_from_slice(bytes)
+}
+
+/// Runs the lines that end in these bytes.
+fn feed<T: LineTask, W: ScriptWrite>(
+    task: &mut T,
+    progress: &mut Progress,
+    writer: &mut W,
+    bytes: &[u8],
+) -> Result<(), ScriptFault>
+    ensures ok { OnOk result ((start : T) (held : Option (List ℕ)) (taken : List ℕ)
+        → HasRun T.steps start held taken task.old progress.old.begun.items (W.held writer.old)
+        → HasRun T.steps start held (taken ++ bytes.now) task.new progress.new.begun.items (W.held writer.new)) }
+    ensures counted { OnOk result (W.failures writer.new ≡ W.failures writer.old) }
+    ensures fault { IfErr result (λ fault. IsOfWriter fault (W.failures writer.old) (W.failures writer.new)) }
+{
+    let mut rest = bytes;
+    while let Some(end) = memchr(10, rest) {
+        take_in(progress, &rest[..end])?;
+        match end_line(task, progress, writer) {
+            Ok(()) => {}
+            Err(fault) => return Err(fault),
+        }
+        rest = &rest[end + 1..];
+    }
+    take_in(progress, rest)?;
+    Ok(())
+}
+
+/// Runs the end of the input, and writes its text.
+fn finish<T: LineTask, W: ScriptWrite>(
+    task: &mut T,
+    progress: &mut Progress,
+    writer: &mut W,
+) -> Result<(), ScriptFault>
+    ensures ok { OnOk result ((start : T) (left held : Option (List ℕ)) (input : List ℕ) → Gives left input
+        → HasRun T.steps start held input task.old progress.old.begun.items (W.held writer.old)
+        → IsDone T.steps T.ends start left held task.new (W.held writer.new)) }
+    ensures counted { OnOk result (W.failures writer.new ≡ W.failures writer.old) }
+    ensures fault { IfErr result (λ fault. IsOfWriter fault (W.failures writer.old) (W.failures writer.new)) }
+{
+    progress.text.clear();
+    task.end(progress.begun.as_slice(), &mut progress.text)?;
+    match write_all(writer, progress.text.as_slice()) {
+        Ok(()) => Ok(()),
+        Err(fault) => Err(fault),
+    }
+}
+
+/// Runs a task over all lines of a reader, and writes its text. Only the current line and the task's state are held in
+/// memory.
+///
+/// # Errors
+///
+/// - `Read`: the reader failed in this call, or 4,294,967,295 reads of at most 65,536 bytes were made.
+/// - `Write`: the writer failed in this call.
+/// - `Memory`: an allocation failed, or a count of the task is at its maximum.
+///
+/// After an error, the text of the lines before it is written, or a prefix of that text.
+pub fn run_task<T: LineTask, R: ScriptRead, W: ScriptWrite>(
+    alloc: Global,
+    task: &mut T,
+    reader: &mut R,
+    writer: &mut W,
+) -> Result<(), ScriptFault>
+    ensures ok { OnOk result (IsDone T.steps T.ends task.old (R.left reader.old) (W.held writer.old) task.new
+        (W.held writer.new)) }
+    ensures end { OnOk result (IsAtEnd (R.left reader.new)) }
+    ensures counted { OnOk result ((R.failures reader.new ≡ R.failures reader.old)
+        × (W.failures writer.new ≡ W.failures writer.old)) }
+    ensures fault { IfErr result (λ fault. IsFaultOf fault (R.reads reader.old) (R.reads reader.new)
+        (R.failures reader.old) (R.failures reader.new) (W.failures writer.old) (W.failures writer.new)) }
+{
+    let mut chunks = Chunks::new(alloc)?;
+    let mut progress = Progress {
+        begun: Vec::new(alloc),
+        text: Vec::new(alloc),
+    };
+    loop {
+        let more = match chunks.next(reader) {
+            Ok(more) => more,
+            Err(fault) => return Err(fault),
+        };
+        if !more {
+            return finish(task, &mut progress, writer);
+        }
+        match feed(task, &mut progress, writer, chunks.bytes()) {
+            Ok(()) => {}
+            Err(fault) => return Err(fault),
+        }
+    }
+}

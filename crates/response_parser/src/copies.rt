@@ -1,0 +1,285 @@
+//! Several bytes of a value, read at once.
+ghost use Rattle.std.specs.Prelude.{◌≡◌, ◌+◌, ◌<◌, ◌≤◌, ◌==◌, ◌&&◌, ◌||◌, nat_le, [], length, take, get_or, true, false, IfOk, OnOk};
+ghost use Rattle.response_parser.specs.Stored.{state_of};
+ghost use Rattle.response_parser.specs.Reading.{after, pieces};
+ghost use Rattle.response_parser.specs.Runs.{Continues, in_value_of};
+ghost use Rattle.response_parser.specs.declared.place.Found.TheVariants.{Nothing};
+
+use crate::place::{Name, Place};
+use crate::reading::Reading;
+use crate::values::MAX_NESTING;
+use json_values::plain_end;
+use std::alloc::AllocError;
+
+/// A position in the bytes of a value.
+#[derive(Clone, Copy)]
+struct Spot {
+    /// The number of bytes before the position.
+    count: usize,
+    /// Whether the position is within a string.
+    quoted: bool,
+    /// The number of open brackets.
+    nesting: u8,
+}
+
+impl Spot {
+    /// The position after the next bytes that are copied; the same position if the next byte has to be read alone.
+    #[inline(always)]
+    fn next(self, bytes: &[u8]) -> Spot
+        requires { self.count < length bytes.now }
+        ensures within { (self.count ≤ result.count) × (result.count ≤ length bytes.now) }
+        ensures continues { Continues bytes.now self.count self.quoted self.nesting result.count result.quoted
+            result.nesting }
+    {
+        if self.quoted {
+            self.in_string(bytes)
+        } else {
+            self.outside(bytes)
+        }
+    }
+
+    /// The position after the content of a string, and after a quotation mark or an escape that follows it.
+    #[inline(always)]
+    fn in_string(self, bytes: &[u8]) -> Spot
+        requires within { self.count < length bytes.now }
+        requires quoted { self.quoted ≡ true }
+        ensures within { (self.count ≤ result.count) × (result.count ≤ length bytes.now) }
+        ensures continues { Continues bytes.now self.count self.quoted self.nesting result.count result.quoted
+            result.nesting }
+    {
+        let end = plain_end(bytes, self.count);
+        let plain = Spot { count: end, ..self };
+        if bytes.len() - end < 2 {
+            plain
+        } else {
+            plain.after_string(bytes)
+        }
+    }
+
+    /// The position after a quotation mark or an escape.
+    #[inline(always)]
+    fn after_string(self, bytes: &[u8]) -> Spot
+        requires within { self.count + 1 < length bytes.now }
+        requires quoted { self.quoted ≡ true }
+        ensures within { (self.count ≤ result.count) × (result.count ≤ length bytes.now) }
+        ensures continues { Continues bytes.now self.count self.quoted self.nesting result.count result.quoted
+            result.nesting }
+    {
+        let byte = bytes[self.count];
+        if byte == b'"' {
+            Spot {
+                count: self.count + 1,
+                quoted: false,
+                nesting: self.nesting,
+            }
+        } else if byte == b'\\' {
+            Spot {
+                count: self.count + 2,
+                ..self
+            }
+        } else {
+            self
+        }
+    }
+
+    /// The position after a byte outside of strings.
+    #[inline(always)]
+    fn outside(self, bytes: &[u8]) -> Spot
+        requires within { self.count < length bytes.now }
+        requires outside { self.quoted ≡ false }
+        ensures within { (self.count ≤ result.count) × (result.count ≤ length bytes.now) }
+        ensures continues { Continues bytes.now self.count self.quoted self.nesting result.count result.quoted
+            result.nesting }
+    {
+        let byte = bytes[self.count];
+        if self.nesting == 0 {
+            self
+        } else if is_solid(byte) {
+            Spot {
+                count: self.count + 1,
+                ..self
+            }
+        } else {
+            self.past_sign(bytes, byte)
+        }
+    }
+
+    /// The position after a quotation mark, a bracket, a blank or another byte outside of strings.
+    #[inline(always)]
+    fn past_sign(self, bytes: &[u8], byte: u8) -> Spot
+        requires within { self.count < length bytes.now }
+        requires outside { self.quoted ≡ false }
+        requires begun { (self.nesting == 0) ≡ false }
+        requires byte { byte ≡ get_or bytes.now self.count 0 }
+        ensures within { (self.count ≤ result.count) × (result.count ≤ length bytes.now) }
+        ensures continues { Continues bytes.now self.count self.quoted self.nesting result.count result.quoted
+            result.nesting }
+    {
+        if byte == b'"' {
+            Spot {
+                count: self.count + 1,
+                quoted: true,
+                nesting: self.nesting,
+            }
+        } else if is_opening(byte) {
+            self.opened(bytes)
+        } else if is_closing(byte) {
+            self.closed(bytes)
+        } else if is_line_space(byte) {
+            self
+        } else {
+            Spot {
+                count: self.count + 1,
+                ..self
+            }
+        }
+    }
+
+    /// The position after an opening bracket; the same position if too many brackets are open.
+    #[inline(always)]
+    fn opened(self, bytes: &[u8]) -> Spot
+        requires within { self.count < length bytes.now }
+        requires outside { self.quoted ≡ false }
+        requires opens { (get_or bytes.now self.count 0 == 123 || get_or bytes.now self.count 0 == 91) ≡ true }
+        ensures within { (self.count ≤ result.count) × (result.count ≤ length bytes.now) }
+        ensures continues { Continues bytes.now self.count self.quoted self.nesting result.count result.quoted
+            result.nesting }
+    {
+        if self.nesting < MAX_NESTING {
+            Spot {
+                count: self.count + 1,
+                quoted: false,
+                nesting: self.nesting + 1,
+            }
+        } else {
+            self
+        }
+    }
+
+    /// The position after a closing bracket; the same position if it closes the outermost one.
+    #[inline(always)]
+    fn closed(self, bytes: &[u8]) -> Spot
+        requires within { self.count < length bytes.now }
+        requires outside { self.quoted ≡ false }
+        requires closes { (get_or bytes.now self.count 0 == 125 || get_or bytes.now self.count 0 == 93) ≡ true }
+        ensures within { (self.count ≤ result.count) × (result.count ≤ length bytes.now) }
+        ensures continues { Continues bytes.now self.count self.quoted self.nesting result.count result.quoted
+            result.nesting }
+    {
+        if self.nesting > 1 {
+            Spot {
+                count: self.count + 1,
+                quoted: false,
+                nesting: self.nesting - 1,
+            }
+        } else {
+            self
+        }
+    }
+}
+
+/// Whether a byte belongs to a number, a keyword, a colon or a comma, among others. False for quotation marks, brackets
+/// and white space.
+#[inline(always)]
+fn is_solid(byte: u8) -> bool
+    ensures { result ≡ (nat_le 35 byte && nat_le byte 90 || nat_le 97 byte && nat_le byte 122) }
+{
+    byte >= b'#' && byte <= b'Z' || byte >= b'a' && byte <= b'z'
+}
+
+/// Whether a byte is white space other than a blank.
+#[inline(always)]
+fn is_line_space(byte: u8) -> bool
+    ensures { result ≡ (byte == 9 || byte == 10 || byte == 13) }
+{
+    byte == b'\t' || byte == b'\n' || byte == b'\r'
+}
+
+/// Whether a byte is an opening bracket.
+#[inline(always)]
+fn is_opening(byte: u8) -> bool
+    ensures { result ≡ (byte == 123 || byte == 91) }
+{
+    byte == b'{' || byte == b'['
+}
+
+/// Whether a byte is a closing bracket.
+#[inline(always)]
+fn is_closing(byte: u8) -> bool
+    ensures { result ≡ (byte == 125 || byte == 93) }
+{
+    byte == b'}' || byte == b']'
+}
+
+/// The position up to which the first bytes are copied, in a value that has begun.
+#[inline(always)]
+fn spot_after(bytes: &[u8], quoted: bool, nesting: u8) -> Spot
+    ensures within { result.count ≤ length bytes.now }
+    ensures continues { Continues bytes.now 0 quoted nesting result.count result.quoted result.nesting }
+{
+    let mut spot = Spot {
+        count: 0,
+        quoted,
+        nesting,
+    };
+    while spot.count < bytes.len() {
+        let next = spot.next(bytes);
+        if next.count == spot.count {
+            return next;
+        }
+        spot = next;
+    }
+    spot
+}
+
+impl Reading {
+    /// Copies the first bytes if they belong to a value that has begun, and complete nothing. Returns their number.
+    #[inline(always)]
+    pub(crate) fn copy(&mut self, bytes: &[u8]) -> Result<usize, AllocError>
+        requires { (state_of self.old).found ≡ Nothing }
+        ensures within { IfOk result (λ count. count ≤ length bytes.now) }
+        ensures state { IfOk result
+            (λ count. state_of self.new ≡ after (state_of self.old) (take count bytes.now)) }
+        ensures none { IfOk result (λ count. pieces (state_of self.old) (take count bytes.now) ≡ []) }
+        ensures found { OnOk result ((state_of self.new).found ≡ Nothing) }
+    {
+        match self.place {
+            Place::Quoted(name) => self.copy_value(name, true, bytes),
+            Place::Value(name) => self.copy_value(name, false, bytes),
+            _ => Ok(0),
+        }
+    }
+
+    /// Copies the first bytes of a value, if it has begun. Returns their number.
+    fn copy_value(&mut self, name: Name, quoted: bool, bytes: &[u8]) -> Result<usize, AllocError>
+        requires found { (state_of self.old).found ≡ Nothing }
+        requires place { (state_of self.old).place ≡ in_value_of name quoted }
+        ensures within { IfOk result (λ count. count ≤ length bytes.now) }
+        ensures state { IfOk result
+            (λ count. state_of self.new ≡ after (state_of self.old) (take count bytes.now)) }
+        ensures none { IfOk result (λ count. pieces (state_of self.old) (take count bytes.now) ≡ []) }
+        ensures found { OnOk result ((state_of self.new).found ≡ Nothing) }
+    {
+        if self.has_no_text() {
+            return Ok(0);
+        }
+        let spot = spot_after(bytes, quoted, self.nesting);
+        self.text.extend_from_slice(&bytes[..spot.count])?;
+        self.place = if spot.quoted {
+            Place::Quoted(name)
+        } else {
+            Place::Value(name)
+        };
+        self.nesting = spot.nesting;
+        self.taken = self.taken.saturating_add(spot.count as u64);
+        Ok(spot.count)
+    }
+
+    /// Whether the current value has not begun.
+    #[inline(always)]
+    fn has_no_text(&self) -> bool
+        ensures { result ≡ (length (state_of self.now).text == 0) }
+    {
+        self.text.is_empty()
+    }
+}
