@@ -1,5 +1,5 @@
 -- A script that was run on existing databases, and the names of errors.
-use Rattle.proof_prelude.proofs.{◌≡◌, ◌≤◌, ℕ, List, length, Bool, Option, Result, Ok, Err, subst, arith, IfOk, IfErr, Appends, Consumes}
+use Rattle.proof_prelude.proofs.{◌≡◌, ◌≤◌, ℕ, List, length, Bool, Option, Result, Ok, Err, subst, arith, IfOk, IfErr, Appends}
 use Rattle.script_engine.specs.{Gives, IsFaultOf, IsToldUntil, AnswersEnded, IsAnswered, ScriptFault}
 use Rattle.script_engine.specs.declared.fault.ScriptFault.TheVariants.{Read}
 use Rattle.script_databases.specs.{State, name_of, Refusal}
@@ -22,17 +22,23 @@ same_start old s l h h' k k' r r' w w' (Ok clean) e x = tt
 same_start old s l h h' k k' r r' w w' (Err fault) e (input, text, gives, written, answered, is) = (input, text, gives, written, subst (λ s. IsToldUntil fault LinesAnswer s input text) e answered, is)
 
 -- so does the output of all complete lines
-pub some_end : (old s new : State) (l l' h h' : Option (List ℕ)) (r : Result Bool ScriptFault) → AllTied old → old ≡ s →
-    IfErr r (λ fault. fault ≡ Read → (taken : List ℕ) × (text : List ℕ) × Consumes l l' taken × Appends h h' text × AnswersEnded LinesAnswer old taken text new) →
-    IfErr r (λ fault. fault ≡ Read → (taken : List ℕ) × (text : List ℕ) × (state : State) × Consumes l l' taken × Appends h h' text × AnswersEnded TrustedLines s taken text state)
-some_end old s new l l' h h' (Ok clean) tied e x = tt
-some_end old s new l l' h h' (Err fault) tied e x = λ is. let y = x is in (y.0, y.1, new, y.2, y.3, ended_trusted s y.0 y.1 new (subst AllTied e tied) (subst (λ s. AnswersEnded LinesAnswer s y.0 y.1 new) e y.4))
+pub some_end : (old s new : State) (taken : List ℕ → Type 0) (h h' : Option (List ℕ)) (r : Result Bool ScriptFault) → AllTied old → old ≡ s →
+    IfErr r (λ fault. fault ≡ Read → (input : List ℕ) × (text : List ℕ) × taken input × Appends h h' text × AnswersEnded LinesAnswer old input text new) →
+    IfErr r (λ fault. fault ≡ Read → (input : List ℕ) × (text : List ℕ) × (state : State) × taken input × Appends h h' text × AnswersEnded TrustedLines s input text state)
+some_end old s new taken h h' (Ok clean) tied e x = tt
+some_end old s new taken h h' (Err fault) tied e x = λ is. let y = x is in (y.0, y.1, new, y.2, y.3, ended_trusted s y.0 y.1 new (subst AllTied e tied) (subst (λ s. AnswersEnded LinesAnswer s y.0 y.1 new) e y.4))
 
 -- if all databases are tied at first, the output has its guarantees, also up to an error
-pub some_trust : (old s new : State) (l h h' : Option (List ℕ)) (r : Result Bool ScriptFault) → AllTied old → old ≡ s → IfOk r (λ clean. (input : List ℕ) × (text : List ℕ) × Gives l input × Appends h h' text × IsAnswered LinesAnswer old input clean text new) →
-    IfOk r (λ clean. (input : List ℕ) × (text : List ℕ) × (state : State) × Gives l input × Appends h h' text × IsAnswered TrustedLines s input clean text state)
-some_trust old s new l h h' (Ok clean) tied e (input, text, gives, written, answered) = (input, text, new, gives, written, answered_trusted s input clean text new (subst AllTied e tied) (subst (λ s. IsAnswered LinesAnswer s input clean text new) e answered))
-some_trust old s new l h h' (Err fault) tied e x = tt
+pub some_trust : (old s new : State) (given : List ℕ → Type 0) (h h' : Option (List ℕ)) (r : Result Bool ScriptFault) → AllTied old → old ≡ s → IfOk r (λ clean. (input : List ℕ) × (text : List ℕ) × given input × Appends h h' text × IsAnswered LinesAnswer old input clean text new) →
+    IfOk r (λ clean. (input : List ℕ) × (text : List ℕ) × (state : State) × given input × Appends h h' text × IsAnswered TrustedLines s input clean text state)
+some_trust old s new given h h' (Ok clean) tied e (input, text, gives, written, answered) = (input, text, new, gives, written, answered_trusted s input clean text new (subst AllTied e tied) (subst (λ s. IsAnswered LinesAnswer s input clean text new) e answered))
+some_trust old s new given h h' (Err fault) tied e x = tt
+
+pub until_trust : (old s : State) (given : List ℕ → Type 0) (h h' : Option (List ℕ)) (x : Result Bool ScriptFault) → AllTied old → old ≡ s →
+    IfErr x (λ fault. (input : List ℕ) × (text : List ℕ) × given input × Appends h h' text × IsToldUntil fault LinesAnswer old input text) →
+    IfErr x (λ fault. (input : List ℕ) × (text : List ℕ) × given input × Appends h h' text × IsToldUntil fault TrustedLines s input text)
+until_trust old s given h h' (Ok clean) tied e x = tt
+until_trust old s given h h' (Err fault) tied e (input, text, gives, written, answered) = (input, text, gives, written, until_trusted fault s input text (subst AllTied e tied) (subst (λ s. IsToldUntil fault LinesAnswer s input text) e answered))
 
 pub same_trust : (old s : State) (l h h' : Option (List ℕ)) (k k' r r' w w' : ℕ) (x : Result Bool ScriptFault) → AllTied old → old ≡ s →
     IfErr x (λ fault. (input : List ℕ) × (text : List ℕ) × Gives l input × Appends h h' text × IsToldUntil fault LinesAnswer old input text × IsFaultOf fault k k' r r' w w') →

@@ -1,5 +1,5 @@
 //! Runs scripts of commands on in-memory databases.
-ghost use Rattle.std.specs.Prelude.{◌≡◌, ◌⊎◌, ℕ, List, [], IfOk, IfErr, OnOk};
+ghost use Rattle.std.specs.Prelude.{◌≡◌, ◌⊎◌, ℕ, List, [], true, IfOk, IfErr, OnOk};
 ghost use Rattle.serde_json.specs.Data.{Members, object};
 ghost use Rattle.json_values.specs.LineView.{line_view};
 ghost use Rattle.std.specs.Io.KnownBytes.{Appends, Consumes, IsAtEnd};
@@ -9,10 +9,10 @@ ghost use Rattle.script_engine.specs.Faults.{IsFaultOf, IsSent, IsToldUntil};
 ghost use Rattle.script_engine.specs.declared.fault.ScriptFault.TheVariants.{Read};
 ghost use Rattle.script_databases.specs.Databases.{State, no_databases};
 ghost use Rattle.script_databases.specs.declared.refusal.Refusal.TheVariants.{BadLine, Memory};
-ghost use Rattle.script_engine.specs.Serving.{Fits, MayTell};
+ghost use Rattle.script_engine.specs.Serving.{Fits, IsSplit, MayTell};
 ghost use Rattle.commands.specs.Script.{IsNoObject, IsObject, LinesAnswer};
 ghost use Rattle.commands.specs.Trust.{TrustedLines};
-ghost use Rattle.read_commands.specs.Rest.{FitsRest, told_begun};
+ghost use Rattle.read_commands.specs.Rest.{FitsRest, rest_left, told_begun};
 ghost use Rattle.script_databases.specs.Stored.{program_of};
 
 use crate::observe_answer::ObserveAnswers;
@@ -100,6 +100,7 @@ fn answer_line<H: Threads + Wait + Sync>(
     ensures told { MayTell LinesAnswer databases.old line.now (told_begun databases.new result answer.new.items)
         databases.new }
     ensures fits { IfOk result (λ rest. Fits (FitsRest databases.new) rest) }
+    ensures split { IfOk result (λ rest. IsSplit 65536 (rest_left databases.new) true answer.new.items rest) }
 {
     let value = match read_object(values, alloc, line) {
         Ok(value) => value,
@@ -148,8 +149,8 @@ pub fn read_object<'a>(
 /// - `Write`: the writer failed in this call.
 /// - `Memory`: an allocation failed before anything was read, or while a line was read. All lines before it are
 ///   complete.
-/// - `Cut`: an allocation failed after the first piece of a line's output. The contract says of this case only that the
-///   text is a prefix of the script's output.
+/// - `Cut`: an allocation failed after the first piece of a line's output. The output of all lines before it is
+///   complete, and a part of that line's output is missing.
 pub fn run_script<H, R: ScriptRead, W: ScriptWrite, L: ObserveAnswers>(
     rt: &H,
     reader: &mut R,
@@ -171,6 +172,12 @@ where
         × Appends (W.held writer.old) (W.held writer.new) text
         × IsAnswered TrustedLines (no_databases (program_of settings.now)) input clean text state) }
     ensures end { OnOk result (IsAtEnd (R.left reader.new)) }
+    // The same for the bytes that the reads returned, and the last read returned the end of the input.
+    ensures took { IfOk result
+        (λ clean. (input : List ℕ) × (text : List ℕ) × (state : State)
+        × Appends (R.taken reader.old) (R.taken reader.new) input × Appends (W.held writer.old) (W.held writer.new) text
+        × IsAnswered TrustedLines (no_databases (program_of settings.now)) input clean text state) }
+    ensures ended { OnOk result (R.ended reader.new) }
     ensures counted { OnOk result ((R.failures reader.new ≡ R.failures reader.old)
         × (W.failures writer.new ≡ W.failures writer.old)) }
     // After an error, the text is a prefix of such output, and the named device has failed. `Memory` occurs before
@@ -184,11 +191,17 @@ where
     ensures trust_until { IfErr result (λ fault. (input : List ℕ) × (text : List ℕ) × Gives (R.left reader.old) input
         × Appends (W.held writer.old) (W.held writer.new) text
         × IsToldUntil fault TrustedLines (no_databases (program_of settings.now)) input text) }
+    ensures took_until { IfErr result (λ fault. (input : List ℕ) × (text : List ℕ)
+        × Appends (R.taken reader.old) (R.taken reader.new) input × Appends (W.held writer.old) (W.held writer.new) text
+        × IsToldUntil fault TrustedLines (no_databases (program_of settings.now)) input text) }
     // If a read fails, the output of all lines read before is complete; and unless a write failed, that output has been
     // flushed. Each read may fail, so this is the state before each read.
     ensures read { IfErr result (λ fault. fault ≡ Read → (taken : List ℕ) × (text : List ℕ) × (state : State)
         × Consumes (R.left reader.old) (R.left reader.new) taken × Appends (W.held writer.old) (W.held writer.new) text
         × AnswersEnded TrustedLines (no_databases (program_of settings.now)) taken text state) }
+    ensures took_in { IfErr result (λ fault. fault ≡ Read → (input : List ℕ) × (text : List ℕ) × (state : State)
+        × Appends (R.taken reader.old) (R.taken reader.new) input × Appends (W.held writer.old) (W.held writer.new) text
+        × AnswersEnded TrustedLines (no_databases (program_of settings.now)) input text state) }
     ensures sent { IsSent result (W.held writer.new) (W.sent writer.new) }
 {
     let databases = match Databases::new(rt.alloc(), settings) {
@@ -213,6 +226,10 @@ fn run_on<H: Threads + Wait + Sync, R: ScriptRead, W: ScriptWrite, L: ObserveAns
         × Appends (W.held writer.old) (W.held writer.new) text
         × IsAnswered LinesAnswer databases input clean text result.1) }
     ensures end { OnOk result.0 (IsAtEnd (R.left reader.new)) }
+    ensures took { IfOk result.0 (λ clean. (input : List ℕ) × (text : List ℕ)
+        × Appends (R.taken reader.old) (R.taken reader.new) input × Appends (W.held writer.old) (W.held writer.new) text
+        × IsAnswered LinesAnswer databases input clean text result.1) }
+    ensures ended { OnOk result.0 (R.ended reader.new) }
     ensures counted { OnOk result.0 ((R.failures reader.new ≡ R.failures reader.old)
         × (W.failures writer.new ≡ W.failures writer.old)) }
     ensures fault { IfErr result.0 (λ fault. (input : List ℕ) × (text : List ℕ) × Gives (R.left reader.old) input
@@ -222,6 +239,12 @@ fn run_on<H: Threads + Wait + Sync, R: ScriptRead, W: ScriptWrite, L: ObserveAns
     ensures read { IfErr result.0 (λ fault. fault ≡ Read → (taken : List ℕ) × (text : List ℕ)
         × Consumes (R.left reader.old) (R.left reader.new) taken × Appends (W.held writer.old) (W.held writer.new) text
         × AnswersEnded LinesAnswer databases taken text result.1) }
+    ensures took_until { IfErr result.0 (λ fault. (input : List ℕ) × (text : List ℕ)
+        × Appends (R.taken reader.old) (R.taken reader.new) input × Appends (W.held writer.old) (W.held writer.new) text
+        × IsToldUntil fault LinesAnswer databases input text) }
+    ensures took_in { IfErr result.0 (λ fault. fault ≡ Read → (input : List ℕ) × (text : List ℕ)
+        × Appends (R.taken reader.old) (R.taken reader.new) input × Appends (W.held writer.old) (W.held writer.new) text
+        × AnswersEnded LinesAnswer databases input text result.1) }
     ensures sent { IsSent result.0 (W.held writer.new) (W.sent writer.new) }
 {
     let mut interpreter = Interpreter {

@@ -1,8 +1,8 @@
 //! The commands of a script, by name (docs/PROFILE.md, "Command lines", "Order of checks" and "Answers").
-ghost use Rattle.std.specs.Prelude.{◌≡◌, [], IfOk};
+ghost use Rattle.std.specs.Prelude.{◌≡◌, [], true, IfOk};
 ghost use Rattle.json_values.specs.LineView.{line_view};
-ghost use Rattle.script_engine.specs.Serving.{Fits, MayTell};
-ghost use Rattle.read_commands.specs.Rest.{FitsRest, told_begun};
+ghost use Rattle.script_engine.specs.Serving.{Fits, IsSplit, MayTell};
+ghost use Rattle.read_commands.specs.Rest.{FitsRest, rest_left, told_begun};
 ghost use Rattle.commands.specs.Script.{AnswersAsked};
 ghost use Rattle.commands.specs.words.{asked_if, asked_in};
 
@@ -76,6 +76,7 @@ pub fn serve<H: Threads + Wait + Sync>(
     ensures told { MayTell AnswersAsked databases.old (asked_in (line_view line.now))
         (told_begun databases.new result answer.new.items) databases.new }
     ensures fits { IfOk result (λ rest. Fits (FitsRest databases.new) rest) }
+    ensures split { IfOk result (λ rest. IsSplit 65536 (rest_left databases.new) true answer.new.items rest) }
 {
     let Some(word) = command_name_of(line.value()) else {
         return Err(Refusal::BadCommand);

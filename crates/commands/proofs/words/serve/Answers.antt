@@ -109,3 +109,42 @@ returns-in-Ledger-clause-fits g c = c.whole-in-Ledger.ensures.fits c.serve_in-in
 
 pub returns-in-Sync-clause-fits : goal.returns-in-Sync-clause-fits
 returns-in-Sync-clause-fits g c = c.whole-in-Sync.ensures.fits c.serve_in-in-Sync.new.databases
+
+pub returns-in-Load-clause-split : goal.returns-in-Load-clause-split
+returns-in-Load-clause-split g c = c.whole.ensures.split c.serve_in.new.databases _
+
+pub returns-in-Edit-clause-split : goal.returns-in-Edit-clause-split
+returns-in-Edit-clause-split g c = c.whole-in-Edit.ensures.split c.serve_in-in-Edit.new.databases _
+
+pub returns-in-Show-clause-split : goal.returns-in-Show-clause-split
+returns-in-Show-clause-split g c = c.whole-in-Show.ensures.split c.serve_in-in-Show.new.databases _
+
+pub returns-in-Doc-clause-split : goal.returns-in-Doc-clause-split
+returns-in-Doc-clause-split g c = c.whole-in-Doc.ensures.split c.serve_in-in-Doc.new.databases _
+
+pub returns-in-Changes-clause-split : goal.returns-in-Changes-clause-split
+returns-in-Changes-clause-split g c = c.whole-in-Changes.ensures.split c.serve_in-in-Changes.new.databases _
+
+pub returns-in-Log-clause-split : goal.returns-in-Log-clause-split
+returns-in-Log-clause-split g c = c.whole-in-Log.ensures.split c.serve_in-in-Log.new.databases _
+
+pub returns-in-Audit-clause-split : goal.returns-in-Audit-clause-split
+returns-in-Audit-clause-split g c = c.whole-in-Audit.ensures.split c.serve_in-in-Audit.new.databases _
+
+pub returns-in-Replicate-clause-split : goal.returns-in-Replicate-clause-split
+returns-in-Replicate-clause-split g c = c.whole-in-Replicate.ensures.split c.serve_in-in-Replicate.new.databases _
+
+pub returns-in-Backup-clause-split : goal.returns-in-Backup-clause-split
+returns-in-Backup-clause-split g c = c.whole-in-Backup.ensures.split c.serve_in-in-Backup.new.databases _
+
+pub returns-in-Restore-clause-split : goal.returns-in-Restore-clause-split
+returns-in-Restore-clause-split g c = c.whole-in-Restore.ensures.split c.serve_in-in-Restore.new.databases _
+
+pub returns-in-Info-clause-split : goal.returns-in-Info-clause-split
+returns-in-Info-clause-split g c = c.whole-in-Info.ensures.split c.serve_in-in-Info.new.databases _
+
+pub returns-in-Ledger-clause-split : goal.returns-in-Ledger-clause-split
+returns-in-Ledger-clause-split g c = c.whole-in-Ledger.ensures.split c.serve_in-in-Ledger.new.databases _
+
+pub returns-in-Sync-clause-split : goal.returns-in-Sync-clause-split
+returns-in-Sync-clause-split g c = c.whole-in-Sync.ensures.split c.serve_in-in-Sync.new.databases _

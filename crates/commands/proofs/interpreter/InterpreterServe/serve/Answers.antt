@@ -1,7 +1,8 @@
-use Rattle.proof_prelude.proofs.{◌≤◌, length, subst, sym, Ok, Err}
+use Rattle.proof_prelude.proofs.{◌≤◌, length, subst, sym, arith, true, Ok, Err}
 use Rattle.script_engine.specs.{MayTell, text_with}
 use Rattle.script_databases.specs.{State, name_of}
 use Rattle.read_commands.specs.{rest_left}
+use Rattle.read_commands.proofs.{split_least}
 use Rattle.commands.specs.{LinesAnswer}
 use Rattle.commands.proofs.{name_short}
 use Rattle.commands.proofs.interpreter.InterpreterServe.serve.Goals as goal
@@ -12,6 +13,9 @@ returns-clause-told g c =
 
 pub returns-clause-fits : goal.returns-clause-fits
 returns-clause-fits g c = c.in-Ok.ensures.fits
+
+pub returns-clause-split : goal.returns-clause-split
+returns-clause-split g c = split_least 1 65536 (rest_left c.answer_line.new.databases) true c.answer_line.new.answer.items c.in-Ok.rest (omega arith) c.in-Ok.ensures.split
 
 pub returns-in-Err-clause-refused : goal.returns-in-Err-clause-refused
 returns-in-Err-clause-refused g c =
