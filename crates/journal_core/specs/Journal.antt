@@ -5,28 +5,28 @@ use Rattle.sha2.specs.Sha256.{sha256}
 use Rattle.hex.specs.Hex.{encode_lower}
 use Rattle.line_reader.specs.Lines.{joined}
 
--- the hash of a block: the SHA-256 of the hash before it (`chain`), its sequence, and the bytes of its lines, in
--- hexadecimal digits
+-- The hash of a block: the SHA-256 of the hash before it (`chain`), its sequence, and the bytes of its lines, in
+-- hexadecimal digits.
 unfoldable pub block_hash : List ℕ → List ℕ → List ℕ → List ℕ
 block_hash chain seq body = encode_lower (sha256 (chain ++ codes " " ++ seq ++ codes "\n" ++ body))
 
--- the start of the line that ends a block of `count` lines
+-- The start of the line that ends a block of `count` lines.
 unfoldable pub sum_head : ℕ → List ℕ
 sum_head count = codes "sum " ++ decimal count ++ codes " "
 
--- the line that ends a block of `count` lines
+-- The line that ends a block of `count` lines.
 unfoldable pub sum_line : ℕ → List ℕ → List ℕ → List ℕ
 sum_line count hash seq = sum_head count ++ hash ++ codes " " ++ seq
 
--- whether a line ends a block
+-- Whether a line ends a block.
 unfoldable pub is_sum : List ℕ → Bool
 is_sum line = starts_with nat_eq line (codes "sum ")
 
--- the hash before the first block
+-- The hash before the first block.
 unfoldable pub first_chain : List ℕ
 first_chain = codes "start"
 
--- the sequence of a journal without blocks
+-- The sequence of a journal without blocks.
 unfoldable pub first_seq : List ℕ
 first_seq = codes "0"
 
@@ -37,7 +37,7 @@ pub data Confirmed : List (List ℕ) → List ℕ → List ℕ → Type 0 where
       → All (λ line. is_sum line ≡ false) body
       → Confirmed (lines ++ (body ++ sum_line (length body) (block_hash chain next (joined body)) next ∷ [])) (block_hash chain next (joined body)) next
 
--- the first `count` lines are blocks with right checksums, and no more lines are
+-- The first `count` lines are blocks with right checksums, and no more lines are.
 pub record IsGreatest (lines confirmed : List (List ℕ)) (chain seq : List ℕ) : Type 0 where
   pub rest : List (List ℕ)
   pub begins : lines ≡ confirmed ++ rest

@@ -7,24 +7,24 @@ use Rattle.line_reader.specs.Lines.{joined}
 use Rattle.journal_core.specs.Journal.{Confirmed, block_hash, is_sum, sum_line}
 use Rattle.journal_core.specs.declared.seal.Seal.{Seal}
 
--- the number of lines before the first wrong line, after a line that is wrong or not
+-- The number of lines before the first wrong line, after a line that is wrong or not.
 abbrev pub wrong_after : Option ℕ → Bool → ℕ → Option ℕ
 wrong_after (Some n) wrong count = Some n
 wrong_after None true count = Some count
 wrong_after None false count = None
 
--- what is stored after these lines of a block
+-- What is stored after these lines of a block.
 pub record IsSealing (chain seq : List ℕ) (lines : List (List ℕ)) (seal : Seal) : Type 0 where
   pub hashed : Holds256 seal.hasher ((chain ++ codes " " ++ seq ++ codes "\n") ++ joined lines)
   pub seq_is : seal.seq.items ≡ seq
   pub count : seal.count ≡ length lines
   pub right : seal.wrong ≡ None → All (λ line. is_sum line ≡ false) lines
 
--- a line of a block is read, and no text is written
+-- A line of a block is read, and no text is written.
 abbrev pub Seals : Seal → List ℕ → List ℕ → Seal → Type 0
 Seals old line text new = (text ≡ []) × ((chain seq : List ℕ) (lines : List (List ℕ)) → IsSealing chain seq lines old → IsSealing chain seq (lines ++ line ∷ []) new)
 
--- at the end, the line that ends the block is written, if all lines can be in a block and the last has a line end
+-- At the end, the line that ends the block is written, if all lines can be in a block and the last has a line end.
 abbrev pub EndsSeal : Seal → List ℕ → List ℕ → Seal → Type 0
 EndsSeal old rest text new = new.wrong ≡ None → (rest ≡ []) × ((chain seq : List ℕ) (lines : List (List ℕ)) → IsSealing chain seq lines old
     → All (λ line. is_sum line ≡ false) lines × (text ≡ sum_line (length lines) (block_hash chain seq (joined lines)) seq ++ codes "\n"))
@@ -38,7 +38,7 @@ pub record IsSealed (chain seq : List ℕ) (left held held' : Option (List ℕ))
   pub continues : (before : List (List ℕ)) (seq' : List ℕ) → Confirmed before chain seq'
       → Confirmed (before ++ (lines ++ sum_line (length lines) (block_hash chain seq (joined lines)) seq ∷ [])) (block_hash chain seq (joined lines)) seq
 
--- the same, unless there is a wrong line
+-- The same, unless there is a wrong line.
 abbrev pub SealsBlock : List ℕ → List ℕ → Option (List ℕ) → Option (List ℕ) → Option (List ℕ) → Option ℕ → Type 0
 SealsBlock chain seq left held held' None = IsSealed chain seq left held held'
 SealsBlock chain seq left held held' (Some lines) = ⊤

@@ -7,3 +7,4 @@ mod sums;
 
 pub use blocks::{Blocks, Took};
 pub use seal::{Seal, seal_block};
+pub use sums::added;

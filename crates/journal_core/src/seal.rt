@@ -46,8 +46,8 @@ impl Seal {
         })
     }
 
-    /// Returns the number of lines before the first line that a block cannot contain, if there is one: a line that ends
-    /// a block, or a last line without a line end.
+    /// Returns the number of lines before the first line that a block cannot contain, if there is one. That is a line that
+    /// ends a block, or a last line without a line end.
     pub fn wrong(&self) -> Option<u64>
         ensures { result ≡ self.now.wrong }
     {
@@ -84,7 +84,7 @@ impl LineTask for Seal {
 
 /// Seals the block of lines that a reader has: writes the line that ends the block. `chain` is the hash of the block before
 /// it. Returns `None`, or the number of lines before the first line that a block cannot contain: a line that ends a block,
-/// or a last line without a line end. In that case nothing is written.
+/// or a last line without a line end. In that case there is no output.
 ///
 /// # Errors
 ///

@@ -26,7 +26,7 @@ pub(crate) fn is_sum(line: &[u8]) -> bool
 /// # Errors
 ///
 /// The sum does not fit.
-pub(crate) fn added(count: u64, more: u64) -> Result<u64, AllocError>
+pub fn added(count: u64, more: u64) -> Result<u64, AllocError>
     ensures { IfOk result (λ sum. sum ≡ count + more) }
 {
     match count.checked_add(more) {

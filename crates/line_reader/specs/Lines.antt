@@ -2,13 +2,13 @@
 use Rattle.std.specs.Prelude.{◌≡◌, ℕ, List, [], ◌∷◌, ◌++◌, false, All}
 use Rattle.script_engine.specs.Lines.{has_line_end}
 
--- lines in order, each with a line end
+-- Lines in order, each with a line end.
 abbrev pub joined : List (List ℕ) → List ℕ
 joined [] = []
 joined (line ∷ lines) = line ++ 10 ∷ joined lines
 
--- the input is these lines, each with a line end, and then these bytes; neither the lines nor the bytes contain a line
--- end
+-- The input is these lines, each with a line end, and then these bytes; neither the lines nor the bytes contain a line
+-- end.
 pub record AreLines (input : List ℕ) (lines : List (List ℕ)) (rest : List ℕ) : Type 0 where
   pub whole : input ≡ joined lines ++ rest
   pub lines_whole : All (λ line. has_line_end line ≡ false) lines

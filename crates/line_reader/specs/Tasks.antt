@@ -4,11 +4,11 @@ use Rattle.std.specs.Io.KnownBytes.{Appends}
 use Rattle.script_engine.specs.Device.{Gives}
 use Rattle.line_reader.specs.Lines.{AreLines}
 
--- What a line or the end of the input does: the state before it, its bytes, the text that is written, the state after it
+-- What a line or the end of the input does: the state before it, its bytes, the text that is written, the state after it.
 abbrev pub Steps : Type 0 → Type 1
 Steps S = S → List ℕ → List ℕ → S → Type 0
 
--- the lines, read in this order from the state `start` on, write this text and leave this state
+-- The lines, read in this order from the state `start` on, write this text and leave this state.
 pub data Runs {S : Type 0} (steps : Steps S) (start : S) : List (List ℕ) → List ℕ → S → Type 0 where
   none : Runs steps start [] [] start
   more : {lines : List (List ℕ)} {text : List ℕ} {mid : S} (line added : List ℕ) (new : S)
@@ -24,7 +24,7 @@ pub record HasRun {S : Type 0} (steps : Steps S) (start : S) (held : Option (Lis
   pub runs : Runs steps start lines text state
   pub written : Appends held held' text
 
--- The whole input of the reader was run, and the text is written. `left` is what the reader has left before, and `held`
+-- The complete input of the reader was run, and the text is written. `left` is what the reader has left before, and `held`
 -- and `held'` are what the writer has accepted, before and after.
 pub record IsDone {S : Type 0} (steps ends : Steps S) (start : S) (left held : Option (List ℕ)) (state : S)
     (held' : Option (List ℕ)) : Type 0 where

@@ -1,4 +1,4 @@
-//! Reads an input line by line, or as a whole, for tasks that write text.
+//! Reads an input line by line, or completely, for tasks that write text.
 #![tactic(auto)]
 
 mod run;

@@ -1,4 +1,4 @@
-//! Reads a whole input.
+//! Reads a complete input.
 ghost use Rattle.std.specs.Prelude.{◌≡◌, IfOk, IfErr, OnOk};
 ghost use Rattle.std.specs.Io.KnownBytes.{IsAtEnd};
 ghost use Rattle.script_engine.specs.Device.{Gives};

@@ -1,0 +1,67 @@
+-- Lines that list the leaves of a document.
+use Rattle.std.specs.Prelude.{ℕ, List, [], ◌∷◌, ◌++◌, Option, None, Some, String, string_bytes, option_and_then, map, flat_map, codes}
+use Rattle.std.specs.Global.{Global}
+use Rattle.json.specs.Json.{Json, Items, no_items, item, null, boolean, number, string, array, object, document}
+use Rattle.json.specs.Find.{as_str}
+use Rattle.json.specs.Print.{quoted}
+use Rattle.journal_lines.specs.declared.leaves.Leaves.{Leaves}
+
+-- A sequence, the id of a document, and revisions.
+abbrev pub LeavesView : Type 0
+LeavesView = List ℕ × List ℕ × List (List ℕ)
+
+abbrev pub texts_of : List (String Global) → List (List ℕ)
+texts_of texts = map string_bytes texts
+
+abbrev pub leaves_view : Leaves → LeavesView
+leaves_view leaves = (string_bytes leaves.seq, string_bytes leaves.id, texts_of leaves.revs.items)
+
+-- An item before a list, if both are there.
+abbrev pub with_first : {A : Type 0} → Option A → Option (List A) → Option (List A)
+with_first None xs = None
+with_first (Some x) None = None
+with_first (Some x) (Some xs) = Some (x ∷ xs)
+
+-- A list of which each item is read.
+abbrev pub each_item : {A : Type 0} → (Json → Option A) → Items → Option (List A)
+each_item reads no_items = Some []
+each_item reads (item j js) = with_first (reads j) (each_item reads js)
+
+-- What is read already, before what is left.
+abbrev pub prepend : {A : Type 0} → List A → Option (List A) → Option (List A)
+prepend xs None = None
+prepend xs (Some ys) = Some (xs ++ ys)
+
+-- The strings of a list, if all its items are strings.
+abbrev pub revs_json : Items → Option (List (List ℕ))
+revs_json items = each_item as_str items
+
+abbrev pub named_by : List ℕ → Option (List ℕ) → Option (List (List ℕ)) → Option LeavesView
+named_by seq None revs = None
+named_by seq (Some id) None = None
+named_by seq (Some id) (Some revs) = Some (seq, id, revs)
+
+abbrev pub named_items : List ℕ → Items → Option LeavesView
+named_items seq no_items = None
+named_items seq (item j js) = named_by seq (as_str j) (revs_json js)
+
+-- The id and the revisions that a JSON list names.
+abbrev pub named_in : List ℕ → Json → Option LeavesView
+named_in seq null = None
+named_in seq (boolean b) = None
+named_in seq (number s) = None
+named_in seq (string s) = None
+named_in seq (array js) = named_items seq js
+named_in seq (object ms) = None
+
+-- The leaves at a sequence that a JSON list names.
+abbrev pub list_in : List ℕ → List ℕ → Option LeavesView
+list_in seq list = option_and_then (named_in seq) (document list)
+
+-- Revisions as JSON, each after a comma.
+abbrev pub revs_text : List (List ℕ) → List ℕ
+revs_text revs = flat_map (λ rev. codes "," ++ quoted rev) revs
+
+-- A line that lists leaves: a word, a sequence, and a JSON list of the id and the revisions.
+abbrev pub leaves_line : List ℕ → List ℕ → List ℕ → List (List ℕ) → List ℕ
+leaves_line word seq id revs = word ++ codes " " ++ seq ++ codes " [" ++ quoted id ++ revs_text revs ++ codes "]\n"

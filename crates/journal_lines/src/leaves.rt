@@ -1,0 +1,161 @@
+//! Lines that list the leaves of a document.
+ghost use Rattle.std.specs.Prelude.{◌≡◌, ◌++◌, IfOk, OnOk, codes, option_map};
+ghost use Rattle.std.specs.List.{list_all};
+ghost use Rattle.json.specs.Json.{document};
+ghost use Rattle.json.specs.Value.{value_view, items_view};
+ghost use Rattle.journal_lines.specs.Texts.{is_token, is_token_byte};
+ghost use Rattle.journal_lines.specs.Lists.{leaves_line, list_in, leaves_view, named_in, revs_json, revs_text, texts_of};
+
+use crate::text::push_json;
+use json::{Error, Scratch, Value};
+use memchr::memchr;
+use std::alloc::{AllocError, Global};
+
+/// The leaves of a document at a sequence.
+#[derive(Drop)]
+pub struct Leaves {
+    /// The sequence, or `-`.
+    pub seq: String,
+    /// The id of the document.
+    pub id: String,
+    /// The revisions of the leaves.
+    pub revs: Vec<String>,
+}
+
+/// Whether a byte is allowed in a sequence.
+fn is_token_byte(byte: u8) -> bool
+    ensures { result ≡ is_token_byte byte }
+{
+    byte >= 33 && byte <= 126 && byte != b'"' && byte != b'\\'
+}
+
+/// Whether all bytes are allowed in a sequence.
+fn are_token_bytes(bytes: &[u8]) -> bool
+    ensures { result ≡ list_all is_token_byte bytes.now }
+{
+    bytes.iter().all(|b| is_token_byte(*b))
+}
+
+/// Whether a string is a sequence: 1 or more printable ASCII characters without blanks, quotation marks and backslashes.
+pub fn is_token(text: &str) -> bool
+    ensures { result ≡ is_token text.now }
+{
+    let bytes = text.as_bytes();
+    if bytes.is_empty() {
+        return false;
+    }
+    are_token_bytes(bytes)
+}
+
+/// Returns the strings of a list after its first item, if all are strings.
+fn revs_of(alloc: Global, items: &[Value<'_>]) -> Result<Option<Vec<String>>, AllocError>
+    ensures { IfOk result (λ o. option_map (λ v. texts_of v.items) o ≡ revs_json (items_view items.now)) }
+{
+    let mut revs = Vec::new(alloc);
+    for item in items {
+        let Some(rev) = item.as_str() else {
+            return Ok(None);
+        };
+        revs.push(String::from_str(alloc, rev)?)?;
+    }
+    Ok(Some(revs))
+}
+
+/// Returns the id and the revisions that a JSON list names.
+fn named_of(alloc: Global, seq: &str, value: &Value<'_>) -> Result<Option<Leaves>, AllocError>
+    ensures { IfOk result (λ o. option_map leaves_view o ≡ named_in seq.now (value_view value.now)) }
+{
+    let Value::Array(items) = value else {
+        return Ok(None);
+    };
+    let Some(first) = items.first() else {
+        return Ok(None);
+    };
+    let Some(id) = first.as_str() else {
+        return Ok(None);
+    };
+    let Some(revs) = revs_of(alloc, &items[1..])? else {
+        return Ok(None);
+    };
+    let seq = String::from_str(alloc, seq)?;
+    let id = String::from_str(alloc, id)?;
+    Ok(Some(Leaves { seq, id, revs }))
+}
+
+/// Returns the JSON value of a text, if it is one.
+fn value_of<'a>(
+    alloc: Global,
+    scratch: &'a mut Scratch,
+    text: &'a str,
+) -> Result<Option<Value<'a>>, AllocError>
+    ensures { IfOk result (λ o. option_map value_view o ≡ document text.now) }
+{
+    match Value::parse(alloc, text, scratch) {
+        Ok(value) => Ok(Some(value)),
+        Err(Error::OutOfMemory) => Err(AllocError),
+        Err(_) => Ok(None),
+    }
+}
+
+/// Returns the leaves at a sequence that a JSON list names.
+fn list_of(
+    alloc: Global,
+    scratch: &mut Scratch,
+    seq: &str,
+    list: &str,
+) -> Result<Option<Leaves>, AllocError>
+    ensures { IfOk result (λ o. option_map leaves_view o ≡ list_in seq.now list.now) }
+{
+    let Some(value) = value_of(alloc, scratch, list)? else {
+        return Ok(None);
+    };
+    let leaves = named_of(alloc, seq, &value)?;
+    Ok(leaves)
+}
+
+/// Returns the leaves that a line names after its first word: a sequence, a blank and a JSON list.
+pub(crate) fn leaves_of(
+    alloc: Global,
+    scratch: &mut Scratch,
+    rest: &str,
+) -> Result<Option<Leaves>, AllocError> {
+    let Some((seq, list)) = rest.split_once(' ') else {
+        return Ok(None);
+    };
+    if !is_token(seq) {
+        return Ok(None);
+    }
+    list_of(alloc, scratch, seq, list)
+}
+
+/// Appends revisions, each after a comma.
+fn push_revs(alloc: Global, out: &mut Vec<u8>, revs: &[String]) -> Result<(), AllocError>
+    ensures { OnOk result (out.new.items ≡ out.old.items ++ revs_text (texts_of revs.now)) }
+{
+    for rev in revs {
+        out.push(b',')?;
+        push_json(alloc, out, rev.as_str())?;
+    }
+    Ok(())
+}
+
+/// Appends a line that lists the leaves of a document: a word, the sequence, and a JSON list of the id and the revisions.
+pub fn push_leaves(
+    alloc: Global,
+    out: &mut Vec<u8>,
+    word: &str,
+    seq: &str,
+    id: &str,
+    revs: &[String],
+) -> Result<(), AllocError>
+    ensures { OnOk result (out.new.items ≡ out.old.items ++ leaves_line word.now seq.now id.now (texts_of revs.now)) }
+{
+    out.extend_from_slice(word.as_bytes())?;
+    out.push(b' ')?;
+    out.extend_from_slice(seq.as_bytes())?;
+    out.extend_from_slice(b" [".as_slice())?;
+    push_json(alloc, out, id)?;
+    push_revs(alloc, out, revs)?;
+    out.extend_from_slice(b"]\n".as_slice())?;
+    Ok(())
+}

@@ -1,0 +1,14 @@
+//! The lines of a journal: reads and writes lists of leaves, and reads documents.
+#![tactic(auto)]
+
+mod docs;
+mod entry;
+mod leaf;
+mod leaves;
+mod text;
+
+pub use docs::{Docs, add_pair};
+pub use entry::{Entry, entry_of};
+pub use leaf::{Leaf, rev_of};
+pub use leaves::{Leaves, is_token, push_leaves};
+pub use text::{push_json, push_rev};
