@@ -44,7 +44,7 @@ pub fn run_words<'a, R: ScriptRead, W: ScriptWrite>(
 ) -> Ended
     ensures runs { RunsWords (map string_bytes words.entry.now) (R.left reader.old) (R.left reader.new)
         (W.held writer.old) (W.held writer.new) result }
-    // The same for the bytes that the reads returned; on success they returned everything.
+    // `runs` holds also for the bytes that the reads returned. On success the reads returned everything.
     ensures took { (input : List ℕ) × Appends (R.taken reader.old) (R.taken reader.new) input
         × RunsWords (map string_bytes words.entry.now) (Some input) (Some []) (W.held writer.old)
         (W.held writer.new) result }

@@ -183,7 +183,7 @@ pub fn draw_answers<R: ScriptRead, W: ScriptWrite>(
     ensures pictured { PicturedBy result form (option_map (λ s. s.now) db.entry)
         (R.left reader.old) (W.held writer.old) (W.held writer.new) }
     ensures end { OnOk result (IsAtEnd (R.left reader.new)) }
-    // The same for the bytes that the reads returned; on success they returned everything.
+    // `pictured` holds also for the bytes that the reads returned. On success the reads returned everything.
     ensures took { (input : List ℕ) × Appends (R.taken reader.old) (R.taken reader.new) input
         × PicturedBy result form (option_map (λ s. s.now) db.entry) (Some input) (W.held writer.old) (W.held writer.new) }
     ensures ended { OnOk result (R.ended reader.new) }
