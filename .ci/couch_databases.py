@@ -302,7 +302,7 @@ class Database:
         return answer
 
     def stored_body(self, name, parent, members):
-        """Returns a document's body as it is stored: attachments with their data, without what the server computes."""
+        """Returns a document's stored body: attachments with their data, without what the server computes."""
         unknown = [key for key in members if key.startswith("_") and key != "_attachments"]
         if unknown:
             raise Failure(400, "doc_validation", "Bad special document member: " + unknown[0])
