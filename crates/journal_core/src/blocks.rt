@@ -1,5 +1,5 @@
 //! Confirms the blocks of a journal.
-ghost use Rattle.std.specs.Prelude.{◌≡◌, IfOk, OnOk, length, option_map, string_bytes, true};
+ghost use Rattle.std.specs.Prelude.{◌≡◌, IfOk, OnOk, length, option_map, string_bytes, true, ◌&&◌, nat_eq};
 ghost use Rattle.line_reader.specs.Lines.{joined};
 ghost use Rattle.journal_core.specs.Places.{Place, IsAt, TookAs, end_in, ended, held_more, is_confirmed, next, seq_of, start};
 
@@ -80,7 +80,8 @@ impl Blocks {
 
     /// Whether all lines so far are confirmed.
     pub fn is_confirmed(&self) -> bool
-        ensures { (place : Place) → IsAt self.now place → result ≡ is_confirmed place }
+        ensures place { (place : Place) → IsAt self.now place → result ≡ is_confirmed place }
+        ensures stored { result ≡ (self.now.whole && nat_eq (length self.now.body.items) 0) }
     {
         self.whole && self.body.is_empty()
     }

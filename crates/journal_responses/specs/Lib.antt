@@ -1,0 +1,5 @@
+pub mod Members
+pub mod Pages
+pub mod Refusals
+pub mod Infos
+pub mod Stored

@@ -1,0 +1,75 @@
+//! The members of a JSON value.
+ghost use Rattle.std.specs.Prelude.{◌≡◌, option_map};
+ghost use Rattle.std.specs.Char.{is_ascii_digit};
+ghost use Rattle.std.specs.List.{list_all};
+ghost use Rattle.json.specs.Find.{as_array};
+ghost use Rattle.json.specs.Value.{value_view, items_view};
+ghost use Rattle.journal_responses.specs.Members.{text_at, items_at, token_in, seq_in, seq_at};
+
+use journal_lines::is_token;
+use json::Value;
+
+/// Returns a member that is a string.
+pub(crate) fn text_at<'v, 'a>(value: &'v Value<'a>, name: &str) -> Option<&'a str>
+    ensures { option_map (λ s. s.now) result ≡ text_at name.now (value_view value.now) }
+{
+    match value.get(name) {
+        Some(member) => member.as_str(),
+        None => None,
+    }
+}
+
+/// Returns the items of a list.
+pub(crate) fn items_of<'v, 'a>(value: &'v Value<'a>) -> Option<&'v Vec<Value<'a>>>
+    ensures { option_map (λ v. items_view v.now.items) result ≡ as_array (value_view value.now) }
+{
+    match value {
+        Value::Array(items) => Some(items),
+        _ => None,
+    }
+}
+
+/// Returns a member that is a list.
+pub(crate) fn items_at<'v, 'a>(value: &'v Value<'a>, name: &str) -> Option<&'v Vec<Value<'a>>>
+    ensures { option_map (λ v. items_view v.now.items) result ≡ items_at name.now (value_view value.now) }
+{
+    match value.get(name) {
+        Some(member) => items_of(member),
+        None => None,
+    }
+}
+
+/// Returns a string if it is a sequence.
+fn token_of<'a>(text: &'a str) -> Option<&'a str>
+    ensures { option_map (λ s. s.now) result ≡ token_in text.now }
+{
+    if is_token(text) { Some(text) } else { None }
+}
+
+/// Returns the sequence that a value is: a string, or a number as it is written.
+pub(crate) fn seq_of<'v, 'a>(value: &'v Value<'a>) -> Option<&'a str>
+    ensures { option_map (λ s. s.now) result ≡ seq_in (value_view value.now) }
+{
+    match value {
+        Value::String(text) => token_of(*text),
+        Value::Number(text) => Some(*text),
+        _ => None,
+    }
+}
+
+/// Returns a member that is a sequence.
+pub(crate) fn seq_at<'v, 'a>(value: &'v Value<'a>, name: &str) -> Option<&'a str>
+    ensures { option_map (λ s. s.now) result ≡ seq_at name.now (value_view value.now) }
+{
+    match value.get(name) {
+        Some(member) => seq_of(member),
+        None => None,
+    }
+}
+
+/// Whether all bytes are ASCII digits.
+pub(crate) fn are_digits(bytes: &[u8]) -> bool
+    ensures { result ≡ list_all is_ascii_digit bytes.now }
+{
+    bytes.iter().all(|b| b.is_ascii_digit())
+}

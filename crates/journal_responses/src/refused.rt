@@ -1,0 +1,91 @@
+//! The documents that a server refused.
+ghost use Rattle.std.specs.Prelude.{◌≡◌, ◌++◌, IfErr, IfOk, IsSomeAnd, None, OnOk, codes, option_map};
+ghost use Rattle.json.specs.Find.{as_array};
+ghost use Rattle.json.specs.Value.{value_view, items_view};
+ghost use Rattle.journal_responses.specs.Refusals.{any_refused, entry_text, is_refused, refused_line, refused_text, word_at};
+ghost use Rattle.journal_responses.specs.Stored.{IsOther};
+
+use crate::members::{items_of, text_at};
+use crate::said::{Said, said_of};
+use journal_lines::push_json;
+use json::Value;
+use std::alloc::{AllocError, Global};
+
+/// Returns a member as text: the empty string if it is missing or no string.
+fn word_at<'v, 'a>(value: &'v Value<'a>, name: &str) -> &'a str
+    ensures { result.now ≡ word_at name.now (value_view value.now) }
+{
+    match text_at(value, name) {
+        Some(text) => text,
+        None => "",
+    }
+}
+
+/// Appends the line of a refused document.
+fn push_refused(alloc: Global, text: &mut Vec<u8>, entry: &Value<'_>) -> Result<(), AllocError>
+    ensures { OnOk result (text.new.items ≡ text.old.items ++ refused_line (value_view entry.now)) }
+{
+    text.extend_from_slice(b"refused ".as_slice())?;
+    push_json(alloc, text, word_at(entry, "id"))?;
+    text.push(b' ')?;
+    push_json(alloc, text, word_at(entry, "rev"))?;
+    text.push(b' ')?;
+    push_json(alloc, text, word_at(entry, "error"))?;
+    text.push(b' ')?;
+    push_json(alloc, text, word_at(entry, "reason"))?;
+    text.push(b'\n')?;
+    Ok(())
+}
+
+/// Whether an entry says that a document was refused.
+fn is_refused(entry: &Value<'_>) -> bool
+    ensures { result ≡ is_refused (value_view entry.now) }
+{
+    entry.get("error").is_some()
+}
+
+/// Appends the line of an entry, if a document was refused. Returns whether it was.
+fn push_entry(alloc: Global, text: &mut Vec<u8>, entry: &Value<'_>) -> Result<bool, AllocError>
+    ensures text { OnOk result (text.new.items ≡ text.old.items ++ entry_text (value_view entry.now)) }
+    ensures refused { IfOk result (λ refused. refused ≡ is_refused (value_view entry.now)) }
+{
+    if !is_refused(entry) {
+        return Ok(false);
+    }
+    push_refused(alloc, text, entry)?;
+    Ok(true)
+}
+
+/// Appends the lines of the entries of which a document was refused. Returns whether there is one.
+fn push_entries(
+    alloc: Global,
+    text: &mut Vec<u8>,
+    entries: &Vec<Value<'_>>,
+) -> Result<bool, AllocError>
+    ensures text { OnOk result (text.new.items ≡ text.old.items ++ refused_text (items_view entries.now.items)) }
+    ensures refused { IfOk result (λ refused. refused ≡ any_refused (items_view entries.now.items)) }
+{
+    let mut refused = false;
+    for entry in entries {
+        let more = push_entry(alloc, text, entry)?;
+        refused = refused || more;
+    }
+    Ok(refused)
+}
+
+/// Appends a line for each document that a response of `_bulk_docs` refuses. Returns whether there is one.
+///
+/// # Errors
+///
+/// `Error` or `Other` if the value is not a list; `Memory`.
+pub fn refused_of(alloc: Global, text: &mut Vec<u8>, value: &Value<'_>) -> Result<bool, Said>
+    ensures ok { IfOk result (λ refused. IsSomeAnd (as_array (value_view value.now)) (λ entries.
+        (text.new.items ≡ text.old.items ++ refused_text entries) × (refused ≡ any_refused entries))) }
+    ensures err { IfErr result (λ said. IsOther said → as_array (value_view value.now) ≡ None) }
+{
+    let Some(entries) = items_of(value) else {
+        return Err(said_of(alloc, value));
+    };
+    let refused = push_entries(alloc, text, entries)?;
+    Ok(refused)
+}
