@@ -1,0 +1,15 @@
+-- What was received of a request.
+use Rattle.std.specs.Prelude.{ℕ, Bool, ◌||◌, List, string_bytes}
+use Rattle.journal_lines.specs.Leafs.{LeafView, knows_rev}
+use Rattle.journal_tasks.specs.declared.received.Wanted.{Wanted}
+
+-- A requested revision, and whether it was received.
+abbrev pub WantedView : Type 0
+WantedView = List ℕ × Bool
+
+abbrev pub wanted_view : Wanted → WantedView
+wanted_view wanted = (string_bytes wanted.rev, wanted.received)
+
+-- A requested revision after this leaf was received: the leaf and its ancestors are received.
+abbrev pub received_by : LeafView → WantedView → WantedView
+received_by leaf wanted = (wanted.0, wanted.1 || knows_rev leaf wanted.0)

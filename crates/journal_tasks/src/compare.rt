@@ -1,0 +1,139 @@
+//! Compares two lists of leaves.
+ghost use Rattle.std.specs.Prelude.{⊤};
+
+use crate::count::Count;
+use crate::diff::add_entry;
+use indexmap::{IndexMap, IndexSet};
+use journal_lines::{Docs, Entry, Leaves, entry_of, push_leaves};
+use json::Scratch;
+use line_reader::LineTask;
+use std::alloc::{AllocError, Global};
+
+/// Reads a list, an empty line and another list. Prints for each line of the second list the leaves that the first list
+/// does not have. With `documents`, prints all its leaves if the first list does not have the document.
+///
+/// Holds the first list.
+#[derive(Drop)]
+pub struct Compare {
+    alloc: Global,
+    scratch: Scratch,
+    count: Count,
+    documents: bool,
+    docs: Docs,
+    in_second: bool,
+}
+
+/// Whether a list has a leaf.
+fn has_pair(docs: &Docs, id: &str, rev: &str) -> bool {
+    match docs.get(id) {
+        Some(revs) => revs.contains(rev),
+        None => false,
+    }
+}
+
+impl Compare {
+    /// Begins with the first list.
+    pub fn new(alloc: Global, documents: bool) -> Compare {
+        Compare {
+            alloc,
+            scratch: Scratch::new(alloc),
+            count: Count::new(),
+            documents,
+            docs: IndexMap::new(alloc),
+            in_second: false,
+        }
+    }
+
+    /// Returns the number of the first line that is not a line of a list, from 1.
+    pub fn wrong(&self) -> Option<u64> {
+        self.count.wrong
+    }
+
+    /// Adds a document without leaves to the first list.
+    fn add_doc(&mut self, id: String) -> Result<(), AllocError> {
+        if !self.docs.contains_key(id.as_str()) {
+            self.docs.insert(id, IndexSet::new(self.alloc))?;
+        }
+        Ok(())
+    }
+
+    /// Appends the leaves of a line that are printed.
+    fn push(&self, text: &mut Vec<u8>, leaves: Leaves) -> Result<(), AllocError> {
+        let Leaves { seq, id, revs } = leaves;
+        if self.documents && self.docs.contains_key(id.as_str()) {
+            return Ok(());
+        }
+        let mut printed = Vec::new(self.alloc);
+        for rev in revs {
+            if self.documents || !has_pair(&self.docs, id.as_str(), rev.as_str()) {
+                printed.push(rev)?;
+            }
+        }
+        if printed.is_empty() && !self.documents {
+            return Ok(());
+        }
+        push_leaves(
+            self.alloc,
+            text,
+            "state",
+            seq.as_str(),
+            id.as_str(),
+            printed.as_slice(),
+        )
+    }
+
+    /// Reads a line of the first list.
+    fn first_line(&mut self, line: &[u8]) -> Result<(), AllocError> {
+        if !add_entry(self.alloc, &mut self.scratch, &mut self.docs, line)? {
+            self.count.fail();
+        }
+        match entry_of(self.alloc, &mut self.scratch, line)? {
+            Entry::State(leaves) | Entry::Lacks(leaves) => self.add_doc(leaves.id),
+            _ => Ok(()),
+        }
+    }
+
+    /// Reads a line of the second list.
+    fn second_line(&mut self, line: &[u8], text: &mut Vec<u8>) -> Result<(), AllocError> {
+        match entry_of(self.alloc, &mut self.scratch, line)? {
+            Entry::State(leaves) | Entry::Lacks(leaves) => self.push(text, leaves),
+            Entry::Leaf(leaf) => {
+                let seq = String::from_str(self.alloc, "-")?;
+                let mut revs = Vec::new(self.alloc);
+                revs.push(leaf.rev)?;
+                let id = leaf.id;
+                self.push(text, Leaves { seq, id, revs })
+            }
+            Entry::Wrong => {
+                self.count.fail();
+                Ok(())
+            }
+        }
+    }
+}
+
+impl LineTask for Compare {
+    ghost steps = { λ _ _ _ _. ⊤ };
+
+    ghost ends = { λ _ _ _ _. ⊤ };
+
+    fn line(&mut self, line: &[u8], text: &mut Vec<u8>) -> Result<(), AllocError> {
+        self.count.add()?;
+        if self.in_second {
+            self.second_line(line, text)
+        } else if line.is_empty() {
+            self.in_second = true;
+            Ok(())
+        } else {
+            self.first_line(line)
+        }
+    }
+
+    fn end(&mut self, rest: &[u8], _text: &mut Vec<u8>) -> Result<(), AllocError> {
+        self.count.end(rest);
+        if !self.in_second {
+            self.count.fail();
+        }
+        Ok(())
+    }
+}

@@ -1,0 +1,200 @@
+//! Confirms a journal.
+ghost use Rattle.std.specs.Prelude.{⊤};
+
+use crate::lacks::Lacks;
+use itoa::Buffer;
+use journal_core::{Blocks, Took, added};
+use line_reader::{LineTask, run_task};
+use script_engine::{ScriptFault, ScriptRead, ScriptWrite};
+use std::alloc::{AllocError, Global};
+
+/// Prints the longest prefix of a journal that its checksums confirm, and the lines of that prefix that name documents
+/// of which leaves are still missing. With a sequence, the prefix ends at the last block of that sequence.
+///
+/// Holds one block, and the lines that it prints.
+#[derive(Drop)]
+pub struct Confirm {
+    alloc: Global,
+    blocks: Blocks,
+    /// The number of documents of the confirmed blocks.
+    leaves: u64,
+    /// The number of documents of the current block.
+    held: u64,
+    lacks: Lacks,
+    at: Option<Vec<u8>>,
+    found: Option<Vec<u8>>,
+    /// Whether the input does not end with a line end.
+    cut: bool,
+    begun: bool,
+    sums: bool,
+    first_leaf: bool,
+}
+
+/// Whether a sequence is this one, or begins with it and `-`.
+fn is_at(seq: &[u8], at: &[u8]) -> bool {
+    let Some(rest) = seq.strip_prefix(at) else {
+        return false;
+    };
+    rest.is_empty() || rest.starts_with(b"-".as_slice())
+}
+
+/// Returns 1 if a line has a document, otherwise 0.
+fn leaf_of(line: &[u8]) -> u64 {
+    match line {
+        [b'{', ..] => 1,
+        _ => 0,
+    }
+}
+
+/// Appends a number and a blank.
+fn push_number(text: &mut Vec<u8>, number: u64) -> Result<(), AllocError> {
+    let mut digits = Buffer::new();
+    text.extend_from_slice(digits.format(number).as_bytes())?;
+    text.push(b' ')?;
+    Ok(())
+}
+
+impl Confirm {
+    /// Begins at the start of a journal.
+    pub fn new(alloc: Global, at: Option<&[u8]>) -> Result<Confirm, AllocError> {
+        let at = match at {
+            Some(at) => Some(Vec::from_slice(alloc, at)?),
+            None => None,
+        };
+        let blocks = Blocks::new(alloc)?;
+        Ok(Confirm {
+            alloc,
+            blocks,
+            leaves: 0,
+            held: 0,
+            lacks: Lacks::new(alloc),
+            at,
+            found: None,
+            cut: false,
+            begun: false,
+            sums: false,
+            first_leaf: false,
+        })
+    }
+
+    /// Returns the number of confirmed lines.
+    pub fn confirmed_lines(&self) -> u64 {
+        self.blocks.lines()
+    }
+
+    /// Whether the complete input is confirmed.
+    pub fn is_confirmed(&self) -> bool {
+        !self.cut && self.blocks.is_confirmed()
+    }
+
+    /// Whether the input begins with a document and has no line with a checksum.
+    pub fn is_without_sums(&self) -> bool {
+        self.first_leaf && !self.sums
+    }
+
+    /// Whether a sequence was asked for that no confirmed block has.
+    pub fn is_not_found(&self) -> bool {
+        self.at.is_some() && self.found.is_none()
+    }
+
+    /// Returns what is confirmed so far.
+    fn report(&self) -> Result<Vec<u8>, AllocError> {
+        let mut text = Vec::from_slice(self.alloc, b"confirmed ".as_slice())?;
+        push_number(&mut text, self.blocks.bytes())?;
+        push_number(&mut text, self.blocks.lines())?;
+        push_number(&mut text, self.leaves)?;
+        text.extend_from_slice(self.blocks.chain())?;
+        text.push(b' ')?;
+        text.extend_from_slice(self.blocks.seq())?;
+        text.push(b'\n')?;
+        self.lacks.push(&mut text)?;
+        Ok(text)
+    }
+
+    /// Whether the last confirmed block has the sequence that was asked for.
+    fn is_at_seq(&self) -> bool {
+        match &self.at {
+            Some(at) => is_at(self.blocks.seq(), at.as_slice()),
+            None => false,
+        }
+    }
+
+    /// Notes the beginning of the input, and lines with checksums.
+    fn look(&mut self, line: &[u8]) {
+        if !self.begun {
+            self.first_leaf = line.starts_with(b"{".as_slice());
+            self.begun = true;
+        }
+        if line.starts_with(b"sum ".as_slice()) {
+            self.sums = true;
+        }
+    }
+
+    /// Counts the documents after a line: `held` is their number in the current block.
+    fn settle(&mut self, took: Took, held: u64) -> Result<(), AllocError> {
+        match took {
+            Took::Held => {
+                self.held = held;
+                Ok(())
+            }
+            Took::Damaged => Ok(()),
+            Took::Closed(body) => self.settle_block(body.as_slice(), held),
+        }
+    }
+
+    /// Notes a confirmed block of `held` documents.
+    fn settle_block(&mut self, body: &[u8], held: u64) -> Result<(), AllocError> {
+        self.leaves = added(self.leaves, held)?;
+        self.held = 0;
+        self.lacks.note_all(body)?;
+        if self.is_at_seq() {
+            self.found = Some(self.report()?);
+        }
+        Ok(())
+    }
+}
+
+impl LineTask for Confirm {
+    ghost steps = { λ _ _ _ _. ⊤ };
+
+    ghost ends = { λ _ _ _ _. ⊤ };
+
+    fn line(&mut self, line: &[u8], _text: &mut Vec<u8>) -> Result<(), AllocError> {
+        self.look(line);
+        let held = added(self.held, leaf_of(line))?;
+        let took = self.blocks.take(line)?;
+        self.settle(took, held)
+    }
+
+    fn end(&mut self, rest: &[u8], text: &mut Vec<u8>) -> Result<(), AllocError> {
+        self.look(rest);
+        self.cut = !rest.is_empty();
+        if self.at.is_none() {
+            let report = self.report()?;
+            return text.extend_from_slice(report.as_slice());
+        }
+        match &self.found {
+            Some(report) => text.extend_from_slice(report.as_slice()),
+            None => Ok(()),
+        }
+    }
+}
+
+/// Confirms the journal of a reader, and writes what is confirmed. With a sequence, writes what was confirmed at the last
+/// block of that sequence, and has no output if no block has it.
+///
+/// # Errors
+///
+/// - `Read`: the reader failed in this call, or 4,294,967,295 reads of at most 65,536 bytes were made.
+/// - `Write`: the writer failed in this call.
+/// - `Memory`: an allocation failed, or a count is at its maximum.
+pub fn confirm_journal<R: ScriptRead, W: ScriptWrite>(
+    alloc: Global,
+    at: Option<&[u8]>,
+    reader: &mut R,
+    writer: &mut W,
+) -> Result<Confirm, ScriptFault> {
+    let mut task = Confirm::new(alloc, at)?;
+    run_task(alloc, &mut task, reader, writer)?;
+    Ok(task)
+}

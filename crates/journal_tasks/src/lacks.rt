@@ -1,0 +1,85 @@
+//! The documents of which leaves are missing.
+use indexmap::IndexMap;
+use journal_lines::{Entry, entry_of};
+use json::Scratch;
+use memchr::memchr;
+use std::alloc::{AllocError, Global};
+
+/// The last lacks line of each document that has no later state line.
+#[derive(Drop)]
+pub(crate) struct Lacks {
+    alloc: Global,
+    scratch: Scratch,
+    lines: IndexMap<String, Vec<u8>>,
+}
+
+impl Lacks {
+    /// Returns no lines.
+    pub(crate) fn new(alloc: Global) -> Lacks {
+        Lacks {
+            alloc,
+            scratch: Scratch::new(alloc),
+            lines: IndexMap::new(alloc),
+        }
+    }
+
+    /// Notes a line of a confirmed block.
+    fn note(&mut self, line: &[u8]) -> Result<(), AllocError> {
+        let state = line.starts_with(b"state ".as_slice());
+        let lacks = line.starts_with(b"lacks ".as_slice());
+        if !lacks && (!state || self.lines.is_empty()) {
+            return Ok(());
+        }
+        let entry = entry_of(self.alloc, &mut self.scratch, line)?;
+        self.note_entry(&entry, line)
+    }
+
+    /// Notes a state line or a lacks line.
+    fn note_entry(&mut self, entry: &Entry, line: &[u8]) -> Result<(), AllocError> {
+        match entry {
+            Entry::State(leaves) => {
+                self.remove(leaves.id.as_str());
+                Ok(())
+            }
+            Entry::Lacks(leaves) => self.put(leaves.id.as_str(), line),
+            Entry::Leaf(_) | Entry::Wrong => Ok(()),
+        }
+    }
+
+    /// Removes the line of a document, if it has one.
+    fn remove(&mut self, id: &str) {
+        let _line = self.lines.shift_remove(id);
+    }
+
+    /// Puts a line of a document at the end.
+    fn put(&mut self, id: &str, line: &[u8]) -> Result<(), AllocError> {
+        self.remove(id);
+        let line = Vec::from_slice(self.alloc, line)?;
+        self.lines.insert(String::from_str(self.alloc, id)?, line)?;
+        Ok(())
+    }
+
+    /// Notes the lines of a confirmed block.
+    pub(crate) fn note_all(&mut self, body: &[u8]) -> Result<(), AllocError> {
+        let mut rest = body;
+        while let Some(end) = memchr(10, rest) {
+            let Some(next) = end.checked_add(1) else {
+                return Ok(());
+            };
+            self.note(&rest[..end])?;
+            rest = &rest[next..];
+        }
+        Ok(())
+    }
+
+    /// Appends the lines.
+    pub(crate) fn push(&self, text: &mut Vec<u8>) -> Result<(), AllocError> {
+        for index in 0..self.lines.len() {
+            if let Some((_, line)) = self.lines.get_index(index) {
+                text.extend_from_slice(line.as_slice())?;
+                text.push(b'\n')?;
+            }
+        }
+        Ok(())
+    }
+}

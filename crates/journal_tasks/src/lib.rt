@@ -1,0 +1,28 @@
+//! The tasks on lists of leaves and on journals.
+#![tactic(auto)]
+
+mod ask;
+mod compare;
+mod confirm;
+mod conflicts;
+mod count;
+mod diff;
+mod lacking;
+mod lacks;
+mod name;
+mod parts;
+mod received;
+mod select;
+mod states;
+
+pub use ask::Ask;
+pub use compare::Compare;
+pub use confirm::{Confirm, confirm_journal};
+pub use conflicts::Conflicts;
+pub use diff::Diff;
+pub use lacking::Lacking;
+pub use name::Name;
+pub use parts::Parts;
+pub use received::Received;
+pub use select::{Filter, Select};
+pub use states::States;

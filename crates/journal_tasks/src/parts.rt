@@ -1,0 +1,88 @@
+//! Parts of a list of documents.
+ghost use Rattle.std.specs.Prelude.{⊤};
+
+use crate::count::Count;
+use itoa::Buffer;
+use journal_core::added;
+use line_reader::LineTask;
+use std::alloc::{AllocError, Global};
+
+/// Cuts lines, in order, into parts of at most `most_lines` lines and at most `most_bytes` bytes, and at least one line
+/// each. Prints for each part a line with its number of lines and of bytes, and then its lines.
+///
+/// Holds one part.
+#[derive(Drop)]
+pub struct Parts {
+    alloc: Global,
+    most_bytes: u64,
+    most_lines: u64,
+    count: Count,
+    part: Vec<u8>,
+    lines: u64,
+}
+
+impl Parts {
+    /// Begins with the maximum number of bytes and of lines of a part.
+    pub fn new(alloc: Global, most_bytes: u64, most_lines: u64) -> Parts {
+        Parts {
+            alloc,
+            most_bytes,
+            most_lines,
+            count: Count::new(),
+            part: Vec::new(alloc),
+            lines: 0,
+        }
+    }
+
+    /// Returns the number of the last line, from 1, if it has no line end.
+    pub fn wrong(&self) -> Option<u64> {
+        self.count.wrong
+    }
+
+    /// Whether a line of this length does not fit into the current part.
+    fn is_full(&self, line: usize) -> bool {
+        let bytes = self.part.len() as u64;
+        self.lines > 0
+            && (self.lines >= self.most_lines
+                || bytes.saturating_add(line as u64).saturating_add(1) > self.most_bytes)
+    }
+
+    /// Appends the current part, and begins the next.
+    fn push(&mut self, text: &mut Vec<u8>) -> Result<(), AllocError> {
+        let mut digits = Buffer::new();
+        text.extend_from_slice(b"part ".as_slice())?;
+        text.extend_from_slice(digits.format(self.lines).as_bytes())?;
+        text.push(b' ')?;
+        text.extend_from_slice(digits.format(self.part.len()).as_bytes())?;
+        text.push(b'\n')?;
+        text.extend_from_slice(self.part.as_slice())?;
+        self.part.clear();
+        self.lines = 0;
+        Ok(())
+    }
+}
+
+impl LineTask for Parts {
+    ghost steps = { λ _ _ _ _. ⊤ };
+
+    ghost ends = { λ _ _ _ _. ⊤ };
+
+    fn line(&mut self, line: &[u8], text: &mut Vec<u8>) -> Result<(), AllocError> {
+        self.count.add()?;
+        if self.is_full(line.len()) {
+            self.push(text)?;
+        }
+        self.part.extend_from_slice(line)?;
+        self.part.push(b'\n')?;
+        self.lines = added(self.lines, 1)?;
+        Ok(())
+    }
+
+    fn end(&mut self, rest: &[u8], text: &mut Vec<u8>) -> Result<(), AllocError> {
+        self.count.end(rest);
+        if self.lines > 0 && self.count.is_right() {
+            return self.push(text);
+        }
+        Ok(())
+    }
+}

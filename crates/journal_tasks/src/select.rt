@@ -1,0 +1,258 @@
+//! The documents that a restore sends.
+ghost use Rattle.std.specs.Prelude.{◌≡◌, ⊤, length, option_map, string_bytes};
+ghost use Rattle.journal_tasks.specs.Selecting.{is_selected};
+
+use crate::count::Count;
+use crate::states::StateMap;
+use indexmap::IndexMap;
+use journal_core::{Blocks, Took, added};
+use journal_lines::{Entry, Leaf, entry_of};
+use json::Scratch;
+use line_reader::LineTask;
+use sha2::{Digest, Sha256};
+use std::alloc::{AllocError, Global};
+use std::mem;
+
+/// Which documents are selected.
+#[derive(Drop)]
+pub struct Filter {
+    /// The id of the only document that is selected.
+    pub id: Option<String>,
+    /// Whether only documents with two or more leaves are selected.
+    pub several: bool,
+    /// Whether checksums are ignored.
+    pub unverified: bool,
+}
+
+/// Reads a journal twice. Prints, of each document, the lines of the leaves of its last state: of each leaf the last
+/// line. Has no output unless the first copy is confirmed.
+///
+/// Holds one block, the state of each document, and an entry for each leaf.
+#[derive(Drop)]
+pub struct Select {
+    alloc: Global,
+    scratch: Scratch,
+    count: Count,
+    blocks: Blocks,
+    size: u64,
+    filter: Filter,
+    bytes: u64,
+    map: StateMap,
+    lines: Vec<IndexMap<String, u64>>,
+    hasher: Sha256,
+    first: Option<[u8; 32]>,
+    selected: Vec<u64>,
+    next: usize,
+    damaged: bool,
+    lacks: bool,
+    differs: bool,
+}
+
+impl Select {
+    /// Begins at the start of the first copy, which has `size` bytes.
+    pub fn new(alloc: Global, size: u64, filter: Filter) -> Result<Select, AllocError> {
+        let blocks = Blocks::new(alloc)?;
+        Ok(Select {
+            alloc,
+            scratch: Scratch::new(alloc),
+            count: Count::new(),
+            blocks,
+            size,
+            filter,
+            bytes: 0,
+            map: StateMap::new(alloc),
+            lines: Vec::new(alloc),
+            hasher: Sha256::new(),
+            first: None,
+            selected: Vec::new(alloc),
+            next: 0,
+            damaged: false,
+            lacks: false,
+            differs: false,
+        })
+    }
+
+    /// Returns the number of the first line, from 1, that is not a line of a journal.
+    pub fn wrong(&self) -> Option<u64> {
+        self.count.wrong
+    }
+
+    /// Returns the number of confirmed lines.
+    pub fn confirmed_lines(&self) -> u64 {
+        self.blocks.lines()
+    }
+
+    /// Whether the first copy is not completely confirmed.
+    pub fn is_damaged(&self) -> bool {
+        self.damaged
+    }
+
+    /// Whether the second copy differs from the first.
+    pub fn differs(&self) -> bool {
+        self.differs
+    }
+
+    /// Whether a state names a leaf that has no line.
+    pub fn lacks(&self) -> bool {
+        self.lacks
+    }
+
+    /// Notes the line of a leaf.
+    fn note_leaf(&mut self, leaf: Leaf) -> Result<(), AllocError> {
+        self.map.add(&leaf)?;
+        let number = self.count.lines;
+        for _ in self.lines.len()..self.map.states.len() {
+            self.lines.push(IndexMap::new(self.alloc))?;
+        }
+        if let Some(place) = self.map.places.get(leaf.id.as_str()) {
+            if let Some(lines) = self.lines.get_mut(*place) {
+                lines.insert(leaf.rev, number)?;
+            }
+        }
+        Ok(())
+    }
+
+    /// Notes a line of the first copy that is no checksum.
+    fn note(&mut self, line: &[u8]) -> Result<(), AllocError> {
+        match entry_of(self.alloc, &mut self.scratch, line)? {
+            Entry::State(leaves) => self.map.name(leaves),
+            Entry::Leaf(leaf) => self.note_leaf(leaf),
+            Entry::Lacks(_) => Ok(()),
+            Entry::Wrong => {
+                self.count.fail();
+                Ok(())
+            }
+        }
+    }
+
+    /// Reads a line of the first copy.
+    fn first_line(&mut self, line: &[u8]) -> Result<(), AllocError> {
+        if !self.filter.unverified {
+            if let Took::Damaged = self.blocks.take(line)? {
+                self.damaged = true;
+                return Ok(());
+            }
+        }
+        if !line.starts_with(b"sum ".as_slice()) {
+            self.note(line)?;
+        }
+        if self.bytes >= self.size {
+            self.end_first()?;
+        }
+        Ok(())
+    }
+
+    /// Ends the first copy.
+    fn end_first(&mut self) -> Result<(), AllocError> {
+        if self.bytes != self.size || !self.filter.unverified && !self.blocks.is_confirmed() {
+            self.damaged = true;
+            return Ok(());
+        }
+        self.select_all()?;
+        self.selected.sort()?;
+        self.first = Some(self.take_hash());
+        self.bytes = 0;
+        self.count.lines = 0;
+        Ok(())
+    }
+
+    /// Returns the hash of all bytes so far, and begins anew.
+    fn take_hash(&mut self) -> [u8; 32] {
+        let hasher = mem::replace(&mut self.hasher, Sha256::new());
+        hasher.finalize()
+    }
+
+    /// Selects the lines of all documents.
+    fn select_all(&mut self) -> Result<(), AllocError> {
+        for index in 0..self.map.places.len() {
+            self.select(index)?;
+        }
+        Ok(())
+    }
+
+    /// Selects the lines of a document.
+    fn select(&mut self, index: usize) -> Result<(), AllocError> {
+        let Some((id, place)) = self.map.places.get_index(index) else {
+            return Ok(());
+        };
+        let Some(state) = self.map.states.get(*place) else {
+            return Ok(());
+        };
+        if !is_selected(&self.filter, id.as_str(), state.revs.as_slice()) {
+            return Ok(());
+        }
+        let lines = self.lines.get(*place);
+        for rev in state.revs.as_slice() {
+            match line_of(lines, rev.as_str()) {
+                Some(number) => self.selected.push(number)?,
+                None => self.lacks = true,
+            }
+        }
+        Ok(())
+    }
+
+    /// Reads a line of the second copy, and appends it if it is selected.
+    fn second_line(&mut self, line: &[u8], text: &mut Vec<u8>) -> Result<(), AllocError> {
+        if self.selected.get(self.next).copied() != Some(self.count.lines) {
+            return Ok(());
+        }
+        self.next = self.next.saturating_add(1);
+        text.extend_from_slice(line)?;
+        text.push(b'\n')?;
+        Ok(())
+    }
+}
+
+/// Whether a document with these leaves is selected.
+fn is_selected(filter: &Filter, id: &str, revs: &[String]) -> bool
+    ensures { result ≡ is_selected filter.now.several (option_map string_bytes filter.now.id) id.now (length revs.now) }
+{
+    if filter.several && revs.len() < 2 {
+        return false;
+    }
+    match &filter.id {
+        Some(only) => only.as_str() == id,
+        None => true,
+    }
+}
+
+/// Returns the number of the last line of a leaf, if it has one.
+fn line_of(lines: Option<&IndexMap<String, u64>>, rev: &str) -> Option<u64> {
+    lines?.get(rev).copied()
+}
+
+impl LineTask for Select {
+    ghost steps = { λ _ _ _ _. ⊤ };
+
+    ghost ends = { λ _ _ _ _. ⊤ };
+
+    fn line(&mut self, line: &[u8], text: &mut Vec<u8>) -> Result<(), AllocError> {
+        self.count.add()?;
+        if self.damaged || !self.count.is_right() {
+            return Ok(());
+        }
+        let bytes = added(self.bytes, line.len() as u64)?;
+        self.bytes = added(bytes, 1)?;
+        self.hasher.update(line);
+        self.hasher.update(b"\n".as_slice());
+        if self.first.is_none() {
+            return self.first_line(line);
+        }
+        self.second_line(line, text)
+    }
+
+    fn end(&mut self, rest: &[u8], _text: &mut Vec<u8>) -> Result<(), AllocError> {
+        if self.damaged || !self.count.is_right() {
+            return Ok(());
+        }
+        if self.size == 0 {
+            self.end_first()?;
+        }
+        let second = self.take_hash();
+        match self.first {
+            Some(first) => self.differs = first != second || !rest.is_empty(),
+            None => self.damaged = true,
+        }
+        Ok(())
+    }
+}

@@ -1,0 +1,197 @@
+//! The last state of each document of a journal.
+ghost use Rattle.std.specs.Prelude.{⊤};
+
+use crate::count::Count;
+use indexmap::IndexMap;
+use journal_core::{Blocks, Took};
+use journal_lines::{Entry, Leaf, Leaves, entry_of, push_leaves};
+use json::Scratch;
+use line_reader::LineTask;
+use std::alloc::{AllocError, Global};
+
+/// The state of a document.
+#[derive(Drop)]
+pub(crate) struct State {
+    /// The sequence, or `-`.
+    pub(crate) seq: String,
+    /// The revisions of the leaves.
+    pub(crate) revs: Vec<String>,
+    /// Whether a state line named it.
+    pub(crate) named: bool,
+}
+
+/// The states of documents.
+#[derive(Drop)]
+pub(crate) struct StateMap {
+    alloc: Global,
+    pub(crate) places: IndexMap<String, usize>,
+    pub(crate) states: Vec<State>,
+}
+
+/// Whether a revision is in a list.
+pub(crate) fn has_rev(revs: &[String], rev: &str) -> bool {
+    revs.iter().any(|known| known.as_str() == rev)
+}
+
+impl StateMap {
+    /// Returns no states.
+    pub(crate) fn new(alloc: Global) -> StateMap {
+        StateMap {
+            alloc,
+            places: IndexMap::new(alloc),
+            states: Vec::new(alloc),
+        }
+    }
+
+    /// Returns the place of a document, which is added if it is new.
+    fn place_of(&mut self, id: &str) -> Result<usize, AllocError> {
+        if let Some(place) = self.places.get(id) {
+            return Ok(*place);
+        }
+        let place = self.states.len();
+        let seq = String::from_str(self.alloc, "-")?;
+        self.states.push(State {
+            seq,
+            revs: Vec::new(self.alloc),
+            named: false,
+        })?;
+        self.places
+            .insert(String::from_str(self.alloc, id)?, place)?;
+        Ok(place)
+    }
+
+    /// Replaces the state of a document.
+    pub(crate) fn name(&mut self, leaves: Leaves) -> Result<(), AllocError> {
+        let Leaves { seq, id, revs } = leaves;
+        let place = self.place_of(id.as_str())?;
+        if let Some(state) = self.states.get_mut(place) {
+            *state = State {
+                seq,
+                revs,
+                named: true,
+            };
+        }
+        Ok(())
+    }
+
+    /// Adds a leaf to the state of a document that no state line names.
+    pub(crate) fn add(&mut self, leaf: &Leaf) -> Result<(), AllocError> {
+        let place = self.place_of(leaf.id.as_str())?;
+        if let Some(state) = self.states.get_mut(place) {
+            if !state.named && !has_rev(state.revs.as_slice(), leaf.rev.as_str()) {
+                state
+                    .revs
+                    .push(String::from_str(self.alloc, leaf.rev.as_str())?)?;
+            }
+        }
+        Ok(())
+    }
+
+    /// Appends the states as lines.
+    fn push(&self, text: &mut Vec<u8>) -> Result<(), AllocError> {
+        for index in 0..self.places.len() {
+            if let Some((id, place)) = self.places.get_index(index) {
+                if let Some(state) = self.states.get(*place) {
+                    let revs = state.revs.as_slice();
+                    push_leaves(
+                        self.alloc,
+                        text,
+                        "state",
+                        state.seq.as_str(),
+                        id.as_str(),
+                        revs,
+                    )?;
+                }
+            }
+        }
+        Ok(())
+    }
+}
+
+/// Prints the last state of each document of a journal, if the complete journal is confirmed.
+///
+/// Holds one block, and the state of each document.
+#[derive(Drop)]
+pub struct States {
+    alloc: Global,
+    scratch: Scratch,
+    count: Count,
+    blocks: Blocks,
+    unverified: bool,
+    damaged: bool,
+    map: StateMap,
+}
+
+impl States {
+    /// Begins at the start of a journal. With `unverified`, checksums are ignored.
+    pub fn new(alloc: Global, unverified: bool) -> Result<States, AllocError> {
+        let blocks = Blocks::new(alloc)?;
+        Ok(States {
+            alloc,
+            scratch: Scratch::new(alloc),
+            count: Count::new(),
+            blocks,
+            unverified,
+            damaged: false,
+            map: StateMap::new(alloc),
+        })
+    }
+
+    /// Returns the number of the first line, from 1, that is not a line of a journal.
+    pub fn wrong(&self) -> Option<u64> {
+        self.count.wrong
+    }
+
+    /// Returns the number of confirmed lines.
+    pub fn confirmed_lines(&self) -> u64 {
+        self.blocks.lines()
+    }
+
+    /// Whether the journal is not completely confirmed.
+    pub fn is_damaged(&self) -> bool {
+        self.damaged
+    }
+
+    /// Notes a line that is no checksum.
+    fn note(&mut self, line: &[u8]) -> Result<(), AllocError> {
+        match entry_of(self.alloc, &mut self.scratch, line)? {
+            Entry::State(leaves) => self.map.name(leaves),
+            Entry::Leaf(leaf) => self.map.add(&leaf),
+            Entry::Lacks(_) => Ok(()),
+            Entry::Wrong => {
+                self.count.fail();
+                Ok(())
+            }
+        }
+    }
+}
+
+impl LineTask for States {
+    ghost steps = { λ _ _ _ _. ⊤ };
+
+    ghost ends = { λ _ _ _ _. ⊤ };
+
+    fn line(&mut self, line: &[u8], _text: &mut Vec<u8>) -> Result<(), AllocError> {
+        self.count.add()?;
+        if !self.unverified {
+            if let Took::Damaged = self.blocks.take(line)? {
+                self.damaged = true;
+                return Ok(());
+            }
+        }
+        if line.starts_with(b"sum ".as_slice()) {
+            return Ok(());
+        }
+        self.note(line)
+    }
+
+    fn end(&mut self, rest: &[u8], text: &mut Vec<u8>) -> Result<(), AllocError> {
+        if !rest.is_empty() || !self.unverified && !self.blocks.is_confirmed() {
+            self.damaged = true;
+        }
+        if self.damaged || !self.count.is_right() {
+            return Ok(());
+        }
+        self.map.push(text)
+    }
+}
