@@ -1,0 +1,58 @@
+//! How a run ended.
+ghost use Rattle.std.specs.Prelude.{◌≡◌};
+ghost use Rattle.script_engine.specs.declared.fault.ScriptFault.TheVariants.{Memory};
+ghost use Rattle.couch_journal.specs.declared.ended.Ended.TheVariants.{Fault};
+
+use journal_responses::Said;
+use script_engine::ScriptFault;
+use std::alloc::AllocError;
+
+/// How a run ended.
+#[derive(Drop)]
+pub(crate) enum Ended {
+    /// Everything was found.
+    Done,
+    /// Something is missing, refused or not found.
+    Missing,
+    /// The line of this number, from 1, has another form.
+    Wrong(u64),
+    /// The journal is damaged after so many lines.
+    Damaged(u64),
+    /// The journal has no checksums.
+    NoSums,
+    /// The second copy of the journal differs from the first.
+    Differs,
+    /// The response is another one than was asked for.
+    Said(Said),
+    /// A device or an allocation failed.
+    Fault(ScriptFault),
+}
+
+impl From<ScriptFault> for Ended {
+    ghost from_gives = { λ fault e. e ≡ Fault fault };
+
+    fn from(fault: ScriptFault) -> Ended {
+        Ended::Fault(fault)
+    }
+}
+
+impl From<AllocError> for Ended {
+    ghost from_gives = { λ _ e. e ≡ Fault Memory };
+
+    fn from(_refused: AllocError) -> Ended {
+        Ended::Fault(ScriptFault::Memory)
+    }
+}
+
+/// Returns how a run ended by its first wrong line, or `otherwise` if no line is wrong.
+pub(crate) fn ended_by(wrong: Option<u64>, otherwise: Ended) -> Ended {
+    match wrong {
+        Some(line) => Ended::Wrong(line),
+        None => otherwise,
+    }
+}
+
+/// Returns how a run ended, by whether something is missing.
+pub(crate) fn ended_missing(missing: bool) -> Ended {
+    if missing { Ended::Missing } else { Ended::Done }
+}
