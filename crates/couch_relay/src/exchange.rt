@@ -1,6 +1,10 @@
 //! A request and the response to it, over any reader and writer.
-ghost use Rattle.std.specs.Prelude.{IfOk, IfSome};
-ghost use Rattle.couch_relay.specs.Inbox.{IsInbox};
+ghost use Rattle.std.specs.Prelude.{◌≡◌, ◌++◌, ℕ, List, IfOk, OnOk, OnErr};
+ghost use Rattle.std.specs.Io.KnownBytes.{Appends, Keeps};
+ghost use Rattle.relay_core.specs.Views.{request_view};
+ghost use Rattle.relay_requests.specs.Requests.{request_text};
+ghost use Rattle.couch_relay.specs.Inbox.{pending, IsInbox, Took};
+ghost use Rattle.couch_relay.specs.Runs.{Receives};
 
 use crate::inbox::Inbox;
 use json::Scratch;
@@ -17,22 +21,44 @@ pub(crate) struct Dated {
     pub(crate) date: String,
 }
 
-/// Writes a request, and passes it on.
-pub(crate) fn send<W: ScriptWrite>(
-    alloc: Global,
-    options: &RequestOptions,
-    request: &Request<'_>,
-    writer: &mut W,
-) -> Result<(), ScriptFault> {
-    let text = write_request(alloc, options, request)?;
-    write_all(writer, text.as_slice())?;
+/// Passes on all bytes that a writer has accepted.
+///
+/// # Errors
+///
+/// `Write`: the writer failed.
+fn pass_on<W: ScriptWrite>(writer: &mut W) -> Result<(), ScriptFault>
+    ensures bytes { Keeps (W.held writer.old) (W.held writer.new) }
+    ensures sent { OnOk result (Keeps (W.held writer.new) (W.sent writer.new)) }
+{
     match writer.flush() {
         Ok(()) => Ok(()),
         Err(_) => Err(ScriptFault::Write),
     }
 }
 
-/// Reads the response to a request, or `None` if the input ends before it does.
+/// Writes a request, and passes it on.
+///
+/// # Errors
+///
+/// `Memory`: nothing was written. `Write`: a prefix of the request was written.
+pub(crate) fn send<W: ScriptWrite>(
+    alloc: Global,
+    options: &RequestOptions,
+    request: &Request<'_>,
+    writer: &mut W,
+) -> Result<(), ScriptFault>
+    ensures text { OnOk result (Appends (W.held writer.old) (W.held writer.new) (request_text options.now (request_view request.now))) }
+    ensures sent { OnOk result (Keeps (W.held writer.new) (W.sent writer.new)) }
+    ensures err { OnErr result ((front : List ℕ) × (back : List ℕ)
+        × (request_text options.now (request_view request.now) ≡ front ++ back)
+        × Appends (W.held writer.old) (W.held writer.new) front) }
+{
+    let text = write_request(alloc, options, request)?;
+    write_all(writer, text.as_slice())?;
+    pass_on(writer)
+}
+
+/// Reads the response to a request. Returns `None` if no response can be read.
 pub(crate) fn receive<R: ScriptRead>(
     alloc: Global,
     request: &Request<'_>,
@@ -41,7 +67,10 @@ pub(crate) fn receive<R: ScriptRead>(
     reader: &mut R,
 ) -> Result<Option<Dated>, ScriptFault>
     requires { IsInbox inbox.old }
-    ensures { IfOk result (λ o. IfSome o (λ _. IsInbox inbox.new)) }
+    ensures inbox { OnOk result (IsInbox inbox.new) }
+    ensures response { IfOk result (λ o. Receives (request_view request.now) (R.taken reader.old) (R.taken reader.new)
+        (R.ended reader.new) (pending inbox.old) (pending inbox.new) o) }
+    ensures err { OnErr result (Took (R.taken reader.old) (R.taken reader.new)) }
 {
     let Some(head) = inbox.head(alloc, reader)? else {
         return Ok(None);

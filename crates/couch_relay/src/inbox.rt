@@ -1,6 +1,10 @@
 //! Responses, as they come in.
+ghost use Rattle.std.specs.Prelude.{ℕ, ◌≡◌, ◌≤◌, ◌<◌, [], length, position, take, drop, true, false, IfOk, OnOk, OnErr, MatchOption};
+ghost use Rattle.std.specs.List.{position_or_len};
+ghost use Rattle.script_engine.specs.Lines.{is_line_end, has_line_end};
+ghost use Rattle.couch_relay.specs.Frames.{HeadView, IsHead, IsNumber, word_in, rest_in, side_in};
+ghost use Rattle.couch_relay.specs.Inbox.{head_view, pending, IsInbox, Took, Filled, HasLine, ReadsHead};
 
-use memchr::memchr;
 use relay_core::Side;
 use script_engine::{ScriptFault, ScriptRead};
 use std::alloc::{AllocError, Global};
@@ -24,31 +28,63 @@ pub(crate) struct Head {
 }
 
 /// Returns the server of that name.
-fn side_of(name: &str) -> Option<Side> {
-    match name {
-        "source" => Some(Side::Source),
-        "target" => Some(Side::Target),
-        _ => None,
+fn side_of(name: &str) -> Option<Side>
+    ensures { result ≡ side_in name.now }
+{
+    if name == "source" {
+        return Some(Side::Source);
     }
+    if name == "target" {
+        return Some(Side::Target);
+    }
+    None
 }
 
 /// Returns the text before the first space, and the text after that space.
-fn split_word(text: &str) -> (&str, &str) {
+fn split_word(text: &str) -> (&str, &str)
+    ensures word { result.0.now ≡ word_in text.now }
+    ensures rest { result.1.now ≡ rest_in text.now }
+{
     match text.split_once(' ') {
         Some((word, rest)) => (word, rest),
         None => (text, ""),
     }
 }
 
+/// Returns the status that a text is.
+fn status_of(text: &str) -> Option<u16>
+    ensures { MatchOption result ((n : ℕ) → ¬ IsNumber 16 text.now n) (λ n. IsNumber 16 text.now n) }
+{
+    match text.parse::<u16>() {
+        Ok(status) => Some(status),
+        Err(_) => None,
+    }
+}
+
+/// Returns the size that a text is.
+fn size_of(text: &str) -> Option<usize>
+    ensures { MatchOption result ((n : ℕ) → ¬ IsNumber 64 text.now n) (λ n. IsNumber 64 text.now n) }
+{
+    match text.parse::<usize>() {
+        Ok(size) => Some(size),
+        Err(_) => None,
+    }
+}
+
 /// Returns the head that a line is: `STATUS BYTES WHO DATE`.
-fn head_of(alloc: Global, line: &[u8]) -> Result<Option<Head>, AllocError> {
+fn head_of(alloc: Global, line: &[u8]) -> Result<Option<Head>, AllocError>
+    ensures { IfOk result (λ o. MatchOption o ((head : HeadView) → ¬ IsHead line.now head) (λ h. IsHead line.now (head_view h))) }
+{
     let Ok(text) = str::from_utf8(line) else {
         return Ok(None);
     };
     let (status, rest) = split_word(text);
     let (size, rest) = split_word(rest);
     let (who, date) = split_word(rest);
-    let (Ok(status), Ok(size)) = (status.parse::<u16>(), size.parse::<usize>()) else {
+    let Some(status) = status_of(status) else {
+        return Ok(None);
+    };
+    let Some(size) = size_of(size) else {
         return Ok(None);
     };
     let date = String::from_str(alloc, date.trim())?;
@@ -60,16 +96,31 @@ fn head_of(alloc: Global, line: &[u8]) -> Result<Option<Head>, AllocError> {
     }))
 }
 
+/// Returns the index of the first line feed.
+fn line_end(bytes: &[u8]) -> Option<usize>
+    ensures { result ≡ position is_line_end bytes.now }
+{
+    bytes.iter().position(|b| *b == 10)
+}
+
+/// Returns the length of the first line, without its line feed, or of all bytes if they have none.
+fn line_len(bytes: &[u8]) -> usize
+    ensures { result ≡ position_or_len is_line_end bytes.now }
+{
+    match line_end(bytes) {
+        Some(index) => index,
+        None => bytes.len(),
+    }
+}
+
 /// How many bytes a read takes at most.
 const CHUNK: usize = 65536;
 
 impl Inbox {
-    ghost use Rattle.std.specs.Prelude.{◌≡◌, ◌≤◌, length, true, IfOk, IfSome, OnOk};
-    ghost use Rattle.couch_relay.specs.Inbox.{Holds, HoldsLine, IsInbox};
-
     /// Returns an inbox from which nothing was read.
     pub(crate) fn new(alloc: Global) -> Result<Inbox, AllocError>
-        ensures { IfOk result IsInbox }
+        ensures inbox { IfOk result IsInbox }
+        ensures pending { IfOk result (λ inbox. pending inbox ≡ []) }
     {
         let buffer = vec![in alloc; 0u8; CHUNK]?;
         Ok(Inbox {
@@ -81,8 +132,11 @@ impl Inbox {
 
     /// Reads more, and returns whether there was more.
     fn fill<R: ScriptRead>(&mut self, reader: &mut R) -> Result<bool, ScriptFault>
-        ensures at { self.new.at ≡ self.old.at }
-        ensures held { length self.old.held.items ≤ length self.new.held.items }
+        requires { IsInbox self.old }
+        ensures inbox { OnOk result (IsInbox self.new) }
+        ensures filled { OnOk result (Filled (R.taken reader.old) (R.taken reader.new) (pending self.old) (pending self.new)) }
+        ensures end { IfOk result (λ more. more ≡ false → R.ended reader.new × (pending self.new ≡ pending self.old)) }
+        ensures err { OnErr result (Took (R.taken reader.old) (R.taken reader.new)) }
     {
         let Ok(count) = reader.read(self.buffer.as_mut_slice()) else {
             return Err(ScriptFault::Read);
@@ -95,27 +149,35 @@ impl Inbox {
     /// Returns the length of the next line, or `None` at the end of input.
     fn line<R: ScriptRead>(&mut self, reader: &mut R) -> Result<Option<usize>, ScriptFault>
         requires { IsInbox self.old }
-        ensures { IfOk result (λ o. IfSome o (λ size. HoldsLine self.new size)) }
+        ensures inbox { OnOk result (IsInbox self.new) }
+        ensures filled { OnOk result (Filled (R.taken reader.old) (R.taken reader.new) (pending self.old) (pending self.new)) }
+        ensures found { IfOk result (λ o. MatchOption o (R.ended reader.new × (has_line_end (pending self.new) ≡ false))
+            (λ size. HasLine (pending self.new) size)) }
+        ensures err { OnErr result (Took (R.taken reader.old) (R.taken reader.new)) }
     {
         for _turn in 0..u64::MAX {
-            if let Some(size) = memchr(10, &self.held.as_slice()[self.at..]) {
+            let size = line_len(&self.held.as_slice()[self.at..]);
+            if size < self.held.len() - self.at {
                 return Ok(Some(size));
             }
             if !self.fill(reader)? {
                 return Ok(None);
             }
         }
-        Ok(None)
+        Err(ScriptFault::Read)
     }
 
-    /// Returns the head of the next response, or `None` if the input ends or is not a head.
+    /// Takes out the head of the next response. Returns `None` if the input ends or the next line is not a head.
     pub(crate) fn head<R: ScriptRead>(
         &mut self,
         alloc: Global,
         reader: &mut R,
     ) -> Result<Option<Head>, ScriptFault>
         requires { IsInbox self.old }
-        ensures { IfOk result (λ o. IfSome o (λ _. IsInbox self.new)) }
+        ensures inbox { OnOk result (IsInbox self.new) }
+        ensures head { IfOk result (λ o.
+            ReadsHead (R.taken reader.old) (R.taken reader.new) (R.ended reader.new) (pending self.old) (pending self.new) o) }
+        ensures err { OnErr result (Took (R.taken reader.old) (R.taken reader.new)) }
     {
         let Some(size) = self.line(reader)? else {
             return Ok(None);
@@ -133,7 +195,11 @@ impl Inbox {
         size: usize,
     ) -> Result<bool, ScriptFault>
         requires { IsInbox self.old }
-        ensures { IfOk result (λ found. found ≡ true → Holds self.new size) }
+        ensures inbox { OnOk result (IsInbox self.new) }
+        ensures filled { OnOk result (Filled (R.taken reader.old) (R.taken reader.new) (pending self.old) (pending self.new)) }
+        ensures held { IfOk result (λ found. found ≡ true → size ≤ length (pending self.new)) }
+        ensures end { IfOk result (λ found. found ≡ false → R.ended reader.new × (length (pending self.new) < size)) }
+        ensures err { OnErr result (Took (R.taken reader.old) (R.taken reader.new)) }
     {
         for _turn in 0..u64::MAX {
             if self.held.len() - self.at >= size {
@@ -143,20 +209,24 @@ impl Inbox {
                 return Ok(false);
             }
         }
-        Ok(false)
+        Err(ScriptFault::Read)
     }
 
-    /// Returns the bytes of a response that was read.
+    /// Returns the next bytes.
     pub(crate) fn body(&self, size: usize) -> &[u8]
-        requires { Holds self.now size }
+        requires inbox { IsInbox self.now }
+        requires held { size ≤ length (pending self.now) }
+        ensures { result.now ≡ take size (pending self.now) }
     {
         &self.held.as_slice()[self.at..self.at + size]
     }
 
-    /// Takes a response out.
+    /// Takes the next bytes out.
     pub(crate) fn take(&mut self, size: usize)
-        requires { Holds self.old size }
-        ensures { IsInbox self.new }
+        requires inbox { IsInbox self.old }
+        requires held { size ≤ length (pending self.old) }
+        ensures inbox { IsInbox self.new }
+        ensures pending { pending self.new ≡ drop size (pending self.old) }
     {
         self.at += size;
         if self.at == self.held.len() {

@@ -1,12 +1,14 @@
 //! The program: its command line, its standard input and output, and its exit status.
+ghost use Rattle.std.specs.Prelude.{◌≡◌, ◌≤◌, ℕ, List, Some, IfOk, if◌then◌else◌, ◌==◌};
+ghost use Rattle.couch_relay.specs.Runs.{RunsStandard, exit_status};
 
 use crate::options::{Options, matches_of, options_of};
 use crate::run::run;
 use cli_common::{report_arguments, report_bad_arguments, report_out_of_memory, words_of};
-use script_engine::{OverRead, OverWrite};
+use script_engine::{OverRead, OverWrite, Recorder, ScriptFault, ScriptRead};
 use std::env::Env;
 use std::io;
-use std::io::{Eprint, Input, Print};
+use std::io::{Eprint, Input, Print, Printer, Write};
 
 /// Runs the program, and returns its exit status.
 pub(crate) fn run_program<H: AllocGlobal + Env + Input + Print + Eprint>(rt: &H) -> u8 {
@@ -17,26 +19,58 @@ pub(crate) fn run_program<H: AllocGlobal + Env + Input + Print + Eprint>(rt: &H)
 }
 
 /// Returns the exit status of a command line for which nothing is run: 3, unless help was requested.
-fn usage_status(status: u8) -> u8 {
+fn usage_status(status: u8) -> u8
+    ensures { result ≡ (if status == 0 then 0 else 3) }
+{
     if status == 0 { 0 } else { 3 }
 }
 
 /// Runs what a command line requests.
 fn run_words<H: AllocGlobal + Input + Print + Eprint>(rt: &H, words: &[String]) -> u8 {
     match matches_of(rt.alloc(), words) {
-        Ok(matches) => run_standard(rt, &options_of(&matches)),
+        Ok(matches) => match run_standard(rt, &options_of(&matches)) {
+            Ok((ended, _reader, _writer)) => report_end(rt, &ended),
+            Err(_) => report_out_of_memory(rt),
+        },
         Err(error) => usage_status(report_arguments(rt, &error)),
     }
 }
 
-/// Runs a relay over standard input and output.
-fn run_standard<H: AllocGlobal + Input + Print + Eprint>(rt: &H, options: &Options<'_>) -> u8 {
-    let Ok(mut writer) = OverWrite::new(rt.alloc(), io::writer(rt)) else {
-        return report_out_of_memory(rt);
-    };
+/// Runs a relay over standard input and output. Returns how the run ended, and both streams, whose bytes the contract
+/// names.
+///
+/// # Errors
+///
+/// `OutOfMemory`: the output buffer cannot be allocated. Nothing was read or written.
+fn run_standard<'a, H>(
+    rt: &'a H,
+    options: &Options<'_>,
+) -> io::Result<
+    (
+        Result<u8, ScriptFault>,
+        OverRead<H::Reader>,
+        Recorder<Printer<'a, H>>,
+    ),
+>
+where
+    H: AllocGlobal + Input + Print + Eprint,
+    ensures { IfOk result (λ ran. (input : List ℕ) × (text : List ℕ)
+        × (⟦<OverRead<H::Reader> as ScriptRead>⟧.taken ran.1 ≡ Some input)
+        × (⟦<Recorder<Printer<'a, H>> as Write>⟧.contents ran.2 ≡ Some text)
+        × RunsStandard options.now (⟦<OverRead<H::Reader> as ScriptRead>⟧.ended ran.1) input text ran.0) }
+{
+    let mut writer = OverWrite::new(rt.alloc(), Recorder::new(io::writer(rt)))?;
     let mut reader = OverRead::new(rt.reader());
-    match run(rt.alloc(), options, &mut reader, &mut writer) {
-        Ok(status) => status,
+    let ended = run(rt.alloc(), options, &mut reader, &mut writer);
+    Ok((ended, reader, writer.into_inner()))
+}
+
+/// Reports the fault of a run, if there is one, and returns the exit status.
+fn report_end(rt: &impl Eprint, ended: &Result<u8, ScriptFault>) -> u8
+    ensures { result ≡ exit_status ended.now }
+{
+    match ended {
+        Ok(status) => *status,
         Err(fault) => {
             let _ = eprintln!(rt; "error: {fault}");
             3

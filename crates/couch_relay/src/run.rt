@@ -1,6 +1,10 @@
 //! A run over any reader and writer.
-ghost use Rattle.std.specs.Prelude.{IfOk, IfSome};
-ghost use Rattle.couch_relay.specs.Inbox.{IsInbox};
+ghost use Rattle.std.specs.Prelude.{◌≡◌, ◌++◌, ℕ, List, [], ◌==◌, not, length, IfOk, OnOk, OnErr, MatchOption, option_map, string_bytes};
+ghost use Rattle.std.specs.Str.{IsUtf8};
+ghost use Rattle.std.specs.Io.KnownBytes.{Appends, Keeps};
+ghost use Rattle.relay_core.specs.Views.{request_view};
+ghost use Rattle.couch_relay.specs.Inbox.{pending, IsInbox, Took};
+ghost use Rattle.couch_relay.specs.Runs.{status_after, on_line, on_one_line, AreOptions, ReadsChoice, FindsChoice, Ran, RanUntil, Runs, RunsUntil};
 
 use crate::exchange::{receive, send};
 use crate::inbox::Inbox;
@@ -12,24 +16,52 @@ use script_engine::{ScriptFault, ScriptRead, ScriptWrite};
 use std::alloc::{AllocError, Global};
 use std::str;
 
-/// Returns a text on one line: its line ends are spaces, and none are at its ends.
-fn on_one_line(alloc: Global, text: &str) -> Result<String, AllocError> {
-    let text = text.trim();
-    let mut line = String::with_capacity(alloc, text.len())?;
-    for c in text.chars() {
-        line.push(if c == '\n' || c == '\r' { ' ' } else { c })?;
-    }
-    Ok(line)
+/// Returns a byte of a text on one line.
+fn on_line(byte: u8) -> u8
+    ensures { result ≡ on_line byte }
+{
+    if byte == 10 || byte == 13 { 32 } else { byte }
 }
 
-/// Reads the selection of documents, or returns `None` if there is none.
+/// Returns a text on one line: its line ends are spaces, and none are at its ends.
+fn on_one_line(alloc: Global, text: &str) -> Result<String, AllocError>
+    ensures { IfOk result (λ s. string_bytes s ≡ on_one_line text.now) }
+{
+    let mut line = Vec::new(alloc);
+    for byte in text.trim().as_bytes() {
+        line.push(on_line(*byte))?;
+    }
+    match String::from_utf8(line) {
+        Ok(line) => Ok(line),
+        Err(_) => Err(AllocError),
+    }
+}
+
+/// Returns the selection of documents that a body is, if the body is UTF-8.
+fn choice_in(alloc: Global, body: &[u8]) -> Result<Option<String>, AllocError>
+    ensures { IfOk result (λ o. MatchOption (option_map string_bytes o) (¬ IsUtf8 body.now)
+        (λ s. IsUtf8 body.now × (s ≡ on_one_line body.now))) }
+{
+    match str::from_utf8(body) {
+        Ok(text) => {
+            let line = on_one_line(alloc, text)?;
+            Ok(Some(line))
+        }
+        Err(_) => Ok(None),
+    }
+}
+
+/// Reads the selection of documents. Returns `None` if none can be read.
 fn read_choice<R: ScriptRead>(
     alloc: Global,
     inbox: &mut Inbox,
     reader: &mut R,
 ) -> Result<Option<String>, ScriptFault>
     requires { IsInbox inbox.old }
-    ensures { IfOk result (λ o. IfSome o (λ _. IsInbox inbox.new)) }
+    ensures inbox { OnOk result (IsInbox inbox.new) }
+    ensures choice { IfOk result (λ o. ReadsChoice (R.taken reader.old) (R.taken reader.new) (R.ended reader.new)
+        (pending inbox.old) (pending inbox.new) (option_map string_bytes o)) }
+    ensures err { OnErr result (Took (R.taken reader.old) (R.taken reader.new)) }
 {
     let Some(head) = inbox.head(alloc, reader)? else {
         return Ok(None);
@@ -37,16 +69,20 @@ fn read_choice<R: ScriptRead>(
     if !inbox.has(reader, head.size)? {
         return Ok(None);
     }
-    let choice = match str::from_utf8(inbox.body(head.size)) {
-        Ok(text) => Some(on_one_line(alloc, text)?),
-        Err(_) => None,
-    };
+    let choice = choice_in(alloc, inbox.body(head.size))?;
     inbox.take(head.size);
     Ok(choice)
 }
 
 /// Returns the settings of a run.
-fn settings_of(alloc: Global, options: &Options<'_>) -> Result<Settings, AllocError> {
+fn settings_of(alloc: Global, options: &Options<'_>) -> Result<Settings, AllocError>
+    ensures session_id { IfOk result (λ s. string_bytes s.session_id ≡ options.now.session_id.now) }
+    ensures carry { IfOk result (λ s. s.carry ≡ options.now.carry) }
+    ensures every { IfOk result (λ s. s.every ≡ options.now.every) }
+    ensures continuous { IfOk result (λ s. s.continuous ≡ options.now.continuous) }
+    ensures progress { IfOk result (λ s. s.progress ≡ options.now.progress) }
+    ensures filtered { IfOk result (λ s. s.filtered ≡ not (length options.now.filter.now == 0)) }
+{
     let session_id = String::from_str(alloc, options.session_id)?;
     Ok(Settings {
         session_id,
@@ -63,7 +99,9 @@ fn request_options(
     alloc: Global,
     options: &Options<'_>,
     choice: String,
-) -> Result<RequestOptions, AllocError> {
+) -> Result<RequestOptions, AllocError>
+    ensures { IfOk result (λ o. AreOptions options.now (string_bytes choice) o) }
+{
     let log_path = log_path(
         alloc,
         options.source,
@@ -87,7 +125,9 @@ fn request_options(
 }
 
 /// Returns the exit status if a request is the last.
-fn status_of(request: &Request<'_>) -> Option<u8> {
+fn status_of(request: &Request<'_>) -> Option<u8>
+    ensures { result ≡ status_after (request_view request.now) }
+{
     match request {
         Request::Done(Some(_), _, _) => Some(3),
         Request::Done(None, counts, _) => Some(if counts.doc_write_failures == 0 { 0 } else { 1 }),
@@ -95,7 +135,11 @@ fn status_of(request: &Request<'_>) -> Option<u8> {
     }
 }
 
-/// Makes requests until the run is over, and returns its exit status: 3 if the input ends before the run.
+/// Makes requests until the run is over, and returns its exit status: 3 if no response to the last request can be read.
+///
+/// # Errors
+///
+/// `Read`: the reader failed, or 2^64 - 1 requests were made. `Write`: the writer failed. `Memory`: an allocation failed.
 fn make_requests<R: ScriptRead, W: ScriptWrite>(
     alloc: Global,
     settings: &Settings,
@@ -105,6 +149,13 @@ fn make_requests<R: ScriptRead, W: ScriptWrite>(
     writer: &mut W,
 ) -> Result<u8, ScriptFault>
     requires { IsInbox inbox.old }
+    ensures ok { IfOk result (λ status. (input : List ℕ) × (text : List ℕ)
+        × Appends (R.taken reader.old) (R.taken reader.new) input × Appends (W.held writer.old) (W.held writer.new) text
+        × Ran requests.now (R.ended reader.new) (pending inbox.old ++ input) text status) }
+    ensures sent { OnOk result (Keeps (W.held writer.new) (W.sent writer.new)) }
+    ensures err { OnErr result ((input : List ℕ) × (text : List ℕ)
+        × Appends (R.taken reader.old) (R.taken reader.new) input × Appends (W.held writer.old) (W.held writer.new) text
+        × RanUntil requests.now (pending inbox.old ++ input) text) }
 {
     let mut scratch = Scratch::new(alloc);
     let mut phase = Phase::start(alloc, settings)?;
@@ -119,24 +170,53 @@ fn make_requests<R: ScriptRead, W: ScriptWrite>(
         };
         phase = step(alloc, settings, phase, dated.response, dated.date.as_str())?;
     }
-    Ok(3)
+    Err(ScriptFault::Read)
+}
+
+/// Reads the selection of documents if there is an option for it. Returns `None` if none can be read.
+fn choice_of<R: ScriptRead>(
+    alloc: Global,
+    options: &Options<'_>,
+    inbox: &mut Inbox,
+    reader: &mut R,
+) -> Result<Option<String>, ScriptFault>
+    requires { IsInbox inbox.old }
+    ensures inbox { OnOk result (IsInbox inbox.new) }
+    ensures choice { IfOk result (λ o. FindsChoice options.now (R.taken reader.old) (R.taken reader.new) (R.ended reader.new)
+        (pending inbox.old) (pending inbox.new) (option_map string_bytes o)) }
+    ensures err { OnErr result (Took (R.taken reader.old) (R.taken reader.new)) }
+{
+    if options.choice {
+        read_choice(alloc, inbox, reader)
+    } else {
+        Ok(Some(String::new(alloc)))
+    }
 }
 
 /// Runs a relay, and returns its exit status.
+///
+/// # Errors
+///
+/// `Read`: the reader failed, or 2^64 - 1 requests were made. `Write`: the writer failed. `Memory`: an allocation failed.
+/// At most a prefix of a request was written after the exchanges.
 pub(crate) fn run<R: ScriptRead, W: ScriptWrite>(
     alloc: Global,
     options: &Options<'_>,
     reader: &mut R,
     writer: &mut W,
-) -> Result<u8, ScriptFault> {
+) -> Result<u8, ScriptFault>
+    ensures ok { IfOk result (λ status. (input : List ℕ) × (text : List ℕ)
+        × Appends (R.taken reader.old) (R.taken reader.new) input × Appends (W.held writer.old) (W.held writer.new) text
+        × Runs options.now (R.ended reader.new) input text status) }
+    ensures sent { Keeps (W.held writer.old) (W.sent writer.old) → OnOk result (Keeps (W.held writer.new) (W.sent writer.new)) }
+    ensures err { OnErr result ((input : List ℕ) × (text : List ℕ)
+        × Appends (R.taken reader.old) (R.taken reader.new) input × Appends (W.held writer.old) (W.held writer.new) text
+        × RunsUntil options.now input text) }
+{
     let mut inbox = Inbox::new(alloc)?;
-    let mut choice = String::new(alloc);
-    if options.choice {
-        match read_choice(alloc, &mut inbox, reader)? {
-            Some(read) => choice = read,
-            None => return Ok(3),
-        }
-    }
+    let Some(choice) = choice_of(alloc, options, &mut inbox, reader)? else {
+        return Ok(3);
+    };
     let settings = settings_of(alloc, options)?;
     let requests = request_options(alloc, options, choice)?;
     make_requests(alloc, &settings, &requests, &mut inbox, reader, writer)

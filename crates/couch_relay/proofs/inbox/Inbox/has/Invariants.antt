@@ -1,6 +1,11 @@
--- What is held begins where it began, and grows.
-use Rattle.proof_prelude.proofs.{◌≤◌, length}
+-- The bytes that were read are pending.
+use Rattle.couch_relay.specs.Inbox.{pending, IsInbox, Filled}
 use Rattle.couch_relay.proofs.inbox.Inbox.has.Given as goal
 
 abbrev pub invariant-loop-turn : goal.invariant-loop-turn
-invariant-loop-turn g l = l.self.at ≤ length l.self.held.items
+invariant-loop-turn g l =
+    let R = g.R.ScriptRead in
+    record {
+      inbox : IsInbox l.self;
+      filled : Filled (R.taken l.fn.reader) (R.taken l.reader) (pending l.fn.self) (pending l.self);
+    }

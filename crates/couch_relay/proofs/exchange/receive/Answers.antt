@@ -1,0 +1,52 @@
+use Rattle.proof_prelude.proofs.{List, ◌++◌, Option, inl, inr, subst, refl, ap, ◌∙◌}
+use Rattle.couch_relay.specs.declared.inbox.Head.{Head}
+use Rattle.couch_relay.specs.Inbox.{pending, head_view, ReadsHead}
+use Rattle.couch_relay.proofs.Lines.{any_err, none_of, took_after, body_took, body_cut, body_frame, body_parts, body_is}
+use Rattle.relay_core.specs.Views.{request_view}
+use Rattle.relay_responses.specs.Responses.{response_in}
+use Rattle.couch_relay.proofs.exchange.receive.Goals as goal
+
+pub returns-in_default-clause-response : goal.returns-in_default-clause-response
+returns-in_default-clause-response g c =
+    let R = g.R.ScriptRead in
+    let none = subst (λ (o : Option Head). ReadsHead (R.taken c.args.reader.now) (R.taken c.head.new.reader) (R.ended c.head.new.reader) (pending c.args.inbox.now) (pending c.head.new.self) o) (none_of c.in_ok-head.field-0 c.in_default.not-Some) c.in_ok-head.ensures.head in
+    (none.0, none.1, none.2)
+
+pub returns-in_err-has-clause-err : goal.returns-in_err-has-clause-err
+returns-in_err-has-clause-err g c =
+    let R = g.R.ScriptRead in
+    let head = subst (λ (o : Option Head). ReadsHead (R.taken c.args.reader.now) (R.taken c.head.new.reader) (R.ended c.head.new.reader) (pending c.args.inbox.now) (pending c.head.new.self) o) c.in-Some.is c.in_ok-head.ensures.head in
+    any_err c.from_residual-in_err-has.result (took_after (R.taken c.args.reader.now) (R.taken c.head.new.reader) (R.taken c.has.new.reader) head.0 head.1 c.in_err-has.ensures.err)
+
+pub returns-then-not-branch-clause-response : goal.returns-then-not-branch-clause-response
+returns-then-not-branch-clause-response g c =
+    let R = g.R.ScriptRead in
+    let head = subst (λ (o : Option Head). ReadsHead (R.taken c.args.reader.now) (R.taken c.head.new.reader) (R.ended c.head.new.reader) (pending c.args.inbox.now) (pending c.head.new.self) o) c.in-Some.is c.in_ok-head.ensures.head in
+    let end = c.in_ok-has.ensures.end c.if-not-branch.true in
+    body_cut (R.taken c.args.reader.now) (R.taken c.head.new.reader) (R.taken c.has.new.reader) (R.ended c.head.new.reader) (pending c.args.inbox.now) (pending c.head.new.self) (pending c.has.new.self) c.in-Some.head head c.in_ok-has.ensures.filled (R.ended c.has.new.reader) end.0 end.1
+
+pub returns-in_err-response-clause-err : goal.returns-in_err-response-clause-err
+returns-in_err-response-clause-err g c =
+    let R = g.R.ScriptRead in
+    let head = subst (λ (o : Option Head). ReadsHead (R.taken c.args.reader.now) (R.taken c.head.new.reader) (R.ended c.head.new.reader) (pending c.args.inbox.now) (pending c.head.new.self) o) c.in-Some.is c.in_ok-head.ensures.head in
+    any_err c.from_residual-in_err-response.result (body_took (R.taken c.args.reader.now) (R.taken c.head.new.reader) (R.taken c.has.new.reader) (R.ended c.head.new.reader) (pending c.args.inbox.now) (pending c.head.new.self) (pending c.has.new.self) c.in-Some.head head c.in_ok-has.ensures.filled)
+
+pub returns-clause-response : goal.returns-clause-response
+returns-clause-response g c =
+    let R = g.R.ScriptRead in
+    let head = subst (λ (o : Option Head). ReadsHead (R.taken c.args.reader.now) (R.taken c.head.new.reader) (R.ended c.head.new.reader) (pending c.args.inbox.now) (pending c.head.new.self) o) c.in-Some.is c.in_ok-head.ensures.head in
+    let fs = c.in_ok-has.ensures.filled in (
+      head.0 ++ fs.0,
+      (body_took (R.taken c.args.reader.now) (R.taken c.head.new.reader) (R.taken c.has.new.reader) (R.ended c.head.new.reader) (pending c.args.inbox.now) (pending c.head.new.self) (pending c.has.new.self) c.in-Some.head head fs).1,
+      (
+        body_frame (R.taken c.args.reader.now) (R.taken c.head.new.reader) (R.taken c.has.new.reader) (R.ended c.head.new.reader) (pending c.args.inbox.now) (pending c.head.new.self) (pending c.has.new.self) c.in-Some.head head fs,
+        body_parts (R.taken c.args.reader.now) (R.taken c.head.new.reader) (R.taken c.has.new.reader) (R.ended c.head.new.reader) (pending c.args.inbox.now) (pending c.head.new.self) (pending c.has.new.self) c.in-Some.head head fs (pending c.take.new.self) c.take.ensures.pending,
+        record {
+          head = head_view c.in-Some.head;
+          body = _;
+          frame = body_is (R.taken c.args.reader.now) (R.taken c.head.new.reader) (R.taken c.has.new.reader) (R.ended c.head.new.reader) (pending c.args.inbox.now) (pending c.head.new.self) (pending c.has.new.self) c.in-Some.head head fs (c.in_ok-has.ensures.held c.if-not-branch.false);
+          response_is = c.in_ok-response.ensures ∙ ap (response_in (request_view c.args.request.now) c.in-Some.head.status c.in-Some.head.who) c.body.ensures;
+          date_is = refl;
+        },
+      ),
+    )

@@ -1,0 +1,15 @@
+use Rattle.proof_prelude.proofs.{refl, sym, ◌∙◌}
+use Rattle.script_engine.proofs.StreamLemmas.{none_known}
+use Rattle.couch_relay.proofs.Running.{standard}
+use Rattle.couch_relay.proofs.program.run_standard.Goals as goal
+
+pub returns : goal.returns
+returns g c =
+    let held = c.in_ok-writer.ensures.held ∙ none_known c.new.ensures in (
+      _,
+      _,
+      refl,
+      refl,
+      standard c.args.options.now _ c.run-ended.result _ _ _ _ _ _ (none_known c.new-reader.ensures.none_taken) held c.into_inner.ensures.held c.into_inner.ensures.sent c.run-ended.ensures.ok
+          (c.run-ended.ensures.sent (none_known (c.in_ok-writer.ensures.sent ∙ c.new.ensures) ∙ sym held)) c.run-ended.ensures.err,
+    )
