@@ -1,5 +1,5 @@
--- How a run over any reader and writer ends: docs/PROFILE.md, "Options" and "Answers".
-use Rattle.std.specs.Prelude.{◌≡◌, ℕ, List, Bool, Option, Result, Ok, Err}
+-- How a run ends, over any reader and writer, and over standard input and output: docs/PROFILE.md, "Options" and "Answers".
+use Rattle.std.specs.Prelude.{◌≡◌, ℕ, List, [], Bool, Option, Result, Ok, Err, OnOk}
 use Rattle.std.specs.Io.KnownBytes.{Appends, Consumes}
 use Rattle.script_engine.specs.Device.{Gives}
 use Rattle.script_engine.specs.Script.{AnswersEnded, IsAnswered}
@@ -9,6 +9,7 @@ use Rattle.script_engine.specs.declared.fault.ScriptFault.TheVariants.{Read}
 use Rattle.script_databases.specs.Databases.{Program, State, no_databases}
 use Rattle.script_databases.specs.Stored.{program_of}
 use Rattle.commands.specs.Trust.{TrustedLines}
+use Rattle.commands.specs.Streams.{Prints}
 use Rattle.couch_replicate.specs.Options.{Says, Refuses}
 use Rattle.couch_replicate.specs.declared.options.Options.{Options}
 use Rattle.couch_replicate.specs.declared.run.Ended.{Ended}
@@ -16,22 +17,37 @@ use Rattle.couch_replicate.specs.declared.run.Ended.TheVariants.{NotRun, Ran}
 
 -- The output of a script with these settings, and its guarantees. After an error it is a prefix of the output. If the
 -- error is `Read` or `Memory`, the prefix ends between two lines' outputs; after `Read` it is the output of all lines
--- read before. The arguments are what the reader has left and what the writer was given, each before and after.
-abbrev pub Answered : Program → Option (List ℕ) → Option (List ℕ) → Option (List ℕ) → Option (List ℕ)
+-- read before. `given` says which bytes the script has, and `taken` which bytes were read of it. The other arguments are
+-- what the writer was given, before and after.
+abbrev pub Answered : Program → (List ℕ → Type 0) → (List ℕ → Type 0) → Option (List ℕ) → Option (List ℕ)
     → Result Bool ScriptFault → Type 0
-Answered program left left' held held' (Ok clean) =
-    (input : List ℕ) × (text : List ℕ) × (state : State) × Gives left input × Appends held held' text
+Answered program given taken held held' (Ok clean) =
+    (input : List ℕ) × (text : List ℕ) × (state : State) × given input × Appends held held' text
     × IsAnswered TrustedLines (no_databases program) input clean text state
-Answered program left left' held held' (Err fault) =
-    ((input : List ℕ) × (text : List ℕ) × Gives left input × Appends held held' text
+Answered program given taken held held' (Err fault) =
+    ((input : List ℕ) × (text : List ℕ) × given input × Appends held held' text
     × IsToldUntil fault TrustedLines (no_databases program) input text)
-    × (fault ≡ Read → (taken : List ℕ) × (text : List ℕ) × (state : State) × Consumes left left' taken
-    × Appends held held' text × AnswersEnded TrustedLines (no_databases program) taken text state)
+    × (fault ≡ Read → (input : List ℕ) × (text : List ℕ) × (state : State) × taken input
+    × Appends held held' text × AnswersEnded TrustedLines (no_databases program) input text state)
 
 -- Arguments without settings: nothing is read or written. Otherwise a script is run with the settings, and what the
--- writer was given has been passed on, unless a write failed.
-abbrev pub RunsWords : List (List ℕ) → Option (List ℕ) → Option (List ℕ) → Option (List ℕ) → Option (List ℕ)
-    → Option (List ℕ) → Ended → Type 0
-RunsWords words left left' held held' sent (NotRun why) = Refuses words why × (left' ≡ left) × (held' ≡ held)
-RunsWords words left left' held held' sent (Ran ended) =
-    (o : Options) × Says words o × Answered (program_of o.settings) left left' held held' ended × IsSent ended held' sent
+-- writer was given has been passed on, unless a write failed. The guarantees are of the bytes that the reader has left,
+-- and of those that its reads returned; on success the input has ended. Of the reader, the arguments are what it has left
+-- and what its reads returned, each before and after, and whether they came to the end. Of the writer, they are what it
+-- was given before and after, and what it passed on.
+abbrev pub RunsWords : List (List ℕ) → Option (List ℕ) → Option (List ℕ) → Option (List ℕ) → Option (List ℕ) → Type 0
+    → Option (List ℕ) → Option (List ℕ) → Option (List ℕ) → Ended → Type 0
+RunsWords words left left' took took' at_end held held' sent (NotRun why) =
+    Refuses words why × (left' ≡ left) × (took' ≡ took) × (held' ≡ held)
+RunsWords words left left' took took' at_end held held' sent (Ran ended) =
+    (o : Options) × Says words o
+    × Answered (program_of o.settings) (λ input. Gives left input) (λ input. Consumes left left' input) held held' ended
+    × Answered (program_of o.settings) (λ input. Appends took took' input) (λ input. Appends took took' input) held held'
+    ended × OnOk ended at_end × IsSent ended held' sent
+
+-- What the program does with standard input and output. The arguments are those of the command line, the bytes that its
+-- reads returned, whether they came to the end of the input, and the bytes that standard output accepted.
+abbrev pub RunsStandard : List (List ℕ) → List ℕ → Type 0 → List ℕ → Ended → Type 0
+RunsStandard words input at_end text (NotRun why) = Refuses words why × (input ≡ []) × (text ≡ [])
+RunsStandard words input at_end text (Ran ended) =
+    (o : Options) × Says words o × Prints (program_of o.settings) input at_end text ended

@@ -65,6 +65,10 @@ Blank lines are ignored. A command that fails prints `refused LINE NAME` and cha
 that a failed replication keeps what it has already copied. docs/PROFILE.md, \"Names of refusals\",
 explains each NAME; so does --explain.
 
+The same seed gives the same generated ids. With several workers and several windows, the sequences of
+a target may differ between runs, and with them the order in which `changes`, `docs`, `conflicts`,
+`compare` and `ledger` print documents.
+
 Exit status: 0 if every command succeeded, 1 if one failed, 2 for a usage error, 3 if the script
 stopped early, because reading, writing or an allocation failed.";
 
@@ -195,7 +199,7 @@ fn command<'a>(alloc: Global) -> Result<Command<'a>, AllocError>
             alloc,
             "seed",
             "N",
-            "Seed for generated ids; the same seed gives the same ids [default: 0]",
+            "Seed for generated ids; the order of documents may still differ between runs [default: 0]",
         ))?
         .arg(number(
             alloc,

@@ -33,7 +33,8 @@ pub fn run_words<'a, H, R: ScriptRead, W: ScriptWrite>(
 where
     H: AllocGlobal + Eprint + Clock + Threads + Wait + Sync,
     ensures { RunsWords (map string_bytes words.entry.now) (R.left reader.old) (R.left reader.new)
-        (W.held writer.old) (W.held writer.new) (W.sent writer.new) result }
+        (R.taken reader.old) (R.taken reader.new) (R.ended reader.new) (W.held writer.old) (W.held writer.new)
+        (W.sent writer.new) result }
 {
     let options = match read_words(rt.alloc(), words) {
         Ok(options) => options,

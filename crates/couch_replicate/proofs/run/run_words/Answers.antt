@@ -7,13 +7,23 @@ use Rattle.couch_replicate.specs.{Answered}
 use Rattle.couch_replicate.proofs.run.run_words.Goals as goal
 
 -- the output of the run of a script
-answered : (g : Program) (l l' h h' : Option (List ℕ)) (x : Result Bool ScriptFault) →
-    IfOk x (λ clean. (input : List ℕ) × (text : List ℕ) × (state : State) × Gives l input × Appends h h' text × IsAnswered TrustedLines (no_databases g) input clean text state) →
-    IfErr x (λ fault. (input : List ℕ) × (text : List ℕ) × Gives l input × Appends h h' text × IsToldUntil fault TrustedLines (no_databases g) input text) →
-    IfErr x (λ fault. fault ≡ Read → (taken : List ℕ) × (text : List ℕ) × (state : State) × Consumes l l' taken × Appends h h' text × AnswersEnded TrustedLines (no_databases g) taken text state) → Answered g l l' h h' x
-answered g l l' h h' (Ok clean) a f e = a
-answered g l l' h h' (Err fault) a (input, text, gives, written, so_far) e = ((input, text, gives, written, so_far), e)
+answered : (g : Program) (given taken : List ℕ → Type 0) (h h' : Option (List ℕ)) (x : Result Bool ScriptFault) →
+    IfOk x (λ clean. (input : List ℕ) × (text : List ℕ) × (state : State) × given input × Appends h h' text × IsAnswered TrustedLines (no_databases g) input clean text state) →
+    IfErr x (λ fault. (input : List ℕ) × (text : List ℕ) × given input × Appends h h' text × IsToldUntil fault TrustedLines (no_databases g) input text) →
+    IfErr x (λ fault. fault ≡ Read → (input : List ℕ) × (text : List ℕ) × (state : State) × taken input × Appends h h' text × AnswersEnded TrustedLines (no_databases g) input text state) → Answered g given taken h h' x
+answered g given taken h h' (Ok clean) a f e = a
+answered g given taken h h' (Err fault) a (input, text, gives, written, so_far) e = ((input, text, gives, written, so_far), e)
 
 pub returns : goal.returns
 returns g c =
-    (c.in-Ok.options, c.in-Ok.ensures.ok, answered _ _ _ _ _ c.run_script-ended.result c.run_script-ended.ensures.trust c.run_script-ended.ensures.trust_until c.run_script-ended.ensures.read, c.run_script-ended.ensures.sent)
+    let R = g.R.ScriptRead in
+    let old = c.args.reader.now in
+    let new = c.run_script-ended.new.reader in
+    let ran = c.run_script-ended.ensures in (
+      c.in-Ok.options,
+      c.in-Ok.ensures.ok,
+      answered _ (λ z. Gives (R.left old) z) (λ z. Consumes (R.left old) (R.left new) z) _ _ c.run_script-ended.result ran.trust ran.trust_until ran.read,
+      answered _ (λ z. Appends (R.taken old) (R.taken new) z) (λ z. Appends (R.taken old) (R.taken new) z) _ _ c.run_script-ended.result ran.took ran.took_until ran.took_in,
+      ran.ended,
+      ran.sent,
+    )
