@@ -16,4 +16,4 @@ returns g c =
     let ran = c.run_script-ended.ensures in
     let r = c.run_script-ended.result in
     let told = prints _ _ r _ _ _ _ _ (none_known c.new-reader.ensures.none_taken) (c.in_ok-writer.ensures.held ∙ none_known c.new.ensures) c.into_inner.ensures.held (same_known r _ c.into_inner.ensures.sent ran.sent) ran.took ran.ended ran.took_until ran.took_in in
-    (_, _, refl, refl, by_default (program_of c.new-3.result) _ _ _ r (ap program_of c.new-3.ensures) told)
+    (_, _, refl, refl, by_default (program_of c.new-3.result) _ c.run_script-ended.new.reader.taken.bytes c.into_inner.result.accepted.bytes r (ap program_of c.new-3.ensures) told)
