@@ -1,5 +1,5 @@
--- How a run over any reader and writer ends: docs/PROFILE.md, "Options" and "Answers".
-use Rattle.std.specs.Prelude.{◌≡◌, ℕ, List, Bool, Option, Result, Ok, Err, OnOk}
+-- How a run ends, over any reader and writer, and over standard input and output: docs/PROFILE.md, "Options" and "Answers".
+use Rattle.std.specs.Prelude.{◌≡◌, ℕ, List, [], Bool, Option, Result, Ok, Err, OnOk}
 use Rattle.std.specs.Io.KnownBytes.{Appends, Consumes}
 use Rattle.script_engine.specs.Device.{Gives}
 use Rattle.script_engine.specs.Script.{AnswersEnded, IsAnswered}
@@ -9,6 +9,7 @@ use Rattle.script_engine.specs.declared.fault.ScriptFault.TheVariants.{Read}
 use Rattle.script_databases.specs.Databases.{Program, State, no_databases}
 use Rattle.script_databases.specs.Stored.{program_of}
 use Rattle.commands.specs.Trust.{TrustedLines}
+use Rattle.commands.specs.Streams.{Prints}
 use Rattle.couch_replicate.specs.Options.{Says, Refuses}
 use Rattle.couch_replicate.specs.declared.options.Options.{Options}
 use Rattle.couch_replicate.specs.declared.run.Ended.{Ended}
@@ -43,3 +44,10 @@ RunsWords words left left' took took' at_end held held' sent (Ran ended) =
     × Answered (program_of o.settings) (λ input. Gives left input) (λ input. Consumes left left' input) held held' ended
     × Answered (program_of o.settings) (λ input. Appends took took' input) (λ input. Appends took took' input) held held'
     ended × OnOk ended at_end × IsSent ended held' sent
+
+-- What the program does with standard input and output. The arguments are those of the command line, the bytes that its
+-- reads returned, whether they came to the end of the input, and the bytes that standard output accepted.
+abbrev pub RunsStandard : List (List ℕ) → List ℕ → Type 0 → List ℕ → Ended → Type 0
+RunsStandard words input at_end text (NotRun why) = Refuses words why × (input ≡ []) × (text ≡ [])
+RunsStandard words input at_end text (Ran ended) =
+    (o : Options) × Says words o × Prints (program_of o.settings) input at_end text ended

@@ -1,5 +1,6 @@
 //! The program: its arguments, standard input and output, and exit status.
-ghost use Rattle.std.specs.Prelude.{◌≡◌, ◌≤◌};
+ghost use Rattle.std.specs.Prelude.{◌≡◌, ◌≤◌, ℕ, List, Some, IfOk, map, string_bytes};
+ghost use Rattle.couch_replicate.specs.RunWords.{RunsStandard};
 ghost use Rattle.couch_replicate.specs.Status.{ended_status, status_of};
 
 use crate::options::NoSettings;
@@ -7,10 +8,10 @@ use crate::run::{Ended, run_words};
 use cli_common::{
     BAD_COMMAND_LINE, report_arguments, report_bad_arguments, report_out_of_memory, words_of,
 };
-use script_engine::{OverRead, OverWrite, ScriptFault};
+use script_engine::{OverRead, OverWrite, Recorder, ScriptFault, ScriptRead};
 use std::env::Env;
 use std::io;
-use std::io::{Eprint, Input, Print};
+use std::io::{Eprint, Input, Print, Printer, Write};
 use std::rt::Clock;
 use std::sync::Wait;
 use std::thread::Threads;
@@ -25,21 +26,37 @@ where
     ensures { result ≤ 3 }
 {
     match words_of(rt) {
-        Ok(words) => tell(rt, &run_standard(rt, words.as_slice(), is_watched)),
+        Ok(words) => match run_standard(rt, words.as_slice(), is_watched) {
+            Ok((ended, _reader, _writer)) => tell(rt, &ended),
+            Err(_) => report_out_of_memory(rt),
+        },
         Err(error) => report_bad_arguments(rt, &error),
     }
 }
 
-/// Runs the program on standard input and output.
-fn run_standard<H>(rt: &H, words: &[String], is_watched: bool) -> Ended
+/// Runs the program on standard input and output. Returns how the run ended, and both streams, whose bytes the contract
+/// names.
+///
+/// # Errors
+///
+/// `OutOfMemory`: the output buffer cannot be allocated. Nothing has been read or written.
+fn run_standard<'a, H>(
+    rt: &'a H,
+    words: &[String],
+    is_watched: bool,
+) -> io::Result<(Ended, OverRead<H::Reader>, Recorder<Printer<'a, H>>)>
 where
     H: AllocGlobal + Input + Print + Eprint + Clock + Threads + Wait + Sync,
+    ensures { IfOk result (λ ran. (input : List ℕ) × (text : List ℕ)
+        × (⟦<OverRead<H::Reader> as ScriptRead>⟧.taken ran.1 ≡ Some input)
+        × (⟦<Recorder<Printer<'a, H>> as Write>⟧.contents ran.2 ≡ Some text)
+        × RunsStandard (map string_bytes words.now) input (⟦<OverRead<H::Reader> as ScriptRead>⟧.ended ran.1) text
+        ran.0) }
 {
-    let Ok(mut writer) = OverWrite::new(rt.alloc(), io::writer(rt)) else {
-        return Ended::NotRun(NoSettings::Memory);
-    };
+    let mut writer = OverWrite::new(rt.alloc(), Recorder::new(io::writer(rt)))?;
     let mut reader = OverRead::new(rt.reader());
-    run_words(rt, words, is_watched, &mut reader, &mut writer)
+    let ended = run_words(rt, words, is_watched, &mut reader, &mut writer);
+    Ok((ended, reader, writer.into_inner()))
 }
 
 /// Reports how a run ended, unless it succeeded, and returns the exit status.

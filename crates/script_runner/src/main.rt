@@ -5,41 +5,45 @@
 //! defines a script.
 #![tactic(auto)]
 
+ghost use Rattle.std.specs.Prelude.{◌≡◌, ℕ, List, Some, IfOk};
+ghost use Rattle.commands.specs.Streams.{Prints};
+ghost use Rattle.script_runner.specs.Defaults.{default_program};
+
 use commands::run_script;
 use script_databases::Settings;
-use script_engine::{Nobody, OverRead, OverWrite, ScriptFault};
+use script_engine::{Nobody, OverRead, OverWrite, Recorder, ScriptFault, ScriptRead};
 use std::io;
-use std::io::{Eprint, Input, Print};
+use std::io::{Eprint, Input, Print, Printer, Write};
 use std::process::ExitCode;
 use std::sync::Wait;
 use std::thread::Threads;
 
-/// The settings of `couch_replicate` if it is given no options.
-fn default_settings() -> Settings {
-    Settings {
-        deny: None,
-        seed: 0,
-        at: 0,
-        workers: 4,
-        batch: 500,
-        quiet: false,
-    }
-}
-
-/// Runs the script on standard input. Returns whether every line was accepted.
+/// Runs the script on standard input with the default settings. Returns whether every line was accepted, and both
+/// streams, whose bytes the contract names.
 ///
 /// # Errors
 ///
-/// Returns what reading, writing or memory failed with.
-fn run_standard<H>(rt: &H) -> Result<bool, ScriptFault>
+/// `OutOfMemory`: the output buffer cannot be allocated. Nothing has been read or written.
+fn run_standard<'a, H>(
+    rt: &'a H,
+) -> io::Result<
+    (
+        Result<bool, ScriptFault>,
+        OverRead<H::Reader>,
+        Recorder<Printer<'a, H>>,
+    ),
+>
 where
     H: AllocGlobal + Input + Print + Threads + Wait + Sync,
+    ensures { IfOk result (λ ran. (input : List ℕ) × (text : List ℕ)
+        × (⟦<OverRead<H::Reader> as ScriptRead>⟧.taken ran.1 ≡ Some input)
+        × (⟦<Recorder<Printer<'a, H>> as Write>⟧.contents ran.2 ≡ Some text)
+        × Prints default_program input (⟦<OverRead<H::Reader> as ScriptRead>⟧.ended ran.1) text ran.0) }
 {
-    let Ok(mut writer) = OverWrite::new(rt.alloc(), io::writer(rt)) else {
-        return Err(ScriptFault::Memory);
-    };
+    let mut writer = OverWrite::new(rt.alloc(), Recorder::new(io::writer(rt)))?;
     let mut reader = OverRead::new(rt.reader());
-    run_script(rt, &mut reader, &mut writer, Nobody, &default_settings())
+    let ended = run_script(rt, &mut reader, &mut writer, Nobody, &Settings::new());
+    Ok((ended, reader, writer.into_inner()))
 }
 
 /// Runs the program. Returns its exit status: 0, or 1 if a line was refused, or 3 if reading, writing or memory failed.
@@ -47,7 +51,11 @@ fn run_program<H>(rt: &H) -> u8
 where
     H: AllocGlobal + Input + Print + Eprint + Threads + Wait + Sync,
 {
-    match run_standard(rt) {
+    let ended = match run_standard(rt) {
+        Ok((ended, _reader, _writer)) => ended,
+        Err(_) => Err(ScriptFault::Memory),
+    };
+    match ended {
         Ok(true) => 0,
         Ok(false) => 1,
         Err(fault) => {

@@ -1,0 +1,2 @@
+pub mod Defaults
+pub use Defaults.{default_program}
