@@ -6,35 +6,35 @@ use Rattle.couch_relay.specs.declared.inbox.Inbox.{Inbox}
 use Rattle.couch_relay.specs.declared.inbox.Head.{Head}
 use Rattle.couch_relay.specs.Frames.{HeadView, IsHead, IsLine, NoFrame}
 
--- the bytes that were read and not taken
+-- The bytes that were read and not taken.
 abbrev pub pending : Inbox → List ℕ
 pending inbox = drop inbox.at inbox.held.items
 
--- the bytes that were not taken begin within those that are held, and the buffer for a read is not empty
+-- The bytes that were not taken begin within those that are held, and the buffer for a read is not empty.
 pub record IsInbox (inbox : Inbox) : Type 0 where
   pub within : inbox.at ≤ length inbox.held.items
   pub some : 0 < length inbox.buffer.items
 
--- a reader returned these bytes, which its history has before and after
+-- A reader returned these bytes, which its history has before and after.
 abbrev pub Took : Option (List ℕ) → Option (List ℕ) → Type 0
 Took old new = (bytes : List ℕ) × Appends old new bytes
 
--- the bytes that a reader returned were put after those that were pending
+-- The bytes that a reader returned were put after those that were pending.
 abbrev pub Filled : Option (List ℕ) → Option (List ℕ) → List ℕ → List ℕ → Type 0
 Filled old new before after = (bytes : List ℕ) × Appends old new bytes × (after ≡ before ++ bytes)
 
--- the bytes begin with a line of this length
+-- The bytes begin with a line of this length.
 abbrev pub HasLine : List ℕ → ℕ → Type 0
 HasLine bytes size = IsLine bytes (take size bytes) (drop (size + 1) bytes) × (size < length bytes)
 
 abbrev pub head_view : Head → HeadView
 head_view head = record { status = head.status; size = head.size; who = head.who; date = string_bytes head.date }
 
--- the bytes begin with a head, and this is the rest
+-- The bytes begin with a head, and this is the rest.
 abbrev pub BeginsWithHead : List ℕ → HeadView → List ℕ → Type 0
 BeginsWithHead bytes head rest = (line : List ℕ) × IsLine bytes line rest × IsHead line head
 
--- what was read after the pending bytes, and the head that they begin with, if they do
+-- What was read after the pending bytes, and the head that they begin with, if they do.
 abbrev pub ReadsHead : Option (List ℕ) → Option (List ℕ) → Type 0 → List ℕ → List ℕ → Option Head → Type 0
 ReadsHead old new ended before after head =
     (bytes : List ℕ) × Appends old new bytes

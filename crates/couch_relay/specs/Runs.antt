@@ -16,7 +16,7 @@ use Rattle.couch_relay.specs.Frames.{HeadView, IsFrame, NoFrame}
 
 -- ---- an exchange
 
--- these bytes are a response, and the request has it read as this response, at this date
+-- These bytes are a response, and the request has it read as this response, at this date.
 pub record IsResponse (q : RequestView) (bytes : List ℕ) (response : ResponseView) (date : Text) : Type 0 where
   pub head : HeadView
   pub body : List ℕ
@@ -24,18 +24,18 @@ pub record IsResponse (q : RequestView) (bytes : List ℕ) (response : ResponseV
   pub response_is : response ≡ response_in q head.status head.who body
   pub date_is : date ≡ head.date
 
--- the response to a request begins the bytes, and this is the rest
+-- The response to a request begins the bytes, and this is the rest.
 abbrev pub BeginsWithResponse : RequestView → List ℕ → List ℕ → Dated → Type 0
 BeginsWithResponse q bytes rest d =
     (frame : List ℕ) × (bytes ≡ frame ++ rest) × IsResponse q frame (response_view d.response) (string_bytes d.date)
 
--- what was read after the pending bytes, and the response that they begin with, if they do
+-- What was read after the pending bytes, and the response that they begin with, if they do.
 abbrev pub Receives : RequestView → Option (List ℕ) → Option (List ℕ) → Type 0 → List ℕ → List ℕ → Option Dated → Type 0
 Receives q old new ended before after dated =
     (bytes : List ℕ) × Appends old new bytes
     × MatchOption dated (NoFrame ended (before ++ bytes)) (λ d. BeginsWithResponse q (before ++ bytes) after d)
 
--- an exchange after others: its request was written after theirs, and its response was read after theirs
+-- An exchange after others: its request was written after theirs, and its response was read after theirs.
 pub record IsNext (o : RequestOptions) (e : Exchange) (earlier : List ℕ → List ℕ → Type 0) (read written : List ℕ) : Type 0 where
   pub read_before : List ℕ
   pub written_before : List ℕ
@@ -46,12 +46,12 @@ pub record IsNext (o : RequestOptions) (e : Exchange) (earlier : List ℕ → Li
   pub read_is : read ≡ read_before ++ frame
   pub written_is : written ≡ written_before ++ request_text o e.request
 
--- the bytes that were read and written in these exchanges, the last exchange first
+-- The bytes that were read and written in these exchanges, the last exchange first.
 abbrev pub Exchanged : RequestOptions → List Exchange → List ℕ → List ℕ → Type 0
 Exchanged o [] read written = (read ≡ []) × (written ≡ [])
 Exchanged o (e ∷ h) read written = IsNext o e (Exchanged o h) read written
 
--- these bytes were read and written in exchanges that were all allowed, and after which this request is allowed
+-- These bytes were read and written in exchanges that were all allowed, and after which this request is allowed.
 pub record IsRun (o : RequestOptions) (read written : List ℕ) (next : RequestView) : Type 0 where
   pub history : List Exchange
   pub exchanged : Exchanged o history read written
@@ -60,7 +60,7 @@ pub record IsRun (o : RequestOptions) (read written : List ℕ) (next : RequestV
 
 -- ---- the end of a run
 
--- the exit status after a request, if no response follows it
+-- The exit status after a request, if no response follows it.
 abbrev pub status_after : RequestView → Option ℕ
 status_after (get_log side) = None
 status_after (get_changes since wait) = None
@@ -71,12 +71,12 @@ status_after (tell notice) = None
 status_after (done None counts recorded) = Some (if counts.doc_write_failures == 0 then 0 else 1)
 status_after (done (Some fault) counts recorded) = Some 3
 
--- the run is over with this status: after `done`, or since no response to the last request can be read from the rest
+-- The run is over with this status: after `done`, or because the rest has no response to the last request.
 abbrev pub EndsWith : Type 0 → RequestView → List ℕ → ℕ → Type 0
 EndsWith ended next left status =
     (status_after next ≡ Some status) ⊎ ((status_after next ≡ None) × NoFrame ended left × (status ≡ 3))
 
--- a whole run: the input, the output, and the exit status
+-- A complete run: the input, the output, and the exit status.
 pub record Ran (o : RequestOptions) (ended : Type 0) (input text : List ℕ) (status : ℕ) : Type 0 where
   pub read : List ℕ
   pub left : List ℕ
@@ -87,7 +87,7 @@ pub record Ran (o : RequestOptions) (ended : Type 0) (input text : List ℕ) (st
   pub text_is : text ≡ written ++ request_text o next
   pub ends : EndsWith ended next left status
 
--- a run that a fault stopped: a prefix of one more request was written
+-- A run that a fault stopped: a prefix of one more request was written.
 pub record RanUntil (o : RequestOptions) (input text : List ℕ) : Type 0 where
   pub read : List ℕ
   pub left : List ℕ
@@ -102,7 +102,7 @@ pub record RanUntil (o : RequestOptions) (input text : List ℕ) : Type 0 where
 
 -- ---- the command line and the selection of documents
 
--- the options of the requests are those of the command line and this selection
+-- The options of the requests are those of the command line and this selection.
 pub record AreOptions (options : Options) (choice : Text) (o : RequestOptions) : Type 0 where
   pub path : string_bytes o.log_path
       ≡ log_path options.source.now options.target.now options.filter.now options.query.now choice options.salt.now
@@ -112,15 +112,15 @@ pub record AreOptions (options : Options) (choice : Text) (o : RequestOptions) :
   pub query : string_bytes o.query ≡ options.query.now
   pub choice_is : string_bytes o.choice ≡ choice
 
--- a byte of a text on one line
+-- A byte of a text on one line.
 abbrev pub on_line : ℕ → ℕ
 on_line b = if b == 10 || b == 13 then 32 else b
 
--- a text on one line: its line ends are spaces, and no white space is at its ends
+-- A text on one line: its line ends are spaces, and no white space is at its ends.
 abbrev pub on_one_line : Text → Text
 on_one_line text = map on_line (trim text)
 
--- the first response is a selection of documents, and this is the rest
+-- The first response is a selection of documents, and this is the rest.
 pub record IsChoice (input : List ℕ) (choice : Text) (rest : List ℕ) : Type 0 where
   pub frame : List ℕ
   pub head : HeadView
@@ -130,51 +130,51 @@ pub record IsChoice (input : List ℕ) (choice : Text) (rest : List ℕ) : Type 
   pub text : IsUtf8 body
   pub choice_is : choice ≡ on_one_line body
 
--- no selection of documents is read from these bytes
+-- No selection of documents is read from these bytes.
 abbrev pub NoChoice : Type 0 → List ℕ → Type 0
 NoChoice ended input =
     NoFrame ended input
     ⊎ ((frame body rest : List ℕ) × (head : HeadView) × (input ≡ frame ++ rest) × IsFrame frame head body × ¬ IsUtf8 body)
 
--- what was read after the pending bytes, and the selection that they begin with, if they do
+-- What was read after the pending bytes, and the selection that they begin with, if they do.
 abbrev pub ReadsChoice : Option (List ℕ) → Option (List ℕ) → Type 0 → List ℕ → List ℕ → Option Text → Type 0
 ReadsChoice old new ended before after choice =
     (bytes : List ℕ) × Appends old new bytes
     × MatchOption choice (NoChoice ended (before ++ bytes)) (λ text. IsChoice (before ++ bytes) text after)
 
--- the selection that begins the input, if there is an option for it
+-- The selection that begins the input, if there is an option for it.
 abbrev pub TakesChoice : Options → List ℕ → Text → List ℕ → Type 0
 TakesChoice options input choice rest =
     (options.choice ≡ true → IsChoice input choice rest) × (options.choice ≡ false → (choice ≡ []) × (rest ≡ input))
 
--- what was read after the pending bytes, and the selection for these options, if there is one
+-- What was read after the pending bytes, and the selection for these options, if there is one.
 abbrev pub FindsChoice : Options → Option (List ℕ) → Option (List ℕ) → Type 0 → List ℕ → List ℕ → Option Text → Type 0
 FindsChoice options old new ended before after choice =
     (bytes : List ℕ) × Appends old new bytes
     × MatchOption choice ((options.choice ≡ true) × NoChoice ended (before ++ bytes))
     (λ text. TakesChoice options (before ++ bytes) text after)
 
--- a run of the program with these options, whose input ended if `ended`: the requests and their responses, and the exit
--- status; or no selection of documents could be read, and nothing was written
+-- A run of the program with these options: the requests and their responses, and the exit status. Or no selection of
+-- documents could be read, and the output is empty. `ended` is that the input has ended.
 abbrev pub Runs : Options → Type 0 → List ℕ → List ℕ → ℕ → Type 0
 Runs options ended input text status =
     ((choice rest : List ℕ) × (o : RequestOptions) × TakesChoice options input choice rest × AreOptions options choice o
     × Ran o ended rest text status)
     ⊎ ((options.choice ≡ true) × NoChoice ended input × (text ≡ []) × (status ≡ 3))
 
--- a run that a fault stopped: at most a prefix of a request was written after the exchanges
+-- A run that a fault stopped: at most a prefix of a request was written after the exchanges.
 abbrev pub RunsUntil : Options → List ℕ → List ℕ → Type 0
 RunsUntil options input text =
     (text ≡ [])
     ⊎ ((choice rest : List ℕ) × (o : RequestOptions) × TakesChoice options input choice rest × AreOptions options choice o
     × RanUntil o rest text)
 
--- how a run ended: with an exit status, or by a fault
+-- How a run ended: with an exit status, or by a fault.
 abbrev pub RunsStandard : Options → Type 0 → List ℕ → List ℕ → Result ℕ ScriptFault → Type 0
 RunsStandard options ended input text (Ok status) = Runs options ended input text status
 RunsStandard options ended input text (Err fault) = RunsUntil options input text
 
--- the exit status of a run
+-- The exit status of a run.
 abbrev pub exit_status : Result ℕ ScriptFault → ℕ
 exit_status (Ok status) = status
 exit_status (Err fault) = 3

@@ -40,7 +40,7 @@ fn pass_on<W: ScriptWrite>(writer: &mut W) -> Result<(), ScriptFault>
 ///
 /// # Errors
 ///
-/// `Memory`: nothing was written. `Write`: a prefix of the request was written.
+/// `Memory`: the output is unchanged. `Write`: a prefix of the request was written.
 pub(crate) fn send<W: ScriptWrite>(
     alloc: Global,
     options: &RequestOptions,
@@ -58,7 +58,7 @@ pub(crate) fn send<W: ScriptWrite>(
     pass_on(writer)
 }
 
-/// Reads the response to a request. Returns `None` if no response can be read.
+/// Reads the response to a request. Returns `None` if the input has no response.
 pub(crate) fn receive<R: ScriptRead>(
     alloc: Global,
     request: &Request<'_>,

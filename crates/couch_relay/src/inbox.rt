@@ -103,7 +103,7 @@ fn line_end(bytes: &[u8]) -> Option<usize>
     bytes.iter().position(|b| *b == 10)
 }
 
-/// Returns the length of the first line, without its line feed, or of all bytes if they have none.
+/// Returns the length of the first line, without its line feed, or of all bytes if no line feed is among them.
 fn line_len(bytes: &[u8]) -> usize
     ensures { result ≡ position_or_len is_line_end bytes.now }
 {

@@ -41,7 +41,7 @@ fn run_words<H: AllocGlobal + Input + Print + Eprint>(rt: &H, words: &[String]) 
 ///
 /// # Errors
 ///
-/// `OutOfMemory`: the output buffer cannot be allocated. Nothing was read or written.
+/// `OutOfMemory`: the output buffer cannot be allocated. Neither stream was used.
 fn run_standard<'a, H>(
     rt: &'a H,
     options: &Options<'_>,

@@ -51,7 +51,7 @@ fn choice_in(alloc: Global, body: &[u8]) -> Result<Option<String>, AllocError>
     }
 }
 
-/// Reads the selection of documents. Returns `None` if none can be read.
+/// Reads the selection of documents. Returns `None` if the input has no selection.
 fn read_choice<R: ScriptRead>(
     alloc: Global,
     inbox: &mut Inbox,
@@ -173,7 +173,7 @@ fn make_requests<R: ScriptRead, W: ScriptWrite>(
     Err(ScriptFault::Read)
 }
 
-/// Reads the selection of documents if there is an option for it. Returns `None` if none can be read.
+/// Reads the selection of documents if there is an option for it. Returns `None` if the input has no selection.
 fn choice_of<R: ScriptRead>(
     alloc: Global,
     options: &Options<'_>,

@@ -1,4 +1,4 @@
--- What the maps of a response stand for. A key is a reference to a text.
+-- The values of the maps of a response. A key is a reference to a text.
 use Rattle.std.specs.Prelude.{List, [], Option, None, Some, map}
 use Rattle.std.specs.Borrow.{Bor}
 use Rattle.std.specs.Global.{Global}
@@ -8,19 +8,19 @@ use Rattle.json.specs.declared.value.Value.{Value}
 use Rattle.indexmap.specs.IndexSet.{IndexSet}
 use Rattle.relay_core.specs.Messages.{Text, DocView}
 
--- the texts of references
+-- The texts of references.
 abbrev pub texts_in : List (Bor Text) → List Text
 texts_in keys = map (λ k. k.now) keys
 
--- the entries of a map from a name to a JSON value
+-- The entries of a map from a name to a JSON value.
 abbrev pub values_in : List (Bor Text × Bor (Value Global)) → List (Text × Json)
 values_in entries = map (λ e. (e.0.now, value_view e.1.now)) entries
 
--- the entries of a map from an id to a set of leaves
+-- The entries of a map from an id to a set of leaves.
 abbrev pub docs_in : {S : Type 0} → List (Bor Text × IndexSet (Bor Text) S) → List DocView
 docs_in entries = map (λ e. (e.0.now, texts_in e.1.keys)) entries
 
--- the leaves of a set, or none
+-- The leaves of a set, or none.
 abbrev pub texts_or_none : {S : Type 0} → Option (IndexSet (Bor Text) S) → List Text
 texts_or_none None = []
 texts_or_none (Some known) = texts_in known.keys
