@@ -16,7 +16,7 @@ pub(crate) enum Ended {
     Missing,
     /// The line of this number, from 1, has another form.
     Wrong(u64),
-    /// The journal is damaged after so many lines.
+    /// The journal is damaged after this number of lines.
     Damaged(u64),
     /// The journal has no checksums.
     NoSums,

@@ -56,7 +56,7 @@ const TASKS_HELP: &str = "Reads standard input and writes standard output.
 Exit status: 0 success; 1 as above; 2 usage error; 3 the input is damaged or has another form,
 or reading, writing or an allocation failed.";
 
-/// The words of a command line.
+/// The arguments of a command line.
 #[derive(Drop)]
 pub(crate) struct Options<'a> {
     pub(crate) task: &'a str,
@@ -128,7 +128,7 @@ pub(crate) fn matches_of<'a>(alloc: Global, words: &'a [String]) -> Result<ArgMa
     command.try_get_matches_from(words)
 }
 
-/// Returns the words that were given.
+/// Returns the arguments that were given.
 pub(crate) fn options_of<'m, 'a>(matches: &'m ArgMatches<'a>) -> Options<'m> {
     let task = match matches.get_str("task") {
         Some(task) => task,

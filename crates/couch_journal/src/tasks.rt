@@ -14,7 +14,7 @@ pub(crate) enum Task<'a> {
     Lacking,
     /// Prints what was received; with `true`, only what was not.
     Received(bool),
-    /// Cuts lines into parts of at most so many bytes and lines.
+    /// Cuts lines into parts with a maximum of bytes and lines.
     Parts(u64, u64),
     /// Prints the refused documents.
     Refused,
@@ -28,7 +28,7 @@ pub(crate) enum Task<'a> {
     Select(u64),
     /// Prints the documents in conflict.
     Conflicts,
-    /// Prints a line with this first word for each leaf.
+    /// Prints a line for each leaf; this text begins it.
     Name(&'a str),
     /// Prints the leaves that another list lacks; with `true`, those of documents that it lacks.
     Compare(bool),
@@ -56,7 +56,7 @@ enum Named {
     Info,
 }
 
-/// Returns the task on responses or on lists that a word names.
+/// Returns the task on responses or on lists that has a name.
 fn first_named(word: &str) -> Option<Named> {
     if word == "page" {
         Some(Named::Page)
@@ -77,7 +77,7 @@ fn first_named(word: &str) -> Option<Named> {
     }
 }
 
-/// Returns the task that a word names.
+/// Returns the task that has a name.
 fn named_by(word: &str) -> Option<Named> {
     if word == "seal" {
         Some(Named::Seal)
