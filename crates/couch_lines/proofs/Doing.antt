@@ -2,13 +2,14 @@
 use Rattle.proof_prelude.proofs.{◌≡◌, ◌⊎◌, inl, inr, ◌++◌, [], sym, ap, ◌∙◌, append-nil, unwrap_or, ℕ, List, Bool, OnOk, true, false, Option, Some, Result, Ok, Err, IfOk, IfErr, refl, subst, true≢false}
 use Rattle.response_parser.specs.{wants_documents, is_strict, Piece, IsAnswered, IsChangeScript}
 use Rattle.response_parser.specs.LineGrammar.{IsScript}
+use Rattle.response_parser.specs.FeedGrammar.{AreLeaves}
 use Rattle.response_parser.specs.declared.place.Wanted.{Wanted}
-use Rattle.response_parser.specs.declared.place.Wanted.TheVariants.{Changes}
+use Rattle.response_parser.specs.declared.place.Wanted.TheVariants.{Changes, Leaves as InFeed}
 use Rattle.response_output.specs.Words.{Words}
 use Rattle.response_output.specs.{Answered, Converts, Stopped, ReadsAnswers, AnswerFault}
 use Rattle.response_output.specs.Runs.{CountsOf}
 use Rattle.script_engine.specs.{IsFaultOf, ScriptFault}
-use Rattle.response_output.proofs.{reads_answers, reads_changes, reads_script}
+use Rattle.response_output.proofs.{reads_answers, reads_changes, reads_leaves, reads_script}
 use Rattle.couch_lines.specs.{IsDone, Makes, is_drawn, wanted_of, words_of_task, Task}
 use Rattle.couch_lines.specs.Runs.{DrawnCounts, IfDone, RunCounts, RunsStandard, RunsWords}
 use Rattle.couch_lines.specs.Status.{unflushed}
@@ -32,23 +33,26 @@ module _ (left held held' : Option (List ℕ)) (x : Result ℕ AnswerFault) wher
   abbrev pub Changing : Wanted → Words → Type 0
   Changing w words = (text : List ℕ) → (pieces : List Piece) → w ≡ Changes → left ≡ Some text → IsChangeScript text pieces → ReadsAnswers words pieces held held' x
 
+  abbrev pub Feeding : Wanted → Words → Type 0
+  Feeding w words = (text : List ℕ) → (pieces : List Piece) → w ≡ InFeed → left ≡ Some text → AreLeaves text pieces → ReadsAnswers words pieces held held' x
+
   pub is_done : (task : Task) (w : Wanted) (words : Words) → w ≡ wanted_of task → words ≡ words_of_task task → Ran w words → IsDone task left held held' x
   is_done task w words e f r = by_result x (wanted_of task) (words_of_task task) (subst (λ z. Ran (wanted_of task) z) f (subst (λ z. Ran z words) e r))
 
-  makes_by : (task : Task) → is_drawn task ≡ false → Forms (wanted_of task) (words_of_task task) → Scripts (wanted_of task) (words_of_task task) → Changing (wanted_of task) (words_of_task task) → Makes task left held held' x
-  makes_by (Load db false) lines forms scripts changes = λ text pieces l h. forms text pieces refl refl l h
-  makes_by (Load db true) lines forms scripts changes = λ text pieces l h. forms text pieces refl refl l h
-  makes_by (Ids n) lines forms scripts changes = tt
-  makes_by (Diff n) lines forms scripts changes = tt
-  makes_by (Leaves db) lines forms scripts changes = λ text pieces l h. changes text pieces refl l h
-  makes_by (Bulk n false) lines forms scripts changes = λ text pieces l h. scripts text pieces refl refl l h
-  makes_by (Trees db svg) lines forms scripts changes = absurd (true≢false lines)
-  makes_by (Bulk n true) lines forms scripts changes = λ text pieces l h. scripts text pieces refl refl l h
+  makes_by : (task : Task) → is_drawn task ≡ false → Forms (wanted_of task) (words_of_task task) → Scripts (wanted_of task) (words_of_task task) → Changing (wanted_of task) (words_of_task task) → Feeding (wanted_of task) (words_of_task task) → Makes task left held held' x
+  makes_by (Load db false) lines forms scripts changes feeds = λ text pieces l h. forms text pieces refl refl l h
+  makes_by (Load db true) lines forms scripts changes feeds = λ text pieces l h. forms text pieces refl refl l h
+  makes_by (Ids n) lines forms scripts changes feeds = λ text pieces l h. feeds text pieces refl l h
+  makes_by (Diff n) lines forms scripts changes feeds = λ text pieces l h. feeds text pieces refl l h
+  makes_by (Leaves db) lines forms scripts changes feeds = λ text pieces l h. changes text pieces refl l h
+  makes_by (Bulk n false) lines forms scripts changes feeds = λ text pieces l h. scripts text pieces refl refl l h
+  makes_by (Trees db svg) lines forms scripts changes feeds = absurd (true≢false lines)
+  makes_by (Bulk n true) lines forms scripts changes feeds = λ text pieces l h. scripts text pieces refl refl l h
 
-  pub makes : (task : Task) (w : Wanted) (words : Words) → is_drawn task ≡ false → w ≡ wanted_of task → words ≡ words_of_task task → Forms w words → Scripts w words → Changing w words → Makes task left held held' x
-  makes task w words lines e f forms scripts changes =
+  pub makes : (task : Task) (w : Wanted) (words : Words) → is_drawn task ≡ false → w ≡ wanted_of task → words ≡ words_of_task task → Forms w words → Scripts w words → Changing w words → Feeding w words → Makes task left held held' x
+  makes task w words lines e f forms scripts changes feeds =
       makes_by task lines (subst (λ z. Forms (wanted_of task) z) f (subst (λ z. Forms z words) e forms)) (subst (λ z. Scripts (wanted_of task) z) f (subst (λ z. Scripts z words) e scripts))
-      (subst (λ z. Changing (wanted_of task) z) f (subst (λ z. Changing z words) e changes))
+      (subst (λ z. Changing (wanted_of task) z) f (subst (λ z. Changing z words) e changes)) (subst (λ z. Feeding (wanted_of task) z) f (subst (λ z. Feeding z words) e feeds))
 
 -- ---- a result by its two cases
 
@@ -79,7 +83,8 @@ done_took left held held' x task w words lines e f h =
       makes left held held' x task w words lines e f
           (λ text pieces docs lenient l k. reads_answers w docs lenient words left held held' x ok err text pieces l k)
           (λ text pieces docs strict l k. reads_script w docs strict words left held held' x ok err text pieces l k)
-          (λ text pieces is l k. reads_changes w is words left held held' x ok err text pieces l k),
+          (λ text pieces is l k. reads_changes w is words left held held' x ok err text pieces l k)
+          (λ text pieces is l k. reads_leaves w is words left held held' x ok err text pieces l k),
     )
 
 -- ---- on the standard streams

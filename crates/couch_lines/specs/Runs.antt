@@ -5,6 +5,7 @@ use Rattle.response_parser.specs.Reading.{Piece}
 use Rattle.response_parser.specs.Grammar.{IsAnswered}
 use Rattle.response_parser.specs.LineGrammar.{IsScript}
 use Rattle.response_parser.specs.ChangeGrammar.{IsChangeScript}
+use Rattle.response_parser.specs.FeedGrammar.{AreLeaves}
 use Rattle.response_parser.specs.declared.place.Wanted.{Wanted}
 use Rattle.response_parser.specs.declared.place.Wanted.TheVariants.{Documents, Enveloped, Bodies, Unfolded, Leaves as InFeed, Changes}
 use Rattle.response_output.specs.Words.{Words, loads_of, asked_of, diffs_of, docs_of, bodies_of}
@@ -62,8 +63,10 @@ IsDone task left held held' result = Converts result (wanted_of task) (words_of_
 abbrev pub Makes : Task → Option (List ℕ) → Option (List ℕ) → Option (List ℕ) → Result ℕ AnswerFault → Type 0
 Makes (Load db whole) left held held' result = (answers : List ℕ) → (documents : List Piece) → left ≡ Some answers
     → IsAnswered (wanted_of (Load db whole)) answers documents → ReadsAnswers (loads_of (string_bytes db)) documents held held' result
-Makes (Ids n) left held held' result = ⊤
-Makes (Diff n) left held held' result = ⊤
+Makes (Ids n) left held held' result = (response : List ℕ) → (leaves : List Piece) → left ≡ Some response
+    → AreLeaves response leaves → ReadsAnswers (asked_of n) leaves held held' result
+Makes (Diff n) left held held' result = (response : List ℕ) → (leaves : List Piece) → left ≡ Some response
+    → AreLeaves response leaves → ReadsAnswers (diffs_of n) leaves held held' result
 Makes (Leaves db) left held held' result = (answers : List ℕ) → (changes : List Piece) → left ≡ Some answers
     → IsChangeScript answers changes → ReadsAnswers (docs_of (string_bytes db)) changes held held' result
 Makes (Bulk n whole) left held held' result = (answers : List ℕ) → (documents : List Piece) → left ≡ Some answers

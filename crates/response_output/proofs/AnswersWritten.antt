@@ -4,14 +4,15 @@ use Rattle.script_engine.specs.{Gives}
 use Rattle.response_parser.specs.{wants_documents, is_strict, start, step, is_refused, after, pieces, Piece, end_of, has_rest, last_end, whole, IsAnswered, IsChangeScript, Place, Refusal}
 use Rattle.response_parser.specs.State.{State}
 use Rattle.response_parser.specs.LineGrammar.{IsScript}
+use Rattle.response_parser.specs.FeedGrammar.{AreLeaves}
 use Rattle.response_output.specs.Words.{Words}
 use Rattle.response_output.specs.{Answered, Converts, Stopped, ReadsAnswers, all_text, ended_of, judged_by, AnswerFault}
 use Rattle.response_parser.specs.declared.place.Place.TheVariants.{Between, Refused}
 use Rattle.response_parser.specs.declared.place.Wanted.{Wanted}
-use Rattle.response_parser.specs.declared.place.Wanted.TheVariants.{Changes}
+use Rattle.response_parser.specs.declared.place.Wanted.TheVariants.{Changes, Leaves}
 use Rattle.response_output.specs.declared.run.AnswerFault.TheVariants.{Device, Refused as Refusing}
 use Rattle.response_output.proofs.Running.{Ran, Stopped-refused}
-use Rattle.response_parser.proofs.{after-append, pieces-append, answers_read, changes_read, lines_read, ends_lines, lines_end, stood_before, line_end_given}
+use Rattle.response_parser.proofs.{after-append, pieces-append, answers_read, changes_read, leaves_read, lines_read, ends_lines, lines_end, stood_before, line_end_given}
 
 refused_is : (p : Place) → is_refused p ≡ true → (why : Refusal) × (p ≡ Refused why)
 refused_is (Refused why) h = (why, refl)
@@ -63,6 +64,16 @@ pub reads_answers : (wanted : Wanted) → wants_documents wanted ≡ true → is
     → (t : List ℕ) (ps : List Piece) → left ≡ Some t → IsAnswered wanted t ps → ReadsAnswers w ps held held' x
 reads_answers wanted docs lenient w left held held' x ok err t ps e h =
     let read = answers_read wanted docs lenient t ps h in
+    let all = whole_text wanted t read.0 in
+    reads_all wanted t ps (ap (λ z. end_of (after (start wanted) z).place) all ∙ ap end_of read.0) (ap (pieces (start wanted)) all ∙ read.1) w left held held' x e ok err
+
+-- ---- leaves
+
+pub reads_leaves : (wanted : Wanted) → wanted ≡ Leaves → (w : Words) (left held held' : Option (List ℕ)) (x : Result ℕ AnswerFault)
+    → IfOk x (Answered wanted w left held held') → IfErr x (Stopped wanted w left held held')
+    → (t : List ℕ) (ps : List Piece) → left ≡ Some t → AreLeaves t ps → ReadsAnswers w ps held held' x
+reads_leaves wanted is w left held held' x ok err t ps e h =
+    let read = subst (λ z. ((after (start z) t).place ≡ Between) × (pieces (start z) t ≡ ps)) (sym is) (leaves_read t ps h) in
     let all = whole_text wanted t read.0 in
     reads_all wanted t ps (ap (λ z. end_of (after (start wanted) z).place) all ∙ ap end_of read.0) (ap (pieces (start wanted)) all ∙ read.1) w left held held' x e ok err
 

@@ -6,12 +6,13 @@ ghost use Rattle.script_engine.specs.Faults.{IsOfWriter};
 ghost use Rattle.response_parser.specs.Stored.{state_of};
 ghost use Rattle.response_output.specs.Stored.{words_of_wording};
 ghost use Rattle.response_parser.specs.Wanted.{wants_documents, is_strict};
-ghost use Rattle.response_parser.specs.declared.place.Wanted.TheVariants.{Changes};
+ghost use Rattle.response_parser.specs.declared.place.Wanted.TheVariants.{Changes, Leaves};
 ghost use Rattle.response_parser.specs.State.{start};
 ghost use Rattle.response_parser.specs.Reading.{Piece, given, last_end, pieces};
 ghost use Rattle.response_parser.specs.Grammar.{IsAnswered};
 ghost use Rattle.response_parser.specs.LineGrammar.{IsScript};
 ghost use Rattle.response_parser.specs.ChangeGrammar.{IsChangeScript};
+ghost use Rattle.response_parser.specs.FeedGrammar.{AreLeaves};
 ghost use Rattle.response_output.specs.Words.{texts, words_behind};
 ghost use Rattle.script_engine.specs.declared.fault.ScriptFault.TheVariants.{Memory};
 ghost use Rattle.response_output.specs.declared.run.AnswerFault.TheVariants.{Device};
@@ -244,6 +245,11 @@ pub fn run_answers<R: ScriptRead, W: ScriptWrite>(
 
     ensures changes { (text : List ℕ) → (held : List Piece) → reading.old.wanted ≡ Changes
         → R.left reader.old ≡ Some text → IsChangeScript text held
+        → ReadsAnswers (words_of_wording wording.old) held (W.held writer.old) (W.held writer.new) result }
+
+    // The same holds for the leaves in a page of `_changes` or in a response of `_revs_diff`, if leaves are requested.
+    ensures leaves { (text : List ℕ) → (held : List Piece) → reading.old.wanted ≡ Leaves
+        → R.left reader.old ≡ Some text → AreLeaves text held
         → ReadsAnswers (words_of_wording wording.old) held (W.held writer.old) (W.held writer.new) result }
 
     // For any input.

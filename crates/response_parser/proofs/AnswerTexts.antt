@@ -7,7 +7,7 @@ use Rattle.response_parser.specs.Grammar as grammar
 use Rattle.response_parser.specs.declared.place.Place.TheVariants.{Start, Begin, Between, AfterItem, AfterMember, List as ListPlace, Value}
 use Rattle.response_parser.specs.declared.place.Wanted.{Wanted}
 use Rattle.response_parser.specs.declared.place.Name.TheVariants as names
-use Rattle.response_parser.proofs.Bytes.{At, Within, Leads1, Steps, BeginsKey, BeforeObject, o_start, o_between, o_item, o_next, BeforeList, l_start, l_between, l_list, s_start, s_between, s_item, s_next_item, s_after_item, s_member, s_next_member, s_after_member, s_colon, s_list, no_leaves, no_changes, closed_at, opens_object, opens_list, closes_empty, closes_object, closes_no_items, closes_list, item_comma, member_comma, list_colon, first_key, next_key, value_colon, ends_comma, ends_brace}
+use Rattle.response_parser.proofs.Bytes.{At, Within, outer, Leads1, Steps, BeginsKey, BeforeObject, o_start, o_between, o_item, o_next, BeforeList, l_start, l_between, l_list, s_start, s_between, s_item, s_next_item, s_after_item, s_member, s_next_member, s_after_member, s_colon, s_list, no_leaves, no_changes, closed_at, opens_object, opens_list, closes_empty, closes_object, closes_no_items, closes_list, item_comma, member_comma, list_colon, first_key, next_key, value_colon, ends_comma, ends_brace}
 use Rattle.response_parser.proofs.Texts.{Leads, none_read, then, then_held, joined, pieces_to, spaces, lead_spaces, key, value_text}
 use Rattle.response_parser.proofs.Itself.{a_document}
 
@@ -33,32 +33,32 @@ outside b h = h
 
 module _ (w : Wanted) (docs : wants_documents w ≡ true) (lenient : is_strict w ≡ false) where
   -- a name and its colon, with white space around it
-  list_named : {p : Place} (f : Bool) (n : ℕ) (k s s' : List ℕ) → BeginsKey w p f n → IsNamed w f n k names.List → Spaces s → Spaces s' → {t : List ℕ} {Q : State → Type 0} {ps : List Piece}
+  list_named : {p : Place} (f : Bool) (n : ℕ) (k s s' : List ℕ) → BeginsKey (outer w) p f n → IsNamed w f n k names.List → Spaces s → Spaces s' → {t : List ℕ} {Q : State → Type 0} {ps : List Piece}
       → Leads (At w ListPlace n) t Q ps → Leads (At w p n) (34 ∷ (k ++ (s ++ 58 ∷ (s' ++ t)))) Q ps
   list_named f n k s s' begins named h h' g =
       joined (key w docs f n names.List refl k begins named) (joined (spaces w n s s_colon h) (then (list_colon w n (no_leaves w docs)) (joined (spaces w n s' s_list h') g)))
 
-  value_named : {p : Place} (f : Bool) (n : ℕ) (k s s' t u : List ℕ) (name : Name) (ps : List Piece) → BeginsKey w p f n → IsNamed w f n k name → Holds w name u ps → Spaces s → Spaces s' → IsValue t u → {more : List ℕ} {Q : State → Type 0} {qs : List Piece}
-      → Leads (Within w (Value name) n 0 u) more Q qs → Leads (At w p n) (34 ∷ (k ++ (s ++ 58 ∷ (s' ++ (t ++ more))))) Q qs
+  value_named : {p : Place} (f : Bool) (n : ℕ) (k s s' t u : List ℕ) (name : Name) (ps : List Piece) → BeginsKey (outer w) p f n → IsNamed w f n k name → Holds w name u ps → Spaces s → Spaces s' → IsValue t u → {more : List ℕ} {Q : State → Type 0} {qs : List Piece}
+      → Leads (Within (outer w) (Value name) n 0 u) more Q qs → Leads (At w p n) (34 ∷ (k ++ (s ++ 58 ∷ (s' ++ (t ++ more))))) Q qs
   value_named f n k s s' t u name ps begins named holds h h' v g =
       joined (key w docs f n name (not_plain holds) k begins named) (joined (spaces w n s s_colon h) (then (value_colon w (no_leaves w docs) n holds)
-      (joined (lead_spaces w name n s' h') (joined (value_text w name n 0 [] t u (outside (is_plain name) (not_plain holds)) v.closed (inr v.first)) g))))
+      (joined (lead_spaces (outer w) name n s' h') (joined (value_text (outer w) name n 0 [] t u (outside (is_plain name) (not_plain holds)) v.closed (inr v.first)) g))))
 
   mutual
     an_object : {p : Place} (d : ℕ) (o : List ℕ) (ps : List Piece) → BeforeObject p → IsObject w d o ps → Leads (At w p d) o (At w (closed_at d AfterItem) d) ps
     an_object d o ps before (no_members s h blanks) =
         then (opens_object w d before (few d h)) (joined (spaces w (d + 1) s s_member blanks) (then (closes_empty w d (no_leaves w docs) lenient) none_read))
     an_object d o ps before (with_members s {t} h blanks m) =
-        then (opens_object w d before (few d h)) (joined (spaces w (d + 1) s s_member blanks) (some_members true (d + 1) d refl t ps (first_key w (d + 1)) m))
+        then (opens_object w d before (few d h)) (joined (spaces w (d + 1) s s_member blanks) (some_members true (d + 1) d refl t ps (first_key (outer w) (d + 1)) m))
     an_object d o ps before (itself h m) = a_document w (no_leaves w docs) d o ps docs before (few d h) m
 
-    some_members : {p : Place} (f : Bool) (n d : ℕ) → n ≡ d + 1 → (t : List ℕ) (ps : List Piece) → BeginsKey w p f n → IsMembers w f n t ps → Leads (At w p n) t (At w (closed_at d AfterItem) d) ps
+    some_members : {p : Place} (f : Bool) (n d : ℕ) → n ≡ d + 1 → (t : List ℕ) (ps : List Piece) → BeginsKey (outer w) p f n → IsMembers w f n t ps → Leads (At w p n) t (At w (closed_at d AfterItem) d) ps
     some_members f n d e text ps begins (last_value {k} s s' {t} {u} {name} named of h h' v) =
-        let brace = subst (λ z. Leads1 (Within w (Value name) z 0 u) 125 (At w (closed_at d AfterItem) d) ps) (sym e) (ends_brace w d u v.json lenient of) in
+        let brace = subst (λ z. Leads1 (Within (outer w) (Value name) z 0 u) 125 (At w (closed_at d AfterItem) d) ps) (sym e) (ends_brace w d u v.json lenient of) in
         value_named f n k s s' t u name ps begins named of h h' v (pieces_to (append-nil ps) (then_held ps brace none_read))
     some_members f n d e text ps begins (value {k} s s' s'' {t} {u} {more} {name} {ps = ins} {qs} named of h h' v h'' m) =
         value_named f n k s s' t u name ins begins named of h h' v
-        (then_held ins (ends_comma w n u v.json of) (joined (spaces w n s'' s_next_member h'') (some_members false n d e more qs (next_key w n) m)))
+        (then_held ins (ends_comma w n u v.json of) (joined (spaces w n s'' s_next_member h'') (some_members false n d e more qs (next_key (outer w) n) m)))
     some_members f n d e text ps begins (last_list {k} s s' s'' {l} named h h' inside h'') =
         let brace = subst (λ z. Steps w AfterMember z 125 (closed_at d AfterItem) d []) (sym e) (closes_object w d lenient) in
         list_named f n k s s' begins named h h' (pieces_to (append-nil ps)
@@ -66,7 +66,7 @@ module _ (w : Wanted) (docs : wants_documents w ≡ true) (lenient : is_strict w
     some_members f n d e text ps begins (grammar.list {k} s s' s'' s''' {l} {more} {ps = ins} {qs} named h h' inside h'' h''' m) =
         list_named f n k s s' begins named h h'
         (joined (to_place (inner_closed n d AfterMember e) (a_list n l ins l_list inside)) (joined (spaces w n s'' s_after_member h'')
-        (then (member_comma w n) (joined (spaces w n s''' s_next_member h''') (some_members false n d e more qs (next_key w n) m)))))
+        (then (member_comma w n) (joined (spaces w n s''' s_next_member h''') (some_members false n d e more qs (next_key (outer w) n) m)))))
 
     a_list : {p : Place} (d : ℕ) (l : List ℕ) (ps : List Piece) → BeforeList p → IsList w d l ps → Leads (At w p d) l (At w (closed_at d AfterMember) d) ps
     a_list d l ps before (no_items s h blanks) =
@@ -94,7 +94,7 @@ module _ (w : Wanted) (docs : wants_documents w ≡ true) (lenient : is_strict w
   all_answers t ps (list_first s {l} {more} {ps = ins} {qs} h inside m) = joined (spaces w 0 s s_start h) (joined (a_list 0 l ins l_start inside) (some_answers more qs m))
 
 starts : (w : Wanted) → is_strict w ≡ false → At w Start 0 (start w)
-starts w h = record { wanted = refl; place = ap (λ b. cond b Begin Start) h; depth = refl; diff = refl }
+starts w h = record { wanted = refl; inner = refl; named = refl; place = ap (λ b. cond b Begin Start) h; depth = refl; diff = refl }
 
 -- responses are parsed to their end, as the documents in them
 pub answers_read : (w : Wanted) → wants_documents w ≡ true → is_strict w ≡ false → (t : List ℕ) (ps : List Piece) → IsAnswered w t ps → ((after (start w) t).place ≡ Between) × (pieces (start w) t ≡ ps)

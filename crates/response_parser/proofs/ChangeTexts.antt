@@ -20,16 +20,18 @@ Stands p = InLine Changes p
 
 record Holds (p : LinePlace) (u : List ℕ) (s : State) : Type 0 where
   wanted : s.wanted ≡ Changes
+  inner : s.inner ≡ false
+  named : s.named ≡ false
   place : s.place ≡ Line p
   depth : s.depth ≡ 0
   diff : s.diff ≡ false
   text : s.text ≡ u
 
 abbrev held_in : State → LinePlace → List ℕ → State
-held_in s p u = record s { wanted = Changes; place = Line p; depth = 0; diff = false; text = u }
+held_in s p u = record s { wanted = Changes; inner = false; named = false; place = Line p; depth = 0; diff = false; text = u }
 
 is_held : {p : LinePlace} {u : List ℕ} (s : State) → Holds p u s → s ≡ held_in s p u
-is_held s h = λ i. record s { wanted = h.wanted i; place = h.place i; depth = h.depth i; diff = h.diff i; text = h.text i }
+is_held s h = λ i. record s { wanted = h.wanted i; inner = h.inner i; named = h.named i; place = h.place i; depth = h.depth i; diff = h.diff i; text = h.text i }
 
 -- a byte from a place, from a text, and from a text to a place
 module _ (p q : LinePlace) (b : ℕ) where
@@ -52,67 +54,67 @@ ends_line p u ps f s h = subst (λ z. Before Changes (step z 10) × (given (step
 -- ---- bytes
 
 rest_step : (b : ℕ) → (b == 10) ≡ false → (s : State) → Stands at.Rest s → Stands at.Rest (step s b) × (given (step s b) ≡ [])
-rest_step b e = unfold step in stands at.Rest at.Rest b [] (λ s. rw e (record { wanted = refl; place = refl; depth = refl; diff = refl }, refl))
+rest_step b e = unfold step in stands at.Rest at.Rest b [] (λ s. rw e (record { wanted = refl; inner = refl; named = refl; place = refl; depth = refl; diff = refl }, refl))
 
 rest_end : (s : State) → Stands at.Rest s → Before Changes (step s 10) × (given (step s 10) ≡ [])
-rest_end s h = unfold step in subst (λ z. Before Changes (step z 10) × (given (step z 10) ≡ [])) (sym (is_lined s h)) (rw (or_right s.some true refl) (inr (record { wanted = refl; place = refl; depth = refl; diff = refl }), refl))
+rest_end s h = unfold step in subst (λ z. Before Changes (step z 10) × (given (step z 10) ≡ [])) (sym (is_lined s h)) (rw (or_right s.some true refl) (inr (record { wanted = refl; inner = refl; named = refl; place = refl; depth = refl; diff = refl }), refl))
 
 word_begins : (b : ℕ) → is_space b ≡ false → is_lower b ≡ true → (s : State) → Before Changes s → Holds at.Word (b ∷ []) (step s b) × (given (step s b) ≡ [])
 word_begins b e h s (inl here) = unfold step in
     let k = lower_bracket b h in
-    subst (λ z. Holds at.Word (b ∷ []) (step z b) × (given (step z b) ≡ [])) (sym (is_settled s here)) (rw (e, k.0, k.1, h) (record { wanted = refl; place = refl; depth = refl; diff = refl; text = refl }, refl))
+    subst (λ z. Holds at.Word (b ∷ []) (step z b) × (given (step z b) ≡ [])) (sym (is_settled s here)) (rw (e, k.0, k.1, h) (record { wanted = refl; inner = refl; named = refl; place = refl; depth = refl; diff = refl; text = refl }, refl))
 word_begins b e h s (inr here) = unfold step in
     let k = lower_bracket b h in
-    subst (λ z. Holds at.Word (b ∷ []) (step z b) × (given (step z b) ≡ [])) (sym (is_settled s here)) (rw (e, k.0, k.1, h) (record { wanted = refl; place = refl; depth = refl; diff = refl; text = refl }, refl))
+    subst (λ z. Holds at.Word (b ∷ []) (step z b) × (given (step z b) ≡ [])) (sym (is_settled s here)) (rw (e, k.0, k.1, h) (record { wanted = refl; inner = refl; named = refl; place = refl; depth = refl; diff = refl; text = refl }, refl))
 
 word_step : (u : List ℕ) (b : ℕ) → (b == 10 || b == 32) ≡ false → (s : State) → Holds at.Word u s → Holds at.Word (u ++ b ∷ []) (step s b) × (given (step s b) ≡ [])
-word_step u b e = unfold step in holds at.Word at.Word b u (u ++ b ∷ []) (λ s. rw e (record { wanted = refl; place = refl; depth = refl; diff = refl; text = refl }, refl))
+word_step u b e = unfold step in holds at.Word at.Word b u (u ++ b ∷ []) (λ s. rw e (record { wanted = refl; inner = refl; named = refl; place = refl; depth = refl; diff = refl; text = refl }, refl))
 
 word_end : (u : List ℕ) → bytes_eq u (codes "change") ≡ false → (s : State) → Holds at.Word u s → Before Changes (step s 10) × (given (step s 10) ≡ [])
-word_end u e = unfold step in ends_line at.Word u [] (λ s. rw (e, or_right s.some true refl) (record { wanted = refl; place = refl; depth = refl; diff = refl }, refl))
+word_end u e = unfold step in ends_line at.Word u [] (λ s. rw (e, or_right s.some true refl) (record { wanted = refl; inner = refl; named = refl; place = refl; depth = refl; diff = refl }, refl))
 
 word_blank : (u : List ℕ) → bytes_eq u (codes "change") ≡ false → (s : State) → Holds at.Word u s → Stands at.Rest (step s 32) × (given (step s 32) ≡ [])
-word_blank u e = unfold step in leaves at.Word at.Rest 32 u [] (λ s. rw e (record { wanted = refl; place = refl; depth = refl; diff = refl }, refl))
+word_blank u e = unfold step in leaves at.Word at.Rest 32 u [] (λ s. rw e (record { wanted = refl; inner = refl; named = refl; place = refl; depth = refl; diff = refl }, refl))
 
 -- the word `change`
 change_end : (s : State) → Holds at.Word (codes "change") s → Stands at.Seq (step s 32) × (given (step s 32) ≡ [])
-change_end = unfold step in leaves at.Word at.Seq 32 (codes "change") [] (λ s. (record { wanted = refl; place = refl; depth = refl; diff = refl }, refl))
+change_end = unfold step in leaves at.Word at.Seq 32 (codes "change") [] (λ s. (record { wanted = refl; inner = refl; named = refl; place = refl; depth = refl; diff = refl }, refl))
 
 digit_step : (b : ℕ) → is_digit b ≡ true → (s : State) → Stands at.Seq s → Stands at.Seq (step s b) × (given (step s b) ≡ [])
-digit_step b h = unfold step in stands at.Seq at.Seq b [] (λ s. rw h (record { wanted = refl; place = refl; depth = refl; diff = refl }, refl))
+digit_step b h = unfold step in stands at.Seq at.Seq b [] (λ s. rw h (record { wanted = refl; inner = refl; named = refl; place = refl; depth = refl; diff = refl }, refl))
 
 seq_end : (s : State) → Stands at.Seq s → Stands at.BeforeId (step s 32) × (given (step s 32) ≡ [])
-seq_end = unfold step in stands at.Seq at.BeforeId 32 [] (λ s. (record { wanted = refl; place = refl; depth = refl; diff = refl }, refl))
+seq_end = unfold step in stands at.Seq at.BeforeId 32 [] (λ s. (record { wanted = refl; inner = refl; named = refl; place = refl; depth = refl; diff = refl }, refl))
 
 id_begins : (s : State) → Stands at.BeforeId s → Holds at.Id (34 ∷ []) (step s 34) × (given (step s 34) ≡ [])
-id_begins = unfold step in begins at.BeforeId at.Id 34 (34 ∷ []) (λ s. (record { wanted = refl; place = refl; depth = refl; diff = refl; text = refl }, refl))
+id_begins = unfold step in begins at.BeforeId at.Id 34 (34 ∷ []) (λ s. (record { wanted = refl; inner = refl; named = refl; place = refl; depth = refl; diff = refl; text = refl }, refl))
 
 id_plain : (u : List ℕ) (b : ℕ) → (b == 34) ≡ false → (b == 92) ≡ false → (s : State) → Holds at.Id u s → Holds at.Id (u ++ b ∷ []) (step s b) × (given (step s b) ≡ [])
-id_plain u b e f = unfold step in holds at.Id at.Id b u (u ++ b ∷ []) (λ s. rw (e, f) (record { wanted = refl; place = refl; depth = refl; diff = refl; text = refl }, refl))
+id_plain u b e f = unfold step in holds at.Id at.Id b u (u ++ b ∷ []) (λ s. rw (e, f) (record { wanted = refl; inner = refl; named = refl; place = refl; depth = refl; diff = refl; text = refl }, refl))
 
 id_escape : (u : List ℕ) → (s : State) → Holds at.Id u s → Holds at.IdEscape (u ++ 92 ∷ []) (step s 92) × (given (step s 92) ≡ [])
-id_escape u = unfold step in holds at.Id at.IdEscape 92 u (u ++ 92 ∷ []) (λ s. (record { wanted = refl; place = refl; depth = refl; diff = refl; text = refl }, refl))
+id_escape u = unfold step in holds at.Id at.IdEscape 92 u (u ++ 92 ∷ []) (λ s. (record { wanted = refl; inner = refl; named = refl; place = refl; depth = refl; diff = refl; text = refl }, refl))
 
 id_escaped : (u : List ℕ) (b : ℕ) → (s : State) → Holds at.IdEscape u s → Holds at.Id (u ++ b ∷ []) (step s b) × (given (step s b) ≡ [])
-id_escaped u b = unfold step in holds at.IdEscape at.Id b u (u ++ b ∷ []) (λ s. (record { wanted = refl; place = refl; depth = refl; diff = refl; text = refl }, refl))
+id_escaped u b = unfold step in holds at.IdEscape at.Id b u (u ++ b ∷ []) (λ s. (record { wanted = refl; inner = refl; named = refl; place = refl; depth = refl; diff = refl; text = refl }, refl))
 
 id_end : (u : List ℕ) → is_json (u ++ 34 ∷ []) ≡ true → (s : State) → Holds at.Id u s → Stands at.AfterId (step s 34) × (given (step s 34) ≡ (Id, u ++ 34 ∷ []) ∷ [])
-id_end u json = unfold step in leaves at.Id at.AfterId 34 u ((Id, u ++ 34 ∷ []) ∷ []) (λ s. rw json (record { wanted = refl; place = refl; depth = refl; diff = refl }, refl))
+id_end u json = unfold step in leaves at.Id at.AfterId 34 u ((Id, u ++ 34 ∷ []) ∷ []) (λ s. rw json (record { wanted = refl; inner = refl; named = refl; place = refl; depth = refl; diff = refl }, refl))
 
 id_blank : (s : State) → Stands at.AfterId s → Stands at.BeforeRev (step s 32) × (given (step s 32) ≡ [])
-id_blank = unfold step in stands at.AfterId at.BeforeRev 32 [] (λ s. (record { wanted = refl; place = refl; depth = refl; diff = refl }, refl))
+id_blank = unfold step in stands at.AfterId at.BeforeRev 32 [] (λ s. (record { wanted = refl; inner = refl; named = refl; place = refl; depth = refl; diff = refl }, refl))
 
 rev_begins : (b : ℕ) → is_rev_byte b ≡ true → (s : State) → Stands at.BeforeRev s → Holds at.Rev (34 ∷ b ∷ []) (step s b) × (given (step s b) ≡ [])
-rev_begins b h = unfold step in begins at.BeforeRev at.Rev b (34 ∷ b ∷ []) (λ s. rw h (record { wanted = refl; place = refl; depth = refl; diff = refl; text = refl }, refl))
+rev_begins b h = unfold step in begins at.BeforeRev at.Rev b (34 ∷ b ∷ []) (λ s. rw h (record { wanted = refl; inner = refl; named = refl; place = refl; depth = refl; diff = refl; text = refl }, refl))
 
 rev_step : (u : List ℕ) (b : ℕ) → is_rev_byte b ≡ true → (s : State) → Holds at.Rev u s → Holds at.Rev (u ++ b ∷ []) (step s b) × (given (step s b) ≡ [])
-rev_step u b h = unfold step in holds at.Rev at.Rev b u (u ++ b ∷ []) (λ s. rw h (record { wanted = refl; place = refl; depth = refl; diff = refl; text = refl }, refl))
+rev_step u b h = unfold step in holds at.Rev at.Rev b u (u ++ b ∷ []) (λ s. rw h (record { wanted = refl; inner = refl; named = refl; place = refl; depth = refl; diff = refl; text = refl }, refl))
 
 rev_comma : (u : List ℕ) → (s : State) → Holds at.Rev u s → Stands at.BeforeRev (step s 44) × (given (step s 44) ≡ (Rev, u ++ 34 ∷ []) ∷ [])
-rev_comma u = unfold step in leaves at.Rev at.BeforeRev 44 u ((Rev, u ++ 34 ∷ []) ∷ []) (λ s. (record { wanted = refl; place = refl; depth = refl; diff = refl }, refl))
+rev_comma u = unfold step in leaves at.Rev at.BeforeRev 44 u ((Rev, u ++ 34 ∷ []) ∷ []) (λ s. (record { wanted = refl; inner = refl; named = refl; place = refl; depth = refl; diff = refl }, refl))
 
 rev_end : (u : List ℕ) → (s : State) → Holds at.Rev u s → Before Changes (step s 10) × (given (step s 10) ≡ (Rev, u ++ 34 ∷ []) ∷ [])
-rev_end u = unfold step in ends_line at.Rev u ((Rev, u ++ 34 ∷ []) ∷ []) (λ s. (record { wanted = refl; place = refl; depth = refl; diff = refl }, refl))
+rev_end u = unfold step in ends_line at.Rev u ((Rev, u ++ 34 ∷ []) ∷ []) (λ s. (record { wanted = refl; inner = refl; named = refl; place = refl; depth = refl; diff = refl }, refl))
 
 -- ---- texts
 

@@ -10,7 +10,7 @@ use Rattle.response_parser.specs.declared.place.Wanted.{Wanted}
 use Rattle.response_parser.specs.declared.place.Wanted.TheVariants.{Leaves}
 use Rattle.response_parser.specs.declared.place.Name.TheVariants as names
 use Rattle.response_parser.specs.declared.place.Found.TheVariants as found
-use Rattle.response_parser.proofs.Bytes.{At, Within, BeforeObject, closed_at, opens_object, s_member, first_key, key_plain, key_itself, itself_ends, log_ends, unwanted_ends}
+use Rattle.response_parser.proofs.Bytes.{At, Within, outer, BeforeObject, closed_at, opens_object, s_member, first_key, key_plain, key_itself, itself_ends, log_ends, unwanted_ends}
 use Rattle.response_parser.proofs.Texts.{Leads, none_read, then, then_held, joined, text_to, spaces, value_text}
 
 -- `"_id"`
@@ -28,12 +28,12 @@ id_name _ h d inner = unfold name_of in rw (and_right (d == 1) false refl)
 module _ (w : Wanted) (leaves : wants_leaves w ≡ false) (d : ℕ) where
   -- up to its brace
   before_brace : {p : Place} (o u : List ℕ) → BeforeObject p → nat_lt d 8 ≡ true → (h : IsPlainDocument o u) → {Q : State → Type 0} {ps : List Piece}
-      → Leads (Within w (Value names.Plain) (d + 1) 1 (codes "{\"_id\"" ++ h.line)) (125 ∷ []) Q ps → Leads (At w p d) o Q ps
+      → Leads (Within (outer w) (Value names.Plain) (d + 1) 1 (codes "{\"_id\"" ++ h.line)) (125 ∷ []) Q ps → Leads (At w p d) o Q ps
   before_brace o u before few h brace =
       text_to (sym h.object) (then (opens_object w d before few) (joined (spaces w (d + 1) h.before s_member h.spaces)
-      (then (first_key w (d + 1)) (then (key_plain w true (d + 1) (34 ∷ []) 95 refl refl) (then (key_plain w true (d + 1) (34 ∷ 95 ∷ []) 105 refl refl) (then (key_plain w true (d + 1) (34 ∷ 95 ∷ 105 ∷ []) 100 refl refl)
+      (then (first_key (outer w) (d + 1)) (then (key_plain (outer w) true (d + 1) (34 ∷ []) 95 refl refl) (then (key_plain (outer w) true (d + 1) (34 ∷ 95 ∷ []) 105 refl refl) (then (key_plain (outer w) true (d + 1) (34 ∷ 95 ∷ 105 ∷ []) 100 refl refl)
       (then (key_itself w true (d + 1) (34 ∷ 95 ∷ 105 ∷ 100 ∷ []) id_is_json (id_name w leaves (d + 1)))
-      (joined (value_text w names.Plain (d + 1) 1 (codes "{\"_id\"") h.behind h.line refl h.closed (inl refl)) brace))))))))
+      (joined (value_text (outer w) names.Plain (d + 1) 1 (codes "{\"_id\"") h.behind h.line refl h.closed (inl refl)) brace))))))))
 
   pub a_document : {p : Place} (o : List ℕ) (ps : List Piece) → wants_documents w ≡ true → BeforeObject p → nat_lt d 8 ≡ true → IsDocument w o ps → Leads (At w p d) o (At w (closed_at d AfterItem) d) ps
   a_document o ps docs before few (document {u} {v} h e c) =

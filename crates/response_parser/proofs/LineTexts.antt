@@ -28,15 +28,17 @@ to_between f = record { runs = λ s h. let r = f.runs s h in (inr r.0, r.1) }
 -- within a line
 pub record InLine (w : Wanted) (p : LinePlace) (s : State) : Type 0 where
   pub wanted : s.wanted ≡ w
+  pub inner : s.inner ≡ false
+  pub named : s.named ≡ false
   pub place : s.place ≡ Line p
   pub depth : s.depth ≡ 0
   pub diff : s.diff ≡ false
 
 abbrev pub lined : State → Wanted → LinePlace → State
-lined s w p = record s { wanted = w; place = Line p; depth = 0; diff = false }
+lined s w p = record s { wanted = w; inner = false; named = false; place = Line p; depth = 0; diff = false }
 
 pub is_lined : {w : Wanted} {p : LinePlace} (s : State) → InLine w p s → s ≡ lined s w p
-is_lined s h = λ i. record s { wanted = h.wanted i; place = h.place i; depth = h.depth i; diff = h.diff i }
+is_lined s h = λ i. record s { wanted = h.wanted i; inner = h.inner i; named = h.named i; place = h.place i; depth = h.depth i; diff = h.diff i }
 
 abbrev Passes : Wanted → State → Type 0
 Passes w s = InLine w Word s ⊎ InLine w Rest s
@@ -48,23 +50,23 @@ blank_step w b h s (inr at) = let r = spaced w 0 b s_between h s at in (inr r.0,
 
 module _ (w : Wanted) (docs : wants_documents w ≡ true) (strict : is_strict w ≡ true) where
   word_begins : (b : ℕ) → is_space b ≡ false → (b == 91) ≡ false → (b == 123) ≡ false → is_lower b ≡ true → (s : State) → Before w s → Passes w (step s b) × (given (step s b) ≡ [])
-  word_begins b e f k h s (inl at) = unfold step in subst (λ z. Passes w (step z b) × (given (step z b) ≡ [])) (sym (is_settled s at)) (rw (e, f, k, h, no_leaves w docs) (inl (record { wanted = refl; place = refl; depth = refl; diff = refl }), refl))
-  word_begins b e f k h s (inr at) = unfold step in subst (λ z. Passes w (step z b) × (given (step z b) ≡ [])) (sym (is_settled s at)) (rw (e, f, k, h, no_leaves w docs) (inl (record { wanted = refl; place = refl; depth = refl; diff = refl }), refl))
+  word_begins b e f k h s (inl at) = unfold step in subst (λ z. Passes w (step z b) × (given (step z b) ≡ [])) (sym (is_settled s at)) (rw (e, f, k, h, no_leaves w docs) (inl (record { wanted = refl; inner = refl; named = refl; place = refl; depth = refl; diff = refl }), refl))
+  word_begins b e f k h s (inr at) = unfold step in subst (λ z. Passes w (step z b) × (given (step z b) ≡ [])) (sym (is_settled s at)) (rw (e, f, k, h, no_leaves w docs) (inl (record { wanted = refl; inner = refl; named = refl; place = refl; depth = refl; diff = refl }), refl))
 
   -- within a line that contains nothing
   in_word : (b : ℕ) (space : Bool) → (b == 10) ≡ false → (b == 32) ≡ space → (s : State) → InLine w Word s → Passes w (step s b) × (given (step s b) ≡ [])
-  in_word b true e f s at = unfold step in subst (λ z. Passes w (step z b) × (given (step z b) ≡ [])) (sym (is_lined s at)) (rw (e, f, no_changes w docs) (inr (record { wanted = refl; place = refl; depth = refl; diff = refl }), refl))
-  in_word b false e f s at = unfold step in subst (λ z. Passes w (step z b) × (given (step z b) ≡ [])) (sym (is_lined s at)) (rw (e, f) (inl (record { wanted = refl; place = refl; depth = refl; diff = refl }), refl))
+  in_word b true e f s at = unfold step in subst (λ z. Passes w (step z b) × (given (step z b) ≡ [])) (sym (is_lined s at)) (rw (e, f, no_changes w docs) (inr (record { wanted = refl; inner = refl; named = refl; place = refl; depth = refl; diff = refl }), refl))
+  in_word b false e f s at = unfold step in subst (λ z. Passes w (step z b) × (given (step z b) ≡ [])) (sym (is_lined s at)) (rw (e, f) (inl (record { wanted = refl; inner = refl; named = refl; place = refl; depth = refl; diff = refl }), refl))
 
   pass_step : (b : ℕ) → (b == 10) ≡ false → (s : State) → Passes w s → Passes w (step s b) × (given (step s b) ≡ [])
   unfolding step
   pass_step b e s (inl at) = in_word b (b == 32) e refl s at
-  pass_step b e s (inr at) = subst (λ z. Passes w (step z b) × (given (step z b) ≡ [])) (sym (is_lined s at)) (rw e (inr (record { wanted = refl; place = refl; depth = refl; diff = refl }), refl))
+  pass_step b e s (inr at) = subst (λ z. Passes w (step z b) × (given (step z b) ≡ [])) (sym (is_lined s at)) (rw e (inr (record { wanted = refl; inner = refl; named = refl; place = refl; depth = refl; diff = refl }), refl))
 
   -- a line end leads to the start of the next line, if nothing is required
   line_end : (s : State) → Passes w s → Before w (step s 10) × (given (step s 10) ≡ [])
-  line_end s (inl at) = unfold step in subst (λ z. Before w (step z 10) × (given (step z 10) ≡ [])) (sym (is_lined s at)) (rw (no_changes w docs, or_right s.some (is_strict w) strict) (inr (record { wanted = refl; place = refl; depth = refl; diff = refl }), refl))
-  line_end s (inr at) = unfold step in subst (λ z. Before w (step z 10) × (given (step z 10) ≡ [])) (sym (is_lined s at)) (rw (or_right s.some (is_strict w) strict) (inr (record { wanted = refl; place = refl; depth = refl; diff = refl }), refl))
+  line_end s (inl at) = unfold step in subst (λ z. Before w (step z 10) × (given (step z 10) ≡ [])) (sym (is_lined s at)) (rw (no_changes w docs, or_right s.some (is_strict w) strict) (inr (record { wanted = refl; inner = refl; named = refl; place = refl; depth = refl; diff = refl }), refl))
+  line_end s (inr at) = unfold step in subst (λ z. Before w (step z 10) × (given (step z 10) ≡ [])) (sym (is_lined s at)) (rw (or_right s.some (is_strict w) strict) (inr (record { wanted = refl; inner = refl; named = refl; place = refl; depth = refl; diff = refl }), refl))
 
 -- ---- texts
 
@@ -153,7 +155,7 @@ before_ends w s (inl at) = (Begin, at.place, refl)
 before_ends w s (inr at) = (Between, at.place, refl)
 
 pub starts_strict : (w : Wanted) → is_strict w ≡ true → Before w (start w)
-starts_strict w h = inl (record { wanted = refl; place = ap (λ b. cond b Begin Start) h; depth = refl; diff = refl })
+starts_strict w h = inl (record { wanted = refl; inner = refl; named = refl; place = ap (λ b. cond b Begin Start) h; depth = refl; diff = refl })
 
 -- lines are parsed to their end, as the documents in them
 pub lines_read : (w : Wanted) → wants_documents w ≡ true → is_strict w ≡ true → (t : List ℕ) (ps : List Piece) → AreLines w t ps → EndsLines (after (start w) t).place × (pieces (start w) t ≡ ps)

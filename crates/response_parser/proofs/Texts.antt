@@ -6,7 +6,7 @@ use Rattle.response_parser.specs.State.{State}
 use Rattle.response_parser.specs.declared.place.Place.TheVariants.{Key, Colon, Value, Quoted}
 use Rattle.response_parser.specs.declared.place.Wanted.{Wanted}
 use Rattle.response_parser.proofs.Readings.{after-append, pieces-append}
-use Rattle.response_parser.proofs.Bytes.{At, InKey, Within, MaySpace, BeginsKey, spaced, key_plain, key_escape, key_escaped, key_end, value_lead, value_space, value_plain, value_quote, object_opens, list_opens, object_closes, list_closes, quoted_plain, quoted_escape, quoted_escaped, quoted_end}
+use Rattle.response_parser.proofs.Bytes.{At, AtIn, Frame, outer, InKey, Within, MaySpace, BeginsKey, Leads1, spaced_in, key_plain, key_escape, key_escaped, key_end, value_lead, value_space, value_plain, value_quote, object_opens, list_opens, object_closes, list_closes, quoted_plain, quoted_escape, quoted_escaped, quoted_end}
 
 -- a text leads from a kind of state to another, and completes these items
 pub record Leads (P : State → Type 0) (t : List ℕ) (Q : State → Type 0) (ps : List Piece) : Type 0 where
@@ -45,12 +45,12 @@ text_to {P} {Q} {ps = ps} e f = subst (λ z. Leads P z Q ps) e f
 
 -- ---- white space
 
-module _ (w : Wanted) where
-  pub spaces : {p : Place} (d : ℕ) (s : List ℕ) → MaySpace p → Spaces s → Leads (At w p d) s (At w p d) []
-  spaces d [] m h = none_read
-  spaces d (b ∷ s) m h =
+module _ (w : Frame) where
+  pub spaces_in : {p : Place} (d : ℕ) (s : List ℕ) → MaySpace p → Spaces s → Leads (AtIn w p d) s (AtIn w p d) []
+  spaces_in d [] m h = none_read
+  spaces_in d (b ∷ s) m h =
       let parts = and_parts (is_space b) (list_all is_space s) h in
-      then (spaced w d b m parts.0) (spaces d s m parts.1)
+      then (spaced_in w d b m parts.0) (spaces_in d s m parts.1)
 
   pub lead_spaces : (name : Name) (d : ℕ) (s : List ℕ) → Spaces s → Leads (Within w (Value name) d 0 []) s (Within w (Value name) d 0 []) []
   lead_spaces name d [] h = none_read
@@ -58,23 +58,34 @@ module _ (w : Wanted) where
       let parts = and_parts (is_space b) (list_all is_space s) h in
       then (value_lead w name d 0 [] b parts.0) (lead_spaces name d s parts.1)
 
-to_text : {w : Wanted} {P : State → Type 0} {p : Place} {d n : ℕ} {t u v : List ℕ} {ps : List Piece} → u ≡ v → Leads P t (Within w p d n u) ps → Leads P t (Within w p d n v) ps
+pub spaces : (w : Wanted) {p : Place} (d : ℕ) (s : List ℕ) → MaySpace p → Spaces s → Leads (At w p d) s (At w p d) []
+spaces w = spaces_in (outer w)
+
+to_text : {w : Frame} {P : State → Type 0} {p : Place} {d n : ℕ} {t u v : List ℕ} {ps : List Piece} → u ≡ v → Leads P t (Within w p d n u) ps → Leads P t (Within w p d n v) ps
 to_text {w} {P} {p} {d} {n} {t} {ps = ps} e f = subst (λ z. Leads P t (Within w p d n z) ps) e f
 
 -- ---- names
 
-module _ (w : Wanted) (docs : wants_documents w ≡ true) (f : Bool) (d : ℕ) (name : Name) (other : is_plain name ≡ false) where
-  key_rest : (u k : List ℕ) → EndsString k → is_json (u ++ k) ≡ true → name_of w f false false d (u ++ k) ≡ name → Leads (InKey w Key f d u) k (At w (Colon name) d) []
-  key_rest u k ends json says = then (key_end w docs f d u json name other says) none_read
+-- a name up to its quotation mark, if that leads to Q of the name
+module _ (w : Frame) (f : Bool) (d : ℕ) (name : Name) (Q : List ℕ → State → Type 0)
+    (ended : (u : List ℕ) → is_json (u ++ 34 ∷ []) ≡ true → name_of w.wanted f w.inner w.diff d (u ++ 34 ∷ []) ≡ name → Leads1 (InKey w Key f d u) 34 (Q (u ++ 34 ∷ [])) []) where
+  key_rest : (u k : List ℕ) → EndsString k → is_json (u ++ k) ≡ true → name_of w.wanted f w.inner w.diff d (u ++ k) ≡ name → Leads (InKey w Key f d u) k (Q (u ++ k)) []
+  key_rest u k ends json says = then (ended u json says) none_read
   key_rest u k (plain {b} {t} e g rest) json says =
       let same = append_assoc u (b ∷ []) t in
-      then (key_plain w f d u b e g) (key_rest (u ++ b ∷ []) t rest (ap is_json same ∙ json) (ap (name_of w f false false d) same ∙ says))
+      subst (λ z. Leads (InKey w Key f d u) (b ∷ t) (Q z) []) same
+      (then (key_plain w f d u b e g) (key_rest (u ++ b ∷ []) t rest (ap is_json same ∙ json) (ap (name_of w.wanted f w.inner w.diff d) same ∙ says)))
   key_rest u k (escaped {b} {t} rest) json says =
       let same = append_assoc (u ++ 92 ∷ []) (b ∷ []) t ∙ append_assoc u (92 ∷ []) (b ∷ t) in
-      then (key_escape w f d u) (then (key_escaped w f d (u ++ 92 ∷ []) b) (key_rest ((u ++ 92 ∷ []) ++ b ∷ []) t rest (ap is_json same ∙ json) (ap (name_of w f false false d) same ∙ says)))
+      subst (λ z. Leads (InKey w Key f d u) (92 ∷ b ∷ t) (Q z) []) same
+      (then (key_escape w f d u) (then (key_escaped w f d (u ++ 92 ∷ []) b) (key_rest ((u ++ 92 ∷ []) ++ b ∷ []) t rest (ap is_json same ∙ json) (ap (name_of w.wanted f w.inner w.diff d) same ∙ says))))
 
-  pub key : {p : Place} (k : List ℕ) → BeginsKey w p f d → IsNamed w f d k name → Leads (At w p d) (34 ∷ k) (At w (Colon name) d) []
-  key k begins h = then begins (key_rest (34 ∷ []) k h.string h.json h.says)
+  pub key_to : {p : Place} (k : List ℕ) → BeginsKey w p f d → EndsString k → is_json (34 ∷ k) ≡ true → name_of w.wanted f w.inner w.diff d (34 ∷ k) ≡ name → Leads (AtIn w p d) (34 ∷ k) (Q (34 ∷ k)) []
+  key_to k begins k_ends json says = then begins (key_rest (34 ∷ []) k k_ends json says)
+
+pub key : (w : Wanted) → wants_documents w ≡ true → (f : Bool) (d : ℕ) (name : Name) → is_plain name ≡ false → {p : Place} (k : List ℕ) → BeginsKey (outer w) p f d → IsNamed w f d k name → Leads (At w p d) (34 ∷ k) (At w (Colon name) d) []
+key w docs f d name no_plain k begins h =
+    key_to (outer w) f d name (λ u. At w (Colon name) d) (λ u json says. key_end w docs f d u json name no_plain says) k begins h.string h.json h.says
 
 -- ---- values
 
@@ -104,7 +115,7 @@ inner_one n false h = grind arith
 inner_more : (n : ℕ) (b : Bool) → (n + 1 == 0 && b) ≡ false
 inner_more n b = grind arith
 
-module _ (w : Wanted) (name : Name) (d : ℕ) where
+module _ (w : Frame) (name : Name) (d : ℕ) where
   quoted : (n : ℕ) (u q : List ℕ) → EndsString q → Leads (Within w (Quoted name) d n u) q (Within w (Value name) d n (u ++ q)) []
   quoted n u q ends = then (quoted_end w name d n u) none_read
   quoted n u q (plain {b} {t} e f rest) = to_text (append_assoc u (b ∷ []) t) (then (quoted_plain w name d n u b e f) (quoted n (u ++ b ∷ []) t rest))

@@ -12,6 +12,7 @@ pub mod Runs
 pub mod Grammar
 pub mod LineGrammar
 pub mod ChangeGrammar
+pub mod FeedGrammar
 pub mod Stored
 pub use Wanted.{covered, is_strict, wants_changes, wants_documents, wants_leaves}
 pub use State.{start}

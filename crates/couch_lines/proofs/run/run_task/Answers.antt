@@ -12,7 +12,7 @@ returns-clause-done g c =
 pub returns-clause-makes : goal.returns-clause-makes
 returns-clause-makes g c =
     makes (g.R.ScriptRead.left c.args.reader.now) (g.W.ScriptWrite.held c.args.writer.now) (g.W.ScriptWrite.held c.run_answers-ended.new.writer) c.run_answers-ended.result c.args.task.now c.new-reading.result.wanted (words_of_wording c.args.wording)
-    c.requires.lines (ap (λ (s : State). s.wanted) c.new-reading.ensures ∙ c.wanted_of.ensures) c.requires.words c.run_answers-ended.ensures.forms c.run_answers-ended.ensures.script c.run_answers-ended.ensures.changes
+    c.requires.lines (ap (λ (s : State). s.wanted) c.new-reading.ensures ∙ c.wanted_of.ensures) c.requires.words c.run_answers-ended.ensures.forms c.run_answers-ended.ensures.script c.run_answers-ended.ensures.changes c.run_answers-ended.ensures.leaves
 
 pub returns-clause-counts : goal.returns-clause-counts
 returns-clause-counts g c = run_counts c.run_answers-ended.result _ _ _ _ _ _ c.run_answers-ended.ensures.counted c.run_answers-ended.ensures.counts
