@@ -129,6 +129,23 @@ def widening(n):
     return lines
 
 
+def resolved(n):
+    """A document of n leaves, whose winners are deleted one by one."""
+    loaded = [load("a", "d", [digest(i), "r"], n=i) for i in range(n)]
+    winners = sorted((digest(i) for i in range(n)), reverse=True)
+    return [database("a", 1)] + loaded + [load("a", "d", [digest(sig, "end"), sig, "r"], _deleted=True) for sig in winners]
+
+
+def recreated(n):
+    """A document that is deleted and created again n times."""
+    lines, parents = [database("a", 1)], []
+    for i in range(2 * n + 1):
+        doc = {"_id": "d", "_rev": "%d-%s" % (i + 1, digest(i)), "_deleted": i % 2 == 1,
+               "_revisions": {"start": i + 1, "ids": [digest(i)] + parents}, "n": i}
+        lines, parents = lines + [{"do": "load", "db": "a", "doc": doc}], [digest(i)]
+    return lines
+
+
 def chosen(n):
     """n replications of one selection of two documents."""
     return pair() + loads(10)[1:] + [session("a", "b", i + 1, doc_ids=["doc-1", "doc-2"]) for i in range(n)]

@@ -14,6 +14,7 @@ pub mod Rooms
 pub mod Setting
 pub mod Sorting
 pub mod Starts
+pub mod Tournaments
 pub mod Views
 pub mod Walking
 pub mod Winning
@@ -35,6 +36,9 @@ pub use Putting.{IsPut, child_at, next_unplaced, put_end, put_next, put_start, r
 pub use Rooms.{all_new, count_next, count_within, fewer_new, known_counts_not, new_counts}
 pub use Sorting.{leaves_in_order, pair_cmp, pair_cmp_total, told, told_deleted}
 pub use Starts.{IsIndexed-none}
+pub use Tournaments.{AreKept, IsKeptNode, best_leaf, before_self, entered_leaf, entered_parent, kept_played, kept_push, kept_set, kept_twice, moved_played, opposite, played_again, played_but, unplayed}
+pub use Tournaments.{empty_played, entry_leaf, entry_match, entry_none, entry_parent, same_played}
+pub use Tournaments.{alone, entry_at, one_wins, other_alone, other_wins, under_match, under_node}
 pub use Views.{len-origins}
 pub use Walking.{first_there, generation_at, last, place_is, step}
-pub use Winning.{IsLed-none, adds_head, after_head, after_stays, after_walk, first_at, first_put, led_winner, rev_of_place, some_head}
+pub use Winning.{IsLed-none, adds_head, after_head, after_lookup, after_stays, best_wins, first_at, first_put, led_winner, rev_of_place, some_head}

@@ -1,8 +1,8 @@
 -- The winner after a merge: the head, the previous winner, or another leaf.
 use Rattle.proof_prelude.proofs.{◌≡◌, ℕ, ◌<◌, length, arith, List, [], ◌∷◌, Option, Some, None, true, false, not, cond, ◌||◌, ◌&&◌, is_some, inl, inr, ◌⊎◌, filter, slice_get, sym, ap, ◌∙◌, subst, refl, false≢true, or_cases, or_right, not-true, same_Some, list_any, option_map, option_map_or, eq_by_cmp, is_eq, is_lt, bool_cmp, ordering_reverse, ordering_then, IsTotalOrder, eq_by_cmp_equiv, get, keys, get-empty, Ordering, Less, Equal, Greater}
 use Rattle.rev_core.specs.{RevId, rev_cmp, rev_tie_self, IsAncestry, edges_of, is_among}
-use Rattle.rev_tree.specs.{ContentValue, in_order, first_of, first_of-placed, better, in_order-cons, in_order-nil, any-in_order, TreeValue, IsTree, at_head, first_contradiction, is_deleted, is_leaf, is_parent, leaf_cmp, leaves, merged, no_revisions, IsTree-merged, get-joined_known, has-merged_given, head_is, leaf_cases, any_agree, is_among-leaves, leaf_above, leaf_cmp_exact, leaf_cmp_total, leaf_tie, NodeValue, IsLed, IsLinked, deletes, goes_before, revs_in, tree_of, AddsHead, Origin}
-use Rattle.rev_tree.proofs.Places.{node_at, rev_at_place}
+use Rattle.rev_tree.specs.{ContentValue, in_order, first_of, first_of-placed, better, in_order-cons, in_order-nil, any-in_order, TreeValue, IsTree, at_head, first_contradiction, is_deleted, is_leaf, is_parent, leaf_cmp, leaves, merged, no_revisions, IsTree-merged, get-joined_known, has-merged_given, head_is, leaf_cases, any_agree, is_among-leaves, leaf_above, leaf_cmp_exact, leaf_cmp_total, leaf_tie, NodeValue, IsBestLeaf, IsLed, IsLinked, deletes, goes_before, place_of, revs_in, tree_of, AddsHead, Origin}
+use Rattle.rev_tree.proofs.Places.{node_at, place_known, place_unknown, rev_at_place}
 use Rattle.rev_tree.proofs.Lookups.{content_is, leaf_is}
 use Rattle.rev_tree.proofs.Starts.{IsTree-no_revisions}
 use Rattle.rev_tree.proofs.Views.{has-tree_of}
@@ -280,7 +280,29 @@ module _ (nodes : List NodeValue) (linked : IsLinked nodes) (k j : ℕ) (old new
       before ∙ sym (winner_stays t (tree_of nodes) h adds w first (ap (is_leaf (tree_of nodes)) (sym old_is) ∙ leaf_at nodes linked k old at_old ∙ ap not leaf)
       (λ new_leaf. head_before ∙ behind (not-true _ (sym head_leaf ∙ new_leaf))))
 
-  pub after_walk : (i : ℕ) → ((r : RevId) → first_of (leaves (tree_of nodes)) ≡ Some r → slice_get (revs_in nodes) i ≡ Some r) → slice_get (revs_in nodes) i ≡ first_of (leaves (tree_of nodes))
-  after_walk i walked =
-      let f = some_winner (tree_of nodes) adds.some.0 adds.some.1 in
-      walked f.0 f.1 ∙ sym f.1
+pub after_lookup : (nodes : List NodeValue) (t : TreeValue) (h : RevId) → AddsHead t (tree_of nodes) h → (i : ℕ)
+    → ((r : RevId) → first_of (leaves (tree_of nodes)) ≡ Some r → slice_get (revs_in nodes) i ≡ Some r) → slice_get (revs_in nodes) i ≡ first_of (leaves (tree_of nodes))
+after_lookup nodes t h adds i found =
+    let f = some_winner (tree_of nodes) adds.some.0 adds.some.1 in
+    found f.0 f.1 ∙ sym f.1
+
+-- the best leaf of the nodes is the winner
+pub best_wins : (nodes : List NodeValue) → IsLinked nodes → (p : ℕ) → IsBestLeaf nodes p → (r : RevId) → first_of (leaves (tree_of nodes)) ≡ Some r → slice_get (revs_in nodes) p ≡ Some r
+best_wins nodes linked p b r first =
+    rev_at_place nodes p b.node b.at ∙ ap Some (leaf_cmp_exact (tree_of nodes) b.node.rev r (tied (leaf_cmp_total (tree_of nodes)) b.node.rev r low high))
+  where
+    won : IsWinner (tree_of nodes) r
+    won = winner_is (tree_of nodes) r first
+
+    low : is_lt (leaf_cmp (tree_of nodes) b.node.rev r) ≡ false
+    low = won.least b.node.rev (leaf_at nodes linked p b.node b.at ∙ ap not b.leaf)
+
+    go : (o : Option ℕ) → place_of nodes r ≡ o → is_lt (leaf_cmp (tree_of nodes) r b.node.rev) ≡ false
+    go None e = absurd (false≢true (sym (leaf_is nodes (tree_of nodes) r None linked refl (place_unknown nodes r e)) ∙ won.leaf))
+    go (Some j) e =
+        let n = place_known nodes r j e in
+        let leaf : n.node.has_child ≡ false = not-true _ (sym (leaf_at nodes linked j n.node n.at) ∙ ap (is_leaf (tree_of nodes)) n.rev ∙ won.leaf) in
+        ap (λ q. is_lt (leaf_cmp (tree_of nodes) q b.node.rev)) (sym n.rev) ∙ sym (goes_before_at nodes linked j n.node n.at p b.node b.at) ∙ b.best j n.node n.at leaf
+
+    high : is_lt (leaf_cmp (tree_of nodes) r b.node.rev) ≡ false
+    high = go (place_of nodes r) refl

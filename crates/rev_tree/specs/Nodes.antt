@@ -9,7 +9,6 @@ use Rattle.rev_tree.specs.InOrder.{first_of}
 use Rattle.rev_tree.specs.Tree.{TreeValue, IsTree, is_parent, leaves}
 use Rattle.rev_tree.specs.Content.{ContentValue}
 use Rattle.rev_tree.specs.Node.{NodeValue}
-use Rattle.rev_tree.specs.Index.{index_for}
 use Rattle.rev_tree.specs.Room.{HasIndexRoom}
 use Rattle.rev_tree.specs.Steps.{with_rev}
 use Rattle.rev_tree.specs.declared.origin.Origin.{Origin}
@@ -81,12 +80,6 @@ deletes n = option_map_or (λ (b : ContentValue). b.deleted) n.content false
 abbrev pub goes_before : NodeValue → Option NodeValue → Bool
 goes_before n None = true
 goes_before n (Some best) = is_lt (ordering_then (bool_cmp (deletes n) (deletes best)) (rev_cmp best.rev n.rev))
-
--- the invariant of the nodes and their index. A position, counted from 1, fits into 32 bits
-pub record IsIndexed (nodes : List NodeValue) (entries : List (ℕ × ℕ)) : Type 0 where
-  pub few : length nodes < 2 ^ 32
-  pub index : entries ≡ index_for (revs_in nodes)
-  pub linked : IsLinked nodes
 
 -- 1 if r is not in the list, else 0
 abbrev pub unless_among : List RevId → RevId → ℕ

@@ -1,9 +1,11 @@
 //! The nodes of a tree, and lookup by revision.
-ghost use Rattle.std.specs.Prelude.{◌≡◌, ℕ, ◌+◌, ◌<◌, ◌≤◌, ◌∷◌, ◌++◌, [], Some, None, IfOk, OnOk, slice_get, length, take, drop, true, nat_eq, vec_capacity};
+ghost use Rattle.std.specs.Prelude.{◌≡◌, ℕ, ◌+◌, ◌<◌, ◌≤◌, ◌⊎◌, ◌∷◌, ◌++◌, [], Some, None, IfOk, IfSome, OnOk, slice_get, length, take, drop, true, nat_eq, vec_capacity};
 ghost use Rattle.std.specs.Option.{option_copied};
 ghost use Rattle.rev_core.specs.Rev.{RevId};
 ghost use Rattle.rev_tree.specs.Room.{HasIndexRoom};
 ghost use Rattle.rev_tree.specs.Steps.{with_edge, with_content};
+ghost use Rattle.rev_tree.specs.InOrder.{first_of};
+ghost use Rattle.rev_tree.specs.Tree.{leaves};
 ghost use Rattle.rev_tree.specs.declared.nodes.TheConstants.{MOST_WALKED};
 
 use crate::content::Content;
@@ -40,7 +42,8 @@ pub(crate) struct Nodes {
 
 impl Model for Nodes {
     ghost use Rattle.std.specs.Prelude.{◌+◌, length, vec_capacity};
-    ghost use Rattle.rev_tree.specs.Nodes.{NodesValue, IsIndexed};
+    ghost use Rattle.rev_tree.specs.Nodes.{NodesValue};
+    ghost use Rattle.rev_tree.specs.Tournament.{IsIndexed};
 
     ghost Value = { NodesValue };
 
@@ -50,7 +53,7 @@ impl Model for Nodes {
       index_capacity = length n.places.entries + n.places.spare;
     } };
 
-    ghost invariant = { λ n. IsIndexed n.list.items n.places.entries };
+    ghost invariant = { λ n. IsIndexed n.list.items n.places };
 }
 
 impl Nodes {
@@ -176,6 +179,19 @@ impl Nodes {
         }
     }
 
+    /// Returns the index of the winner's node, from the tournament. Returns `None` if the nodes must be scanned.
+    pub(crate) fn tournament_winner(&mut self) -> Option<usize>
+        ensures items { self.new.items ≡ self.old.items }
+        ensures first { IfSome result (λ place. (r : RevId)
+            → first_of (leaves (tree_of self.old.items)) ≡ Some r
+            → slice_get (revs_in self.old.items) place ≡ Some r) }
+    {
+        if self.list.as_slice().len() <= MOST_WALKED {
+            return None;
+        }
+        self.places.first_leaf(&self.list)
+    }
+
     /// Copies the nodes.
     pub(crate) fn copy(&self, alloc: Global) -> Result<Nodes, AllocError>
         ensures { IfOk result (λ n. n.items ≡ self.now.items) }
@@ -238,6 +254,8 @@ fn index_rest(nodes: &[Node], places: &mut Places, known: usize)
     requires room { HasIndexRoom (length nodes.now) (length places.old.entries + places.old.spare) }
     ensures index { places.new.entries ≡ index_for (revs_in nodes.now) }
     ensures room { length places.old.entries + places.old.spare ≤ length places.new.entries + places.new.spare }
+    ensures winners { places.new.winners ≡ places.old.winners }
+    ensures entered { places.new.entered ≡ places.old.entered }
 {
     if nodes.len() <= MOST_WALKED {
         return;
@@ -296,6 +314,8 @@ fn index_from(nodes: &[Node], places: &mut Places, first: usize)
     requires room { length nodes.now ≤ length places.old.entries + places.old.spare }
     ensures index { places.new.entries ≡ noted_from [] 0 (revs_in nodes.now) }
     ensures room { length places.old.entries + places.old.spare ≤ length places.new.entries + places.new.spare }
+    ensures winners { places.new.winners ≡ places.old.winners }
+    ensures entered { places.new.entered ≡ places.old.entered }
 {
     for i in first..nodes.len() {
         places.note(mark_of(nodes[i].rev()), i);
@@ -356,7 +376,8 @@ fn fit_nodes(list: &mut Vec<Node>)
 
 /// Releases the space of an empty index.
 fn fit_index(places: &mut Places)
-    ensures { places.new.entries ≡ places.old.entries }
+    ensures entries { places.new.entries ≡ places.old.entries }
+    ensures tournament { places.new ≡ places.old ⊎ (places.new.winners ≡ []) × (places.new.entered ≡ 0) }
 {
     if places.is_empty() {
         *places = Places::new();
@@ -368,6 +389,8 @@ fn reserve_index(alloc: Global, places: &mut Places, nodes: usize) -> Result<(),
     requires { length places.old.entries ≤ nodes }
     ensures index { places.new.entries ≡ places.old.entries }
     ensures room { OnOk result (HasIndexRoom nodes (length places.new.entries + places.new.spare)) }
+    ensures winners { places.new.winners ≡ places.old.winners }
+    ensures entered { places.new.entered ≡ places.old.entered }
 {
     if nodes <= MOST_WALKED {
         return Ok(());
@@ -377,7 +400,9 @@ fn reserve_index(alloc: Global, places: &mut Places, nodes: usize) -> Result<(),
 
 /// Builds the index of the nodes.
 fn index_of(alloc: Global, nodes: &[Node]) -> Result<Places, AllocError>
-    ensures { IfOk result (λ m. m.entries ≡ index_for (revs_in nodes.now)) }
+    ensures entries { IfOk result (λ m. m.entries ≡ index_for (revs_in nodes.now)) }
+    ensures winners { IfOk result (λ m. m.winners ≡ []) }
+    ensures entered { IfOk result (λ m. m.entered ≡ 0) }
 {
     let mut places = Places::new();
     if nodes.len() <= MOST_WALKED {

@@ -1,8 +1,11 @@
 //! The index from revisions to the positions of their nodes.
-ghost use Rattle.std.specs.Prelude.{◌≡◌, ◌+◌, ◌<◌, ◌≤◌, ◌∷◌, ◌++◌, [], length, nat_eq, None, OnOk};
+ghost use Rattle.std.specs.Prelude.{◌≡◌, ◌+◌, ◌^◌, ◌<◌, ◌≤◌, ◌∷◌, ◌++◌, [], length, nat_eq, None, IfOk, IfSome, OnOk};
 ghost use Rattle.std.specs.Map.{lookup};
 ghost use Rattle.rev_tree.specs.Index.{noted};
+ghost use Rattle.rev_tree.specs.Tournament.{IsBestLeaf, IsPlayed};
 
+use crate::node::Node;
+use crate::tournament::Tournament;
 use indexmap::IndexMap;
 use std::alloc::{AllocError, Global};
 use std::marker::Model;
@@ -13,9 +16,18 @@ use std::marker::Model;
 ///
 /// The index is empty, and takes no memory, if the tree has few nodes or if each node is one generation below the
 /// previous one.
+///
+/// The tournament among the leaves is stored beside the index, so that a tree without an index takes no memory for it.
 #[derive(Drop)]
 pub(crate) struct Places {
-    index: Option<Box<IndexMap<u64, usize>>>,
+    index: Option<Box<Index>>,
+}
+
+/// The positions by hash, and the tournament.
+#[derive(Drop)]
+struct Index {
+    positions: IndexMap<u64, usize>,
+    tournament: Tournament,
 }
 
 impl Model for Places {
@@ -27,15 +39,19 @@ impl Model for Places {
     ghost Value = { PlacesValue };
 
     ghost view = { λ p. record {
-      entries = option_map_or (λ b. b.value.entries) p.index [];
-      spare = option_map_or (λ b. spare b.value) p.index 0;
+      entries = option_map_or (λ b. b.value.positions.entries) p.index [];
+      spare = option_map_or (λ b. spare b.value.positions) p.index 0;
+      winners = option_map_or (λ b. b.value.tournament.winners.items) p.index [];
+      entered = option_map_or (λ b. b.value.tournament.entered) p.index 0;
     } };
 }
 
 impl Places {
     /// Creates an empty index.
     pub(crate) fn new() -> Places
-        ensures { result.entries ≡ [] }
+        ensures entries { result.entries ≡ [] }
+        ensures winners { result.winners ≡ [] }
+        ensures entered { result.entered ≡ 0 }
     {
         Places { index: None }
     }
@@ -45,7 +61,7 @@ impl Places {
         ensures { result ≡ length self.now.entries }
     {
         match &self.index {
-            Some(index) => index.len(),
+            Some(index) => index.positions.len(),
             None => 0,
         }
     }
@@ -62,7 +78,7 @@ impl Places {
         ensures { result ≡ lookup (nat_eq mark) self.now.entries }
     {
         match &self.index {
-            Some(index) => index.get(&mark).copied(),
+            Some(index) => index.positions.get(&mark).copied(),
             None => None,
         }
     }
@@ -72,6 +88,8 @@ impl Places {
         requires { 0 < self.old.spare }
         ensures entries { self.new.entries ≡ noted self.old.entries mark place }
         ensures room { length self.old.entries + self.old.spare ≤ length self.new.entries + self.new.spare }
+        ensures winners { self.new.winners ≡ self.old.winners }
+        ensures entered { self.new.entered ≡ self.old.entered }
     {
         if self.get(mark).is_none() {
             self.insert(mark, place);
@@ -84,11 +102,13 @@ impl Places {
         requires new { lookup (nat_eq mark) self.old.entries ≡ None }
         ensures entries { self.new.entries ≡ self.old.entries ++ (mark, place) ∷ [] }
         ensures spare { self.old.spare ≤ self.new.spare + 1 }
+        ensures winners { self.new.winners ≡ self.old.winners }
+        ensures entered { self.new.entered ≡ self.old.entered }
     {
         let Some(mut index) = self.index.take() else {
             unreachable!()
         };
-        let Ok(_) = index.insert(mark, place) else {
+        let Ok(_) = index.positions.insert(mark, place) else {
             unreachable!()
         };
         self.index = Some(index);
@@ -98,14 +118,52 @@ impl Places {
     pub(crate) fn reserve(&mut self, alloc: Global, additional: usize) -> Result<(), AllocError>
         ensures entries { self.new.entries ≡ self.old.entries }
         ensures room { OnOk result (additional ≤ self.new.spare) }
+        ensures winners { self.new.winners ≡ self.old.winners }
+        ensures entered { self.new.entered ≡ self.old.entered }
     {
         let mut index = match self.index.take() {
             Some(index) => index,
-            None => Box::new(alloc, IndexMap::new(alloc))?,
+            None => Index::new(alloc)?,
         };
-        let reserved = index.reserve(additional);
+        let reserved = index.positions.reserve(additional);
         self.index = Some(index);
         reserved?;
         Ok(())
+    }
+
+    /// Returns the index of the first leaf in the winner's order, from the tournament.
+    ///
+    /// Returns `None` if the index takes no memory, or if the tournament has no result.
+    pub(crate) fn first_leaf(&mut self, nodes: &[Node]) -> Option<usize>
+        requires few { length nodes.now < 2 ^ 32 }
+        requires played { IsPlayed nodes.now self.old.winners self.old.entered 0 }
+        ensures entries { self.new.entries ≡ self.old.entries }
+        ensures played { IsPlayed nodes.now self.new.winners self.new.entered 0 }
+        ensures first { IfSome result (λ place. IsBestLeaf nodes.now place) }
+    {
+        let Some(mut index) = self.index.take() else {
+            return None;
+        };
+        let first = index.tournament.first(nodes);
+        self.index = Some(index);
+        first
+    }
+}
+
+impl Index {
+    /// Creates an index without entries.
+    fn new(alloc: Global) -> Result<Box<Index>, AllocError>
+        ensures { IfOk result (λ b. (b.value.positions.entries ≡ []) × (b.value.tournament.winners.items ≡ []) × (b.value.tournament.entered ≡ 0)) }
+    {
+        let positions = IndexMap::new(alloc);
+        let tournament = Tournament::new(alloc);
+        let index = Box::new(
+            alloc,
+            Index {
+                positions,
+                tournament,
+            },
+        )?;
+        Ok(index)
     }
 }

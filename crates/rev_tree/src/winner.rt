@@ -1,5 +1,5 @@
 //! Finding the winner's node.
-ghost use Rattle.std.specs.Prelude.{◌≡◌, ◌<◌, Some, slice_get, length};
+ghost use Rattle.std.specs.Prelude.{◌≡◌, ◌<◌, Some, IfSome, slice_get, length};
 ghost use Rattle.std.specs.Option.{option_copied};
 ghost use Rattle.rev_core.specs.Rev.{RevId};
 ghost use Rattle.rev_tree.specs.InOrder.{first_of};
@@ -16,28 +16,60 @@ impl Nodes {
     /// winner.
     ///
     /// It is the head's node if the head goes before the previous winner, or the previous winner's node if that is
-    /// still a leaf. Otherwise all nodes are scanned.
-    pub(crate) fn winner_after(&self, before: usize, head: usize) -> usize
+    /// still a leaf. Otherwise it is looked up among all leaves.
+    pub(crate) fn winner_after(&mut self, before: usize, head: usize) -> usize
+        requires before { before < length self.old.items }
+        requires head { head < length self.old.items }
+        ensures items { self.new.items ≡ self.old.items }
+        ensures winner { (t : TreeValue) (w h : RevId)
+            → first_of (leaves t) ≡ Some w
+            → slice_get (revs_in self.old.items) before ≡ Some w
+            → slice_get (revs_in self.old.items) head ≡ Some h
+            → AddsHead t (tree_of self.old.items) h
+            → slice_get (revs_in self.old.items) result ≡ first_of (leaves (tree_of self.old.items)) }
+    {
+        match self.head_or_previous(before, head) {
+            Some(winner) => winner,
+            None => self.next_winner(),
+        }
+    }
+
+    /// Returns the index of the winner's node, if it is the head's or the previous winner's.
+    fn head_or_previous(&self, before: usize, head: usize) -> Option<usize>
         requires before { before < length self.now.items }
         requires head { head < length self.now.items }
-        ensures { (t : TreeValue) (w h : RevId)
+        ensures { IfSome result (λ i. (t : TreeValue) (w h : RevId)
             → first_of (leaves t) ≡ Some w
             → slice_get (revs_in self.now.items) before ≡ Some w
             → slice_get (revs_in self.now.items) head ≡ Some h
             → AddsHead t (tree_of self.now.items) h
-            → slice_get (revs_in self.now.items) result ≡ first_of (leaves (tree_of self.now.items)) }
+            → slice_get (revs_in self.now.items) i ≡ first_of (leaves (tree_of self.now.items))) }
     {
         let old = self.node_at(before);
         let new = self.node_at(head);
         if !new.has_child() {
             if goes_before(new, Some(old)) {
-                return head;
+                return Some(head);
             }
         }
         if !old.has_child() {
-            return before;
+            return Some(before);
         }
-        self.first_leaf()
+        None
+    }
+
+    /// Returns the index of the first leaf in the winner's order, from the tournament, or by scanning the nodes if the
+    /// tournament has no result.
+    fn next_winner(&mut self) -> usize
+        ensures items { self.new.items ≡ self.old.items }
+        ensures first { (r : RevId)
+            → first_of (leaves (tree_of self.old.items)) ≡ Some r
+            → slice_get (revs_in self.old.items) result ≡ Some r }
+    {
+        match self.tournament_winner() {
+            Some(first) => first,
+            None => self.first_leaf(),
+        }
     }
 
     /// Returns the index of the first leaf in the winner's order, by scanning all nodes.

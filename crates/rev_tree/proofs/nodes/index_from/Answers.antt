@@ -1,4 +1,4 @@
-use Rattle.proof_prelude.proofs.{◌+◌, length, take, length-take, ap, ◌∙◌, arith}
+use Rattle.proof_prelude.proofs.{◌+◌, length, take, length-take, ap, ◌∙◌, arith, refl}
 use Rattle.rev_tree.specs.{mark_of, noted, revs_in}
 use Rattle.rev_tree.proofs.{length-revs_in, length_marks, marks_more}
 use Rattle.rev_tree.proofs.nodes.index_from.Goals as goal
@@ -10,6 +10,8 @@ loop-i-init c =
       marks = c.requires.begun;
       len = omega (arith, ap length c.requires.begun, length_marks (revs_in before), length-revs_in before, length-take c.args.first c.args.nodes.now, c.requires.first);
       room = omega arith;
+      winners = refl;
+      entered = refl;
     }
 
 pub loop-i-preserved : goal.loop-i-preserved
@@ -25,4 +27,6 @@ loop-i-preserved c =
       marks = marks;
       len = omega (arith, ap length marks, length_marks (revs_in after), length-revs_in after, length-take (i + 1) nodes, c.loop-i-test.true);
       room = omega (arith, c.loop-i.invariant.room, c.note.ensures.room);
+      winners = c.note.ensures.winners ∙ c.loop-i.invariant.winners;
+      entered = c.note.ensures.entered ∙ c.loop-i.invariant.entered;
     }

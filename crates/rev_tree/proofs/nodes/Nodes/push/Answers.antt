@@ -1,6 +1,6 @@
 use Rattle.proof_prelude.proofs.{◌≡◌, ◌+◌, ◌++◌, ◌∷◌, [], None, length, take, slice_get, sym, ap, ◌∙◌, subst, rules, take-append_seam}
 use Rattle.rev_tree.specs.{HasRoom, index_for, place_of, revs_in, tree_of, with_rev}
-use Rattle.rev_tree.proofs.{slice_get-last, IsAdded, added, new_node, length-revs_in, new_counts}
+use Rattle.rev_tree.proofs.{AreKept, kept_push, moved_played, slice_get-last, IsAdded, added, new_node, length-revs_in, new_counts}
 use Rattle.rev_tree.proofs.nodes.Nodes.push.Goals as goal
 use Rattle.rev_tree.proofs.nodes.Nodes.push.Goals.{After-index_rest}
 
@@ -20,7 +20,16 @@ index_rest-requires-clause-begun c =
     c.self.invariant.index ∙ ap (λ l. index_for (revs_in l)) (sym first)
 
 pub invariant_of-self : goal.invariant_of-self
-invariant_of-self c = record { few = search rules; index = c.index_rest.ensures.index ∙ ap (λ l. index_for (revs_in l)) c.deref.ensures.value; linked = (adds c).linked }
+invariant_of-self c =
+    let items = c.self.inside.list.items in
+    record {
+      few = search rules;
+      index = c.index_rest.ensures.index ∙ ap (λ l. index_for (revs_in l)) c.deref.ensures.value;
+      linked = (adds c).linked;
+      played =
+          moved_played items c.push_reserved.new.self.items c.self.inside.places.winners c.index_rest.new.places.winners c.self.inside.places.entered c.index_rest.new.places.entered
+          (subst (AreKept items) (sym c.push_reserved.ensures.items) (kept_push items c.new.result)) c.index_rest.ensures.winners c.index_rest.ensures.entered c.self.invariant.played;
+    }
 
 pub returns-clause-gained : goal.returns-clause-gained
 returns-clause-gained c =

@@ -1,5 +1,5 @@
-use Rattle.proof_prelude.proofs.{◌≡◌, ◌<◌, length, sym, ap, ◌∙◌, subst, rules, nil_from_length}
-use Rattle.rev_tree.specs.{tree_of, AddsHead}
+use Rattle.proof_prelude.proofs.{◌≡◌, ◌<◌, length, sym, ap, ◌∙◌, subst, rules, slice_get, nil_from_length}
+use Rattle.rev_tree.specs.{first_of, leaves, revs_in, tree_of, AddsHead}
 use Rattle.rev_tree.proofs.{standing, adds_head, first_put, led_winner, some_head, first_at}
 use Rattle.rev_tree.proofs.nodes.Nodes.put.Goals as goal
 
@@ -27,8 +27,8 @@ returns-else-is_empty-clause-best c =
     let some : 0 < length c.args.self.now.items = search rules in
     let w = led_winner c.args.self.now.items c.args.best c.all.ensures.linked c.requires.led some in
     let h = some_head c.args.revs.now c.requires.ancestry.nonempty in
-    c.winner_after.ensures t w.0 h.0 w.1
+    subst (λ l. slice_get (revs_in l) c.winner_after.result ≡ first_of (leaves (tree_of l))) (sym c.winner_after.ensures.items) (c.winner_after.ensures.winner t w.0 h.0 w.1
     (c.put_among-head.ensures.kept c.args.best w.0 (c.requires.led.first ∙ w.1))
     (c.put_among-head.ensures.head ∙ first_at c.args.revs.now ∙ h.1)
     (subst (λ u. AddsHead t u h.0) (sym c.put_among-head.ensures.tree)
-    (adds_head t c.args.revs.now c.args.content c.args.origin h.0 c.requires.led.tree c.requires.ancestry c.requires.none h.1))
+    (adds_head t c.args.revs.now c.args.content c.args.origin h.0 c.requires.led.tree c.requires.ancestry c.requires.none h.1)))

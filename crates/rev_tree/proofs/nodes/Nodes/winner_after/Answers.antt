@@ -1,23 +1,8 @@
-use Rattle.proof_prelude.proofs.{sym, ◌∙◌, false≢true}
-use Rattle.rev_tree.proofs.{after_head, after_stays, after_walk}
+use Rattle.rev_tree.proofs.{after_lookup}
 use Rattle.rev_tree.proofs.nodes.Nodes.winner_after.Goals as goal
-use Rattle.rev_tree.proofs.nodes.Nodes.winner_after.Goals.{then-not-has_child+else-goes_before, else-not-has_child}
 
-pub returns-then-goes_before : goal.returns-then-goes_before
-returns-then-goes_before c t w h first before head adds =
-    after_head c.args.self.now.items c.node_at-old.ensures.linked c.args.before c.args.head c.node_at-old.result.now c.node_at-new.result.now c.node_at-old.ensures.node c.node_at-new.ensures.node t w h first before head adds
-    (sym c.has_child.ensures ∙ c.if-not-has_child.true) (sym c.goes_before.ensures ∙ c.if-goes_before.true)
+pub returns-in-Some-clause-winner : goal.returns-in-Some-clause-winner
+returns-in-Some-clause-winner c t w h first before head adds = c.in-Some.ensures t w h first before head adds
 
-pub returns-then-not-has_child-2 : goal.returns-then-not-has_child-2
-returns-then-not-has_child-2 c t w h first before head adds =
-    after_stays c.args.self.now.items c.node_at-old.ensures.linked c.args.before c.args.head c.node_at-old.result.now c.node_at-new.result.now c.node_at-old.ensures.node c.node_at-new.ensures.node t w h first before head adds
-    (sym c.has_child-2.ensures ∙ c.if-not-has_child-2.true)
-    (λ leaf. elim c.if-not-has_child.branch [
-      | then-not-has_child+else-goes_before v ↦ sym v.goes_before.ensures ∙ v.if-goes_before.false
-      | else-not-has_child v ↦ absurd (false≢true (sym leaf ∙ sym c.has_child.ensures ∙ v.if-not-has_child.false))
-    ])
-
-pub returns : goal.returns
-returns c t w h first before head adds =
-    after_walk c.args.self.now.items c.node_at-old.ensures.linked c.args.before c.args.head c.node_at-old.result.now c.node_at-new.result.now c.node_at-old.ensures.node c.node_at-new.ensures.node t w h first before head adds
-    c.first_leaf.result c.first_leaf.ensures
+pub returns-in-None-clause-winner : goal.returns-in-None-clause-winner
+returns-in-None-clause-winner c t w h first before head adds = after_lookup c.args.self.now.items t h adds c.next_winner.result c.next_winner.ensures.first

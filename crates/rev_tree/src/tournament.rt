@@ -1,0 +1,172 @@
+//! A tournament among the leaves of a tree.
+ghost use Rattle.std.specs.Prelude.{◌≡◌, ◌+◌, ◌/◌, ◌<◌, ◌≤◌, ◌^◌, [], true, IfSome, length};
+ghost use Rattle.rev_tree.specs.Tournament.{IsBestLeaf, IsEntry, IsHeld, IsPlayed, IsWinnerOf};
+
+use crate::node::Node;
+use crate::winner::goes_before;
+use std::alloc::Global;
+
+/// The winners of the matches of a tournament among the leaves of a tree, in the winner's order.
+///
+/// Match `i` is between the players at `2 * i` and `2 * i + 1`, and match 1 is the final. If there is a match at an
+/// index, the player is its winner; node `n` is the player at `winners.len() + n`, while it is a leaf.
+///
+/// A winner is stored as the index of its node, counted from 1; 0 means that there is no player. A winner that is no
+/// longer a leaf stays stored until its matches are replayed.
+#[derive(Drop)]
+pub(crate) struct Tournament {
+    winners: Vec<u32>,
+    /// The number of nodes that take part.
+    entered: usize,
+}
+
+impl Tournament {
+    /// Creates a tournament without nodes, which takes no memory.
+    pub(crate) fn new(alloc: Global) -> Tournament
+        ensures winners { result.winners.items ≡ [] }
+        ensures entered { result.entered ≡ 0 }
+    {
+        Tournament {
+            winners: Vec::new(alloc),
+            entered: 0,
+        }
+    }
+
+    /// Returns the index of the first leaf in the winner's order. Enters the nodes that do not take part yet.
+    ///
+    /// Returns `None` if an allocation fails, or if the caller must scan the nodes for another reason.
+    pub(crate) fn first(&mut self, nodes: &[Node]) -> Option<usize>
+        requires few { length nodes.now < 2 ^ 32 }
+        requires played { IsPlayed nodes.now self.old.winners.items self.old.entered 0 }
+        ensures played { IsPlayed nodes.now self.new.winners.items self.new.entered 0 }
+        ensures first { IfSome result (λ place. IsBestLeaf nodes.now place) }
+    {
+        if !self.enter_all(nodes) {
+            return None;
+        }
+        for _ in 0..nodes.len() {
+            let winner = self.winners[1] as usize;
+            if winner == 0 {
+                return None;
+            }
+            if !nodes[winner - 1].has_child() {
+                return Some(winner - 1);
+            }
+            self.replay(nodes, winner - 1);
+        }
+        None
+    }
+
+    /// Enters the nodes that do not take part yet. Returns whether all nodes take part, which is false if an allocation
+    /// fails.
+    fn enter_all(&mut self, nodes: &[Node]) -> bool
+        requires few { length nodes.now < 2 ^ 32 }
+        requires played { IsPlayed nodes.now self.old.winners.items self.old.entered 0 }
+        ensures played { IsPlayed nodes.now self.new.winners.items self.new.entered 0 }
+        ensures all { result ≡ true → self.new.entered ≡ length nodes.now }
+        ensures matches { result ≡ true → 2 ≤ length self.new.winners.items }
+    {
+        if !self.make_matches(nodes) {
+            return false;
+        }
+        for place in self.entered..nodes.len() {
+            if nodes[place].has_child() {
+                self.entered = place + 1;
+            } else if nodes[place].content().is_some() {
+                self.entered = place + 1;
+                self.replay(nodes, place);
+            } else {
+                return false;
+            }
+        }
+        true
+    }
+
+    /// Restarts the tournament with twice as many matches as nodes if it has fewer matches than nodes. Returns whether
+    /// it has enough matches, which is false if an allocation fails.
+    fn make_matches(&mut self, nodes: &[Node]) -> bool
+        requires few { length nodes.now < 2 ^ 32 }
+        requires played { IsPlayed nodes.now self.old.winners.items self.old.entered 0 }
+        ensures played { IsPlayed nodes.now self.new.winners.items self.new.entered 0 }
+        ensures all { result ≡ true → length nodes.now ≤ length self.new.winners.items }
+        ensures matches { result ≡ true → 2 ≤ length self.new.winners.items }
+    {
+        let len = self.winners.as_slice().len();
+        if len >= 2 && nodes.len() <= len {
+            return true;
+        }
+        let Ok(winners) = vec![in *self.winners.allocator(); 0u32; 2 * nodes.len() + 2] else {
+            return false;
+        };
+        self.winners = winners;
+        self.entered = 0;
+        true
+    }
+
+    /// Plays the matches of a node's player again, from its first match to the final.
+    fn replay(&mut self, nodes: &[Node], place: usize)
+        requires few { length nodes.now < 2 ^ 32 }
+        requires place { place < self.old.entered }
+        requires played { IsPlayed nodes.now self.old.winners.items self.old.entered
+            ((length self.old.winners.items + place) / 2) }
+        ensures played { IsPlayed nodes.now self.new.winners.items self.new.entered 0 }
+        ensures entered { self.new.entered ≡ self.old.entered }
+        ensures matches { length self.new.winners.items ≡ length self.old.winners.items }
+    {
+        let mut at = (self.winners.as_slice().len() + place) / 2;
+        while at > 0 {
+            self.play(nodes, at);
+            at /= 2;
+        }
+    }
+
+    /// Plays a match again.
+    fn play(&mut self, nodes: &[Node], at: usize)
+        requires few { length nodes.now < 2 ^ 32 }
+        requires between { (0 < at) × (at < length self.old.winners.items) }
+        requires played { IsPlayed nodes.now self.old.winners.items self.old.entered at }
+        ensures played { IsPlayed nodes.now self.new.winners.items self.new.entered (at / 2) }
+        ensures entered { self.new.entered ≡ self.old.entered }
+        ensures matches { length self.new.winners.items ≡ length self.old.winners.items }
+    {
+        let one = self.player(nodes, 2 * at);
+        let other = self.player(nodes, 2 * at + 1);
+        self.winners[at] = better(nodes, one, other);
+    }
+
+    /// Returns the player at an index, as it is stored.
+    fn player(&self, nodes: &[Node], at: usize) -> u32
+        requires few { length nodes.now < 2 ^ 32 }
+        requires held { IsHeld nodes.now self.now.winners.items self.now.entered }
+        ensures { IsEntry nodes.now self.now.winners.items self.now.entered at result }
+    {
+        let len = self.winners.as_slice().len();
+        if at < len {
+            return self.winners[at];
+        }
+        let place = at - len;
+        if place < self.entered && !nodes[place].has_child() {
+            return place as u32 + 1;
+        }
+        0
+    }
+}
+
+/// Returns the winner of a match between two players, as they are stored.
+fn better(nodes: &[Node], one: u32, other: u32) -> u32
+    requires one { one ≤ length nodes.now }
+    requires other { other ≤ length nodes.now }
+    ensures { IsWinnerOf nodes.now one other result }
+{
+    if other == 0 {
+        return one;
+    }
+    if one == 0 {
+        return other;
+    }
+    if goes_before(&nodes[other as usize - 1], Some(&nodes[one as usize - 1])) {
+        other
+    } else {
+        one
+    }
+}
