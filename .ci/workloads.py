@@ -168,6 +168,14 @@ def logged(n):
         {"do": "log", "source": "a", "target": "b", "side": "source"}] * 4
 
 
+def hub_logs(n):
+    """n sources, each replicated once into one target, and the target's log of each pair."""
+    lines = [database("hub", n + 1)]
+    for i in range(n):
+        lines += [database("p%d" % i, i + 1), load("p%d" % i, "doc", [digest(0)]), session("p%d" % i, "hub", i + 1)]
+    return lines + [{"do": "log", "source": "p%d" % i, "target": "hub", "side": "target"} for i in range(n)]
+
+
 def edited(n):
     """A document that is edited and replicated n times. Each time it is sent with its complete ancestry, as the protocol
     requires."""

@@ -104,18 +104,18 @@ impl Sessions {
         self.ledgered.has(id, rev)
     }
 
-    /// Returns the log entries of the sessions of a replication, newest first.
+    /// Returns the log entries of the sessions of a replication, newest first. Scans only sessions of this replication.
     pub(crate) fn log(&self, alloc: Global, rep: &RepId) -> Result<Log, AllocError>
         ensures log { IfOk result (λ l. l ≡ log_of self.now rep.now) }
     {
         let mut log = Log::new(alloc);
-        for i in 0..self.entries.len() {
-            let Some((_, session)) = self.entries.get_index(i) else {
+        let ids = self.by_rep.of(rep);
+        for i in 0..ids.len() {
+            let id = ids[i];
+            let Some(session) = self.entries.get(&id) else {
                 unreachable!()
             };
-            if session.scope.rep == *rep {
-                log.set(session.entry())?;
-            }
+            log.set(session.entry())?;
         }
         Ok(log)
     }

@@ -1,5 +1,5 @@
 -- The log of a replication, from the table of sessions.
-use Rattle.proof_prelude.proofs.{◌≡◌, ℕ, zero, suc, ◌+◌, ◌==◌, ◌||◌, true, false, List, [], ◌∷◌, ◌++◌, map, filter, take, Some, refl, sym, ap, ◌∙◌, subst, list_any, IsDistinct, AllByRecursion, keys_of, cond_both, cond-true, cond-false, take_more, slice_get_within, get_or_from_slice_get, reverse_onto, slice_get}
+use Rattle.proof_prelude.proofs.{◌≡◌, ℕ, zero, suc, ◌+◌, ◌<◌, ◌≤◌, ◌==◌, ◌||◌, false, List, [], ◌∷◌, ◌++◌, map, filter, take, drop, length, Some, arith, refl, sym, ap, ◌∙◌, subst, list_any, IsDistinct, AllByRecursion, keys_of, cond_both, cond-false, take_all, take_more, slice_get_within, get_or_from_slice_get, reverse_onto, slice_get}
 use Rattle.rev_tree.specs.{SessionId}
 use Rattle.couch_base.specs.{some_is, none_some, none_append, both_false}
 use Rattle.repl_log.specs.declared.replication.RepId.{RepId}
@@ -43,25 +43,45 @@ sessions_of-next es i x is =
     ap sessions_of (take_more es i x (slice_get_within es i x is) ∙ ap (λ (y : SessionId × SessionValue). take i es ++ y ∷ []) (get_or_from_slice_get es i x x is))
     ∙ newest_first-push itself id_of x.0 x.1 (take i es)
 
--- a session of the replication comes first
-pub log_of-next : (rep : RepId) (es : Entries) (i : ℕ) (x : SessionId × SessionValue) (log new : List EntryValue) (e : EntryValue)
-    → IsKeyed id_of es → EachSessionOnce es → slice_get es i ≡ Some x → same_rep x.1.rep rep ≡ true → log ≡ log_of (sessions_of (take i es)) rep → e ≡ entry_of (x.1) → new ≡ with_entry log e → new ≡ log_of (sessions_of (take (i + 1) es)) rep
-log_of-next rep es i x log new e keyed once is same so_far entry put =
-    let ss = sessions_of (take i es) in
-    let s = x.1 in
-    let none = subst (λ (k : SessionId). list_any (is_of k) ss ≡ false) (sym (keyed_at es i x keyed is)) (none_before es i x keyed once is) in
-    put
-    ∙ ap (λ g. with_entry g e) so_far
-    ∙ ap (with_entry (log_of ss rep)) entry
-    ∙ cond-false (holds (log_of ss rep) s.id) (replaced (log_of ss rep) (entry_of s)) (entry_of s ∷ log_of ss rep) (none_logged s.id rep ss none)
-    ∙ sym (ap (λ l. map entry_of l) (cond-true (same_rep s.rep rep) (s ∷ filter (λ s. same_rep s.rep rep) ss) (filter (λ s. same_rep s.rep rep) ss) same))
-    ∙ sym (ap (λ l. log_of l rep) (sessions_of-next es i x is))
+-- ---- the log, oldest session first
 
--- a session of another replication is skipped
-pub log_of-passed : (rep : RepId) (es : Entries) (i : ℕ) (x : SessionId × SessionValue) (log : List EntryValue) → slice_get es i ≡ Some x → same_rep x.1.rep rep ≡ false → log ≡ log_of (sessions_of (take i es)) rep → log ≡ log_of (sessions_of (take (i + 1) es)) rep
-log_of-passed rep es i x log is other so_far =
-    let ss = sessions_of (take i es) in
-    let s = x.1 in
-    so_far
-    ∙ sym (ap (λ l. map entry_of l) (cond-false (same_rep s.rep rep) (s ∷ filter (λ s. same_rep s.rep rep) ss) (filter (λ s. same_rep s.rep rep) ss) other))
-    ∙ sym (ap (λ l. log_of l rep) (sessions_of-next es i x is))
+-- no session occurs twice in a log
+abbrev pub IsOnce : List EntryValue → Type 0
+IsOnce [] = Unit {0}
+IsOnce (e ∷ log) = (holds log e.session ≡ false) × IsOnce log
+
+once_next : (rep : RepId) (s : SessionValue) (sessions : List SessionValue) → list_any (is_of s.id) sessions ≡ false → IsOnce (log_of sessions rep) → IsOnce (log_of (s ∷ sessions) rep)
+once_next rep s sessions new once =
+    cond_both (same_rep s.rep rep) (s ∷ filter (λ s. same_rep s.rep rep) sessions) (filter (λ s. same_rep s.rep rep) sessions) (λ l. IsOnce (map entry_of l))
+    (λ _. (none_logged s.id rep sessions new, once))
+    (λ _. once)
+
+at_index : (es : Entries) (i : ℕ) → i < length es → (x : SessionId × SessionValue) × (slice_get es i ≡ Some x)
+at_index [] i low = absurd (omega arith)
+at_index (e ∷ es) zero low = (e, refl)
+at_index (e ∷ es) (suc i) low = at_index es i (omega arith)
+
+none_yet : (es : Entries) (rep : RepId) → IsOnce (log_of (sessions_of (take 0 es)) rep)
+none_yet [] rep = tt
+none_yet (e ∷ es) rep = tt
+
+once_upto : (es : Entries) (rep : RepId) (i : ℕ) → IsKeyed id_of es → EachSessionOnce es → i ≤ length es → IsOnce (log_of (sessions_of (take i es)) rep)
+once_upto es rep zero keyed once low = none_yet es rep
+once_upto es rep (suc i) keyed once low =
+    let x = at_index es i (omega arith) in
+    let more : i + 1 ≡ suc i = omega arith in
+    let new : list_any (is_of x.0.1.id) (sessions_of (take i es)) ≡ false =
+    subst (λ (k : SessionId). list_any (is_of k) (sessions_of (take i es)) ≡ false) (sym (keyed_at es i x.0 keyed x.1)) (none_before es i x.0 keyed once x.1) in
+    subst (λ n. IsOnce (log_of (sessions_of (take n es)) rep)) more
+    (subst (λ ss. IsOnce (log_of ss rep)) (sym (sessions_of-next es i x.0 x.1)) (once_next rep x.0.1 (sessions_of (take i es)) new (once_upto es rep i keyed once (omega arith))))
+
+pub log_of-once : (es : Entries) (rep : RepId) → IsKeyed id_of es → EachSessionOnce es → IsOnce (log_of (sessions_of es) rep)
+log_of-once es rep keyed once =
+    subst (λ l. IsOnce (log_of (sessions_of l) rep)) (take_all (length es) es (omega arith)) (once_upto es rep (length es) keyed once (omega arith))
+
+-- setting the entry before those set so far
+pub set-before : (log : List EntryValue) (k : ℕ) (x : EntryValue) → IsOnce log → slice_get log k ≡ Some x → with_entry (drop (suc k) log) x ≡ drop k log
+set-before [] k x once is = absurd (none_some x is)
+set-before (e ∷ log) zero x once is =
+    ap (with_entry log) (sym (some_is e x is)) ∙ cond-false (holds log e.session) (replaced log e) (e ∷ log) once.0
+set-before (e ∷ log) (suc k) x once is = set-before log k x once.1 is
