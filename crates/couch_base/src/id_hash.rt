@@ -3,6 +3,9 @@
 //! Ids come from untrusted sources. With a fixed initial state, anyone could choose ids whose hashes collide, and each
 //! lookup would scan all of them. The hash therefore starts with the database's UUID. This protects only if the UUID is
 //! not known to the author of the ids; a UUID that the program makes follows from its seed, which is 0 by default.
+ghost use Rattle.std.specs.Prelude.{◌≡◌};
+ghost use Rattle.std.specs.Hash.{le_bytes};
+ghost use Rattle.std.specs.Hash.FoldHasher.{initial, write};
 
 use std::hash::{BuildHasher, FoldHasher, Hasher};
 
@@ -13,8 +16,10 @@ pub(crate) struct IdHash {
 }
 
 impl IdHash {
-    /// Creates the hash builder of a database.
-    pub(crate) fn new(uuid: u128) -> IdHash {
+    /// Creates the hash builder of a database. Each hash begins with the UUID.
+    pub(crate) fn new(uuid: u128) -> IdHash
+        ensures { result.begun ≡ write initial (le_bytes 16 uuid) }
+    {
         let mut begun = FoldHasher::default();
         begun.write_u128(uuid);
         IdHash { begun }
