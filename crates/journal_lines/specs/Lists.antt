@@ -1,9 +1,10 @@
 -- Lines that list the leaves of a document: docs/PROFILE.md, "Journals".
-use Rattle.std.specs.Prelude.{ℕ, List, [], ◌∷◌, ◌++◌, Option, None, Some, String, string_bytes, option_and_then, map, flat_map, codes}
+use Rattle.std.specs.Prelude.{ℕ, if◌then◌else◌, List, [], ◌∷◌, ◌++◌, Option, None, Some, String, string_bytes, option_and_then, map, flat_map, codes}
 use Rattle.std.specs.Global.{Global}
 use Rattle.json.specs.Json.{Json, Items, no_items, item, null, boolean, number, string, array, object, document}
 use Rattle.json.specs.Find.{as_str}
 use Rattle.json.specs.Print.{quoted}
+use Rattle.journal_lines.specs.Texts.{cut_at_blank, is_token, text_in}
 use Rattle.journal_lines.specs.declared.leaves.Leaves.{Leaves}
 
 -- A sequence, the id of a document, and revisions.
@@ -57,6 +58,23 @@ named_in seq (object ms) = None
 -- The leaves at a sequence that a JSON list names.
 abbrev pub list_in : List ℕ → List ℕ → Option LeavesView
 list_in seq list = option_and_then (named_in seq) (document list)
+
+abbrev pub token : List ℕ → Option (List ℕ)
+token text = if is_token text then Some text else None
+
+-- A sequence and what follows it after a blank: a JSON list of an id and revisions.
+abbrev pub leaves_at : Option (List ℕ) → Option (List ℕ) → Option LeavesView
+leaves_at None list = None
+leaves_at (Some seq) None = None
+leaves_at (Some seq) (Some list) = list_in seq list
+
+abbrev pub leaves_by : Option (List ℕ × List ℕ) → Option LeavesView
+leaves_by None = None
+leaves_by (Some parts) = leaves_at (option_and_then token (text_in parts.0)) (text_in parts.1)
+
+-- The leaves that a line names after its first word.
+abbrev pub leaves_in : List ℕ → Option LeavesView
+leaves_in rest = leaves_by (cut_at_blank rest)
 
 -- Revisions as JSON, each after a comma.
 abbrev pub revs_text : List (List ℕ) → List ℕ

@@ -1,6 +1,7 @@
 -- Strings as they are written into lines.
-use Rattle.std.specs.Prelude.{ℕ, Bool, ◌&&◌, ◌||◌, ◌==◌, not, nat_le, nat_lt, if◌then◌else◌, List, length}
-use Rattle.std.specs.List.{list_all}
+use Rattle.std.specs.Prelude.{ℕ, ◌+◌, Bool, ◌&&◌, ◌||◌, ◌==◌, not, nat_le, nat_lt, if◌then◌else◌, List, length, take, drop, Option, None, Some, bytes_eq}
+use Rattle.std.specs.List.{list_all, position}
+use Rattle.std.specs.Str.{is_utf8}
 use Rattle.json.specs.Print.{quoted}
 
 -- A letter, a digit, `-`, `_` or `.`.
@@ -19,3 +20,22 @@ is_token_byte b = nat_le 33 b && nat_le b 126 && not (b == 34) && not (b == 92)
 -- A sequence: one or more of these.
 abbrev pub is_token : List ℕ → Bool
 is_token text = nat_lt 0 (length text) && list_all is_token_byte text
+
+-- Bytes as text, if they are UTF-8.
+abbrev pub text_in : List ℕ → Option (List ℕ)
+text_in bytes = if is_utf8 bytes then Some bytes else None
+
+-- The bytes after a prefix, if they begin with it.
+abbrev pub after : List ℕ → List ℕ → Option (List ℕ)
+after prefix bytes = if bytes_eq (take (length prefix) bytes) prefix then Some (drop (length prefix) bytes) else None
+
+abbrev pub is_blank : ℕ → Bool
+is_blank b = b == 32
+
+abbrev pub cut_at : List ℕ → Option ℕ → Option (List ℕ × List ℕ)
+cut_at bytes None = None
+cut_at bytes (Some i) = Some (take i bytes, drop (i + 1) bytes)
+
+-- The bytes before and after the first blank.
+abbrev pub cut_at_blank : List ℕ → Option (List ℕ × List ℕ)
+cut_at_blank bytes = cut_at bytes (position is_blank bytes)

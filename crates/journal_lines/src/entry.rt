@@ -1,9 +1,13 @@
 //! A line of a journal.
+ghost use Rattle.std.specs.Prelude.{◌≡◌, IfOk};
+ghost use Rattle.journal_lines.specs.Lists.{leaves_in};
+ghost use Rattle.journal_lines.specs.Entries.{entry_in, entry_view, lacks_or_wrong, state_or_wrong};
+
 use crate::leaf::{Leaf, leaf_of};
 use crate::leaves::{Leaves, leaves_of};
+use crate::text::after;
 use json::Scratch;
 use std::alloc::{AllocError, Global};
-use std::str;
 
 /// A line of a journal.
 #[derive(Drop)]
@@ -19,14 +23,13 @@ pub enum Entry {
 }
 
 /// Returns what a line is.
-pub fn entry_of(alloc: Global, scratch: &mut Scratch, line: &[u8]) -> Result<Entry, AllocError> {
-    let Ok(line) = str::from_utf8(line) else {
-        return Ok(Entry::Wrong);
-    };
-    if let Some(rest) = line.strip_prefix("state ") {
+pub fn entry_of(alloc: Global, scratch: &mut Scratch, line: &[u8]) -> Result<Entry, AllocError>
+    ensures { IfOk result (λ entry. entry_view entry ≡ entry_in line.now) }
+{
+    if let Some(rest) = after(b"state ".as_slice(), line) {
         return state_of(alloc, scratch, rest);
     }
-    if let Some(rest) = line.strip_prefix("lacks ") {
+    if let Some(rest) = after(b"lacks ".as_slice(), line) {
         return lacks_of(alloc, scratch, rest);
     }
     match leaf_of(alloc, scratch, line)? {
@@ -36,7 +39,9 @@ pub fn entry_of(alloc: Global, scratch: &mut Scratch, line: &[u8]) -> Result<Ent
 }
 
 /// Returns the state that a line names after its first word.
-fn state_of(alloc: Global, scratch: &mut Scratch, rest: &str) -> Result<Entry, AllocError> {
+fn state_of(alloc: Global, scratch: &mut Scratch, rest: &[u8]) -> Result<Entry, AllocError>
+    ensures { IfOk result (λ entry. entry_view entry ≡ state_or_wrong (leaves_in rest.now)) }
+{
     match leaves_of(alloc, scratch, rest)? {
         Some(leaves) => Ok(Entry::State(leaves)),
         None => Ok(Entry::Wrong),
@@ -44,7 +49,9 @@ fn state_of(alloc: Global, scratch: &mut Scratch, rest: &str) -> Result<Entry, A
 }
 
 /// Returns the missing leaves that a line names after its first word.
-fn lacks_of(alloc: Global, scratch: &mut Scratch, rest: &str) -> Result<Entry, AllocError> {
+fn lacks_of(alloc: Global, scratch: &mut Scratch, rest: &[u8]) -> Result<Entry, AllocError>
+    ensures { IfOk result (λ entry. entry_view entry ≡ lacks_or_wrong (leaves_in rest.now)) }
+{
     match leaves_of(alloc, scratch, rest)? {
         Some(leaves) => Ok(Entry::Lacks(leaves)),
         None => Ok(Entry::Wrong),

@@ -1,10 +1,15 @@
 //! Lines that have a document.
-ghost use Rattle.std.specs.Prelude.{◌≡◌, IfOk, string_bytes};
+ghost use Rattle.std.specs.Prelude.{◌≡◌, IfOk, codes, option_and_then, option_map, string_bytes};
+ghost use Rattle.json.specs.Find.{get};
+ghost use Rattle.json.specs.Value.{value_view};
 ghost use Rattle.journal_lines.specs.Lists.{texts_of};
-ghost use Rattle.journal_lines.specs.Leafs.{knows_at, knows_rev, leaf_view, rev_at};
+ghost use Rattle.journal_lines.specs.Leafs.{ancestry_by, ancestry_in, ancestry_view, head_in, head_view, is_deleted, knows_at, knows_rev, leaf_view, line_head, rev_at};
 
+use crate::leaves::{revs_of, value_of};
+use crate::members::{items_at, number_at, text_at};
+use crate::text::text_of;
 use itoa::Buffer;
-use json::{Error, Scratch, Value};
+use json::{Scratch, Value};
 use std::alloc::{AllocError, Global};
 
 /// The head of a document: its revision and the revision's ancestry.
@@ -65,68 +70,53 @@ impl Leaf {
     }
 }
 
-/// Returns the strings of a list, if all items are strings.
-fn names_of(alloc: Global, items: &[Value<'_>]) -> Result<Option<Vec<String>>, AllocError> {
-    let mut names = Vec::new(alloc);
-    for item in items {
-        let Some(name) = item.as_str() else {
-            return Ok(None);
-        };
-        names.push(String::from_str(alloc, name)?)?;
-    }
-    Ok(Some(names))
-}
-
-/// Returns the generation and the names of `_revisions`; without that member, the list is empty.
-fn ancestry_of(alloc: Global, doc: &Value<'_>) -> Result<Option<(u64, Vec<String>)>, AllocError> {
-    let Some(revisions) = doc.get("_revisions") else {
-        return Ok(Some((0, Vec::new(alloc))));
-    };
-    let Some(start) = member_u64(revisions, "start") else {
+/// Returns the generation and the names of the value of `_revisions`.
+fn ancestry_in(
+    alloc: Global,
+    revisions: &Value<'_>,
+) -> Result<Option<(u64, Vec<String>)>, AllocError>
+    ensures { IfOk result (λ o. option_map ancestry_view o ≡ ancestry_in (value_view revisions.now)) }
+{
+    let Some(start) = number_at(revisions, "start") else {
         return Ok(None);
     };
-    let Some(Value::Array(items)) = revisions.get("ids") else {
+    let Some(items) = items_at(revisions, "ids") else {
         return Ok(None);
     };
-    match names_of(alloc, items.as_slice())? {
+    match revs_of(alloc, items.as_slice())? {
         Some(names) => Ok(Some((start, names))),
         None => Ok(None),
     }
 }
 
-/// Returns a member that is a number without sign, point and exponent.
-fn member_u64(value: &Value<'_>, name: &str) -> Option<u64> {
-    match value.get(name) {
-        Some(member) => member.as_u64(),
-        None => None,
-    }
-}
-
-/// Returns a member that is a string.
-fn member_str<'v, 'a>(value: &'v Value<'a>, name: &str) -> Option<&'a str> {
-    match value.get(name) {
-        Some(member) => member.as_str(),
-        None => None,
+/// Returns the generation and the names of `_revisions`; without that member, the list is empty.
+fn ancestry_of(alloc: Global, doc: &Value<'_>) -> Result<Option<(u64, Vec<String>)>, AllocError>
+    ensures { IfOk result (λ o. option_map ancestry_view o ≡ ancestry_by (get (codes "_revisions") (value_view doc.now))) }
+{
+    match doc.get("_revisions") {
+        Some(revisions) => ancestry_in(alloc, revisions),
+        None => Ok(Some((0, Vec::new(alloc)))),
     }
 }
 
 /// Whether a document is deleted.
-fn is_deleted(doc: &Value<'_>) -> bool {
+fn is_deleted(doc: &Value<'_>) -> bool
+    ensures { result ≡ is_deleted (value_view doc.now) }
+{
     match doc.get("_deleted") {
         Some(Value::Bool(deleted)) => *deleted,
         _ => false,
     }
 }
 
-/// Returns the head of the document of a line.
-fn head_of(alloc: Global, line: &Value<'_>) -> Result<Option<Leaf>, AllocError> {
-    let Some(doc) = line.get("doc") else {
+/// Returns the head of a document.
+fn head_of(alloc: Global, doc: &Value<'_>) -> Result<Option<Leaf>, AllocError>
+    ensures { IfOk result (λ o. option_map head_view o ≡ head_in (value_view doc.now)) }
+{
+    let Some(id) = text_at(doc, "_id") else {
         return Ok(None);
     };
-    let Some(id) = member_str(doc, "_id") else {
-        return Ok(None);
-    };
-    let Some(rev) = member_str(doc, "_rev") else {
+    let Some(rev) = text_at(doc, "_rev") else {
         return Ok(None);
     };
     let Some((start, names)) = ancestry_of(alloc, doc)? else {
@@ -143,15 +133,30 @@ fn head_of(alloc: Global, line: &Value<'_>) -> Result<Option<Leaf>, AllocError> 
     }))
 }
 
+/// Returns the head of the document of a JSON value, if it has one.
+fn head_at(alloc: Global, value: &Value<'_>) -> Result<Option<Leaf>, AllocError>
+    ensures { IfOk result (λ o. option_map head_view o ≡ option_and_then head_in (get (codes "doc") (value_view value.now))) }
+{
+    match value.get("doc") {
+        Some(doc) => head_of(alloc, doc),
+        None => Ok(None),
+    }
+}
+
 /// Returns the head of the document of a line, which is a JSON object.
 pub(crate) fn leaf_of(
     alloc: Global,
     scratch: &mut Scratch,
-    line: &str,
-) -> Result<Option<Leaf>, AllocError> {
-    match Value::parse(alloc, line, scratch) {
-        Ok(value) => head_of(alloc, &value),
-        Err(Error::OutOfMemory) => Err(AllocError),
-        Err(_) => Ok(None),
-    }
+    line: &[u8],
+) -> Result<Option<Leaf>, AllocError>
+    ensures { IfOk result (λ o. option_map head_view o ≡ line_head line.now) }
+{
+    let Some(text) = text_of(line) else {
+        return Ok(None);
+    };
+    let Some(value) = value_of(alloc, scratch, text)? else {
+        return Ok(None);
+    };
+    let head = head_at(alloc, &value)?;
+    Ok(head)
 }

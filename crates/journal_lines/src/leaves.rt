@@ -1,14 +1,13 @@
 //! Lines that list the leaves of a document.
-ghost use Rattle.std.specs.Prelude.{◌≡◌, ◌++◌, IfOk, OnOk, codes, option_map};
+ghost use Rattle.std.specs.Prelude.{◌≡◌, ◌++◌, IfOk, OnOk, codes, option_and_then, option_map};
 ghost use Rattle.std.specs.List.{list_all};
 ghost use Rattle.json.specs.Json.{document};
 ghost use Rattle.json.specs.Value.{value_view, items_view};
-ghost use Rattle.journal_lines.specs.Texts.{is_token, is_token_byte};
-ghost use Rattle.journal_lines.specs.Lists.{leaves_line, list_in, leaves_view, named_in, revs_json, revs_text, texts_of};
+ghost use Rattle.journal_lines.specs.Texts.{is_token, is_token_byte, text_in};
+ghost use Rattle.journal_lines.specs.Lists.{leaves_in, leaves_line, token, list_in, leaves_view, named_in, revs_json, revs_text, texts_of};
 
-use crate::text::push_json;
+use crate::text::{cut_at_blank, push_json, text_of};
 use json::{Error, Scratch, Value};
-use memchr::memchr;
 use std::alloc::{AllocError, Global};
 
 /// The leaves of a document at a sequence.
@@ -48,7 +47,7 @@ pub fn is_token(text: &str) -> bool
 }
 
 /// Returns the strings of a list after its first item, if all are strings.
-fn revs_of(alloc: Global, items: &[Value<'_>]) -> Result<Option<Vec<String>>, AllocError>
+pub(crate) fn revs_of(alloc: Global, items: &[Value<'_>]) -> Result<Option<Vec<String>>, AllocError>
     ensures { IfOk result (λ o. option_map (λ v. texts_of v.items) o ≡ revs_json (items_view items.now)) }
 {
     let mut revs = Vec::new(alloc);
@@ -83,7 +82,7 @@ fn named_of(alloc: Global, seq: &str, value: &Value<'_>) -> Result<Option<Leaves
 }
 
 /// Returns the JSON value of a text, if it is one.
-fn value_of<'a>(
+pub fn value_of<'a>(
     alloc: Global,
     scratch: &'a mut Scratch,
     text: &'a str,
@@ -113,18 +112,33 @@ fn list_of(
     Ok(leaves)
 }
 
+/// Returns a sequence, if bytes are one.
+fn seq_of(bytes: &[u8]) -> Option<&str>
+    ensures { option_map (λ s. s.now) result ≡ option_and_then token (text_in bytes.now) }
+{
+    match text_of(bytes) {
+        Some(text) if is_token(text) => Some(text),
+        _ => None,
+    }
+}
+
 /// Returns the leaves that a line names after its first word: a sequence, a blank and a JSON list.
 pub(crate) fn leaves_of(
     alloc: Global,
     scratch: &mut Scratch,
-    rest: &str,
-) -> Result<Option<Leaves>, AllocError> {
-    let Some((seq, list)) = rest.split_once(' ') else {
+    rest: &[u8],
+) -> Result<Option<Leaves>, AllocError>
+    ensures { IfOk result (λ o. option_map leaves_view o ≡ leaves_in rest.now) }
+{
+    let Some((seq, list)) = cut_at_blank(rest) else {
         return Ok(None);
     };
-    if !is_token(seq) {
+    let Some(seq) = seq_of(seq) else {
         return Ok(None);
-    }
+    };
+    let Some(list) = text_of(list) else {
+        return Ok(None);
+    };
     list_of(alloc, scratch, seq, list)
 }
 

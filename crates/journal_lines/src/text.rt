@@ -1,11 +1,46 @@
 //! Strings as they are written into lines.
-ghost use Rattle.std.specs.Prelude.{◌≡◌, ◌++◌, OnOk};
-ghost use Rattle.std.specs.List.{list_all};
+ghost use Rattle.std.specs.Prelude.{◌≡◌, ◌++◌, OnOk, option_map};
+ghost use Rattle.std.specs.List.{list_all, position};
 ghost use Rattle.json.specs.Print.{quoted};
-ghost use Rattle.journal_lines.specs.Texts.{is_plain_byte, rev_text};
+ghost use Rattle.journal_lines.specs.Texts.{after, cut_at_blank, is_blank, is_plain_byte, rev_text, text_in};
 
 use json::Writer;
 use std::alloc::{AllocError, Global};
+use std::str;
+
+/// Returns bytes as text, if they are UTF-8.
+pub fn text_of(bytes: &[u8]) -> Option<&str>
+    ensures { option_map (λ s. s.now) result ≡ text_in bytes.now }
+{
+    match str::from_utf8(bytes) {
+        Ok(text) => Some(text),
+        Err(_) => None,
+    }
+}
+
+/// Returns the bytes after a prefix, if they begin with it.
+pub(crate) fn after<'a>(prefix: &[u8], bytes: &'a [u8]) -> Option<&'a [u8]>
+    ensures { option_map (λ s. s.now) result ≡ after prefix.now bytes.now }
+{
+    bytes.strip_prefix(prefix)
+}
+
+/// Returns the index of the first blank.
+fn first_blank(bytes: &[u8]) -> Option<usize>
+    ensures { result ≡ position is_blank bytes.now }
+{
+    bytes.iter().position(|b| *b == b' ')
+}
+
+/// Returns the bytes before and after the first blank.
+pub(crate) fn cut_at_blank(bytes: &[u8]) -> Option<(&[u8], &[u8])>
+    ensures { option_map (λ p. (p.0.now, p.1.now)) result ≡ cut_at_blank bytes.now }
+{
+    let Some(end) = first_blank(bytes) else {
+        return None;
+    };
+    Some((&bytes[..end], &bytes[end + 1..]))
+}
 
 /// Appends a string as JSON.
 pub fn push_json(alloc: Global, out: &mut Vec<u8>, text: &str) -> Result<(), AllocError>
