@@ -1,6 +1,7 @@
 -- What is printed of a response that describes a server or a database.
-use Rattle.std.specs.Prelude.{ℕ, Bool, if◌then◌else◌, List, ◌++◌, bytes_eq, codes}
-use Rattle.json.specs.Json.{Json}
+use Rattle.std.specs.Prelude.{ℕ, Bool, true, false, ◌&&◌, not, is_some, if◌then◌else◌, List, ◌++◌, bytes_eq, codes}
+use Rattle.json.specs.Json.{Json, null, boolean, number, string, array, object}
+use Rattle.json.specs.Find.{get}
 use Rattle.journal_responses.specs.Members.{seq_at, text_or}
 
 -- A member that is a sequence; `-` if it is missing.
@@ -15,3 +16,15 @@ abbrev pub info_text : Json → List ℕ
 info_text j =
     codes "info " ++ word_or_none (codes "uuid") j ++ codes " " ++ instance_by (word_or_none (codes "instance_start_time") j)
     ++ codes " " ++ word_or_none (codes "update_seq") j ++ codes "\n"
+
+abbrev pub is_object : Json → Bool
+is_object null = false
+is_object (boolean b) = false
+is_object (number s) = false
+is_object (string s) = false
+is_object (array js) = false
+is_object (object ms) = true
+
+-- Whether a value describes a server or a database: an object without a member `error`.
+abbrev pub is_info : Json → Bool
+is_info j = is_object j && not (is_some (get (codes "error") j))

@@ -1,4 +1,5 @@
 pub mod Members
+pub mod Responses
 pub mod Pages
 pub mod Refusals
 pub mod Infos

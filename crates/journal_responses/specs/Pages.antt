@@ -1,11 +1,12 @@
 -- A page of changes, and what is printed of it.
-use Rattle.std.specs.Prelude.{ℕ, Bool, true, ◌&&◌, ◌==◌, not, nat_le, nat_lt, if◌then◌else◌, List, [], ◌∷◌, ◌++◌, Option, None, Some, option_map, option_and_then, codes, decimal, length, bytes_eq, flat_map, fold}
-use Rattle.std.specs.List.{list_all, list_any}
+use Rattle.std.specs.Prelude.{ℕ, Bool, true, ◌&&◌, ◌==◌, not, nat_eq, nat_le, if◌then◌else◌, List, [], ◌++◌, Option, None, Some, option_map, option_and_then, codes, decimal, length, flat_map, fold}
+use Rattle.std.specs.List.{list_all}
 use Rattle.std.specs.Char.{is_ascii_digit}
 use Rattle.json.specs.Json.{Json, Items, null, boolean, number, string, array, object}
 use Rattle.json.specs.Find.{get}
 use Rattle.journal_lines.specs.Lists.{LeavesView, leaves_line}
 use Rattle.journal_lines.specs.Lists.{each_item}
+use Rattle.journal_lines.specs.Docs.{add_rev}
 use Rattle.journal_responses.specs.Members.{text_at, items_at, seq_in, seq_at, both}
 
 -- Whether a revision has no control character.
@@ -19,13 +20,17 @@ plain text = if is_plain text then Some text else None
 abbrev pub rev_in : Json → Option (List ℕ)
 rev_in change = option_and_then plain (text_at (codes "rev") change)
 
--- Revisions, and another one if it is new.
-abbrev pub add_rev : List (List ℕ) → List ℕ → List (List ℕ)
-add_rev revs rev = if list_any (bytes_eq rev) revs then revs else revs ++ rev ∷ []
-
 -- Each revision once.
 abbrev pub each_once : List (List ℕ) → List (List ℕ)
 each_once revs = fold add_rev [] revs
+
+-- Revisions, if there is one.
+abbrev pub some_revs : List (List ℕ) → Option (List (List ℕ))
+some_revs revs = if nat_eq (length revs) 0 then None else Some revs
+
+-- The revisions of a list of changes. A row has at least one: docs/PROFILE.md, "CouchDB's answers".
+abbrev pub changes_in : Items → Option (List (List ℕ))
+changes_in changes = option_and_then some_revs (each_item rev_in changes)
 
 -- The sequence of a row: `-` if it is missing or `null`.
 abbrev pub row_seq : Option Json → Option (List ℕ)
@@ -42,7 +47,7 @@ row_by p = (p.1.0, p.0, each_once p.1.1)
 
 -- The sequence, the id and the leaves of a row.
 abbrev pub row_in : Json → Option LeavesView
-row_in row = option_map row_by (both (text_at (codes "id") row) (both (row_seq (get (codes "seq") row)) (option_and_then (each_item rev_in) (items_at (codes "changes") row))))
+row_in row = option_map row_by (both (text_at (codes "id") row) (both (row_seq (get (codes "seq") row)) (option_and_then changes_in (items_at (codes "changes") row))))
 
 abbrev pub rows_in : Json → Option (List LeavesView)
 rows_in page = option_and_then (each_item row_in) (items_at (codes "results") page)

@@ -1,7 +1,8 @@
 //! The identity of a server and of a database.
-ghost use Rattle.std.specs.Prelude.{◌≡◌, ◌++◌, OnOk, codes};
+ghost use Rattle.std.specs.Prelude.{◌≡◌, ◌++◌, IfErr, OnOk, codes, false, true};
 ghost use Rattle.json.specs.Value.{value_view};
-ghost use Rattle.journal_responses.specs.Infos.{info_text, instance_by, word_or_none};
+ghost use Rattle.journal_responses.specs.Infos.{info_text, instance_by, is_info, is_object, word_or_none};
+ghost use Rattle.journal_responses.specs.Responses.{IsOther, IsSaid};
 
 use crate::members::seq_at;
 use crate::said::{Said, said_of};
@@ -40,16 +41,32 @@ fn push_info(text: &mut Vec<u8>, value: &Value<'_>) -> Result<(), AllocError>
     Ok(())
 }
 
+/// Whether a value is an object.
+fn is_object(value: &Value<'_>) -> bool
+    ensures { result ≡ is_object (value_view value.now) }
+{
+    matches!(value, Value::Object(_))
+}
+
+/// Whether a value describes a server or a database.
+fn is_info(value: &Value<'_>) -> bool
+    ensures { result ≡ is_info (value_view value.now) }
+{
+    is_object(value) && value.get("error").is_none()
+}
+
 /// Appends what a response says of a server or of a database.
 ///
 /// # Errors
 ///
 /// `Error` or `Other` if the value is no object or an error; `Memory`.
 pub fn info_of(alloc: Global, text: &mut Vec<u8>, value: &Value<'_>) -> Result<(), Said>
-    ensures { OnOk result (text.new.items ≡ text.old.items ++ info_text (value_view value.now)) }
+    ensures ok { OnOk result ((text.new.items ≡ text.old.items ++ info_text (value_view value.now))
+        × (is_info (value_view value.now) ≡ true)) }
+    ensures err { IfErr result (λ said. IsOther said → is_info (value_view value.now) ≡ false) }
+    ensures said { IfErr result (IsSaid (value_view value.now)) }
 {
-    let is_object = matches!(value, Value::Object(_));
-    if !is_object || value.get("error").is_some() {
+    if !is_info(value) {
         return Err(said_of(alloc, value));
     }
     push_info(text, value)?;

@@ -2,46 +2,16 @@
 ghost use Rattle.std.specs.Prelude.{◌≡◌, option_map};
 ghost use Rattle.std.specs.Char.{is_ascii_digit};
 ghost use Rattle.std.specs.List.{list_all};
-ghost use Rattle.json.specs.Find.{as_array};
-ghost use Rattle.json.specs.Value.{value_view, items_view};
-ghost use Rattle.journal_responses.specs.Members.{text_at, items_at, token_in, seq_in, seq_at};
+ghost use Rattle.json.specs.Value.{value_view};
+ghost use Rattle.journal_lines.specs.Lists.{token};
+ghost use Rattle.journal_responses.specs.Members.{seq_in, seq_at};
 
 use journal_lines::is_token;
 use json::Value;
 
-/// Returns a member that is a string.
-pub(crate) fn text_at<'v, 'a>(value: &'v Value<'a>, name: &str) -> Option<&'a str>
-    ensures { option_map (λ s. s.now) result ≡ text_at name.now (value_view value.now) }
-{
-    match value.get(name) {
-        Some(member) => member.as_str(),
-        None => None,
-    }
-}
-
-/// Returns the items of a list.
-pub(crate) fn items_of<'v, 'a>(value: &'v Value<'a>) -> Option<&'v Vec<Value<'a>>>
-    ensures { option_map (λ v. items_view v.now.items) result ≡ as_array (value_view value.now) }
-{
-    match value {
-        Value::Array(items) => Some(items),
-        _ => None,
-    }
-}
-
-/// Returns a member that is a list.
-pub(crate) fn items_at<'v, 'a>(value: &'v Value<'a>, name: &str) -> Option<&'v Vec<Value<'a>>>
-    ensures { option_map (λ v. items_view v.now.items) result ≡ items_at name.now (value_view value.now) }
-{
-    match value.get(name) {
-        Some(member) => items_of(member),
-        None => None,
-    }
-}
-
 /// Returns a string if it is a sequence.
 fn token_of<'a>(text: &'a str) -> Option<&'a str>
-    ensures { option_map (λ s. s.now) result ≡ token_in text.now }
+    ensures { option_map (λ s. s.now) result ≡ token text.now }
 {
     if is_token(text) { Some(text) } else { None }
 }

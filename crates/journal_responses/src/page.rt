@@ -5,13 +5,14 @@ ghost use Rattle.json.specs.Find.{get};
 ghost use Rattle.json.specs.Value.{value_view, items_view};
 ghost use Rattle.journal_lines.specs.Lists.{leaves_view, texts_of};
 ghost use Rattle.journal_lines.specs.Lists.{each_item};
-ghost use Rattle.journal_responses.specs.Pages.{each_once, is_plain, is_printed, last_line, page_in, pending_in, rev_in, row_in, row_seq, row_text, rows_text};
-ghost use Rattle.journal_responses.specs.Stored.{IsOther, page_text};
+ghost use Rattle.journal_responses.specs.Pages.{changes_in, each_once, is_plain, is_printed, last_line, page_in, pending_in, rev_in, row_in, row_seq, row_text, rows_text};
+ghost use Rattle.journal_responses.specs.Responses.{IsOther, IsSaid};
+ghost use Rattle.journal_responses.specs.Stored.{page_text};
 
-use crate::members::{are_digits, items_at, seq_at, seq_of, text_at};
+use crate::members::{are_digits, seq_at, seq_of};
 use crate::said::{Said, said_of};
 use itoa::Buffer;
-use journal_lines::{Leaves, push_leaves};
+use journal_lines::{Leaves, items_at, push_leaves, text_at};
 use json::Value;
 use std::alloc::{AllocError, Global};
 
@@ -44,6 +45,16 @@ fn revs_of(alloc: Global, changes: &Vec<Value<'_>>) -> Result<Option<Vec<String>
         revs.push(String::from_str(alloc, rev)?)?;
     }
     Ok(Some(revs))
+}
+
+/// Returns the revisions of a list of changes, which has at least one.
+fn changes_of(alloc: Global, changes: &Vec<Value<'_>>) -> Result<Option<Vec<String>>, AllocError>
+    ensures { IfOk result (λ o. option_map (λ v. texts_of v.items) o ≡ changes_in (items_view changes.now.items)) }
+{
+    match revs_of(alloc, changes)? {
+        Some(revs) if !revs.is_empty() => Ok(Some(revs)),
+        _ => Ok(None),
+    }
 }
 
 /// Whether a revision is in a list.
@@ -94,7 +105,7 @@ fn row_of(alloc: Global, row: &Value<'_>) -> Result<Option<Leaves>, AllocError>
     let Some(changes) = items_at(row, "changes") else {
         return Ok(None);
     };
-    let Some(revs) = revs_of(alloc, changes)? else {
+    let Some(revs) = changes_of(alloc, changes)? else {
         return Ok(None);
     };
     let revs = each_once(alloc, revs.as_slice())?;
@@ -181,7 +192,7 @@ struct Page {
     pending: String,
 }
 
-/// Returns the page that a value is.
+/// Returns the page that a value is: each row has a sequence, an id and at least one revision.
 fn read_page(alloc: Global, value: &Value<'_>) -> Result<Option<Page>, AllocError>
     ensures { IfOk result (λ o. (several : Bool) → option_map (page_text several) o ≡ page_in several (value_view value.now)) }
 {
@@ -244,7 +255,8 @@ fn push_page(
 ///
 /// # Errors
 ///
-/// `Error` or `Other` if the value is not a page; `Memory`. After an error, part of the text may be appended.
+/// `Error` if the value is not a page and is an error of CouchDB, `Other` if it is another value; `Memory`. After an error, part
+/// of the text may be appended.
 pub fn page_of(
     alloc: Global,
     text: &mut Vec<u8>,
@@ -253,6 +265,7 @@ pub fn page_of(
 ) -> Result<(), Said>
     ensures ok { OnOk result (IsSomeAnd (page_in several (value_view value.now)) (λ page. text.new.items ≡ text.old.items ++ page)) }
     ensures err { IfErr result (λ said. IsOther said → page_in several (value_view value.now) ≡ None) }
+    ensures said { IfErr result (IsSaid (value_view value.now)) }
 {
     let Some(page) = read_page(alloc, value)? else {
         return Err(said_of(alloc, value));

@@ -3,11 +3,10 @@ ghost use Rattle.std.specs.Prelude.{◌≡◌, ◌++◌, IfErr, IfOk, IsSomeAnd,
 ghost use Rattle.json.specs.Find.{as_array};
 ghost use Rattle.json.specs.Value.{value_view, items_view};
 ghost use Rattle.journal_responses.specs.Refusals.{any_refused, entry_text, is_refused, refused_line, refused_text, word_at};
-ghost use Rattle.journal_responses.specs.Stored.{IsOther};
+ghost use Rattle.journal_responses.specs.Responses.{IsOther, IsSaid};
 
-use crate::members::{items_of, text_at};
 use crate::said::{Said, said_of};
-use journal_lines::push_json;
+use journal_lines::{items_of, push_json, text_at};
 use json::Value;
 use std::alloc::{AllocError, Global};
 
@@ -82,6 +81,7 @@ pub fn refused_of(alloc: Global, text: &mut Vec<u8>, value: &Value<'_>) -> Resul
     ensures ok { IfOk result (λ refused. IsSomeAnd (as_array (value_view value.now)) (λ entries.
         (text.new.items ≡ text.old.items ++ refused_text entries) × (refused ≡ any_refused entries))) }
     ensures err { IfErr result (λ said. IsOther said → as_array (value_view value.now) ≡ None) }
+    ensures said { IfErr result (IsSaid (value_view value.now)) }
 {
     let Some(entries) = items_of(value) else {
         return Err(said_of(alloc, value));

@@ -1,11 +1,13 @@
 //! What a response is.
-ghost use Rattle.std.specs.Prelude.{◌≡◌};
+ghost use Rattle.std.specs.Prelude.{◌≡◌, IfErr, IfOk, Some, option_map};
+ghost use Rattle.json.specs.Json.{document};
+ghost use Rattle.json.specs.Value.{value_view};
+ghost use Rattle.journal_responses.specs.Responses.{IsErrorOf, IsSaid, IsUnread, error_in, response_in};
 ghost use Rattle.journal_responses.specs.declared.said.Said.TheVariants.{Memory};
 
-use crate::members::text_at;
+use journal_lines::{text_at, text_of};
 use json::{Error, Scratch, Value};
 use std::alloc::{AllocError, Global};
-use std::str;
 
 /// Why a response is not the one that was asked for.
 #[derive(Drop)]
@@ -28,19 +30,11 @@ impl From<AllocError> for Said {
     }
 }
 
-/// Returns the JSON value of a response.
-///
-/// # Errors
-///
-/// `NotJson`; or `Memory`.
-pub fn read_said<'a>(
-    alloc: Global,
-    scratch: &'a mut Scratch,
-    body: &'a [u8],
-) -> Result<Value<'a>, Said> {
-    let Ok(text) = str::from_utf8(body) else {
-        return Err(Said::NotJson);
-    };
+/// Returns the JSON value of a text.
+fn value_of<'a>(alloc: Global, scratch: &'a mut Scratch, text: &'a str) -> Result<Value<'a>, Said>
+    ensures ok { IfOk result (λ value. document text.now ≡ Some (value_view value)) }
+    ensures err { IfErr result (IsUnread (document text.now)) }
+{
     match Value::parse(alloc, text, scratch) {
         Ok(value) => Ok(value),
         Err(Error::OutOfMemory) => Err(Said::Memory),
@@ -48,20 +42,53 @@ pub fn read_said<'a>(
     }
 }
 
-/// Returns what another value says than the one that was asked for.
-pub(crate) fn said_of(alloc: Global, value: &Value<'_>) -> Said {
+/// Returns the JSON value of a response.
+///
+/// # Errors
+///
+/// `NotJson` if the response is not one JSON value in UTF-8; `Memory`.
+pub fn read_said<'a>(
+    alloc: Global,
+    scratch: &'a mut Scratch,
+    body: &'a [u8],
+) -> Result<Value<'a>, Said>
+    ensures ok { IfOk result (λ value. response_in body.now ≡ Some (value_view value)) }
+    ensures err { IfErr result (IsUnread (response_in body.now)) }
+{
+    let Some(text) = text_of(body) else {
+        return Err(Said::NotJson);
+    };
+    value_of(alloc, scratch, text)
+}
+
+/// Returns the members of an error of CouchDB, if a value is one.
+fn error_in<'v, 'a>(value: &'v Value<'a>) -> Option<(&'a str, &'a str)>
+    ensures { option_map (λ p. (p.0.now, p.1.now)) result ≡ error_in (value_view value.now) }
+{
     match (text_at(value, "error"), text_at(value, "reason")) {
-        (Some(error), Some(reason)) => match error_of(alloc, error, reason) {
-            Ok(said) => said,
-            Err(refused) => Said::from(refused),
-        },
-        _ => Said::Other,
+        (Some(error), Some(reason)) => Some((error, reason)),
+        _ => None,
     }
 }
 
 /// Returns an error of CouchDB.
-fn error_of(alloc: Global, error: &str, reason: &str) -> Result<Said, AllocError> {
+fn error_of(alloc: Global, error: &str, reason: &str) -> Result<Said, AllocError>
+    ensures { IfOk result (IsErrorOf error.now reason.now) }
+{
     let error = String::from_str(alloc, error)?;
     let reason = String::from_str(alloc, reason)?;
     Ok(Said::Error(error, reason))
+}
+
+/// Returns what a value is if it is not the one that was asked for.
+pub(crate) fn said_of(alloc: Global, value: &Value<'_>) -> Said
+    ensures { IsSaid (value_view value.now) result }
+{
+    let Some((error, reason)) = error_in(value) else {
+        return Said::Other;
+    };
+    match error_of(alloc, error, reason) {
+        Ok(said) => said,
+        Err(refused) => Said::from(refused),
+    }
 }

@@ -1,0 +1,42 @@
+-- What a response is, and why one is not the response that was asked for.
+use Rattle.std.specs.Prelude.{◌≡◌, ℕ, List, Option, None, Some, codes, option_and_then, string_bytes, ⊤}
+use Rattle.json.specs.Json.{Json, document}
+use Rattle.journal_lines.specs.Texts.{text_in}
+use Rattle.journal_responses.specs.Members.{both, text_at}
+use Rattle.journal_responses.specs.declared.said.Said.{Said}
+use Rattle.journal_responses.specs.declared.said.Said.TheVariants.{Error, NotJson, Other, Memory}
+
+-- The JSON value of a response, which is UTF-8.
+abbrev pub response_in : List ℕ → Option Json
+response_in body = option_and_then document (text_in body)
+
+-- Why a response has no JSON value, or an allocation failed.
+abbrev pub IsUnread : Option Json → Said → Type 0
+IsUnread value (Error error reason) = ⊥
+IsUnread value NotJson = value ≡ None
+IsUnread value Other = ⊥
+IsUnread value Memory = ⊤
+
+-- An error of CouchDB: its members `error` and `reason`, if both are strings.
+abbrev pub error_in : Json → Option (List ℕ × List ℕ)
+error_in j = both (text_at (codes "error") j) (text_at (codes "reason") j)
+
+abbrev pub IsErrorOf : List ℕ → List ℕ → Said → Type 0
+IsErrorOf error reason (Error e r) = (string_bytes e ≡ error) × (string_bytes r ≡ reason)
+IsErrorOf error reason NotJson = ⊥
+IsErrorOf error reason Other = ⊥
+IsErrorOf error reason Memory = ⊥
+
+-- What a value is if it is not the response that was asked for: an error of CouchDB, or another value. Or an allocation failed.
+abbrev pub IsSaid : Json → Said → Type 0
+IsSaid j (Error error reason) = error_in j ≡ Some (string_bytes error, string_bytes reason)
+IsSaid j NotJson = ⊥
+IsSaid j Other = error_in j ≡ None
+IsSaid j Memory = ⊤
+
+-- The response is another one than was asked for; otherwise an allocation failed.
+abbrev pub IsOther : Said → Type 0
+IsOther (Error error reason) = ⊤
+IsOther NotJson = ⊤
+IsOther Other = ⊤
+IsOther Memory = ⊥
