@@ -22,7 +22,7 @@ pub(crate) enum Ended {
     NoSums,
     /// The second copy of the journal differs from the first.
     Differs,
-    /// The response is another one than was asked for.
+    /// The response is not the requested one.
     Said(Said),
     /// A device or an allocation failed.
     Fault(ScriptFault),

@@ -96,7 +96,7 @@ fn tell(rt: &impl Eprint, ended: &Ended) -> u8
     }
 }
 
-/// Reports what a response is, and returns the exit status.
+/// Reports why a response is not the requested one, and returns the exit status.
 fn tell_said(rt: &impl Eprint, said: &Said) -> u8
     ensures { result ≤ 3 }
 {

@@ -21,7 +21,7 @@ enum Response {
     Info,
 }
 
-/// Appends what a response says. Returns whether something is refused.
+/// Appends the output for a response. Returns whether the response refuses a document.
 fn read_response(
     alloc: Global,
     response: Response,

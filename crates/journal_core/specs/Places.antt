@@ -52,7 +52,7 @@ abbrev pub ended_by : Place → List ℕ → Option (List ℕ) → Place
 ended_by place line None = damaged place
 ended_by place line (Some hash) = closed place line hash
 
--- The place after a line that ends a block, right or wrong.
+-- The place after a line that ends a block, whether its checksum is right or wrong.
 abbrev pub ended : Place → List ℕ → Place
 ended place line = ended_by place line (end_in place line)
 
@@ -82,7 +82,7 @@ pub record IsAt (blocks : Blocks) (place : Place) : Type 0 where
 abbrev pub is_confirmed : Place → Bool
 is_confirmed place = place.whole && nat_eq (length (joined place.held)) 0
 
--- What a line is: `place` is the place before it, and `place'` the place after it.
+-- The effect of a line, given the places before (`place`) and after it (`place'`).
 abbrev pub TookAs : Place → Place → List ℕ → Took → Type 0
 TookAs place place' line Held = place' ≡ held_more place line
 TookAs place place' line (Closed body) = (hash : List ℕ) × (place' ≡ closed place line hash) × (body.items ≡ joined place.held)

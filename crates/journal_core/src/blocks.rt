@@ -7,7 +7,7 @@ use crate::sums::{added, hash_of, is_same, is_sum, seq_in, sum_head, sum_line};
 use std::alloc::{AllocError, Global};
 use std::mem;
 
-/// What a line is to a journal.
+/// The effect of a line on a journal.
 #[derive(Drop)]
 pub enum Took {
     /// A line of the current block.

@@ -19,7 +19,7 @@ leaf_view leaf = (string_bytes leaf.rev, leaf.start, texts_of leaf.names.items)
 abbrev pub rev_at : ℕ → List ℕ → List ℕ
 rev_at generation name = decimal generation ++ codes "-" ++ name
 
--- Whether a revision is one of these names, which have the generations from `start` down.
+-- Whether a revision is one of these names, whose generations go down from `start`.
 abbrev pub knows_at : List ℕ → ℕ → List (List ℕ) → Bool
 knows_at rev start [] = false
 knows_at rev start (name ∷ names) = bytes_eq rev (rev_at start name) || knows_at rev (start - 1) names

@@ -1,4 +1,4 @@
--- Strings as they are written into lines.
+-- The text of strings in lines.
 use Rattle.std.specs.Prelude.{ℕ, ◌+◌, Bool, ◌&&◌, ◌||◌, ◌==◌, not, nat_le, nat_lt, if◌then◌else◌, List, length, take, drop, Option, None, Some, bytes_eq}
 use Rattle.std.specs.List.{list_all, position}
 use Rattle.std.specs.Str.{is_utf8}
@@ -9,7 +9,7 @@ abbrev pub is_plain_byte : ℕ → Bool
 is_plain_byte b =
     nat_le 97 b && nat_le b 122 || nat_le 65 b && nat_le b 90 || nat_le 48 b && nat_le b 57 || b == 45 || b == 95 || b == 46
 
--- A revision in a line: as it is if all its bytes are such, otherwise as a JSON string.
+-- A revision in a line: unchanged if all its bytes are letters, digits, `-`, `_` or `.`, otherwise a JSON string.
 abbrev pub rev_text : List ℕ → List ℕ
 rev_text rev = if list_all is_plain_byte rev then rev else quoted rev
 
@@ -17,7 +17,7 @@ rev_text rev = if list_all is_plain_byte rev then rev else quoted rev
 abbrev pub is_token_byte : ℕ → Bool
 is_token_byte b = nat_le 33 b && nat_le b 126 && not (b == 34) && not (b == 92)
 
--- A sequence: one or more of these.
+-- Whether a text is a sequence: one or more such characters.
 abbrev pub is_token : List ℕ → Bool
 is_token text = nat_lt 0 (length text) && list_all is_token_byte text
 

@@ -22,7 +22,7 @@ pub enum Entry {
     Wrong,
 }
 
-/// Returns what a line is.
+/// Parses a line of a journal.
 pub fn entry_of(alloc: Global, scratch: &mut Scratch, line: &[u8]) -> Result<Entry, AllocError>
     ensures { IfOk result (λ entry. entry_view entry ≡ entry_in line.now) }
 {

@@ -38,7 +38,7 @@ pub fn rev_of(alloc: Global, generation: u64, name: &str) -> Result<String, Allo
     Ok(rev)
 }
 
-/// Whether a revision is one of these, which have the generations from `start` down.
+/// Whether a revision is one of these names, whose generations go down from `start`.
 fn is_in(alloc: Global, rev: &str, start: u64, names: &[String]) -> Result<bool, AllocError>
     ensures { IfOk result (λ is_in. is_in ≡ knows_at rev.now start (texts_of names.now)) }
 {

@@ -1,4 +1,4 @@
-//! Strings as they are written into lines.
+//! The text of strings in lines.
 ghost use Rattle.std.specs.Prelude.{◌≡◌, ◌++◌, OnOk, option_map};
 ghost use Rattle.std.specs.List.{list_all, position};
 ghost use Rattle.json.specs.Print.{quoted};
@@ -53,7 +53,7 @@ pub fn push_json(alloc: Global, out: &mut Vec<u8>, text: &str) -> Result<(), All
     Ok(())
 }
 
-/// Whether a byte of a revision is written as it is.
+/// Whether a byte of a revision is written without escaping.
 fn is_plain_byte(byte: u8) -> bool
     ensures { result ≡ is_plain_byte byte }
 {
@@ -65,14 +65,14 @@ fn is_plain_byte(byte: u8) -> bool
         || byte == b'.'
 }
 
-/// Whether all bytes of a revision are written as they are.
+/// Whether all bytes of a revision are written without escaping.
 fn is_plain(bytes: &[u8]) -> bool
     ensures { result ≡ list_all is_plain_byte bytes.now }
 {
     bytes.iter().all(|b| is_plain_byte(*b))
 }
 
-/// Appends a revision: as it is if it consists of letters, digits, `-`, `_` and `.`, otherwise as JSON.
+/// Appends a revision: unchanged if it consists of letters, digits, `-`, `_` and `.`, otherwise as a JSON string.
 pub fn push_rev(alloc: Global, out: &mut Vec<u8>, rev: &str) -> Result<(), AllocError>
     ensures { OnOk result (out.new.items ≡ out.old.items ++ rev_text rev.now) }
 {

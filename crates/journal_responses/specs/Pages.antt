@@ -1,4 +1,4 @@
--- A page of changes, and what is printed of it.
+-- A page of changes, and its output.
 use Rattle.std.specs.Prelude.{ℕ, Bool, true, ◌&&◌, ◌==◌, not, nat_eq, nat_le, if◌then◌else◌, List, [], ◌++◌, Option, None, Some, option_map, option_and_then, codes, decimal, length, flat_map, fold}
 use Rattle.std.specs.List.{list_all}
 use Rattle.std.specs.Char.{is_ascii_digit}
@@ -79,6 +79,6 @@ last_line rows last pending = codes "page " ++ decimal rows ++ codes " " ++ last
 abbrev pub page_by : Bool → List LeavesView × (List ℕ × List ℕ) → List ℕ
 page_by several p = rows_text several p.0 ++ last_line (length p.0) p.1.0 p.1.1
 
--- What is printed of a page.
+-- The output for a page.
 abbrev pub page_in : Bool → Json → Option (List ℕ)
 page_in several page = option_map (page_by several) (both (rows_in page) (both (seq_at (codes "last_seq") page) (pending_in (get (codes "pending") page))))

@@ -34,7 +34,7 @@ IsSaid j NotJson = ⊥
 IsSaid j Other = error_in j ≡ None
 IsSaid j Memory = ⊤
 
--- The response is another one than was asked for; otherwise an allocation failed.
+-- The response is not the requested one; otherwise an allocation failed.
 abbrev pub IsOther : Said → Type 0
 IsOther (Error error reason) = ⊤
 IsOther NotJson = ⊤

@@ -1,9 +1,9 @@
--- What stored values stand for.
+-- The meaning of stored values.
 use Rattle.std.specs.Prelude.{ℕ, Bool, List, map, string_bytes}
 use Rattle.journal_lines.specs.Lists.{leaves_view}
 use Rattle.journal_responses.specs.Pages.{page_by}
 use Rattle.journal_responses.specs.declared.page.Page.{Page}
 
--- What is printed of a page.
+-- The output for a page.
 abbrev pub page_text : Bool → Page → List ℕ
 page_text several page = page_by several (map leaves_view page.rows.items, (string_bytes page.last, string_bytes page.pending))

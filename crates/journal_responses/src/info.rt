@@ -55,7 +55,7 @@ fn is_info(value: &Value<'_>) -> bool
     is_object(value) && value.get("error").is_none()
 }
 
-/// Appends what a response says of a server or of a database.
+/// Appends the description of a server or a database from a response.
 ///
 /// # Errors
 ///

@@ -1,4 +1,4 @@
-//! What a response is.
+//! Responses that are not the requested ones.
 ghost use Rattle.std.specs.Prelude.{◌≡◌, IfErr, IfOk, Some, option_map};
 ghost use Rattle.json.specs.Json.{document};
 ghost use Rattle.json.specs.Value.{value_view};
@@ -9,7 +9,7 @@ use journal_lines::{text_at, text_of};
 use json::{Error, Scratch, Value};
 use std::alloc::{AllocError, Global};
 
-/// Why a response is not the one that was asked for.
+/// Why a response is not the requested one.
 #[derive(Drop)]
 pub enum Said {
     /// An error of CouchDB, with its reason.

@@ -1,7 +1,7 @@
 -- Which documents of a journal are selected.
 use Rattle.std.specs.Prelude.{ℕ, Bool, true, ◌&&◌, nat_le, if◌then◌else◌, List, Option, None, Some, bytes_eq}
 
--- Whether a document is the only one that is asked for.
+-- Whether a document is requested: without an id, every document is.
 abbrev pub is_asked : Option (List ℕ) → List ℕ → Bool
 is_asked None id = true
 is_asked (Some only) id = bytes_eq only id

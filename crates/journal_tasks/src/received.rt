@@ -1,4 +1,4 @@
-//! What a response brought of a request.
+//! The received part of a request.
 ghost use Rattle.std.specs.Prelude.{◌≡◌, ⊤, IfOk, map};
 ghost use Rattle.journal_lines.specs.Leafs.{leaf_view};
 ghost use Rattle.journal_tasks.specs.Receiving.{received_by, wanted_view};
