@@ -3,7 +3,7 @@ use Rattle.proof_prelude.proofs.{◌≡◌, ℕ, suc, ◌==◌, nat_lt, length, 
 use Rattle.doc_envelope.specs.{members_in, members_of, is_blank, joined, object_of, first_length, has_name, value_of, whole_name, stays, goes, whole_of, envelope_of, if_any, string_of, unfolded_member, unfolded_members, unfolded, if_json, added, held_with, taken_with, texts_with, helds_by, all_taken, with_held, behind_comma}
 use Rattle.json.specs.Print.{quoted}
 use Rattle.doc_envelope.proofs.Splits.{members_first, members_none}
-use Rattle.doc_envelope.specs.declared.members.Mode.TheVariants.{Outside}
+use Rattle.doc_envelope.specs.Members.{Outside}
 
 -- no member is blank
 abbrev pub Filled : List (List ℕ) → Type 0

@@ -7,7 +7,7 @@ use Rattle.json.specs.Find.{as_str}
 use Rattle.json.specs.Value.{value_view, members_of as view_of}
 use Rattle.json.specs.declared.value.Value.{Value}
 use Rattle.doc_envelope.specs.{is_json, members_in, members_of, joined, string_of, is_envelope, is_envelope_value, may_stand, all_may_stand, goes, enveloped, envelope_of, unfolded, if_json, all_taken}
-use Rattle.doc_envelope.specs.declared.members.Mode.TheVariants.{Outside}
+use Rattle.doc_envelope.specs.Members.{Outside}
 use Rattle.doc_envelope.proofs.Folds.{taken_some}
 
 -- ---- values

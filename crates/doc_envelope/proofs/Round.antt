@@ -9,7 +9,7 @@ use Rattle.json.proofs.Printed.Strings.{content-escape, lex-escape}
 use Rattle.json.proofs.Printed.Utf8.{IsUtf8-quoted}
 use Rattle.doc_envelope.specs.{EndsString, ends, plain, escaped, is_json, members_in, members_of, is_blank, joined, object_of, value_of, whole_name, stays, goes, whole_of, is_envelope, envelope_of, enveloped, if_any, string_of, unfolded_members, unfolded, if_json, Mode}
 use Rattle.doc_envelope.specs.Carried.{IsByte, Paired, nothing, byte, string, object, list, IsMember, AreMembers, HasMembers, Carries, none, whole, AreOthers, Envelops}
-use Rattle.doc_envelope.specs.declared.members.Mode.TheVariants.{Outside, Quoted}
+use Rattle.doc_envelope.specs.Members.{Outside, Quoted}
 use Rattle.doc_envelope.proofs.Folds.{is_filled}
 
 -- ---- the members of a text are those from which it was made

@@ -1,7 +1,8 @@
 -- The members of a text, in order.
-use Rattle.proof_prelude.proofs.{◌≡◌, ℕ, ◌+◌, ◌<◌, ◌==◌, get_or, take, drop, length, List, [], ◌∷◌, ◌++◌, Bool, true, false, cond, refl, sym, ap, ◌∙◌, append_assoc, append-nil, add-one, drop-cons, arith, common_steps}
+use Rattle.proof_prelude.proofs.{◌≡◌, ℕ, suc, ◌+◌, ◌<◌, ◌≤◌, ◌==◌, get_or, prefix_len, take, drop, length, List, [], ◌∷◌, ◌++◌, Bool, true, false, cond, refl, sym, ap, ◌∙◌, append_assoc, append-nil, add-one, eqb-true, false_from_ne_true, drop-cons, arith, common_steps}
+use Rattle.json.specs.Run.{is_plain}
 use Rattle.doc_envelope.specs.{ends_member, mode_behind, nesting_behind, length_in, first_length, members_in, behind_comma, Mode}
-use Rattle.doc_envelope.specs.declared.members.Mode.TheVariants.{Outside}
+use Rattle.doc_envelope.specs.Members.{Outside, Quoted, Escaped}
 
 take_one : (k b : ℕ) (t : List ℕ) → take (k + 1) (b ∷ t) ≡ b ∷ take k t
 take_one k b t = simp add-one
@@ -72,6 +73,86 @@ over (b ∷ t) = over t
 
 pub length_over : (m : Mode) (n : ℕ) (text : List ℕ) → length_in m n (drop (length text) text) ≡ 0
 length_over m n text = ap (length_in m n) (over text) ∙ length_none m n
+
+-- ---- within a string
+
+pub other_byte : (a b : ℕ) → (a ≡ b → ⊥) → (a == b) ≡ false
+other_byte a b h = false_from_ne_true (a == b) (λ e. h (eqb-true a b e))
+
+quoted_mode : (b : ℕ) → (b == 34) ≡ false → (b == 92) ≡ false → mode_behind Quoted b ≡ Quoted
+quoted_mode b e f = ap (λ c. cond c Outside (cond (b == 92) Escaped Quoted)) e ∙ ap (λ c. cond c Escaped Quoted) f
+
+escaped_mode : (b : ℕ) → (b == 34) ≡ false → (b == 92) ≡ true → mode_behind Quoted b ≡ Escaped
+escaped_mode b e f = ap (λ c. cond c Outside (cond (b == 92) Escaped Quoted)) e ∙ ap (λ c. cond c Escaped Quoted) f
+
+quoted_more : (n b : ℕ) (t : List ℕ) → (b == 34) ≡ false → (b == 92) ≡ false → length_in Quoted n (b ∷ t) ≡ length_in Quoted n t + 1
+quoted_more n b t e f = length_more Quoted n b t refl ∙ ap (λ m. length_in m n t + 1) (quoted_mode b e f)
+
+escaped_more : (n b : ℕ) (t : List ℕ) → (b == 34) ≡ false → (b == 92) ≡ true → length_in Quoted n (b ∷ t) ≡ length_in Escaped n t + 1
+escaped_more n b t e f = length_more Quoted n b t refl ∙ ap (λ m. length_in m n t + 1) (escaped_mode b e f)
+
+closed_more : (n b : ℕ) (t : List ℕ) → (b == 34) ≡ true → length_in Quoted n (b ∷ t) ≡ length_in Outside n t + 1
+closed_more n b t e = length_more Quoted n b t refl ∙ ap (λ c. length_in (cond c Outside (cond (b == 92) Escaped Quoted)) n t + 1) e
+
+-- a byte that needs no test
+plain_byte : (b : ℕ) → is_plain b ≡ true → ((b == 34) ≡ false) × ((b == 92) ≡ false)
+plain_byte b h = (grind arith, grind arith)
+
+run_by : (n x k : ℕ) (u : List ℕ) (b : Bool) → is_plain x ≡ b → length_in Quoted n u ≡ length_in Quoted n (drop k u) + k
+    → length_in Quoted n (x ∷ u) ≡ length_in Quoted n (drop (cond b (1 + k) 0) (x ∷ u)) + cond b (1 + k) 0
+run_by n x k u true e more =
+    let p = plain_byte x e in
+    let one : 1 + k ≡ suc k = omega arith in
+    let same = ap (λ z. length_in Quoted n (drop z (x ∷ u)) + z) one in
+    let first = quoted_more n x u p.0 p.1 in
+    let sums : length_in Quoted n (drop k u) + k + 1 ≡ length_in Quoted n (drop k u) + suc k = omega arith in
+    first ∙ ap (λ z. z + 1) more ∙ sums ∙ sym same
+run_by n x k u false e more = omega arith
+
+run : (n : ℕ) (u : List ℕ) → length_in Quoted n u ≡ length_in Quoted n (drop (prefix_len is_plain u) u) + prefix_len is_plain u
+run n [] = omega arith
+run n (x ∷ u) = run_by n x (prefix_len is_plain u) u (is_plain x) refl (run n u)
+
+module _ (n : ℕ) (text : List ℕ) (i : ℕ) where
+  here : i < length text → drop i text ≡ get_or text i 0 ∷ drop (i + 1) text
+  here h = grind (arith, common_steps, drop-cons text i 0, h)
+
+  pub quoted_run : (j : ℕ) → j ≡ i + prefix_len is_plain (drop i text) → length_in Quoted n (drop i text) + i ≡ length_in Quoted n (drop j text) + j
+  quoted_run j e =
+      let k = prefix_len is_plain (drop i text) in
+      let to : drop k (drop i text) ≡ drop j text = grind (arith, common_steps, e) in
+      let more = run n (drop i text) ∙ ap (λ t. length_in Quoted n t + k) to in
+      omega (arith, more, e)
+
+  pub quoted_end : i < length text → (get_or text i 0 == 34) ≡ true → length_in Quoted n (drop i text) + i ≡ length_in Outside n (drop (i + 1) text) + (i + 1)
+  quoted_end h e =
+      let more = ap (length_in Quoted n) (here h) ∙ closed_more n (get_or text i 0) (drop (i + 1) text) e in
+      omega (arith, more)
+
+  pub quoted_other : i < length text → (get_or text i 0 == 34) ≡ false → (get_or text i 0 == 92) ≡ false → length_in Quoted n (drop i text) + i ≡ length_in Quoted n (drop (i + 1) text) + (i + 1)
+  quoted_other h e f =
+      let more = ap (length_in Quoted n) (here h) ∙ quoted_more n (get_or text i 0) (drop (i + 1) text) e f in
+      omega (arith, more)
+
+pub quoted_escape : (n : ℕ) (text : List ℕ) (i : ℕ) → i + 1 < length text → (get_or text i 0 == 34) ≡ false → (get_or text i 0 == 92) ≡ true
+    → length_in Quoted n (drop i text) + i ≡ length_in Quoted n (drop (i + 2) text) + (i + 2)
+quoted_escape n text i h e f =
+    let within : i < length text = omega arith in
+    let two : i + 1 + 1 ≡ i + 2 = omega arith in
+    let one = ap (length_in Quoted n) (here n text i within) ∙ escaped_more n (get_or text i 0) (drop (i + 1) text) e f in
+    let next = ap (length_in Escaped n) (here n text (i + 1) h) ∙ length_more Escaped n (get_or text (i + 1) 0) (drop (i + 1 + 1) text) refl ∙ ap (λ z. length_in Quoted n (drop z text) + 1) two in
+    omega (arith, one, next)
+
+-- a backslash that is the last byte
+pub quoted_last : (n : ℕ) (text : List ℕ) (i : ℕ) → i < length text → length text ≤ i + 1 → (get_or text i 0 == 34) ≡ false → (get_or text i 0 == 92) ≡ true
+    → length_in Quoted n (drop i text) + i ≡ length_in Quoted n (drop (i + 1) text) + (i + 1)
+quoted_last n text i h k e f =
+    let at_end : length text ≡ i + 1 = omega arith in
+    let none = over text in
+    let rest : drop (i + 1) text ≡ [] = sym (ap (λ z. drop z text) at_end) ∙ none in
+    let one = ap (length_in Quoted n) (here n text i h) ∙ escaped_more n (get_or text i 0) (drop (i + 1) text) e f ∙ ap (λ t. length_in Escaped n t + 1) rest ∙ ap (λ z. z + 1) (length_none Escaped n) in
+    let zero = ap (length_in Quoted n) rest ∙ length_none Quoted n in
+    omega (arith, one, zero)
 
 -- ---- the loop over the members
 

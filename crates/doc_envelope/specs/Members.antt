@@ -1,10 +1,14 @@
 -- The members of an object, by their texts: docs/PROFILE.md, "Documents in envelopes".
 use Rattle.std.specs.Prelude.{ℕ, ◌+◌, ◌-◌, ◌&&◌, ◌||◌, ◌==◌, length, drop, List, [], ◌∷◌, ◌++◌, Bool, false, not, cond}
 use Rattle.std.specs.List.{list_all, filter}
-use Rattle.doc_envelope.specs.declared.members.Mode.{Mode}
-use Rattle.doc_envelope.specs.declared.members.Mode.TheVariants.{Outside, Quoted, Escaped}
 
 -- ---- byte by byte
+
+-- the next byte is outside of strings, in a string, or after a backslash in a string
+pub data Mode : Type 0 where
+  Outside : Mode
+  Quoted : Mode
+  Escaped : Mode
 
 abbrev pub opens : ℕ → Bool
 opens b = b == 123 || b == 91

@@ -2,16 +2,16 @@
 ghost use Rattle.std.specs.Prelude.{◌≡◌, ◌++◌, ◌∷◌, [], ◌<◌, ◌≤◌, ℕ, List, length, drop, cond, Some, None, option_map, option_and_then, true, IfOk, OnOk};
 ghost use Rattle.std.specs.Str.{is_utf8};
 ghost use Rattle.doc_envelope.specs.Texts.{is_json};
-ghost use Rattle.doc_envelope.specs.Members.{is_blank, members_in};
-ghost use Rattle.doc_envelope.specs.declared.members.Mode.TheVariants.{Outside};
+ghost use Rattle.doc_envelope.specs.Members.{Outside, is_blank, members_in};
 ghost use Rattle.doc_envelope.specs.Envelopes.{stays, enveloped, unfolded, if_any, string_of};
 ghost use Rattle.doc_envelope.specs.Carried.{HasMembers, Envelops, AreOthers, Carries, AreMembers};
 ghost use Rattle.doc_envelope.specs.Steps.{added, held_with, text_with, held_by, taken_with, behind_comma, with_held, texts_with, helds_by, all_taken};
+ghost use Rattle.doc_envelope.specs.Printed.{IsPrinted};
 ghost use Rattle.doc_envelope.specs.Stored.{made_of, held_of};
 
 use crate::members::first_length;
 use crate::names::{has_name, value_of};
-use crate::values::{is_envelope, quote, string_of};
+use crate::values::{is_envelope, is_printed, quote, string_of};
 use json::Scratch;
 use std::alloc::{AllocError, Global};
 
@@ -66,8 +66,12 @@ impl Envelope {
         ensures { IfOk result (λ ok. enveloped document.now ≡ cond ok (Some (made_of self.new)) None) }
     {
         self.fold(document)?;
+        let printed = self.is_printed()?;
         if !self.end_fold()? {
             return Ok(false);
+        }
+        if printed {
+            return Ok(true);
         }
         is_envelope(self.alloc, self.text.as_slice(), &mut self.scratch)
     }
@@ -133,6 +137,19 @@ impl Envelope {
             rest = behind_comma(rest, length);
         }
         Ok(())
+    }
+
+    /// Returns true only if the members outside of the string are an envelope, written as the kit writes its value. Then
+    /// the complete envelope need not be parsed.
+    fn is_printed(&mut self) -> Result<bool, AllocError>
+        ensures is { IfOk result (λ printed. printed ≡ true → IsPrinted (made_of self.old ++ 125 ∷ [])) }
+        ensures made { OnOk result (made_of self.new ≡ made_of self.old) }
+        ensures held { held_of self.new ≡ held_of self.old }
+    {
+        self.text.push(b'}')?;
+        let printed = is_printed(self.alloc, self.text.as_slice(), &mut self.scratch)?;
+        self.text.pop();
+        Ok(printed)
     }
 
     /// Ends an envelope with the member `whole`. Returns `false` if the string is not UTF-8.

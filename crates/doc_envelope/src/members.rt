@@ -1,19 +1,11 @@
 //! Splits an object into the texts of its members.
-ghost use Rattle.std.specs.Prelude.{◌≡◌, ◌+◌, ◌<◌, ◌≤◌, length};
-ghost use Rattle.doc_envelope.specs.Members.{opens, closes, ends_member, mode_behind, nesting_behind, first_length};
+ghost use Rattle.std.specs.Prelude.{◌≡◌, ◌+◌, ◌<◌, ◌≤◌, ◌==◌, ℕ, length, drop, get_or, false};
+ghost use Rattle.doc_envelope.specs.Members.{Mode, Outside, Quoted, opens, closes, ends_member, nesting_behind, length_in, first_length};
 
-/// Whether the next byte is in a string.
-#[derive(Clone, Copy, Debug, PartialEq, Eq)]
-pub enum Mode {
-    /// Outside of a string.
-    Outside,
-    /// In a string.
-    Quoted,
-    /// After a backslash in a string.
-    Escaped,
-}
+use json_values::plain_end;
 
 /// Whether a byte opens a list or an object.
+#[inline(always)]
 fn opens(byte: u8) -> bool
     ensures { result ≡ opens byte }
 {
@@ -21,50 +13,69 @@ fn opens(byte: u8) -> bool
 }
 
 /// Whether a byte closes a list or an object.
+#[inline(always)]
 fn closes(byte: u8) -> bool
     ensures { result ≡ closes byte }
 {
     byte == b'}' || byte == b']'
 }
 
-/// Whether a byte ends a member, with `nesting` brackets open in the member.
+/// Whether a byte outside of strings ends a member, with `nesting` brackets open in the member.
 #[inline(always)]
-fn ends(mode: Mode, nesting: usize, byte: u8) -> bool
-    ensures { result ≡ ends_member mode nesting byte }
+fn ends(nesting: usize, byte: u8) -> bool
+    ensures { result ≡ ends_member Outside nesting byte }
 {
-    match mode {
-        Mode::Outside => nesting == 0 && (byte == b',' || closes(byte)),
-        _ => false,
-    }
+    nesting == 0 && (byte == b',' || closes(byte))
 }
 
-/// The mode after a byte.
+/// The number of open brackets after a byte outside of strings.
 #[inline(always)]
-fn mode_behind(mode: Mode, byte: u8) -> Mode
-    ensures { result ≡ mode_behind mode byte }
-{
-    match mode {
-        Mode::Outside if byte == b'"' => Mode::Quoted,
-        Mode::Outside => Mode::Outside,
-        Mode::Quoted if byte == b'"' => Mode::Outside,
-        Mode::Quoted if byte == b'\\' => Mode::Escaped,
-        Mode::Quoted => Mode::Quoted,
-        Mode::Escaped => Mode::Quoted,
-    }
-}
-
-/// The number of open brackets after a byte.
-#[inline(always)]
-fn nesting_behind(mode: Mode, nesting: usize, byte: u8) -> usize
+fn nesting_behind(nesting: usize, byte: u8) -> usize
     requires { nesting < 9223372036854775808 }
-    ensures value { result ≡ nesting_behind mode nesting byte }
+    ensures value { result ≡ nesting_behind Outside nesting byte }
     ensures within { result ≤ nesting + 1 }
 {
-    match mode {
-        Mode::Outside if opens(byte) => nesting + 1,
-        Mode::Outside if closes(byte) && nesting > 0 => nesting - 1,
-        _ => nesting,
+    if opens(byte) {
+        nesting + 1
+    } else if closes(byte) && nesting > 0 {
+        nesting - 1
+    } else {
+        nesting
     }
+}
+
+/// The position after a byte in a string that is no plain text: a quotation mark, or another byte. A backslash is
+/// passed over with the byte after it.
+#[inline(always)]
+fn past_byte(text: &[u8], at: usize) -> usize
+    requires { at < length text.now }
+    ensures value { (n : ℕ) → (get_or text.now at 0 == 34) ≡ false
+        → length_in Quoted n (drop at text.now) + at ≡ length_in Quoted n (drop result text.now) + result }
+    ensures within { (at < result) × (result ≤ length text.now) }
+{
+    if text[at] == b'\\' && at + 1 < text.len() {
+        at + 2
+    } else {
+        at + 1
+    }
+}
+
+/// The position after the closing quotation mark of a string, from a position within the string on.
+#[inline(always)]
+fn string_end(text: &[u8], from: usize) -> usize
+    requires { from ≤ length text.now }
+    ensures value { (n : ℕ) → length_in Quoted n (drop from text.now) + from
+        ≡ length_in Outside n (drop result text.now) + result }
+    ensures within { (from ≤ result) × (result ≤ length text.now) }
+{
+    let mut at = plain_end(text, from);
+    while at < text.len() {
+        if text[at] == b'"' {
+            return at + 1;
+        }
+        at = plain_end(text, past_byte(text, at));
+    }
+    at
 }
 
 /// The number of bytes of the first member, up to its comma or closing bracket.
@@ -72,14 +83,19 @@ pub(crate) fn first_length(text: &[u8]) -> usize
     ensures value { result ≡ first_length text.now }
     ensures within { result ≤ length text.now }
 {
-    let mut mode = Mode::Outside;
     let mut nesting = 0;
-    for (i, byte) in text.iter().enumerate() {
-        if ends(mode, nesting, *byte) {
-            return i;
+    let mut at = 0;
+    while at < text.len() {
+        let byte = text[at];
+        if byte == b'"' {
+            at = string_end(text, at + 1);
+        } else {
+            if ends(nesting, byte) {
+                return at;
+            }
+            nesting = nesting_behind(nesting, byte);
+            at += 1;
         }
-        nesting = nesting_behind(mode, nesting, *byte);
-        mode = mode_behind(mode, *byte);
     }
-    text.len()
+    at
 }

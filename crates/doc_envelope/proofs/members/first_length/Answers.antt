@@ -1,31 +1,49 @@
-use Rattle.proof_prelude.proofs.{◌≡◌, ◌+◌, ◌∙◌, ap, sym, subst, arith, get_or, drop, length}
-use Rattle.doc_envelope.specs.{length_in, mode_behind, nesting_behind}
-use Rattle.doc_envelope.proofs.{length_step, length_stop, length_over}
+use Rattle.proof_prelude.proofs.{◌≡◌, ◌==◌, ◌&&◌, ◌+◌, ◌∙◌, cond, false, refl, ap, sym, subst, arith, get_or, drop, length, and_right}
+use Rattle.doc_envelope.specs.{Outside, Quoted, ends_member, length_in, mode_behind, nesting_behind}
+use Rattle.doc_envelope.proofs.{other_byte, length_step, length_stop, length_over}
 use Rattle.doc_envelope.proofs.members.first_length.Goals as goal
+
+pub loop-at-preserved-then-byte-eq34 : goal.loop-at-preserved-then-byte-eq34
+loop-at-preserved-then-byte-eq34 c =
+    let l = c.loop-at in
+    let r = c.string_end-at in
+    let text = c.args.text.now in
+    let rest = drop (l.at + 1) text in
+    let none = ap (ends_member Outside l.nesting) c.if-byte-eq34.true ∙ and_right (l.nesting == 0) false refl in
+    let one = length_step Outside l.nesting text l.at c.loop-at-test.true none in
+    let mode = ap (λ b. length_in (mode_behind Outside b) (nesting_behind Outside l.nesting b) rest) c.if-byte-eq34.true in
+    let string = r.ensures.value l.nesting in
+    record {
+      same = omega (arith, l.invariant.same, one, mode, string);
+      few = omega (arith, l.invariant.few, r.ensures.within.0);
+      within = r.ensures.within.1;
+    }
+
+pub loop-at-preserved : goal.loop-at-preserved
+loop-at-preserved c =
+    let l = c.loop-at in
+    let text = c.args.text.now in
+    let b = get_or text l.at 0 in
+    let rest = drop (l.at + 1) text in
+    let one = length_step Outside l.nesting text l.at c.loop-at-test.true (sym c.ends.ensures ∙ c.if-ends.false) in
+    let mode = ap (λ t. length_in (cond t Quoted Outside) (nesting_behind Outside l.nesting b) rest) (other_byte b 34 c.if-byte-eq34.false) in
+    let nested = ap (λ n. length_in Outside n rest) c.nesting_behind-nesting.ensures.value in
+    record {
+      same = omega (arith, l.invariant.same, one, mode, nested);
+      few = omega (arith, l.invariant.few, c.nesting_behind-nesting.ensures.within);
+      within = omega (arith, c.loop-at-test.true);
+    }
 
 pub returns-then-ends-clause-value : goal.returns-then-ends-clause-value
 returns-then-ends-clause-value c =
-    let l = c.loop-i in
-    let stop = length_stop l.mode l.nesting c.args.text.now l.i c.loop-i-test.true (sym c.ends.ensures ∙ c.if-ends.true) in
+    let l = c.loop-at in
+    let stop = length_stop Outside l.nesting c.args.text.now l.at c.loop-at-test.true (sym c.ends.ensures ∙ c.if-ends.true) in
     omega (arith, l.invariant.same, stop)
-
-pub loop-i-preserved : goal.loop-i-preserved
-loop-i-preserved c =
-    let l = c.loop-i in
-    let text = c.args.text.now in
-    let b = get_or text l.i 0 in
-    let one = length_step l.mode l.nesting text l.i c.loop-i-test.true (sym c.ends.ensures ∙ c.if-ends.false) in
-    let same : length_in (mode_behind l.mode b) (nesting_behind l.mode l.nesting b) (drop (l.i + 1) text) ≡ length_in c.mode_behind-mode.result c.nesting_behind-nesting.result (drop (l.i + 1) text) =
-    ap (λ m. length_in m (nesting_behind l.mode l.nesting b) (drop (l.i + 1) text)) (sym c.mode_behind-mode.ensures) ∙ ap (λ n. length_in c.mode_behind-mode.result n (drop (l.i + 1) text)) (sym c.nesting_behind-nesting.ensures.value) in
-    record {
-      same = omega (arith, l.invariant.same, one, same);
-      few = omega (arith, l.invariant.few, c.nesting_behind-nesting.ensures.within);
-    }
 
 pub returns-clause-value : goal.returns-clause-value
 returns-clause-value c =
-    let l = c.loop-i in
+    let l = c.loop-at in
     let text = c.args.text.now in
-    let at_end : l.i ≡ length text = omega arith in
-    let none = subst (λ k. length_in l.mode l.nesting (drop k text) ≡ 0) (sym at_end) (length_over l.mode l.nesting text) in
+    let at_end : length text ≡ l.at = omega (arith, c.loop-at-test.false, l.invariant.within) in
+    let none = subst (λ k. length_in Outside l.nesting (drop k text) ≡ 0) at_end (length_over Outside l.nesting text) in
     omega (arith, l.invariant.same, none)

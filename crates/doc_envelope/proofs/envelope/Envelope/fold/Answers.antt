@@ -1,6 +1,6 @@
 use Rattle.proof_prelude.proofs.{◌≡◌, ◌==◌, [], false, ap, sym, ◌∙◌, length, take, arith, common_steps}
 use Rattle.doc_envelope.specs.{members_in, first_length, texts_with, helds_by, behind_comma, text_with, held_by, made_of, held_of}
-use Rattle.doc_envelope.specs.declared.members.Mode.TheVariants.{Outside}
+use Rattle.doc_envelope.specs.Members.{Outside}
 use Rattle.doc_envelope.proofs.{members_first, members_none, no_bytes}
 use Rattle.doc_envelope.proofs.envelope.Envelope.fold.Goals as goal
 

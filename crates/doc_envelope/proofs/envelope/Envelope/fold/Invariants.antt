@@ -1,7 +1,7 @@
 -- The remaining members will make of the texts so far what all members make.
 use Rattle.proof_prelude.proofs.{◌≡◌, [], ◌∷◌, drop, length}
 use Rattle.doc_envelope.specs.{members_in, texts_with, helds_by, made_of, held_of}
-use Rattle.doc_envelope.specs.declared.members.Mode.TheVariants.{Outside}
+use Rattle.doc_envelope.specs.Members.{Outside}
 use Rattle.doc_envelope.proofs.envelope.Envelope.fold.Given as goal
 
 abbrev pub invariant-loop-rest : goal.invariant-loop-rest

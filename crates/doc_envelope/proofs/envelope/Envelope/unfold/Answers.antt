@@ -1,6 +1,6 @@
 use Rattle.proof_prelude.proofs.{◌≡◌, ◌==◌, [], false, ap, sym, ◌∙◌, length, take, cond, Some, None}
 use Rattle.doc_envelope.specs.{members_in, all_taken, behind_comma, made_of}
-use Rattle.doc_envelope.specs.declared.members.Mode.TheVariants.{Outside}
+use Rattle.doc_envelope.specs.Members.{Outside}
 use Rattle.doc_envelope.proofs.{taken_first, taken_over}
 use Rattle.doc_envelope.proofs.envelope.Envelope.unfold.Goals as goal
 

@@ -1,7 +1,7 @@
 -- What is unwrapped of the remaining members after the text so far is what is unwrapped of all.
 use Rattle.proof_prelude.proofs.{◌≡◌, [], ◌∷◌, drop, length}
 use Rattle.doc_envelope.specs.{members_in, all_taken, made_of}
-use Rattle.doc_envelope.specs.declared.members.Mode.TheVariants.{Outside}
+use Rattle.doc_envelope.specs.Members.{Outside}
 use Rattle.doc_envelope.proofs.envelope.Envelope.unfold.Given as goal
 
 abbrev pub invariant-loop-rest : goal.invariant-loop-rest
