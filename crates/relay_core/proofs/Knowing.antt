@@ -8,7 +8,7 @@ use Rattle.relay_core.specs.Messages.{NoticeView, tell, ResponseView, Exchange, 
 use Rattle.relay_core.specs.declared.messages.Side.TheVariants.{Target}
 use Rattle.relay_core.specs.declared.messages.Notice.{Notice}
 use Rattle.relay_core.specs.Views.{notice_view}
-use Rattle.relay_core.specs.Justified.{MayAsk, IsJustified}
+use Rattle.relay_core.specs.Justified.{MayAsk}
 use Rattle.relay_core.specs.Known.{asked_by, asked_of, KnowsAt, Knows}
 use Rattle.relay_core.proofs.Reaching.{IsReachedFrom-more, IsRead-told, IsOpen-told, AreReady-told, IsReady-told, ready_for}
 
@@ -91,11 +91,3 @@ may_ask_or h run stage (Some n) k = tt
 -- what a phase asks for may be asked for
 pub may_ask : (h : List Exchange) (phase : Phase) → Knows h phase → MayAsk h (asked_of phase)
 may_ask h phase k = may_ask_or h phase.run phase.stage (slice_get phase.notices.items phase.told) k
-
--- what was asked for was justified, if all before was
-pub justified_on : (first old new : List Exchange) (phase : Phase) (r : ResponseView) → new ≡ exchange_of (asked_of phase) r ∷ old → Knows old phase → (IsJustified first → IsJustified old) → IsJustified first → IsJustified new
-justified_on first old new phase r e k before f =
-    subst (λ (h : List Exchange). IsJustified h) (sym e) (may_ask old phase k, before f)
-
-pub known_on : (old new : List Exchange) (phase next : Phase) (r : ResponseView) → new ≡ exchange_of (asked_of phase) r ∷ old → Knows (exchange_of (asked_of phase) r ∷ old) next → Knows new next
-known_on old new phase next r e k = subst (λ (h : List Exchange). Knows h next) (sym e) k

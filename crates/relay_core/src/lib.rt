@@ -8,7 +8,6 @@ mod pages;
 mod phase;
 mod refusals;
 mod relay;
-mod runs;
 mod settings;
 
 pub use leaves::{missing_of, name_all};
@@ -18,5 +17,4 @@ pub use messages::{
 };
 pub use phase::{PageEnd, Phase, Recorded, Run, Stage, Start, Transfer};
 pub use relay::step;
-pub use runs::{Answered, Carrier, DriveFault, drive};
 pub use settings::Settings;
