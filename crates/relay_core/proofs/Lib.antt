@@ -1,4 +1,5 @@
 pub mod Lists
 pub mod Filtering
+pub mod LeafSets
 pub mod Reaching
 pub mod Knowing

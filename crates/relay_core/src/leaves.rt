@@ -1,60 +1,13 @@
 //! The leaves of documents.
 ghost use Rattle.std.specs.Prelude.{◌≡◌, ◌++◌, IfOk, OnOk, filter};
 ghost use Rattle.relay_core.specs.Views.{texts_of, docs_view};
-ghost use Rattle.relay_core.specs.Leaves.{has_text, names, has_id, are_distinct, have_leaves, are_named, name_all, docs_where, doc_if_any};
+ghost use Rattle.std.specs.List.{list_all};
+ghost use Rattle.relay_core.specs.Leaves.{names, have_leaves, name_all, docs_where, doc_if_any};
+ghost use Rattle.relay_core.specs.LeafSets.{has_leaf, all_leaves};
 
+use crate::leaf_set::{LeafSet, has_leaf, leaf_set};
 use crate::messages::DocLeaves;
 use std::alloc::{AllocError, Global};
-
-/// Whether a list has a text.
-fn has_text(texts: &Vec<String>, text: &str) -> bool
-    ensures { result ≡ has_text (texts_of texts.now.items) text.now }
-{
-    for t in texts {
-        if t.as_str() == text {
-            return true;
-        }
-    }
-    false
-}
-
-/// Whether documents name a leaf of an id.
-pub(crate) fn names(docs: &[DocLeaves], id: &str, leaf: &str) -> bool
-    ensures { result ≡ names (docs_view docs.now) id.now leaf.now }
-{
-    for doc in docs {
-        if doc.id.as_str() == id && has_text(&doc.revs, leaf) {
-            return true;
-        }
-    }
-    false
-}
-
-/// Whether one of the documents has an id.
-fn has_id(docs: &[DocLeaves], id: &str) -> bool
-    ensures { result ≡ has_id (docs_view docs.now) id.now }
-{
-    for doc in docs {
-        if doc.id.as_str() == id {
-            return true;
-        }
-    }
-    false
-}
-
-/// Whether no two documents have one id.
-pub(crate) fn are_distinct(docs: &[DocLeaves]) -> bool
-    ensures { result ≡ are_distinct (docs_view docs.now) }
-{
-    let mut rest = docs;
-    while let [doc, others @ ..] = rest {
-        if has_id(others, doc.id.as_str()) {
-            return false;
-        }
-        rest = others;
-    }
-    true
-}
 
 /// Whether each document has a leaf.
 pub(crate) fn have_leaves(docs: &[DocLeaves]) -> bool
@@ -68,12 +21,24 @@ pub(crate) fn have_leaves(docs: &[DocLeaves]) -> bool
     true
 }
 
-/// Whether documents name each of these leaves of an id.
-fn are_named(docs: &[DocLeaves], id: &str, revs: &Vec<String>) -> bool
-    ensures { result ≡ are_named (docs_view docs.now) id.now (texts_of revs.now.items) }
+/// Whether a set has each of these leaves of an id.
+fn has_each(leaves: &LeafSet<'_>, id: &str, revs: &Vec<String>) -> bool
+    ensures { result ≡ list_all (λ r. has_leaf leaves.now.keys id.now r) (texts_of revs.now.items) }
 {
     for rev in revs {
-        if !names(docs, id, rev.as_str()) {
+        if !has_leaf(leaves, id, rev.as_str()) {
+            return false;
+        }
+    }
+    true
+}
+
+/// Whether a set has each leaf of documents.
+fn has_all(leaves: &LeafSet<'_>, docs: &[DocLeaves]) -> bool
+    ensures { result ≡ all_leaves (has_leaf leaves.now.keys) (docs_view docs.now) }
+{
+    for doc in docs {
+        if !has_each(leaves, doc.id.as_str(), &doc.revs) {
             return false;
         }
     }
@@ -81,29 +46,25 @@ fn are_named(docs: &[DocLeaves], id: &str, revs: &Vec<String>) -> bool
 }
 
 /// Whether the first documents name each leaf of the second.
-pub fn name_all(docs: &[DocLeaves], named: &[DocLeaves]) -> bool
-    ensures { result ≡ name_all (docs_view docs.now) (docs_view named.now) }
+pub fn name_all(alloc: Global, docs: &[DocLeaves], named: &[DocLeaves]) -> Result<bool, AllocError>
+    ensures { IfOk result (λ b. b ≡ name_all (docs_view docs.now) (docs_view named.now)) }
 {
-    for doc in named {
-        if !are_named(docs, doc.id.as_str(), &doc.revs) {
-            return false;
-        }
-    }
-    true
+    let leaves = leaf_set(alloc, docs)?;
+    Ok(has_all(&leaves, named))
 }
 
-/// Returns those of an id's leaves that documents name.
-fn named_revs(
+/// Returns those of an id's leaves that a set has.
+fn revs_in(
     alloc: Global,
-    named: &[DocLeaves],
+    leaves: &LeafSet<'_>,
     id: &str,
     revs: &Vec<String>,
 ) -> Result<Vec<String>, AllocError>
-    ensures { IfOk result (λ v. texts_of v.items ≡ filter (λ r. names (docs_view named.now) id.now r) (texts_of revs.now.items)) }
+    ensures { IfOk result (λ v. texts_of v.items ≡ filter (λ r. has_leaf leaves.now.keys id.now r) (texts_of revs.now.items)) }
 {
     let mut kept = Vec::new(alloc);
     for rev in revs {
-        if names(named, id, rev.as_str()) {
+        if has_leaf(leaves, id, rev.as_str()) {
             kept.push(String::from_str(alloc, rev.as_str())?)?;
         }
     }
@@ -127,6 +88,22 @@ fn push_doc(
     Ok(())
 }
 
+/// Returns those of the documents' leaves that a set has.
+fn leaves_in(
+    alloc: Global,
+    docs: &[DocLeaves],
+    leaves: &LeafSet<'_>,
+) -> Result<Vec<DocLeaves>, AllocError>
+    ensures { IfOk result (λ v. docs_view v.items ≡ docs_where (λ id leaf. has_leaf leaves.now.keys id leaf) (docs_view docs.now)) }
+{
+    let mut kept = Vec::new(alloc);
+    for doc in docs {
+        let revs = revs_in(alloc, leaves, doc.id.as_str(), &doc.revs)?;
+        push_doc(alloc, &mut kept, doc.id.as_str(), revs)?;
+    }
+    Ok(kept)
+}
+
 /// Returns those of the documents' leaves that a response names as missing.
 pub fn missing_of(
     alloc: Global,
@@ -135,12 +112,8 @@ pub fn missing_of(
 ) -> Result<Vec<DocLeaves>, AllocError>
     ensures { IfOk result (λ v. docs_view v.items ≡ docs_where (λ id leaf. names (docs_view named.now) id leaf) (docs_view docs.now)) }
 {
-    let mut missing = Vec::new(alloc);
-    for doc in docs {
-        let revs = named_revs(alloc, named, doc.id.as_str(), &doc.revs)?;
-        push_doc(alloc, &mut missing, doc.id.as_str(), revs)?;
-    }
-    Ok(missing)
+    let leaves = leaf_set(alloc, named)?;
+    leaves_in(alloc, docs, &leaves)
 }
 
 /// Returns the number of leaves.

@@ -1,6 +1,7 @@
 //! Decides what a replication asks of two servers, and when it may record a checkpoint.
 #![tactic(auto)]
 
+mod leaf_set;
 mod leaves;
 mod logs;
 mod messages;

@@ -5,7 +5,8 @@ ghost use Rattle.relay_core.specs.Views.{docs_view, response_view};
 ghost use Rattle.relay_core.specs.Justified.{is_too_large};
 ghost use Rattle.relay_core.specs.Known.{begin_of, wait_of, part_of, IsReachedFrom, IsReached, IsOpenIn, IsOpenAt, Knows};
 
-use crate::leaves::{are_distinct, have_leaves, leaf_count, missing_of, name_all};
+use crate::leaf_set::are_distinct;
+use crate::leaves::{have_leaves, leaf_count, missing_of, name_all};
 use crate::logs::fault_of;
 use crate::messages::{
     ChangesPage, Counts, DocLeaves, Fault, Notice, Operation, RefusedLeaf, Response, Side,
@@ -156,7 +157,7 @@ pub(crate) fn after_changes(
         Response::Page(page) => page,
         other => return Ok(failed(alloc, run, fault_of(other, Fault::BadFeed))),
     };
-    if !are_distinct(page.rows.as_slice()) || !have_leaves(page.rows.as_slice()) {
+    if !are_distinct(alloc, page.rows.as_slice())? || !have_leaves(page.rows.as_slice()) {
         return Ok(failed(alloc, run, Fault::BadFeed));
     }
     if !page.rows.is_empty() {
@@ -200,7 +201,7 @@ pub(crate) fn after_diff(
         Response::Missing(named) => named,
         other => return Ok(failed(alloc, run, fault_of(other, Fault::BadDiff))),
     };
-    if !name_all(page.rows.as_slice(), named.as_slice()) {
+    if !name_all(alloc, page.rows.as_slice(), named.as_slice())? {
         return Ok(failed(alloc, run, Fault::BadDiff));
     }
     let missing = missing_of(alloc, page.rows.as_slice(), named.as_slice())?;
@@ -343,7 +344,7 @@ pub(crate) fn after_again(
         Response::Missing(named) => named,
         other => return Ok(failed(alloc, run, fault_of(other, Fault::BadDiff))),
     };
-    if !name_all(transfer.missing.as_slice(), named.as_slice()) {
+    if !name_all(alloc, transfer.missing.as_slice(), named.as_slice())? {
         return Ok(failed(alloc, run, Fault::BadDiff));
     }
     let missing = missing_of(alloc, transfer.missing.as_slice(), named.as_slice())?;

@@ -86,7 +86,7 @@ fn only_named(
 ) -> Result<Option<Vec<DocLeaves>>, AllocError>
     ensures { IfOk result (λ o. option_map (λ v. docs_view v.items) o ≡ only_named (docs_view docs.now) (docs_view named.now)) }
 {
-    if !name_all(docs, named) {
+    if !name_all(alloc, docs, named)? {
         return Ok(None);
     }
     let missing = missing_of(alloc, docs, named)?;

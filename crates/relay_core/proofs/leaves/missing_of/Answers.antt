@@ -1,13 +1,11 @@
-use Rattle.proof_prelude.proofs.{Bool}
+use Rattle.proof_prelude.proofs.{◌≡◌, Bool, IfOk, subst}
 use Rattle.relay_core.specs.Messages.{Text}
-use Rattle.relay_core.specs.Views.{texts_of, docs_view}
-use Rattle.relay_core.specs.Leaves.{names}
-use Rattle.relay_core.proofs.Lists.{one_more}
+use Rattle.relay_core.specs.Views.{docs_view}
+use Rattle.relay_core.specs.Leaves.{docs_where}
+use Rattle.relay_core.proofs.LeafSets.{as_named}
 use Rattle.relay_core.proofs.leaves.missing_of.Goals as goal
 
-pub loop-doc-preserved : goal.loop-doc-preserved
-loop-doc-preserved c =
-    let p : Text → Text → Bool = λ id leaf. names (docs_view c.args.named.now) id leaf in
-    one_more p c.args.docs.now c.loop-doc.doc-index c.doc-item.result (docs_view c.loop-doc.missing.items) (docs_view c.push_doc.new.docs.items) _
-    c.as_str-in-loop-doc.result.now c.as_str.result.now (texts_of c.in_ok-revs.revs.items)
-    c.loop-doc-test.true c.doc-item.is c.as_str-in-loop-doc.ensures.value c.as_str.ensures.value c.in_ok-revs.ensures c.in_ok-push_doc.ensures c.loop-doc.invariant
+pub returns : goal.returns
+returns c =
+    subst (λ (p : Text → Text → Bool). IfOk c.leaves_in.result (λ v. docs_view v.items ≡ docs_where (λ id leaf. p id leaf) (docs_view c.args.docs.now)))
+    (as_named c.in_ok-leaves.leaves.keys (docs_view c.args.named.now) c.in_ok-leaves.ensures) c.leaves_in.ensures
