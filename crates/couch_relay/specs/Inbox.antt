@@ -1,4 +1,4 @@
--- The bytes that were read and not yet taken: docs/PROFILE.md, "Responses to the relay".
+-- The bytes that were read and not yet used: docs/PROFILE.md, "Responses to the relay".
 use Rattle.std.specs.Prelude.{◌≡◌, ◌+◌, ◌<◌, ◌≤◌, ℕ, false, List, ◌∷◌, ◌++◌, Option, length, take, drop, string_bytes, MatchOption}
 use Rattle.std.specs.Io.KnownBytes.{Appends}
 use Rattle.script_engine.specs.Lines.{has_line_end}
@@ -6,20 +6,20 @@ use Rattle.couch_relay.specs.declared.inbox.Inbox.{Inbox}
 use Rattle.couch_relay.specs.declared.inbox.Head.{Head}
 use Rattle.couch_relay.specs.Frames.{HeadView, IsHead, IsLine, NoFrame}
 
--- The bytes that were read and not taken.
+-- The bytes that were read and not yet used.
 abbrev pub pending : Inbox → List ℕ
 pending inbox = drop inbox.at inbox.held.items
 
--- The bytes that were not taken begin within those that are held, and the buffer for a read is not empty.
+-- The unused bytes begin within the stored bytes, and the buffer for a read is not empty.
 pub record IsInbox (inbox : Inbox) : Type 0 where
   pub within : inbox.at ≤ length inbox.held.items
   pub some : 0 < length inbox.buffer.items
 
--- A reader returned these bytes, which its history has before and after.
+-- A reader returned these bytes: its history grew by them.
 abbrev pub Took : Option (List ℕ) → Option (List ℕ) → Type 0
 Took old new = (bytes : List ℕ) × Appends old new bytes
 
--- The bytes that a reader returned were put after those that were pending.
+-- The bytes that a reader returned were appended to the pending bytes.
 abbrev pub Filled : Option (List ℕ) → Option (List ℕ) → List ℕ → List ℕ → Type 0
 Filled old new before after = (bytes : List ℕ) × Appends old new bytes × (after ≡ before ++ bytes)
 
@@ -30,11 +30,11 @@ HasLine bytes size = IsLine bytes (take size bytes) (drop (size + 1) bytes) × (
 abbrev pub head_view : Head → HeadView
 head_view head = record { status = head.status; size = head.size; who = head.who; date = string_bytes head.date }
 
--- The bytes begin with a head, and this is the rest.
+-- The bytes are the line of a head, and then `rest`.
 abbrev pub BeginsWithHead : List ℕ → HeadView → List ℕ → Type 0
 BeginsWithHead bytes head rest = (line : List ℕ) × IsLine bytes line rest × IsHead line head
 
--- What was read after the pending bytes, and the head that they begin with, if they do.
+-- The bytes that were read after the pending bytes, and the head at the beginning of all these bytes, if there is one.
 abbrev pub ReadsHead : Option (List ℕ) → Option (List ℕ) → Type 0 → List ℕ → List ℕ → Option Head → Type 0
 ReadsHead old new ended before after head =
     (bytes : List ℕ) × Appends old new bytes

@@ -16,7 +16,7 @@ use Rattle.couch_relay.specs.Frames.{HeadView, IsFrame, NoFrame}
 
 -- ---- an exchange
 
--- These bytes are a response, and the request has it read as this response, at this date.
+-- These bytes are the head and the body of a response, which means `response` for this request, with this date.
 pub record IsResponse (q : RequestView) (bytes : List ℕ) (response : ResponseView) (date : Text) : Type 0 where
   pub head : HeadView
   pub body : List ℕ
@@ -24,12 +24,13 @@ pub record IsResponse (q : RequestView) (bytes : List ℕ) (response : ResponseV
   pub response_is : response ≡ response_in q head.status head.who body
   pub date_is : date ≡ head.date
 
--- The response to a request begins the bytes, and this is the rest.
+-- The bytes are the response to a request, and then `rest`.
 abbrev pub BeginsWithResponse : RequestView → List ℕ → List ℕ → Dated → Type 0
 BeginsWithResponse q bytes rest d =
     (frame : List ℕ) × (bytes ≡ frame ++ rest) × IsResponse q frame (response_view d.response) (string_bytes d.date)
 
--- What was read after the pending bytes, and the response that they begin with, if they do.
+-- The bytes that were read after the pending bytes, and the response at the beginning of all these bytes, if there is
+-- one.
 abbrev pub Receives : RequestView → Option (List ℕ) → Option (List ℕ) → Type 0 → List ℕ → List ℕ → Option Dated → Type 0
 Receives q old new ended before after dated =
     (bytes : List ℕ) × Appends old new bytes
@@ -120,7 +121,7 @@ on_line b = if b == 10 || b == 13 then 32 else b
 abbrev pub on_one_line : Text → Text
 on_one_line text = map on_line (trim text)
 
--- The first response is a selection of documents, and this is the rest.
+-- The input is a response with a selection of documents, and then `rest`.
 pub record IsChoice (input : List ℕ) (choice : Text) (rest : List ℕ) : Type 0 where
   pub frame : List ℕ
   pub head : HeadView
@@ -136,18 +137,19 @@ NoChoice ended input =
     NoFrame ended input
     ⊎ ((frame body rest : List ℕ) × (head : HeadView) × (input ≡ frame ++ rest) × IsFrame frame head body × ¬ IsUtf8 body)
 
--- What was read after the pending bytes, and the selection that they begin with, if they do.
+-- The bytes that were read after the pending bytes, and the selection at the beginning of all these bytes, if there is
+-- one.
 abbrev pub ReadsChoice : Option (List ℕ) → Option (List ℕ) → Type 0 → List ℕ → List ℕ → Option Text → Type 0
 ReadsChoice old new ended before after choice =
     (bytes : List ℕ) × Appends old new bytes
     × MatchOption choice (NoChoice ended (before ++ bytes)) (λ text. IsChoice (before ++ bytes) text after)
 
--- The selection that begins the input, if there is an option for it.
+-- The selection at the beginning of the input, if the options ask for one.
 abbrev pub TakesChoice : Options → List ℕ → Text → List ℕ → Type 0
 TakesChoice options input choice rest =
     (options.choice ≡ true → IsChoice input choice rest) × (options.choice ≡ false → (choice ≡ []) × (rest ≡ input))
 
--- What was read after the pending bytes, and the selection for these options, if there is one.
+-- The bytes that were read after the pending bytes, and the selection, if the options ask for one.
 abbrev pub FindsChoice : Options → Option (List ℕ) → Option (List ℕ) → Type 0 → List ℕ → List ℕ → Option Text → Type 0
 FindsChoice options old new ended before after choice =
     (bytes : List ℕ) × Appends old new bytes

@@ -1,4 +1,4 @@
-//! Responses, as they come in.
+//! The responses on standard input.
 ghost use Rattle.std.specs.Prelude.{ℕ, ◌≡◌, ◌≤◌, ◌<◌, [], length, position, take, drop, true, false, IfOk, OnOk, OnErr, MatchOption};
 ghost use Rattle.std.specs.List.{position_or_len};
 ghost use Rattle.script_engine.specs.Lines.{is_line_end, has_line_end};
@@ -10,7 +10,7 @@ use script_engine::{ScriptFault, ScriptRead};
 use std::alloc::{AllocError, Global};
 use std::str;
 
-/// The bytes that were read, and the index of the first that was not taken.
+/// The bytes that were read, and the index of the first unused byte.
 #[derive(Drop)]
 pub(crate) struct Inbox {
     buffer: Vec<u8>,
@@ -51,7 +51,7 @@ fn split_word(text: &str) -> (&str, &str)
     }
 }
 
-/// Returns the status that a text is.
+/// Parses a status.
 fn status_of(text: &str) -> Option<u16>
     ensures { MatchOption result ((n : ℕ) → ¬ IsNumber 16 text.now n) (λ n. IsNumber 16 text.now n) }
 {
@@ -61,7 +61,7 @@ fn status_of(text: &str) -> Option<u16>
     }
 }
 
-/// Returns the size that a text is.
+/// Parses a size.
 fn size_of(text: &str) -> Option<usize>
     ensures { MatchOption result ((n : ℕ) → ¬ IsNumber 64 text.now n) (λ n. IsNumber 64 text.now n) }
 {
@@ -71,7 +71,7 @@ fn size_of(text: &str) -> Option<usize>
     }
 }
 
-/// Returns the head that a line is: `STATUS BYTES WHO DATE`.
+/// Parses a head: `STATUS BYTES WHO DATE`.
 fn head_of(alloc: Global, line: &[u8]) -> Result<Option<Head>, AllocError>
     ensures { IfOk result (λ o. MatchOption o ((head : HeadView) → ¬ IsHead line.now head) (λ h. IsHead line.now (head_view h))) }
 {
@@ -113,11 +113,11 @@ fn line_len(bytes: &[u8]) -> usize
     }
 }
 
-/// How many bytes a read takes at most.
+/// The maximum number of bytes of a read.
 const CHUNK: usize = 65536;
 
 impl Inbox {
-    /// Returns an inbox from which nothing was read.
+    /// Creates an inbox without bytes.
     pub(crate) fn new(alloc: Global) -> Result<Inbox, AllocError>
         ensures inbox { IfOk result IsInbox }
         ensures pending { IfOk result (λ inbox. pending inbox ≡ []) }
@@ -130,7 +130,7 @@ impl Inbox {
         })
     }
 
-    /// Reads more, and returns whether there was more.
+    /// Reads more bytes, and returns whether there were any.
     fn fill<R: ScriptRead>(&mut self, reader: &mut R) -> Result<bool, ScriptFault>
         requires { IsInbox self.old }
         ensures inbox { OnOk result (IsInbox self.new) }
@@ -167,7 +167,8 @@ impl Inbox {
         Err(ScriptFault::Read)
     }
 
-    /// Takes out the head of the next response. Returns `None` if the input ends or the next line is not a head.
+    /// Removes the head of the next response and returns it. Returns `None` if the input ends or the next line is not a
+    /// head.
     pub(crate) fn head<R: ScriptRead>(
         &mut self,
         alloc: Global,
@@ -188,7 +189,7 @@ impl Inbox {
         Ok(head)
     }
 
-    /// Reads until `size` bytes are held, and returns whether there were that many.
+    /// Reads until `size` bytes are stored, and returns whether the input had that many.
     pub(crate) fn has<R: ScriptRead>(
         &mut self,
         reader: &mut R,
@@ -221,7 +222,7 @@ impl Inbox {
         &self.held.as_slice()[self.at..self.at + size]
     }
 
-    /// Takes the next bytes out.
+    /// Removes the next bytes.
     pub(crate) fn take(&mut self, size: usize)
         requires inbox { IsInbox self.old }
         requires held { size ≤ length (pending self.old) }

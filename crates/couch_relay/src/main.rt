@@ -1,4 +1,4 @@
-//! Decides what is asked of two CouchDB servers in a replication, and when a checkpoint may be recorded.
+//! Decides which requests a replication sends to two CouchDB servers, and when it may record a checkpoint.
 //!
 //! The program reads responses on standard input, and writes requests on standard output: docs/PROFILE.md, "Relay".
 #![tactic(auto)]

@@ -4,7 +4,7 @@ use clap::{Arg, ArgAction, ArgMatches, Command, Error, value_parser};
 use cli_common::{flag, program};
 use std::alloc::{AllocError, Global};
 
-/// What the program says of itself.
+/// The description of the program, for `--help`.
 const ABOUT: &str =
     "Decides what is asked of two CouchDB servers in a replication, and when a checkpoint may be recorded.";
 
@@ -26,7 +26,7 @@ WHO of a request is `source` or `target`, or one of
 
 Exit status: 0 success; 1 if the target refused a document; 3 usage error or failure.";
 
-/// What a command line says.
+/// The options of a command line.
 #[derive(Drop)]
 pub(crate) struct Options<'a> {
     pub(crate) source: &'a str,
@@ -153,7 +153,7 @@ fn command<'a>(alloc: Global) -> Result<Command<'a>, AllocError> {
     with_options(alloc, command)
 }
 
-/// Returns what the arguments say, the program's name first.
+/// Parses the arguments, the program's name first.
 pub(crate) fn matches_of<'a>(alloc: Global, words: &'a [String]) -> Result<ArgMatches<'a>, Error> {
     let command = command(alloc)?;
     command.try_get_matches_from(words)

@@ -25,7 +25,7 @@ fn usage_status(status: u8) -> u8
     if status == 0 { 0 } else { 3 }
 }
 
-/// Runs what a command line requests.
+/// Runs the program for a command line.
 fn run_words<H: AllocGlobal + Input + Print + Eprint>(rt: &H, words: &[String]) -> u8 {
     match matches_of(rt.alloc(), words) {
         Ok(matches) => match run_standard(rt, &options_of(&matches)) {

@@ -23,7 +23,7 @@ fn on_line(byte: u8) -> u8
     if byte == 10 || byte == 13 { 32 } else { byte }
 }
 
-/// Returns a text on one line: its line ends are spaces, and none are at its ends.
+/// Returns a text on one line: line ends become spaces, and white space at both ends is removed.
 fn on_one_line(alloc: Global, text: &str) -> Result<String, AllocError>
     ensures { IfOk result (λ s. string_bytes s ≡ on_one_line text.now) }
 {
@@ -37,7 +37,7 @@ fn on_one_line(alloc: Global, text: &str) -> Result<String, AllocError>
     }
 }
 
-/// Returns the selection of documents that a body is, if the body is UTF-8.
+/// Returns the selection of documents in a body, if the body is UTF-8.
 fn choice_in(alloc: Global, body: &[u8]) -> Result<Option<String>, AllocError>
     ensures { IfOk result (λ o. MatchOption (option_map string_bytes o) (¬ IsUtf8 body.now)
         (λ s. IsUtf8 body.now × (s ≡ on_one_line body.now))) }
@@ -94,7 +94,7 @@ fn settings_of(alloc: Global, options: &Options<'_>) -> Result<Settings, AllocEr
     })
 }
 
-/// Returns what does not change between requests.
+/// Returns the options of all requests.
 fn request_options(
     alloc: Global,
     options: &Options<'_>,

@@ -8,17 +8,19 @@ use Rattle.relay_core.specs.Leaves.{names, are_distinct, leaf_count, docs_where,
 
 -- ---- what settles a leaf
 
--- whether the target was asked for that leaf, of documents with distinct ids, and does not name it as missing
+-- whether the target was asked whether it has this leaf, in a request whose documents have distinct ids, and did not
+-- name the leaf as missing
 abbrev pub finds : RequestView → ResponseView → Text → Text → Bool
 finds (revs_diff docs) (missing_response missing) id leaf = are_distinct docs && (names docs id leaf && not (names missing id leaf))
 finds q r id leaf = false
 
--- whether the target refused a document, that it was given alone, as too large
+-- whether the target refused a request of one document as too large
 abbrev pub is_too_large : Side → ℕ → Bool
 is_too_large Target status = status == 413
 is_too_large Source status = false
 
--- whether a carry was answered by a row that refuses that leaf, or was of that id alone and is too large
+-- whether the response to a carry has a row that refuses this leaf, or the target refused a carry of this document
+-- alone as too large
 abbrev pub rejects : RequestView → ResponseView → Text → Text → Bool
 rejects (carry_docs docs) (row_errors_response rows) id leaf = refuses rows id leaf
 rejects (carry_docs docs) (rejected_response side status words) id leaf = is_too_large side status && is_alone docs id
@@ -30,11 +32,11 @@ is_found h id leaf = list_any (λ e. finds e.request e.response id leaf) h
 abbrev pub is_rejected : List Exchange → Text → Text → Bool
 is_rejected h id leaf = list_any (λ e. rejects e.request e.response id leaf) h
 
--- each leaf of the rows is found or rejected
+-- the target has each leaf of the rows, or refused it
 abbrev pub AreSettled : List Exchange → List DocView → Type 0
 AreSettled h rows = (id leaf : Text) → names rows id leaf ≡ true → (is_found h id leaf || is_rejected h id leaf) ≡ true
 
--- the leaves of the rows that are not found
+-- the leaves of the rows that the target does not have
 abbrev pub not_found : List Exchange → List DocView → List DocView
 not_found h rows = docs_where (λ id leaf. not (is_found h id leaf)) rows
 
@@ -51,12 +53,12 @@ log_after Source (get_log Source) r before = log_in r
 log_after Target (get_log Target) r before = log_in r
 log_after side q r before = before
 
--- the log of a side as last answered
+-- the log of a side, as its server last returned it
 abbrev pub last_log : Side → List Exchange → Option LogView
 last_log side [] = None
 last_log side (e ∷ h) = log_after side e.request e.response (last_log side h)
 
--- whether an entry has that session and that sequence
+-- whether one of the entries has this session and this sequence
 abbrev pub has_pair : List EntryView → Text → Text → Bool
 has_pair entries session seq = list_any (λ e. bytes_eq e.session session && bytes_eq e.seq seq) entries
 
@@ -65,15 +67,15 @@ abbrev pub newest_common : List EntryView → List EntryView → Option (Text ×
 newest_common [] source = None
 newest_common (e ∷ target) source = if has_pair source e.session e.seq then Some (e.session, e.seq) else newest_common target source
 
--- where a run begins, given that pair
+-- the sequence at which a run begins, given the newest common pair
 abbrev pub seq_of : Option (Text × Text) → Text
 seq_of None = codes "0"
 seq_of (Some pair) = pair.1
 
 -- ---- how far a run has come
 
--- pages lead from a sequence to a sequence, and each leaf of each page was settled after that page. The number is of the
--- leaves of these pages that were rejected and not found
+-- Pages lead from one sequence to another. After each page, the target had each leaf of the page, or refused it. The
+-- number counts the leaves of these pages that the target refused and does not have.
 pub data Reached : Text → List Exchange → Text → ℕ → Type 0 where
   begun : {begin : Text} {h : List Exchange} {s : Text} {n : ℕ} → begin ≡ s → n ≡ 0 → Reached begin h s n
   paged : {begin : Text} {h : List Exchange} {s : Text} {n : ℕ} (before after rest : List Exchange) (since : Text) (wait : Option ℕ) (page : PageView) (m : ℕ) → h ≡ rest ++ (after ++ exchange_of (get_changes since wait) (page_response page) ∷ before) → Reached begin before since m → AreSettled after page.rows → page.last_seq ≡ s → n ≡ m + leaf_count (not_found after page.rows) → Reached begin h s n
@@ -84,7 +86,7 @@ abbrev pub log_of : Side → LogView → LogView → LogView
 log_of Target target source = target
 log_of Source target source = source
 
--- both logs were read after all that, and a run that they let begin has reached that sequence
+-- Both logs were read after these pages, and the pages lead from the newest common pair of both logs to this sequence.
 pub record AreReady (h : List Exchange) (target source : LogView) (s : Text) (failures : ℕ) : Type 0 where
   pub before : List Exchange
   pub later : List Exchange
@@ -95,14 +97,16 @@ pub record AreReady (h : List Exchange) (target source : LogView) (s : Text) (fa
   pub reached : Reached (seq_of (newest_common target.history source.history)) before s rejected
   pub counted : min rejected (2 ^ 64 - 1) ≤ failures
 
--- a log may be asked to record what is reached, before the history that it had when it was last read
+-- A log may be asked to record the sequence that the pages reached. Its history is then the new entry and the history
+-- that the log had when it was last read.
 pub record IsReady (h : List Exchange) (side : Side) (log : LogView) (s : Text) (failures : ℕ) : Type 0 where
   pub target : LogView
   pub source : LogView
   pub ready : AreReady h target source s failures
   pub own : log ≡ log_of side target source
 
--- whether an exchange is that the target stored its log, which records that sequence; or a notice, after such an exchange
+-- whether the target stored its log in this exchange, with this recorded sequence; or the exchange is a notice, and
+-- this holds of the exchanges before it
 abbrev pub IsStoring : RequestView → ResponseView → Text → Type 0 → Type 0
 IsStoring (put_log Target log checkpoint) stored_response s before = checkpoint.seq ≡ s
 IsStoring (tell notice) r s before = before
@@ -127,7 +131,7 @@ MayAsk h (put_log side log checkpoint) = IsReady h side log checkpoint.seq check
 MayAsk h (tell notice) = Unit {0}
 MayAsk h (done fault counts recorded) = Unit {0}
 
--- each request of a history was allowed at its place
+-- each request of a history was allowed when it was sent
 abbrev pub IsJustified : List Exchange → Type 0
 IsJustified [] = Unit {0}
 IsJustified (e ∷ h) = MayAsk h e.request × IsJustified h

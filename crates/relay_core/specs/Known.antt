@@ -40,13 +40,13 @@ asked_by run (stages.TargetPut target source checkpoint) = put_log Target (log_v
 asked_by run (stages.SourcePut source checkpoint) = put_log Source (log_view source) (checkpoint_view checkpoint)
 asked_by run (stages.Done fault) = done (option_map fault_view fault) run.counts (begin_of run)
 
--- the next notice, or what the stage asks for
+-- the next notice, or the request of the stage
 abbrev pub asked_of : Phase → RequestView
 asked_of phase = option_map_or (λ n. tell (notice_view n)) (slice_get phase.notices.items phase.told) (asked_by phase.run phase.stage)
 
 -- ---- what is known
 
--- a sequence is reached from another, and the failures of the way are counted
+-- Pages lead from one sequence to another, and the number counts the refused leaves of these pages.
 pub record IsReachedFrom (h : List Exchange) (begin since : Text) (failures : ℕ) : Type 0 where
   pub rejected : ℕ
   pub reached : Reached begin h since rejected
@@ -55,7 +55,7 @@ pub record IsReachedFrom (h : List Exchange) (begin since : Text) (failures : �
 abbrev pub IsReached : List Exchange → Run → Type 0
 IsReached h run = IsReachedFrom h (begin_of run) (string_bytes run.since) run.counts.doc_write_failures
 
--- the target's log was read after all that
+-- the target's log was read after these pages
 pub record IsRead (h : List Exchange) (begin since : Text) (failures : ℕ) (target : LogView) : Type 0 where
   pub before : List Exchange
   pub later : List Exchange
@@ -63,7 +63,8 @@ pub record IsRead (h : List Exchange) (begin since : Text) (failures : ℕ) (tar
   pub target_is : last_log Target later ≡ Some target
   pub reached : IsReachedFrom before begin since failures
 
--- a page was answered; these are its leaves that were not found since, and each leaf that the rows are about was rejected
+-- The source returned a page. The documents are its leaves that the target did not have since then, and the target
+-- refused each leaf that the rows name.
 pub record IsOpen (h : List Exchange) (begin since last : Text) (failures : ℕ) (missing : List DocView) (rows : List RowErrorView) : Type 0 where
   pub before : List Exchange
   pub after : List Exchange

@@ -1,4 +1,4 @@
--- What lists of documents and rows say of a leaf of an id.
+-- What lists of documents and of rows say about a leaf of a document.
 use Rattle.std.specs.Prelude.{ℕ, ◌+◌, Bool, true, false, ◌&&◌, ◌||◌, not, List, [], ◌∷◌, ◌++◌, Option, None, Some, codes, filter, map, length, bytes_eq}
 use Rattle.std.specs.List.{list_any, list_all}
 use Rattle.relay_core.specs.Messages.{Text, DocView, RowErrorView}
@@ -17,7 +17,7 @@ names docs id leaf = list_any (λ d. bytes_eq d.0 id && has_text d.1 leaf) docs
 abbrev pub has_id : List DocView → Text → Bool
 has_id docs id = list_any (λ d. bytes_eq d.0 id) docs
 
--- whether no two documents have one id
+-- whether the documents have distinct ids
 abbrev pub are_distinct : List DocView → Bool
 are_distinct [] = true
 are_distinct (d ∷ ds) = not (has_id ds d.0) && are_distinct ds
@@ -30,11 +30,11 @@ is_filled (r ∷ revs) = true
 abbrev pub have_leaves : List DocView → Bool
 have_leaves docs = list_all (λ d. is_filled d.1) docs
 
--- whether each of these leaves of an id is named
+-- whether the documents name each of these leaves of a document
 abbrev pub are_named : List DocView → Text → List Text → Bool
 are_named docs id revs = list_all (λ r. names docs id r) revs
 
--- whether each leaf of the second documents is named by the first
+-- whether the first list names each leaf of the second list
 abbrev pub name_all : List DocView → List DocView → Bool
 name_all docs named = list_all (λ d. are_named docs d.0 d.1) named
 
@@ -43,12 +43,12 @@ abbrev pub leaf_count : List DocView → ℕ
 leaf_count [] = 0
 leaf_count (d ∷ ds) = length d.1 + leaf_count ds
 
--- the document of these leaves of an id, if there are any
+-- the document with this id and these leaves; an empty list if there are no leaves
 abbrev pub doc_if_any : Text → List Text → List DocView
 doc_if_any id [] = []
 doc_if_any id (r ∷ revs) = (id, r ∷ revs) ∷ []
 
--- the leaves that pass a test, in order, without documents that keep none
+-- the leaves that pass a test, in order; documents without such a leaf are left out
 abbrev pub docs_where : (Text → Text → Bool) → List DocView → List DocView
 docs_where p [] = []
 docs_where p (d ∷ ds) = doc_if_any d.0 (filter (λ r. p d.0 r) d.1) ++ docs_where p ds

@@ -14,10 +14,10 @@ use crate::phase::{Phase, Recorded, Run, Stage, Start, failed, quiet, seq_of};
 use crate::settings::Settings;
 use std::alloc::{AllocError, Global};
 
-/// How often a run begins anew before the end of the feed is recorded.
+/// The maximum number of restarts of a run before the end of the feed is recorded.
 const RESTARTS: u64 = 5;
 
-/// Returns the fault of a response, or else the given one.
+/// Returns the fault of a response, or the given fault if the response has none.
 pub(crate) fn fault_of(response: Response, otherwise: Fault) -> Fault {
     match response {
         Response::Fault(fault) => fault,
@@ -25,7 +25,7 @@ pub(crate) fn fault_of(response: Response, otherwise: Fault) -> Fault {
     }
 }
 
-/// Whether an entry has that session and that sequence.
+/// Whether one of the entries has this session and this sequence.
 fn has_pair(entries: &Vec<LogEntry>, session: &str, seq: &str) -> bool
     ensures { result ≡ has_pair (entries_view entries.now.items) session.now seq.now }
 {
@@ -72,7 +72,7 @@ fn is_same(a: &Option<Recorded>, b: &Option<Recorded>) -> bool
     }
 }
 
-/// Returns what a new entry records.
+/// Returns the checkpoint that a new entry records.
 fn checkpoint_of(alloc: Global, run: &Run) -> Result<Checkpoint, AllocError>
     ensures seq { IfOk result (λ c. string_bytes c.seq ≡ string_bytes run.now.since) }
     ensures counts { IfOk result (λ c. c.counts ≡ run.now.counts) }
@@ -90,7 +90,7 @@ fn checkpoint_of(alloc: Global, run: &Run) -> Result<Checkpoint, AllocError>
     })
 }
 
-/// Returns when and where a run starts: as before, or now at a sequence.
+/// Returns the previous start of a run, or a start now at a sequence if the run has not started.
 fn start_of(
     alloc: Global,
     start: Option<Start>,
@@ -106,7 +106,8 @@ fn start_of(
     }
 }
 
-/// Begins a window at the newest common pair. A window without such a pair is open, because a log that records 0 comes first.
+/// Begins a window at the newest common pair. Without such a pair the window is open, because both logs record sequence
+/// 0 first.
 fn begin_window(
     alloc: Global,
     run: Run,
@@ -135,7 +136,7 @@ fn begin_window(
     })
 }
 
-/// Returns the notice that a run begins anew, if it does.
+/// Returns the notice that a run restarts, if it does.
 fn restart_notices(alloc: Global, is_anew: bool) -> Result<Vec<Notice>, AllocError> {
     let mut notices = Vec::new(alloc);
     if is_anew {
@@ -144,7 +145,7 @@ fn restart_notices(alloc: Global, is_anew: bool) -> Result<Vec<Notice>, AllocErr
     Ok(notices)
 }
 
-/// Has the target's log written, and then the source's.
+/// Requests that the target store its log, and then the source.
 fn put_target(
     alloc: Global,
     run: Run,
@@ -165,7 +166,7 @@ fn put_target(
     })
 }
 
-/// Begins a window where both logs agree, or gives up.
+/// Begins a window at the newest common pair of both logs, or ends the run with `LogChanged` after too many restarts.
 fn anew(
     alloc: Global,
     run: Run,
@@ -195,7 +196,7 @@ fn anew(
     })
 }
 
-/// Goes on after the target's log.
+/// Continues after the response with the target's log.
 pub(crate) fn after_target_log(alloc: Global, run: Run, response: Response) -> Phase
     ensures { (h : List Exchange) → IsReached h run → Knows (exchange_of (get_log Target) (response_view response) ∷ h) result }
 {
@@ -205,7 +206,8 @@ pub(crate) fn after_target_log(alloc: Global, run: Run, response: Response) -> P
     }
 }
 
-/// Goes on after both logs: writes them if they still say that the window begins where it began, else begins anew.
+/// Continues after both logs were read. Requests that they be stored if their newest common pair is still the beginning
+/// of the window; otherwise begins a new window.
 pub(crate) fn after_source_log(
     alloc: Global,
     run: Run,
@@ -226,7 +228,7 @@ pub(crate) fn after_source_log(
     anew(alloc, run, common, target, source)
 }
 
-/// Reads both logs anew after a conflict, or gives up.
+/// Requests both logs again after a conflict, or ends the run with `LogChanged` after too many restarts.
 fn after_conflict(alloc: Global, mut run: Run) -> Phase
     ensures { (h : List Exchange) → IsReached h run → Knows h result }
 {
@@ -237,7 +239,8 @@ fn after_conflict(alloc: Global, mut run: Run) -> Phase
     quiet(alloc, run, Stage::TargetLog)
 }
 
-/// Goes on after the target's log is written: has the source's written, if the target stored its own.
+/// Continues after the target's response about its log. If the target stored its log, requests that the source store
+/// its own.
 pub(crate) fn after_target_put(
     alloc: Global,
     run: Run,
@@ -264,7 +267,7 @@ pub(crate) fn after_target_put(
     }
 }
 
-/// Begins a window where both logs have just recorded.
+/// Begins a window at the sequence that both logs have just recorded.
 fn next_window(alloc: Global, settings: &Settings, mut run: Run) -> Result<Run, AllocError>
     ensures { IfOk result (λ r. (h : List Exchange) → IsReached h r) }
 {
@@ -279,7 +282,7 @@ fn next_window(alloc: Global, settings: &Settings, mut run: Run) -> Result<Run, 
     Ok(run)
 }
 
-/// Goes on after the source's log is written: both logs have recorded.
+/// Continues after the source's response about its log. If the source stored its log, both logs have recorded.
 pub(crate) fn after_source_put(
     alloc: Global,
     settings: &Settings,

@@ -106,7 +106,8 @@ pub enum Response {
     Missing(Vec<DocLeaves>),
     /// The rows with an error, after a carry.
     RowErrors(Vec<RowError>),
-    /// A carry was answered with this status of 4xx, but not 401, 403, 404, 408 or 429. The text is the server's error and reason.
+    /// The response to a carry has this status of 4xx, but not 401, 403, 404, 408 or 429. The text is the server's
+    /// error and reason.
     CarryRejected(Side, u16, String),
     /// A replication log was stored.
     Stored,
@@ -158,7 +159,7 @@ pub enum Notice {
     Progress(Counts, Option<String>),
 }
 
-/// What a run asks for next.
+/// The next request of a run.
 #[derive(Clone, Copy)]
 pub enum Request<'a> {
     /// The replication log of a server.
@@ -167,12 +168,12 @@ pub enum Request<'a> {
     GetChanges(&'a str, Option<u32>),
     /// Which of these leaves the target lacks.
     RevsDiff(&'a [DocLeaves]),
-    /// That these leaves be carried from the source to the target.
+    /// The copy of these leaves from the source to the target.
     Carry(&'a [DocLeaves]),
-    /// That a server store its replication log, with a new entry.
+    /// The replication log that a server must store, with a new entry.
     PutLog(Side, &'a ReplicationLog, &'a Checkpoint),
-    /// That a notice be printed.
+    /// A notice to print.
     Tell(&'a Notice),
-    /// Nothing: the run is over. The fault, the counts, and the last sequence that both servers recorded.
+    /// The end of the run: the fault, the counts, and the last sequence that both servers recorded.
     Done(Option<&'a Fault>, &'a Counts, &'a str),
 }

@@ -16,10 +16,10 @@ use crate::refusals::{cover, push_too_large, refused_leaves, sort_rows, unaccoun
 use crate::settings::Settings;
 use std::alloc::{AllocError, Global};
 
-/// How often a page is requested.
+/// The maximum number of requests for one page.
 const TRIES: u64 = 5;
 
-/// Goes on after a checkpoint, or if none is due.
+/// Continues after a checkpoint, or if no checkpoint is due.
 pub(crate) fn behind(settings: &Settings, mut run: Run, notices: Vec<Notice>) -> Phase
     ensures { (h : List Exchange) → IsReached h run → Knows h result }
 {
@@ -40,7 +40,7 @@ pub(crate) fn behind(settings: &Settings, mut run: Run, notices: Vec<Notice>) ->
     }
 }
 
-/// Goes on after a page that is accounted for.
+/// Continues after a page whose leaves the target has or refused.
 fn onward(settings: &Settings, run: Run, notices: Vec<Notice>) -> Phase
     ensures { (h : List Exchange) → IsReached h run → Knows h result }
 {
@@ -70,7 +70,7 @@ fn counted(counts: Counts, checked: u64, found: u64, failures: u64) -> Counts
     }
 }
 
-/// Returns the notices of a page: each refused leaf, and the progress if it is asked for.
+/// Returns the notices of a page: each refused leaf, and the progress if the options request it.
 fn notices_of(
     alloc: Global,
     refused: Vec<RefusedLeaf>,
@@ -88,7 +88,7 @@ fn notices_of(
     Ok(notices)
 }
 
-/// Goes on after a page of which each leaf is found or refused.
+/// Continues after a page of which the target has or refused each leaf.
 fn accounted(
     alloc: Global,
     settings: &Settings,
@@ -119,7 +119,7 @@ fn accounted(
     Ok(onward(settings, run, notices))
 }
 
-/// Has the next documents carried, or asks the target again if all were carried.
+/// Requests the carry of the next documents, or asks the target again if all were carried.
 fn ask_carry(alloc: Global, run: Run, mut transfer: Transfer) -> Phase
     ensures { (h : List Exchange) → IsOpenAt h run transfer → Knows h result }
 {
@@ -131,7 +131,7 @@ fn ask_carry(alloc: Global, run: Run, mut transfer: Transfer) -> Phase
     quiet(alloc, run, Stage::Carry(transfer))
 }
 
-/// Goes on after documents that were carried: twice as many are next.
+/// Continues after a carry, with twice as many documents.
 fn advance(alloc: Global, settings: &Settings, mut run: Run, mut transfer: Transfer) -> Phase
     ensures { (h : List Exchange) → IsOpenAt h run transfer → Knows h result }
 {
@@ -143,7 +143,7 @@ fn advance(alloc: Global, settings: &Settings, mut run: Run, mut transfer: Trans
     ask_carry(alloc, run, transfer)
 }
 
-/// Goes on after a page.
+/// Continues after a page.
 pub(crate) fn after_changes(
     alloc: Global,
     settings: &Settings,
@@ -186,7 +186,7 @@ fn end_of(page: ChangesPage) -> PageEnd
     }
 }
 
-/// Goes on after what the target lacks of a page.
+/// Continues after the leaves of a page that the target lacks.
 pub(crate) fn after_diff(
     alloc: Global,
     settings: &Settings,
@@ -220,7 +220,7 @@ pub(crate) fn after_diff(
     Ok(ask_carry(alloc, run, transfer))
 }
 
-/// Has half as many documents carried.
+/// Requests a carry of half as many documents.
 fn halve(alloc: Global, mut run: Run, transfer: Transfer) -> Phase
     ensures { (h : List Exchange) → IsOpenAt h run transfer → Knows h result }
 {
@@ -243,7 +243,7 @@ fn refuse(
     Ok(failed(alloc, run, Fault::Refused(id, side, status, words)))
 }
 
-/// Whether the target says that what it was given is too large.
+/// Whether the target refused a request as too large.
 fn is_too_large(side: Side, status: u16) -> bool
     ensures { result ≡ is_too_large side status }
 {
@@ -253,7 +253,7 @@ fn is_too_large(side: Side, status: u16) -> bool
     }
 }
 
-/// Goes on after a carry that was rejected.
+/// Continues after a carry that was rejected.
 fn after_rejection(
     alloc: Global,
     settings: &Settings,
@@ -279,7 +279,7 @@ fn after_rejection(
     Ok(advance(alloc, settings, run, transfer))
 }
 
-/// Goes on after a carry.
+/// Continues after a carry.
 pub(crate) fn after_carry(
     alloc: Global,
     settings: &Settings,
@@ -306,7 +306,7 @@ pub(crate) fn after_carry(
     }
 }
 
-/// Asks for a page again, or gives up because of a leaf that is neither found nor refused.
+/// Requests a page again, or ends the run with `Unaccounted` because of a leaf that the target neither has nor refused.
 fn retry(
     alloc: Global,
     mut run: Run,
@@ -329,7 +329,7 @@ fn retry(
     Ok(quiet(alloc, run, Stage::Changes))
 }
 
-/// Goes on after what the target still lacks.
+/// Continues after the leaves that the target still lacks.
 pub(crate) fn after_again(
     alloc: Global,
     settings: &Settings,

@@ -32,7 +32,7 @@ pub struct Start {
 pub struct Run {
     /// The newest pair that both logs had when the window began.
     pub begin: Option<Recorded>,
-    /// The sequence up to which all leaves are accounted for.
+    /// The sequence up to which the target has or refused each leaf.
     pub since: String,
     /// Whether there is anything to record.
     pub is_open: bool,
@@ -44,9 +44,9 @@ pub struct Run {
     pub waits: bool,
     /// The number of documents of the next carry.
     pub carry: usize,
-    /// How often the page was requested again.
+    /// The number of repeated requests for the page.
     pub tries: u64,
-    /// How often the run began anew since the feed's end was recorded.
+    /// The number of restarts since the end of the feed was recorded.
     pub restarts: u64,
     pub counts: Counts,
     pub start: Option<Start>,
@@ -82,7 +82,7 @@ pub struct Transfer {
     pub others: Vec<RowError>,
 }
 
-/// What a run waits for.
+/// The response that a run waits for.
 #[derive(Drop)]
 pub enum Stage {
     /// The target's log.
@@ -97,15 +97,15 @@ pub enum Stage {
     Carry(Transfer),
     /// The leaves that the target still lacks.
     Again(Transfer),
-    /// That the target's log is stored. Then the source's is.
+    /// The target's response about its log. The source's log is stored after it.
     TargetPut(ReplicationLog, ReplicationLog, Checkpoint),
-    /// That the source's log is stored.
+    /// The source's response about its log.
     SourcePut(ReplicationLog, Checkpoint),
-    /// Nothing.
+    /// No response: the run is over.
     Done(Option<Fault>),
 }
 
-/// The state of a run: what it asks for next, and what it knows.
+/// The state of a run: its next request, and what it knows.
 #[derive(Drop)]
 pub struct Phase {
     pub run: Run,
@@ -158,7 +158,7 @@ impl Phase {
         ))
     }
 
-    /// Returns what the run asks for next.
+    /// Returns the next request of the run.
     pub fn request(&self) -> Request<'_>
         ensures { request_view result ≡ asked_of self.now }
     {
@@ -212,7 +212,7 @@ pub(crate) fn part_of(transfer: &Transfer) -> &[DocLeaves]
     &rest[..transfer.size.min(rest.len())]
 }
 
-/// Returns what a stage asks for.
+/// Returns the request of a stage.
 fn stage_request<'a>(run: &'a Run, stage: &'a Stage) -> Request<'a>
     ensures { request_view result ≡ asked_by run.now stage.now }
 {

@@ -72,12 +72,12 @@ abbrev pub rev_tokens : Option Text → List Token
 rev_tokens None = []
 rev_tokens (Some rev) = key (codes "_rev") ∷ string rev ∷ []
 
--- what precedes the history's first entry
+-- the text of a log before the first entry of its history
 abbrev pub head_tokens : Option Text → Text → Text → List Token
 head_tokens rev session seq =
     begin_object ∷ (rev_tokens rev ++ position_tokens session seq ++ key (codes "history") ∷ begin_array ∷ [])
 
--- a log as last answered, with a new entry before its history
+-- the log that a server last returned, with a new entry before its history
 abbrev pub log_text : Text → LogView → CheckpointView → Text
 log_text session log c =
     print (head_tokens log.rev session c.seq) ++ print (entry_tokens session c)

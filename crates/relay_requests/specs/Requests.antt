@@ -10,7 +10,7 @@ use Rattle.relay_requests.specs.Bodies.{diff_tokens, carry_tokens}
 use Rattle.relay_requests.specs.Logs.{log_text}
 use Rattle.relay_requests.specs.Notices.{notice_kind, notice_text, exit_status, done_tokens}
 
--- a text as it stands in a URL
+-- a percent-encoded text
 abbrev pub encoded : Text → Text
 encoded s = percent_encode RESERVED s
 
@@ -27,7 +27,7 @@ abbrev pub query_text : Text → Text
 query_text [] = []
 query_text (c ∷ cs) = codes "&" ++ (c ∷ cs)
 
--- a choice is sent as a body
+-- the method: a selection is sent as a body
 abbrev pub changes_method : Text → Text
 changes_method [] = codes "GET"
 changes_method (c ∷ cs) = codes "POST"

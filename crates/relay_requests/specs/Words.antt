@@ -19,7 +19,7 @@ operation_text RevsDiff = codes "_revs_diff"
 operation_text Carry = codes "_bulk_docs"
 operation_text WriteLog = codes "PUT _local"
 
--- what a response to this operation must be
+-- the form that a response to this operation must have
 abbrev pub expected_text : Operation → Text
 expected_text ReadLog = codes "a replication log"
 expected_text Changes = codes "a page of changes"

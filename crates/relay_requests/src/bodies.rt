@@ -53,7 +53,7 @@ pub(crate) fn diff_body(alloc: Global, docs: &[DocLeaves]) -> Result<Vec<u8>, Al
     Ok(writer.into_inner())
 }
 
-/// Writes a leaf that is to be carried.
+/// Writes a leaf as an object with an id and a revision.
 fn put_leaf(writer: &mut Writer, id: &str, rev: &str) -> Result<(), AllocError>
     ensures before { OnOk result (writer.new.before ≡ writer.old.before) }
     ensures tokens { OnOk result (writer.new.tokens ≡ writer.old.tokens ++ leaf_tokens id.now rev.now) }
@@ -67,7 +67,7 @@ fn put_leaf(writer: &mut Writer, id: &str, rev: &str) -> Result<(), AllocError>
     Ok(())
 }
 
-/// Writes the leaves of a document that are to be carried.
+/// Writes the leaves of a document, each as an object with an id and a revision.
 fn put_leaves(writer: &mut Writer, id: &str, revs: &[String]) -> Result<(), AllocError>
     ensures before { OnOk result (writer.new.before ≡ writer.old.before) }
     ensures tokens { OnOk result (writer.new.tokens ≡ writer.old.tokens ++ leaves_tokens id.now (texts_of revs.now)) }
@@ -78,7 +78,7 @@ fn put_leaves(writer: &mut Writer, id: &str, revs: &[String]) -> Result<(), Allo
     Ok(())
 }
 
-/// Writes the leaves of documents that are to be carried.
+/// Writes the leaves of documents, each as an object with an id and a revision.
 fn put_all_leaves(writer: &mut Writer, docs: &[DocLeaves]) -> Result<(), AllocError>
     ensures before { OnOk result (writer.new.before ≡ writer.old.before) }
     ensures tokens { OnOk result (writer.new.tokens ≡ writer.old.tokens ++ all_leaves_tokens (docs_view docs.now)) }

@@ -40,7 +40,7 @@ fn row_error_text(alloc: Global, error: &Option<(String, String)>) -> Result<Str
     }
 }
 
-/// Returns that a leaf is missing on the target.
+/// Returns the sentence that a leaf is missing on the target.
 fn missing_text(
     alloc: Global,
     id: &str,
@@ -55,7 +55,7 @@ fn missing_text(
     )
 }
 
-/// Returns what is missing on the target.
+/// Returns the description of the leaves that are missing on the target.
 fn unaccounted_text(alloc: Global, leaf: &Unaccounted) -> Result<String, AllocError>
     ensures { IfOk result (λ s. string_bytes s ≡ fault_text (fault_view (Fault.Unaccounted leaf.now))) }
 {
@@ -70,7 +70,7 @@ fn unaccounted_text(alloc: Global, leaf: &Unaccounted) -> Result<String, AllocEr
     )
 }
 
-/// Returns what happened in a fault.
+/// Returns the description of a fault.
 pub(crate) fn fault_text(alloc: Global, fault: &Fault) -> Result<String, AllocError>
     ensures { IfOk result (λ s. string_bytes s ≡ fault_text (fault_view fault.now)) }
 {

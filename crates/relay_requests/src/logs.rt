@@ -94,7 +94,7 @@ pub(crate) fn put_position(
     Ok(())
 }
 
-/// Writes what precedes the first entry of a log's history.
+/// Writes the text of a log before the first entry of its history.
 fn put_head(
     writer: &mut Writer,
     rev: &Option<String>,
@@ -113,7 +113,7 @@ fn put_head(
     Ok(())
 }
 
-/// Returns what precedes the first entry of a log's history.
+/// Returns the text of a log before the first entry of its history.
 fn log_head(
     alloc: Global,
     rev: &Option<String>,
@@ -142,7 +142,7 @@ fn count_of_session(kept: &[Recorded<'_>], session_id: &str) -> usize
     kept.iter().filter(|r| r.session_id == session_id).count()
 }
 
-/// Returns whether some entry is of a session and a sequence.
+/// Returns whether one of the entries has this session and this sequence.
 fn has_entry(kept: &[Recorded<'_>], session_id: &str, seq: &str) -> bool
     ensures { result ≡ list_any (λ r. is_recorded session_id.now seq.now (recorded_view r)) kept.now }
 {
@@ -222,7 +222,7 @@ fn put_older(
     Ok(())
 }
 
-/// Returns the text of a log as last answered, with a new entry before its history.
+/// Returns the text of the log that a server last returned, with a new entry before its history.
 pub(crate) fn log_body(
     alloc: Global,
     session_id: &str,

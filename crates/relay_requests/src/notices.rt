@@ -115,7 +115,7 @@ fn put_ok(alloc: Global, writer: &mut Writer, fault: Option<&Fault>) -> Result<(
     }
 }
 
-/// Writes what is reported at the end of a run.
+/// Writes the report at the end of a run.
 fn put_done(
     alloc: Global,
     writer: &mut Writer,
@@ -136,7 +136,7 @@ fn put_done(
     Ok(())
 }
 
-/// Returns what is reported at the end of a run.
+/// Returns the report at the end of a run.
 pub(crate) fn done_body(
     alloc: Global,
     session_id: &str,

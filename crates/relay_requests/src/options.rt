@@ -1,11 +1,11 @@
-//! What does not change between the requests of a run.
+//! The options of all requests of a run.
 ghost use Rattle.std.specs.Prelude.{◌≡◌, IfOk, string_bytes};
 ghost use Rattle.relay_requests.specs.Logs.{log_path as log_path_of};
 
 use md5::{Digest, Md5};
 use std::alloc::{AllocError, Global};
 
-/// What does not change between the requests of a run. An empty text stands for none.
+/// The options of all requests of a run. An empty text means that the option is absent.
 #[derive(Drop)]
 pub struct RequestOptions {
     /// The path of both replication logs.
@@ -17,7 +17,7 @@ pub struct RequestOptions {
     pub filter: String,
     /// Further parameters of the feed, already encoded.
     pub query: String,
-    /// The body of the request for changes, on one line.
+    /// The body of the request for changes, on one line: a selection of documents.
     pub choice: String,
 }
 

@@ -23,7 +23,7 @@ pub(crate) const RESERVED: AsciiSet = ascii_set!(
         .remove(b'~')
 );
 
-/// Returns a text as it stands in a URL.
+/// Returns the percent-encoded text.
 fn encoded(alloc: Global, text: &str) -> Result<String, AllocError>
     ensures { IfOk result (λ s. string_bytes s ≡ encoded text.now) }
 {

@@ -29,7 +29,7 @@ pub(crate) fn operation_text(operation: Operation) -> &'static str
     }
 }
 
-/// Returns what a response must be.
+/// Returns the form that a response must have.
 pub(crate) fn expected_text(operation: Operation) -> &'static str
     ensures { result.now ≡ expected_text operation }
 {

@@ -9,7 +9,7 @@ use Rattle.relay_responses.specs.Read.{items_at, each_item, with_first}
 
 -- ---- the leaves that are named
 
--- the members of an object after those that were found, each name once: the last member of a name counts
+-- the members of an object, appended to those found before; each name is listed once, with its last value
 abbrev pub last_members : List (Text × Json) → Members → List (Text × Json)
 last_members found no_members = found
 last_members found (member k j ms) = last_members (insert_entry bytes_eq found k j) ms
@@ -21,7 +21,7 @@ doc_of id revs = (id, revs)
 abbrev pub missing_at : Text × Json → Option DocView
 missing_at m = option_map (doc_of m.0) (option_and_then (each_item as_str) (items_at (codes "missing") m.1))
 
--- the documents of members, of which each must be one
+-- the documents that the members name; none if one member does not name a document
 abbrev pub each_missing : List (Text × Json) → Option (List DocView)
 each_missing [] = Some []
 each_missing (m ∷ ms) = with_first (missing_at m) (each_missing ms)
@@ -31,7 +31,7 @@ named_in j = option_and_then each_missing (option_map (last_members []) (as_obje
 
 -- ---- those that were requested
 
--- the leaves of the requested documents that are named, in their order; there are none if another leaf is named
+-- the requested leaves that a response names, in the order of the request; none if the response names another leaf
 abbrev pub only_named : List DocView → List DocView → Option (List DocView)
 only_named docs named = if name_all docs named then Some (docs_where (λ id leaf. names named id leaf) docs) else None
 

@@ -32,7 +32,7 @@ entry_of j p = record { session = p.0; seq = p.1; json = print (json_tokens j) }
 abbrev pub entry_in : Json → Option EntryView
 entry_in j = option_map (entry_of j) (both (text_at (codes "session_id") j) (sequence_at (codes "recorded_seq") j))
 
--- a history may be left out
+-- the entries of the history; an empty list if the log has no history
 abbrev pub history_of : Option Json → Option (List EntryView)
 history_of None = Some []
 history_of (Some null) = None

@@ -18,7 +18,7 @@ plain s = if list_all is_plain_byte s then Some s else None
 abbrev pub rev_in : Json → Option Text
 rev_in j = option_and_then plain (text_at (codes "rev") j)
 
--- the leaves of a row, of which there must be one
+-- the leaves of a row; none if the row has no leaf
 abbrev pub some_leaf : List Text → Option (List Text)
 some_leaf [] = None
 some_leaf (r ∷ rs) = Some (r ∷ rs)
@@ -32,12 +32,12 @@ rows_in j = option_and_then (each_item row_in) (items_at (codes "results") j)
 
 -- ---- rows of one document
 
--- leaves, and those of `more` that are new, in their order
+-- the known leaves, then those of `more` that are new, in their order
 abbrev pub add_revs : List Text → List Text → List Text
 add_revs revs [] = revs
 add_revs revs (r ∷ rs) = add_revs (if list_any (bytes_eq r) revs then revs else revs ++ r ∷ []) rs
 
--- documents, and the leaves of a row at the document of its id
+-- the documents, with the leaves of a row added to the document with its id
 abbrev pub add_row : List DocView → DocView → List DocView
 add_row [] row = (row.0, add_revs [] row.1) ∷ []
 add_row (d ∷ ds) row = if bytes_eq row.0 d.0 then (d.0, add_revs d.1 row.1) ∷ ds else d ∷ add_row ds row
@@ -48,7 +48,7 @@ merged rows = fold add_row [] rows
 
 -- ---- the page
 
--- the number of documents after the page, which may be left out or null
+-- the number of documents after the page; none if the member is missing or null
 abbrev pub pending_of : Option Json → Option (Option Text)
 pending_of None = Some None
 pending_of (Some null) = Some None

@@ -1,4 +1,4 @@
--- What was parsed of a response.
+-- The result of parsing a response.
 use Rattle.std.specs.Prelude.{⊤}
 use Rattle.json.specs.Json.{Json}
 use Rattle.json.specs.Tree.{HasNumbers}
@@ -8,12 +8,12 @@ use Rattle.relay_core.specs.Views.{fault_view}
 use Rattle.relay_responses.specs.declared.parsed.Parsed.{Parsed}
 use Rattle.relay_responses.specs.declared.parsed.Parsed.TheVariants as parsed
 
--- what f makes of the value, or the fault
+-- f of the value, or the fault
 abbrev pub response_by : (Json → ResponseView) → Parsed → ResponseView
 response_by f (parsed.Json value) = f (value_view value)
 response_by f (parsed.Fault fault) = fault_response (fault_view fault)
 
--- each number of the value is written as a number
+-- each number in the value has the text of a JSON number
 abbrev pub IsWritable : Parsed → Type 0
 IsWritable (parsed.Json value) = HasNumbers (value_view value)
 IsWritable (parsed.Fault fault) = ⊤

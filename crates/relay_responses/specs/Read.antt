@@ -1,4 +1,4 @@
--- What the JSON of a response says. Where a name stands twice in an object, its last member counts.
+-- The contents of a JSON response. If an object has a name twice, its last member counts.
 use Rattle.std.specs.Prelude.{if◌then◌else◌, List, [], ◌∷◌, ◌++◌, Option, None, Some, option_and_then}
 use Rattle.std.specs.Option.{option_map_or}
 use Rattle.std.specs.List.{list_all}
@@ -8,7 +8,7 @@ use Rattle.json.specs.Json.{Json, Items, no_items, item, document}
 use Rattle.json.specs.Find.{get, as_str, as_array, as_number}
 use Rattle.relay_core.specs.Messages.{Text}
 
--- the value that a body is: one JSON value in UTF-8
+-- the JSON value of a body, if the body is one JSON value in UTF-8
 abbrev pub json_in : Text → Option Json
 json_in body = if is_utf8 body then document body else None
 
@@ -31,12 +31,12 @@ both (Some x) None = None
 abbrev pub digits_in : Text → Option Text
 digits_in s = if list_all is_ascii_digit s then Some s else None
 
--- one of two, the first if there is one
+-- the first value if there is one, otherwise the second
 abbrev pub or_else : Option Text → Option Text → Option Text
 or_else (Some x) o = Some x
 or_else None o = o
 
--- a sequence is a string, or a non-negative integer by its digits
+-- a sequence: the content of a string, or the digits of a non-negative integer
 abbrev pub sequence_in : Json → Option Text
 sequence_in j = or_else (as_str j) (option_and_then digits_in (as_number j))
 
@@ -50,7 +50,7 @@ with_first None xs = None
 with_first (Some x) None = None
 with_first (Some x) (Some xs) = Some (x ∷ xs)
 
--- a list of which each item is read
+-- the results for all items of a list; none if one item has none
 abbrev pub each_item : {A : Type 0} → (Json → Option A) → Items → Option (List A)
 each_item reads no_items = Some []
 each_item reads (item j js) = with_first (reads j) (each_item reads js)
@@ -60,7 +60,7 @@ abbrev pub some_items : {A : Type 0} → (Json → Option A) → Items → List 
 some_items reads no_items = []
 some_items reads (item j js) = option_map_or (λ x. x ∷ some_items reads js) (reads j) (some_items reads js)
 
--- what is read already, before what is left
+-- the results so far, then the others
 abbrev pub prepend : {A : Type 0} → List A → Option (List A) → Option (List A)
 prepend xs None = None
 prepend xs (Some ys) = Some (xs ++ ys)

@@ -78,7 +78,7 @@ fn each_missing(
     Ok(Some(docs))
 }
 
-/// Returns those of the documents' leaves that a response names as missing, if it names no other leaf.
+/// Returns the requested leaves that a response names as missing, if the response names no other leaf.
 fn only_named(
     alloc: Global,
     docs: &[DocLeaves],
@@ -93,7 +93,8 @@ fn only_named(
     Ok(Some(missing))
 }
 
-/// Returns the missing leaves that a value names, in the order of the request. None but requested leaves may be named.
+/// Returns the missing leaves that a value names, in the order of the request. Returns `None` if the value names a leaf
+/// that was not requested.
 pub(crate) fn diff_of(
     alloc: Global,
     docs: &[DocLeaves],

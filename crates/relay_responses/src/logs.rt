@@ -59,7 +59,7 @@ fn entries_of(alloc: Global, items: &[Value<'_>]) -> Result<Vec<LogEntry>, Alloc
     Ok(entries)
 }
 
-/// Returns the history that a value is, if it is a list.
+/// Returns the entries of a history, if the value is a list.
 fn history_in(alloc: Global, value: &Value<'_>) -> Result<Option<Vec<LogEntry>>, AllocError>
     requires { HasNumbers (value_view value.now) }
     ensures { IfOk result (λ o. option_map (λ v. entries_view v.items) o ≡ history_of (Some (value_view value.now))) }
@@ -73,7 +73,7 @@ fn history_in(alloc: Global, value: &Value<'_>) -> Result<Option<Vec<LogEntry>>,
     }
 }
 
-/// Returns the history of a log, which may be left out.
+/// Returns the history of a log, which is empty if the member is missing.
 fn history_of(alloc: Global, value: &Value<'_>) -> Result<Option<Vec<LogEntry>>, AllocError>
     requires { HasNumbers (value_view value.now) }
     ensures { IfOk result (λ o. option_map (λ v. entries_view v.items) o
@@ -85,7 +85,7 @@ fn history_of(alloc: Global, value: &Value<'_>) -> Result<Option<Vec<LogEntry>>,
     }
 }
 
-/// Returns the log that a value is.
+/// Returns the log of a JSON value.
 pub(crate) fn log_of(alloc: Global, value: &Value<'_>) -> Result<Option<ReplicationLog>, AllocError>
     requires { HasNumbers (value_view value.now) }
     ensures { IfOk result (λ o. option_map log_view o ≡ log_in (value_view value.now)) }

@@ -24,7 +24,7 @@ fn are_plain(bytes: &[u8]) -> bool
     bytes.iter().all(|b| *b >= 32 && *b != 127)
 }
 
-/// Returns a text that has no control character, so that a line that has the text is one line.
+/// Returns a text if it has no control character. A line that contains such a text is one line.
 fn plain<'a>(text: &'a str) -> Option<&'a str>
     ensures { option_map (λ s. s.now) result ≡ plain text.now }
 {
@@ -94,7 +94,7 @@ fn rows_of(alloc: Global, items: &Vec<Value<'_>>) -> Result<Option<Vec<DocLeaves
     Ok(Some(rows))
 }
 
-/// Adds those of the revisions that are new.
+/// Adds the revisions that are new.
 fn add_revs<'a>(known: &mut IndexSet<&'a str>, revs: &'a [String]) -> Result<(), AllocError>
     ensures { OnOk result (texts_in known.new.keys ≡ add_revs (texts_in known.old.keys) (texts_of revs.now)) }
 {
@@ -195,7 +195,7 @@ fn is_zero(pending: &Option<String>) -> bool
     }
 }
 
-/// Returns the page that a value is.
+/// Returns the page of a JSON value.
 pub(crate) fn page_of(alloc: Global, value: &Value<'_>) -> Result<Option<ChangesPage>, AllocError>
     ensures { IfOk result (λ o. option_map page_view o ≡ page_in (value_view value.now)) }
 {

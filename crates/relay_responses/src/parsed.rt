@@ -14,14 +14,14 @@ use relay_core::{Fault, Operation, Side};
 use std::alloc::{AllocError, Global};
 use std::str;
 
-/// What was parsed of a response.
+/// The result of parsing a response.
 #[derive(Drop)]
 pub(crate) enum Parsed<'a> {
     Json(Value<'a>),
     Fault(Fault),
 }
 
-/// Returns the value that a body is.
+/// Returns the JSON value of a body.
 fn value_of<'a>(
     alloc: Global,
     scratch: &'a mut Scratch,

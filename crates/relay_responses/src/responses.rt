@@ -1,4 +1,4 @@
-//! Responses, as their requests have them read.
+//! The meaning of responses, which depends on their requests.
 ghost use Rattle.std.specs.Prelude.{◌≡◌, IfOk};
 ghost use Rattle.relay_core.specs.declared.messages.Operation.TheVariants.{ReadLog};
 ghost use Rattle.relay_core.specs.Messages.{log_response};

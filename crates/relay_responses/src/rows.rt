@@ -55,7 +55,7 @@ fn errors_of(alloc: Global, items: &Vec<Value<'_>>) -> Result<Vec<RowError>, All
     Ok(errors)
 }
 
-/// Returns the errors of the rows that a value is.
+/// Returns the rows with errors in a JSON list.
 pub(crate) fn row_errors_of(
     alloc: Global,
     value: &Value<'_>,

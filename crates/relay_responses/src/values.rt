@@ -57,7 +57,7 @@ fn digits_of<'a>(text: &'a str) -> Option<&'a str>
     }
 }
 
-/// Returns the sequence that a value is: a string, or a non-negative integer by its digits.
+/// Returns the sequence in a value: the content of a string, or the digits of a non-negative integer.
 fn sequence_of<'v, 'a>(value: &'v Value<'a>) -> Option<&'a str>
     ensures { option_map (λ s. s.now) result ≡ sequence_in (value_view value.now) }
 {
