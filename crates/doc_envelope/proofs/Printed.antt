@@ -1,20 +1,22 @@
--- One more member of a printed object: the envelope is what the kit writes for its value.
-use Rattle.proof_prelude.proofs.{◌≡◌, ℕ, ◌+◌, ◌≤◌, ◌<◌, ◌&&◌, ◌==◌, nat_lt, suc, List, [], ◌∷◌, ◌++◌, length, Bool, true, false, cond, codes, refl, sym, ap, subst, ◌∙◌, append_assoc, append-nil, arith, common_steps, fold, get_or, max, Some, is_utf8, IsUtf8, IsUtf8-append, IsUtf8-from_is_utf8, is_utf8-from_IsUtf8, IsCharBoundary-before_ascii, append_cancel_right, take-append_seam, get_or-append_seam}
-use Rattle.json.specs.Token.{Token, begin_object, end_object, key, string as string_token}
+-- One more member of a printed object, and members that are printed.
+use Rattle.proof_prelude.proofs.{◌≡◌, ℕ, ◌+◌, ◌-◌, ◌≤◌, ◌<◌, ◌&&◌, ◌||◌, ◌==◌, nat_lt, suc, List, [], ◌∷◌, ◌++◌, length, take, drop, prefix_len, list_all, Bool, true, false, cond, codes, refl, sym, ap, subst, ◌∙◌, append_assoc, append-nil, arith, common_steps, and_parts, take_all, drop-cons, add-one, fold, get_or, max, Result, Ok, Err, OnOk, Some, is_utf8, IsAscii, IsUtf8, IsUtf8-append, IsUtf8-from_ascii, IsUtf8-from_is_utf8, is_utf8-from_IsUtf8, IsCharBoundary-before_ascii, append_cancel_right, take-append_seam, take-append-drop, get_or-append_seam}
+use Rattle.json.specs.Token.{Token, begin_object, begin_array, end_object, end_array, key, string as string_token, number as number_token}
 use Rattle.json.specs.Json.{Json, null, boolean, number, string, array, object, Items, no_items, item, Members, no_members, member, document, max_depth}
 use Rattle.json.specs.Print.{print, print_from, ends, separator, token_text, quoted, escape, escape_byte}
-use Rattle.json.specs.Tree.{json_tokens, items_tokens, members_tokens, depth, members_depth, HasNumbers, MembersHaveNumbers}
+use Rattle.json.specs.Run.{is_plain}
+use Rattle.json.specs.Tree.{json_tokens, items_tokens, members_tokens, depth, items_depth, members_depth, HasNumbers, ItemsHaveNumbers, MembersHaveNumbers}
 use Rattle.json.proofs.Printed.Tokens.{print_from-append}
 use Rattle.json.proofs.Printed.Trees.{document-print}
 use Rattle.json.proofs.Printed.Utf8.{IsUtf8-are_ascii, IsUtf8-quoted}
 use Rattle.std.proofs.lemmas.Str.{IsUtf8-take}
-use Rattle.doc_envelope.specs.{IsPrinted, added, all_may_stand, is_envelope, is_envelope_value, may_stand, whole_name, with_held}
+use Rattle.doc_envelope.specs.{added, all_may_stand, is_envelope, is_envelope_value, may_stand, whole_name, with_held}
+use Rattle.doc_envelope.specs.Printed.{IsPrinted, IsPrintedMember}
 
--- ---- the members with one more
+-- ---- an object with one more member
 
-with_whole : List ℕ → Members → Members
-with_whole h no_members = member (codes "whole") (string h) no_members
-with_whole h (member k j ms) = member k j (with_whole h ms)
+with_member : List ℕ → Json → Members → Members
+with_member k v no_members = member k v no_members
+with_member k v (member l j ms) = member l j (with_member k v ms)
 
 -- the tokens before the closing bracket
 front : Members → List Token
@@ -26,32 +28,37 @@ unfolding front
 front_closed no_members = refl
 front_closed (member k j ms) = ap (λ ts. key k ∷ (json_tokens j ++ ts)) (front_closed ms) ∙ ap (λ ts. key k ∷ ts) (sym (append_assoc (json_tokens j) (front ms) (end_object ∷ [])))
 
-abbrev last_tokens : List ℕ → List Token
-last_tokens h = key (codes "whole") ∷ string_token h ∷ end_object ∷ []
+abbrev last_tokens : List ℕ → Json → List Token
+last_tokens k v = key k ∷ (json_tokens v ++ end_object ∷ [])
 
-front_whole : (h : List ℕ) (ms : Members) → members_tokens (with_whole h ms) ≡ front ms ++ last_tokens h
-unfolding front with_whole
-front_whole h no_members = refl
-front_whole h (member k j ms) = ap (λ ts. key k ∷ (json_tokens j ++ ts)) (front_whole h ms) ∙ ap (λ ts. key k ∷ ts) (sym (append_assoc (json_tokens j) (front ms) (last_tokens h)))
+-- the tokens with one more member
+front_more : (k : List ℕ) (v : Json) (ms : Members) → members_tokens (with_member k v ms) ≡ front ms ++ last_tokens k v
+unfolding front with_member
+front_more k v no_members = refl
+front_more k v (member l j ms) = ap (λ ts. key l ∷ (json_tokens j ++ ts)) (front_more k v ms) ∙ ap (λ ts. key l ∷ ts) (sym (append_assoc (json_tokens j) (front ms) (last_tokens k v)))
 
-numbers_whole : (h : List ℕ) (ms : Members) → MembersHaveNumbers ms → MembersHaveNumbers (with_whole h ms)
-unfolding with_whole
-numbers_whole h no_members n = (tt, tt)
-numbers_whole h (member k j ms) n = (n.0, numbers_whole h ms n.1)
+numbers_more : (k : List ℕ) (v : Json) (ms : Members) → HasNumbers v → MembersHaveNumbers ms → MembersHaveNumbers (with_member k v ms)
+unfolding with_member
+numbers_more k v no_members h n = (h, tt)
+numbers_more k v (member l j ms) h n = (n.0, numbers_more k v ms h n.1)
 
-depth_whole : (h : List ℕ) (ms : Members) → members_depth (with_whole h ms) ≡ members_depth ms
-unfolding with_whole
-depth_whole h no_members = refl
-depth_whole h (member k j ms) = ap (λ d. max (depth j) d) (depth_whole h ms)
+depth_more : (k : List ℕ) (v : Json) (ms : Members) (d : ℕ) → depth v ≤ d → members_depth ms ≤ d → members_depth (with_member k v ms) ≤ d
+unfolding with_member
+depth_more k v no_members d h n = omega arith
+depth_more k v (member l j ms) d h n =
+    let rest = depth_more k v ms d h (omega arith) in
+    omega (arith, rest)
 
-stand_whole : (h : List ℕ) (ms : Members) → all_may_stand (with_whole h ms) ≡ all_may_stand ms
-unfolding with_whole
-stand_whole h no_members = refl
-stand_whole h (member k j ms) = ap (λ b. may_stand k j && b) (stand_whole h ms)
+stand_more : (k : List ℕ) (v : Json) (ms : Members) → may_stand k v ≡ true → all_may_stand ms ≡ true → all_may_stand (with_member k v ms) ≡ true
+unfolding with_member
+stand_more k v no_members h n = ap (λ b. b && true) h
+stand_more k v (member l j ms) h n =
+    let parts = and_parts (may_stand l j) (all_may_stand ms) n in
+    ap (λ b. b && all_may_stand (with_member k v ms)) parts.0 ∙ stand_more k v ms h parts.1
 
 -- ---- a value ends with a token that ends a value
 
-abbrev ended : Bool → List Token → Bool
+abbrev pub ended : Bool → List Token → Bool
 ended c ts = fold (λ _ t. ends t) c ts
 
 ended-append : (c : Bool) (ts us : List Token) → ended c (ts ++ us) ≡ ended (ended c ts) us
@@ -87,7 +94,7 @@ abbrev fore : Members → List ℕ
 fore ms = print_from false (front ms)
 
 -- no comma stands before the closing bracket
-end_text : (c : Bool) → print_from c (end_object ∷ []) ≡ 125 ∷ []
+pub end_text : (c : Bool) → print_from c (end_object ∷ []) ≡ 125 ∷ []
 unfolding print_from
 end_text true = refl
 end_text false = refl
@@ -98,36 +105,41 @@ closed_text ms =
     ap (λ ts. 123 ∷ print_from false ts) (front_closed ms)
     ∙ ap (λ z. 123 ∷ z) (print_from-append false (front ms) (end_object ∷ []) ∙ ap (λ z. fore ms ++ z) (end_text (ended false (front ms))))
 
-name_text : token_text (key (codes "whole")) ≡ whole_name ++ 58 ∷ []
-unfolding escape_byte
-name_text = refl
+-- the text of a member
+abbrev text_of : List ℕ → Json → List ℕ
+text_of k v = token_text (key k) ++ print (json_tokens v)
+
+value_closed : (k : List ℕ) (v : Json) → token_text (key k) ++ print_from false (json_tokens v ++ end_object ∷ []) ≡ text_of k v ++ 125 ∷ []
+value_closed k v =
+    ap (λ z. token_text (key k) ++ z) (print_from-append false (json_tokens v) (end_object ∷ []) ∙ ap (λ z. print (json_tokens v) ++ z) (end_text (ended false (json_tokens v))))
+    ∙ sym (append_assoc (token_text (key k)) (print (json_tokens v)) (125 ∷ []))
 
 -- the last member, after a value or not
-last_text : (c : Bool) (h : List ℕ) → print_from c (last_tokens h) ≡ cond c (44 ∷ []) [] ++ ((whole_name ++ 58 ∷ []) ++ (quoted h ++ 125 ∷ []))
+last_text : (c : Bool) (k : List ℕ) (v : Json) → print_from c (last_tokens k v) ≡ cond c (44 ∷ []) [] ++ (text_of k v ++ 125 ∷ [])
 unfolding print_from
-last_text true h = ap (λ z. 44 ∷ (z ++ (quoted h ++ 125 ∷ []))) name_text
-last_text false h = ap (λ z. z ++ (quoted h ++ 125 ∷ [])) name_text
+last_text true k v = ap (λ z. 44 ∷ z) (value_closed k v)
+last_text false k v = value_closed k v
 
-whole_text : (h : List ℕ) (ms : Members) → print (json_tokens (object (with_whole h ms)))
-    ≡ (123 ∷ fore ms) ++ (cond (ended false (front ms)) (44 ∷ []) [] ++ ((whole_name ++ 58 ∷ []) ++ (quoted h ++ 125 ∷ [])))
+more_text : (k : List ℕ) (v : Json) (ms : Members) → print (json_tokens (object (with_member k v ms)))
+    ≡ (123 ∷ fore ms) ++ (cond (ended false (front ms)) (44 ∷ []) [] ++ (text_of k v ++ 125 ∷ []))
 unfolding print_from
-whole_text h ms =
-    ap (λ ts. 123 ∷ print_from false ts) (front_whole h ms)
-    ∙ ap (λ z. 123 ∷ z) (print_from-append false (front ms) (last_tokens h) ∙ ap (λ z. fore ms ++ z) (last_text (ended false (front ms)) h))
+more_text k v ms =
+    ap (λ ts. 123 ∷ print_from false ts) (front_more k v ms)
+    ∙ ap (λ z. 123 ∷ z) (print_from-append false (front ms) (last_tokens k v) ∙ ap (λ z. fore ms ++ z) (last_text (ended false (front ms)) k v))
 
--- ---- with a string
+-- ---- a printed object has a comma before its next member if it has a member
 
 long_fore : (ms : Members) → nat_lt 1 (length (123 ∷ fore ms)) ≡ ended false (front ms)
 unfolding front print_from
 long_fore no_members = refl
 long_fore (member k j ms) =
     let after = json_tokens j ++ front ms in
-    more (escape k ++ 34 ∷ []) (58 ∷ []) (print_from false after) ∙ sym (ended-append false (json_tokens j) (front ms) ∙ ended_front (ended false (json_tokens j)) ms (ended_json false j)) where
+    longer (escape k ++ 34 ∷ []) (58 ∷ []) (print_from false after) ∙ sym (ended-append false (json_tokens j) (front ms) ∙ ended_front (ended false (json_tokens j)) ms (ended_json false j)) where
       two : (n : ℕ) → nat_lt 1 (suc (suc n)) ≡ true
       two n = grind arith
 
-      more : (a b c : List ℕ) → nat_lt 1 (length (123 ∷ 34 ∷ ((a ++ b) ++ c))) ≡ true
-      more a b c = two (length ((a ++ b) ++ c))
+      longer : (a b c : List ℕ) → nat_lt 1 (length (123 ∷ 34 ∷ ((a ++ b) ++ c))) ≡ true
+      longer a b c = two (length ((a ++ b) ++ c))
 
 added_text : (t m : List ℕ) (c : Bool) → nat_lt 1 (length t) ≡ c → added t m ≡ t ++ (cond c (44 ∷ []) [] ++ m)
 added_text t m true e = ap (λ b. cond b (t ++ 44 ∷ m) (t ++ m)) e
@@ -146,44 +158,95 @@ fore_utf8 t u =
     let low : get_or all (length t) 0 < 128 = subst (λ b. b < 128) (sym at) (omega arith) in
     subst IsUtf8 (take-append_seam t (125 ∷ [])) (IsUtf8-take all (length t) u (IsCharBoundary-before_ascii all (length t) within low))
 
-envelope_from : (e : List ℕ) (j : Json) → IsUtf8 e → HasNumbers j → depth j ≤ max_depth → e ≡ print (json_tokens j) → is_envelope_value (Some j) ≡ true → is_envelope e ≡ true
-envelope_from e j u numbers nests is stands =
-    ap (λ b. b && is_envelope_value (document e)) (is_utf8-from_IsUtf8 e u) ∙ ap is_envelope_value (ap document is ∙ document-print j numbers nests) ∙ stands
+pub begin_printed : IsPrinted (123 ∷ 125 ∷ [])
+unfolding print_from
+begin_printed = record {
+  utf8 = IsUtf8-are_ascii (123 ∷ 125 ∷ []) refl;
+  value = object no_members;
+  numbers = tt;
+  nests = omega arith;
+  text = refl;
+  envelope = refl;
+}
 
-module _ (t h : List ℕ) where
-  abbrev w : List ℕ
-  w = whole_name ++ 58 ∷ []
-
-  -- the parts of an envelope in order
-  parts : (c : Bool) → ((t ++ (cond c (44 ∷ []) [] ++ w)) ++ quoted h) ++ 125 ∷ [] ≡ t ++ (cond c (44 ∷ []) [] ++ (w ++ (quoted h ++ 125 ∷ [])))
-  parts c =
-      let comma = cond c (44 ∷ []) [] in
-      append_assoc (t ++ (comma ++ w)) (quoted h) (125 ∷ []) ∙ append_assoc t (comma ++ w) (quoted h ++ 125 ∷ []) ∙ ap (λ z. t ++ z) (append_assoc comma w (quoted h ++ 125 ∷ []))
-
-  whole_utf8 : (c : Bool) → IsUtf8 t → IsUtf8 h → IsUtf8 (t ++ (cond c (44 ∷ []) [] ++ (w ++ (quoted h ++ 125 ∷ []))))
-  whole_utf8 c u v =
-      IsUtf8-append t _ u (IsUtf8-append (cond c (44 ∷ []) []) _ (comma_utf8 c)
-      (IsUtf8-append w _ (IsUtf8-are_ascii w refl) (IsUtf8-append (quoted h) (125 ∷ []) (IsUtf8-quoted h v) (IsUtf8-are_ascii (125 ∷ []) refl))))
-
-  by_value : (j : Json) → IsUtf8 t → IsUtf8 h → HasNumbers j → depth j ≤ max_depth → t ++ 125 ∷ [] ≡ print (json_tokens j) → is_envelope_value (Some j) ≡ true
-      → is_envelope ((added t w ++ quoted h) ++ 125 ∷ []) ≡ true
-  by_value null u v numbers nests is stands = absurd (cc)
-  by_value (boolean b) u v numbers nests is stands = absurd (cc)
-  by_value (number s) u v numbers nests is stands = absurd (cc)
-  by_value (string s) u v numbers nests is stands = absurd (cc)
-  by_value (array js) u v numbers nests is stands = absurd (cc)
-  by_value (object ms) u v numbers nests is stands =
+module _ (t m : List ℕ) (q : IsPrintedMember m) where
+  by_value : (j : Json) → IsUtf8 t → HasNumbers j → depth j ≤ max_depth → t ++ 125 ∷ [] ≡ print (json_tokens j) → is_envelope_value (Some j) ≡ true → IsPrinted (added t m ++ 125 ∷ [])
+  by_value null u numbers nests is stands = absurd (cc)
+  by_value (boolean b) u numbers nests is stands = absurd (cc)
+  by_value (number s) u numbers nests is stands = absurd (cc)
+  by_value (string s) u numbers nests is stands = absurd (cc)
+  by_value (array js) u numbers nests is stands = absurd (cc)
+  by_value (object ms) u numbers nests is stands =
       let c = ended false (front ms) in
+      let comma = cond c (44 ∷ []) [] in
       let same : t ≡ 123 ∷ fore ms = append_cancel_right t (123 ∷ fore ms) (125 ∷ []) (is ∙ closed_text ms) in
-      let comma = ap (λ z. nat_lt 1 (length z)) same ∙ long_fore ms in
-      let text = ap (λ z. (z ++ quoted h) ++ 125 ∷ []) (added_text t w c comma) ∙ parts c in
-      let printed = text ∙ ap (λ z. z ++ (cond c (44 ∷ []) [] ++ (w ++ (quoted h ++ 125 ∷ [])))) same ∙ sym (whole_text h ms) in
-      let deep : suc (members_depth (with_whole h ms)) ≤ max_depth = subst (λ d. suc d ≤ max_depth) (sym (depth_whole h ms)) nests in
-      envelope_from ((added t w ++ quoted h) ++ 125 ∷ []) (object (with_whole h ms)) (subst IsUtf8 (sym text) (whole_utf8 c u v)) (numbers_whole h ms numbers) deep printed (stand_whole h ms ∙ stands)
+      let text = ap (λ z. z ++ 125 ∷ []) (added_text t m c (ap (λ z. nat_lt 1 (length z)) same ∙ long_fore ms)) ∙ append_assoc t (comma ++ m) (125 ∷ []) ∙ ap (λ z. t ++ z) (append_assoc comma m (125 ∷ [])) in
+      let utf8 = IsUtf8-append t (comma ++ (m ++ 125 ∷ [])) u (IsUtf8-append comma (m ++ 125 ∷ []) (comma_utf8 c) (IsUtf8-append m (125 ∷ []) q.utf8 (IsUtf8-are_ascii (125 ∷ []) refl))) in
+      let deep = depth_more q.name q.value ms 127 (omega (arith, q.nests)) (omega (arith, nests)) in
+      record {
+        utf8 = subst IsUtf8 (sym text) utf8;
+        value = object (with_member q.name q.value ms);
+        numbers = numbers_more q.name q.value ms q.numbers numbers;
+        nests = omega (arith, deep);
+        text = text ∙ ap (λ z. z ++ (comma ++ (m ++ 125 ∷ []))) same ∙ ap (λ z. (123 ∷ fore ms) ++ (comma ++ (z ++ 125 ∷ []))) q.text ∙ sym (more_text q.name q.value ms);
+        envelope = stand_more q.name q.value ms q.stands stands;
+      }
+
+  -- a printed envelope with one more printed member
+  pub printed_more : IsPrinted (t ++ 125 ∷ []) → IsPrinted (added t m ++ 125 ∷ [])
+  printed_more p = by_value p.value (fore_utf8 t p.utf8) p.numbers p.nests p.text p.envelope
+
+-- ---- the member `whole`
+
+pub string_text : (s : List ℕ) → print (json_tokens (string s)) ≡ quoted s
+unfolding print_from
+string_text s = append-nil (quoted s)
+
+name_text : token_text (key (codes "whole")) ≡ whole_name ++ 58 ∷ []
+unfolding escape_byte
+name_text = refl
+
+whole_member : (h : List ℕ) → IsUtf8 h → IsPrintedMember ((whole_name ++ 58 ∷ []) ++ quoted h)
+whole_member h u = record {
+  utf8 = IsUtf8-append (whole_name ++ 58 ∷ []) (quoted h) (IsUtf8-are_ascii (whole_name ++ 58 ∷ []) refl) (IsUtf8-quoted h u);
+  name = codes "whole";
+  value = string h;
+  numbers = tt;
+  nests = omega arith;
+  text = ap (λ z. z ++ quoted h) (sym name_text) ∙ ap (λ z. token_text (key (codes "whole")) ++ z) (sym (string_text h));
+  stands = refl;
+}
+
+added_by : (b : Bool) (t m n : List ℕ) → cond b (t ++ 44 ∷ m) (t ++ m) ++ n ≡ cond b (t ++ 44 ∷ (m ++ n)) (t ++ (m ++ n))
+added_by true t m n = append_assoc t (44 ∷ m) n
+added_by false t m n = append_assoc t m n
+
+is_printed_envelope : (e : List ℕ) → IsPrinted e → is_envelope e ≡ true
+is_printed_envelope e p =
+    ap (λ b. b && is_envelope_value (document e)) (is_utf8-from_IsUtf8 e p.utf8) ∙ ap is_envelope_value (ap document p.text ∙ document-print p.value p.numbers p.nests) ∙ p.envelope
 
 -- an envelope whose front is printed
 pub printed_envelope : (t h : List ℕ) → IsPrinted (t ++ 125 ∷ []) → is_utf8 h ≡ true → is_envelope (with_held t h ++ 125 ∷ []) ≡ true
 printed_envelope t h p v = by_held (length h == 0) refl where
   by_held : (b : Bool) → (length h == 0) ≡ b → is_envelope (cond b t (added t (whole_name ++ 58 ∷ []) ++ quoted h) ++ 125 ∷ []) ≡ true
-  by_held true e = envelope_from (t ++ 125 ∷ []) p.value p.utf8 p.numbers p.nests p.text p.envelope
-  by_held false e = by_value t h p.value (fore_utf8 t p.utf8) (IsUtf8-from_is_utf8 h v) p.numbers p.nests p.text p.envelope
+  by_held true e = is_printed_envelope (t ++ 125 ∷ []) p
+  by_held false e =
+      let w = whole_name ++ 58 ∷ [] in
+      ap (λ z. is_envelope (z ++ 125 ∷ [])) (added_by (nat_lt 1 (length t)) t w (quoted h))
+      ∙ is_printed_envelope (added t (w ++ quoted h) ++ 125 ∷ []) (printed_more t (w ++ quoted h) (whole_member h (IsUtf8-from_is_utf8 h v)) p)
+
+-- ---- the mark of an envelope that is built
+
+-- a member is appended, and the mark stays only if it is printed
+pub front_marked : {E : Type 0} (r : Result (Unit {0}) E) (t t' m : List ℕ) (b c b' : Bool) → (b ≡ true → IsPrinted (t ++ 125 ∷ [])) → (c ≡ true → (b ≡ true) × IsPrintedMember m) → b' ≡ c
+    → OnOk r (t' ≡ added t m) → OnOk r (b' ≡ true → IsPrinted (t' ++ 125 ∷ []))
+front_marked (Err w) t t' m b c b' p f e g = tt
+front_marked (Ok u) t t' m b c b' p f e g = λ h.
+    let q = f (sym e ∙ h) in
+    subst (λ z. IsPrinted (z ++ 125 ∷ [])) (sym g) (printed_more t m q.1 (p q.0))
+
+-- the result stays
+pub front_same : {E : Type 0} (r : Result (Unit {0}) E) (t t' : List ℕ) (b b' : Bool) → (b ≡ true → IsPrinted (t ++ 125 ∷ [])) → b' ≡ b → t' ≡ t
+    → OnOk r (b' ≡ true → IsPrinted (t' ++ 125 ∷ []))
+front_same (Err w) t t' b b' p e g = tt
+front_same (Ok u) t t' b b' p e g = λ h. subst (λ z. IsPrinted (z ++ 125 ∷ [])) (sym g) (p (sym e ∙ h))

@@ -15,4 +15,4 @@ pub use Envelopes.{unfolded, unfolded_member, unfolded_members, whole_name, whol
 pub use Steps.{added, behind_comma, held_by, held_with, taken_with, text_with, with_held}
 unfoldable pub use Steps.{all_taken, helds_by, texts_with}
 pub use Printed.{IsPrinted}
-pub use Stored.{held_of, made_of}
+pub use Stored.{HasPrintedFront, held_of, made_of, printed_of}

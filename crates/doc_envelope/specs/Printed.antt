@@ -1,10 +1,11 @@
 -- Envelopes that are written as the kit writes their values.
-use Rattle.std.specs.Prelude.{◌≡◌, ℕ, ◌≤◌, List, true, Some}
+use Rattle.std.specs.Prelude.{◌≡◌, ℕ, ◌≤◌, ◌<◌, List, [], ◌∷◌, ◌++◌, codes, true, Some}
 use Rattle.std.specs.Str.{IsUtf8}
 use Rattle.json.specs.Json.{Json, max_depth}
-use Rattle.json.specs.Print.{print}
+use Rattle.json.specs.Token.{key}
+use Rattle.json.specs.Print.{print, token_text, quoted, IsNumber}
 use Rattle.json.specs.Tree.{json_tokens, depth, HasNumbers}
-use Rattle.doc_envelope.specs.Envelopes.{is_envelope_value}
+use Rattle.doc_envelope.specs.Envelopes.{is_envelope_value, may_stand}
 
 -- the text t is what the kit writes for the value of an envelope
 pub record IsPrinted (t : List ℕ) : Type 0 where
@@ -14,3 +15,45 @@ pub record IsPrinted (t : List ℕ) : Type 0 where
   pub nests : depth value ≤ max_depth
   pub text : t ≡ print (json_tokens value)
   pub envelope : is_envelope_value (Some value) ≡ true
+
+-- the text t is what the kit writes for a value, which is nested less deep than an envelope may be
+pub record IsPrintedValue (t : List ℕ) : Type 0 where
+  pub utf8 : IsUtf8 t
+  pub value : Json
+  pub numbers : HasNumbers value
+  pub nests : depth value < max_depth
+  pub text : t ≡ print (json_tokens value)
+
+-- the text m is what the kit writes for a member that an envelope may have
+pub record IsPrintedMember (m : List ℕ) : Type 0 where
+  pub utf8 : IsUtf8 m
+  pub name : List ℕ
+  pub value : Json
+  pub numbers : HasNumbers value
+  pub nests : depth value < max_depth
+  pub text : m ≡ token_text (key name) ++ print (json_tokens value)
+  pub stands : may_stand name value ≡ true
+
+-- the text is a number of RFC 8259, in UTF-8
+pub record IsDigits (t : List ℕ) : Type 0 where
+  pub utf8 : IsUtf8 t
+  pub number : IsNumber t
+
+-- the text t begins with a string as the kit writes it, and `rest` follows
+pub record BeginsWithString (t rest : List ℕ) : Type 0 where
+  pub string : List ℕ
+  pub utf8 : IsUtf8 string
+  pub text : t ≡ quoted string ++ rest
+
+-- strings as the kit writes them, with commas between them, and then the brackets that close a list and an object
+pub data AreIds : List ℕ → Type 0 where
+  last_id : {s : List ℕ} → IsUtf8 s → AreIds (quoted s ++ 93 ∷ 125 ∷ [])
+  more_ids : {s t : List ℕ} → IsUtf8 s → AreIds t → AreIds (quoted s ++ 44 ∷ t)
+
+-- a number, and then strings in the list `ids`, which is the last member of an object
+pub record IsStarted (t : List ℕ) : Type 0 where
+  pub digits : List ℕ
+  pub ids : List ℕ
+  pub number : IsDigits digits
+  pub strings : AreIds ids
+  pub text : t ≡ digits ++ (codes ",\"ids\":[" ++ ids)

@@ -1,5 +1,6 @@
 -- The values that the stored envelope buffers stand for.
-use Rattle.std.specs.Prelude.{ℕ, List}
+use Rattle.std.specs.Prelude.{◌≡◌, ℕ, List, [], ◌∷◌, ◌++◌, Bool, true}
+use Rattle.doc_envelope.specs.Printed.{IsPrinted}
 use Rattle.doc_envelope.specs.declared.envelope.Envelope.{Envelope}
 
 abbrev pub made_of : Envelope → List ℕ
@@ -7,3 +8,10 @@ made_of e = e.text.items
 
 abbrev pub held_of : Envelope → List ℕ
 held_of e = e.held.items
+
+abbrev pub printed_of : Envelope → Bool
+printed_of e = e.printed
+
+-- if the members of the result are marked as printed, they are with a closing brace what the kit writes for an envelope
+abbrev pub HasPrintedFront : Envelope → Type 0
+HasPrintedFront e = printed_of e ≡ true → IsPrinted (made_of e ++ 125 ∷ [])

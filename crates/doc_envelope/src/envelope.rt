@@ -6,12 +6,12 @@ ghost use Rattle.doc_envelope.specs.Members.{Outside, is_blank, members_in};
 ghost use Rattle.doc_envelope.specs.Envelopes.{stays, enveloped, unfolded, if_any, string_of};
 ghost use Rattle.doc_envelope.specs.Carried.{HasMembers, Envelops, AreOthers, Carries, AreMembers};
 ghost use Rattle.doc_envelope.specs.Steps.{added, held_with, text_with, held_by, taken_with, behind_comma, with_held, texts_with, helds_by, all_taken};
-ghost use Rattle.doc_envelope.specs.Printed.{IsPrinted};
-ghost use Rattle.doc_envelope.specs.Stored.{made_of, held_of};
+ghost use Rattle.doc_envelope.specs.Stored.{made_of, held_of, printed_of, HasPrintedFront};
 
 use crate::members::first_length;
 use crate::names::{has_name, value_of};
-use crate::values::{is_envelope, is_printed, quote, string_of};
+use crate::printing::still_printed;
+use crate::values::{is_envelope, quote, string_of};
 use json::Scratch;
 use std::alloc::{AllocError, Global};
 
@@ -26,6 +26,8 @@ pub struct Envelope {
     text: Vec<u8>,
     /// The members that go into the string.
     held: Vec<u8>,
+    /// Whether the members of the result are known to be written as the kit writes them.
+    printed: bool,
     scratch: Scratch,
 }
 
@@ -38,6 +40,7 @@ impl Envelope {
             alloc,
             text: Vec::new(alloc),
             held: Vec::new(alloc),
+            printed: false,
             scratch: Scratch::new(alloc),
         }
     }
@@ -66,7 +69,7 @@ impl Envelope {
         ensures { IfOk result (λ ok. enveloped document.now ≡ cond ok (Some (made_of self.new)) None) }
     {
         self.fold(document)?;
-        let printed = self.is_printed()?;
+        let printed = self.printed;
         if !self.end_fold()? {
             return Ok(false);
         }
@@ -118,6 +121,7 @@ impl Envelope {
     {
         self.text.clear();
         self.held.clear();
+        self.printed = true;
         self.text.push(b'{')?;
         Ok(())
     }
@@ -128,6 +132,7 @@ impl Envelope {
             (made_of self.new ≡ texts_with (123 ∷ []) (members_in Outside 0 [] (drop 1 document.now))) }
         ensures held { OnOk result
             (held_of self.new ≡ helds_by [] (members_in Outside 0 [] (drop 1 document.now))) }
+        ensures printed { OnOk result (HasPrintedFront self.new) }
     {
         self.begin()?;
         let mut rest = behind_brace(document);
@@ -137,19 +142,6 @@ impl Envelope {
             rest = behind_comma(rest, length);
         }
         Ok(())
-    }
-
-    /// Returns true only if the members outside of the string are an envelope, written as the kit writes its value. Then
-    /// the complete envelope need not be parsed.
-    fn is_printed(&mut self) -> Result<bool, AllocError>
-        ensures is { IfOk result (λ printed. printed ≡ true → IsPrinted (made_of self.old ++ 125 ∷ [])) }
-        ensures made { OnOk result (made_of self.new ≡ made_of self.old) }
-        ensures held { held_of self.new ≡ held_of self.old }
-    {
-        self.text.push(b'}')?;
-        let printed = is_printed(self.alloc, self.text.as_slice(), &mut self.scratch)?;
-        self.text.pop();
-        Ok(printed)
     }
 
     /// Ends an envelope with the member `whole`. Returns `false` if the string is not UTF-8.
@@ -186,20 +178,32 @@ impl Envelope {
     fn put_member(&mut self, member: &[u8]) -> Result<(), AllocError>
         ensures made { OnOk result (made_of self.new ≡ text_with (made_of self.old) member.now) }
         ensures held { OnOk result (held_of self.new ≡ held_by (held_of self.old) member.now) }
+        ensures printed { HasPrintedFront self.old → OnOk result (HasPrintedFront self.new) }
     {
         if is_blank(member) {
             return Ok(());
         }
         if stays(member) {
-            return self.add(member);
+            return self.put_front(member);
         }
         self.hold(member)
+    }
+
+    /// Appends a member to the result, and looks whether it is written as the kit writes it.
+    fn put_front(&mut self, member: &[u8]) -> Result<(), AllocError>
+        ensures made { OnOk result (made_of self.new ≡ added (made_of self.old) member.now) }
+        ensures held { held_of self.new ≡ held_of self.old }
+        ensures printed { HasPrintedFront self.old → OnOk result (HasPrintedFront self.new) }
+    {
+        self.printed = still_printed(self.printed, member);
+        self.add(member)
     }
 
     /// Appends a member to the result.
     fn add(&mut self, member: &[u8]) -> Result<(), AllocError>
         ensures made { OnOk result (made_of self.new ≡ added (made_of self.old) member.now) }
         ensures held { held_of self.new ≡ held_of self.old }
+        ensures printed { printed_of self.new ≡ printed_of self.old }
     {
         if self.text.len() > 1 {
             self.text.push(b',')?;
@@ -211,6 +215,7 @@ impl Envelope {
     fn hold(&mut self, member: &[u8]) -> Result<(), AllocError>
         ensures held { OnOk result (held_of self.new ≡ held_with (held_of self.old) member.now) }
         ensures made { made_of self.new ≡ made_of self.old }
+        ensures printed { printed_of self.new ≡ printed_of self.old }
     {
         if !self.held.is_empty() {
             self.held.push(b',')?;

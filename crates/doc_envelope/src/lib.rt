@@ -7,6 +7,7 @@
 mod envelope;
 mod members;
 mod names;
+mod printing;
 mod values;
 
 pub use envelope::Envelope;

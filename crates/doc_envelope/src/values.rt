@@ -1,15 +1,12 @@
 //! Parsing and printing member values with the kit's JSON reader.
-ghost use Rattle.std.specs.Prelude.{◌≡◌, ◌≤◌, ◌++◌, true, Some, IfOk, option_map};
+ghost use Rattle.std.specs.Prelude.{◌≡◌, ◌++◌, true, Some, IfOk, option_map};
 ghost use Rattle.std.specs.Str.{is_utf8};
 ghost use Rattle.json.specs.Print.{quoted};
 ghost use Rattle.std.specs.List.{list_all};
-ghost use Rattle.json.specs.Json.{max_depth};
-ghost use Rattle.json.specs.Tree.{depth, HasNumbers};
 ghost use Rattle.json.specs.Value.{value_view};
 ghost use Rattle.doc_envelope.specs.Envelopes.{string_of, is_envelope, is_envelope_value, may_stand};
-ghost use Rattle.doc_envelope.specs.Printed.{IsPrinted};
 
-use json::{Error, Scratch, Value, Writer, to_vec};
+use json::{Error, Scratch, Value, Writer};
 use std::alloc::{AllocError, Global};
 use std::mem;
 
@@ -59,34 +56,6 @@ pub(crate) fn is_envelope(
         Err(Error::TooLong) => Ok(false),
         Err(Error::DuplicateKey) => Ok(false),
     }
-}
-
-/// Returns true only if a text is an envelope, written as the kit writes its value.
-pub(crate) fn is_printed(
-    alloc: Global,
-    text: &[u8],
-    scratch: &mut Scratch,
-) -> Result<bool, AllocError>
-    ensures { IfOk result (λ is. is ≡ true → IsPrinted text.now) }
-{
-    match Value::from_slice(alloc, text, scratch) {
-        Ok(value) => is_print_of(alloc, text, &value),
-        Err(Error::OutOfMemory) => Err(AllocError),
-        Err(_) => Ok(false),
-    }
-}
-
-/// Returns true only if a value is an envelope, and the kit writes it as this text.
-fn is_print_of(alloc: Global, text: &[u8], value: &Value<'_>) -> Result<bool, AllocError>
-    requires numbers { HasNumbers (value_view value.now) }
-    requires nests { depth (value_view value.now) ≤ max_depth }
-    ensures { IfOk result (λ is. is ≡ true → IsPrinted text.now) }
-{
-    if !is_envelope_value(value) {
-        return Ok(false);
-    }
-    let printed = to_vec(alloc, value)?;
-    Ok(printed.as_slice() == text)
 }
 
 /// Whether a value is an envelope.

@@ -1,0 +1,5 @@
+use Rattle.doc_envelope.proofs.{printed_id}
+use Rattle.doc_envelope.proofs.printing.is_id.Goals as goal
+
+pub returns-in-Some : goal.returns-in-Some
+returns-in-Some c = λ h. printed_id c.args.member.now c.in-Some.value.now c.in-Some.ensures (c.is_string.ensures h)

@@ -1,0 +1,182 @@
+//! Members of an envelope that are written as the kit writes them.
+ghost use Rattle.std.specs.Prelude.{◌≡◌, ◌≤◌, ◌++◌, [], ◌∷◌, length, true, IfSome};
+ghost use Rattle.std.specs.Str.{bytes_eq};
+ghost use Rattle.doc_envelope.specs.Printed.{IsPrintedMember, IsPrintedValue, IsDigits, BeginsWithString, AreIds, IsStarted};
+
+use json::is_number;
+use json_values::plain_end;
+
+/// Returns true only if a member may be in an envelope, and is written as the kit writes it; and if all members before
+/// it are.
+pub(crate) fn still_printed(printed: bool, member: &[u8]) -> bool
+    ensures { result ≡ true → (printed ≡ true) × IsPrintedMember member.now }
+{
+    printed && is_printed_member(member)
+}
+
+/// Returns true only if a member may be in an envelope, and is written as the kit writes it.
+fn is_printed_member(member: &[u8]) -> bool
+    ensures { result ≡ true → IsPrintedMember member.now }
+{
+    is_id(member) || is_rev(member) || is_revs(member) || is_deleted(member)
+}
+
+/// Returns true only if a member is an `_id` without escapes.
+fn is_id(member: &[u8]) -> bool
+    ensures { result ≡ true → IsPrintedMember member.now }
+{
+    match after(member, b"\"_id\":") {
+        Some(value) => is_string(value),
+        None => false,
+    }
+}
+
+/// Returns true only if a member is a `_rev` without escapes.
+fn is_rev(member: &[u8]) -> bool
+    ensures { result ≡ true → IsPrintedMember member.now }
+{
+    match after(member, b"\"_rev\":") {
+        Some(value) => is_string(value),
+        None => false,
+    }
+}
+
+/// Returns true only if a member is `_revisions` in the form that CouchDB gives it.
+fn is_revs(member: &[u8]) -> bool
+    ensures { result ≡ true → IsPrintedMember member.now }
+{
+    match after(member, b"\"_revisions\":") {
+        Some(value) => is_revisions(value),
+        None => false,
+    }
+}
+
+/// Returns true only if a member says that the document is deleted.
+fn is_deleted(member: &[u8]) -> bool
+    ensures { result ≡ true → IsPrintedMember member.now }
+{
+    is(member, b"\"_deleted\":true")
+}
+
+/// Whether two texts are equal.
+#[inline(always)]
+fn is(text: &[u8], other: &[u8]) -> bool
+    ensures { result ≡ bytes_eq text.now other.now }
+{
+    text == other
+}
+
+/// Returns the text after a prefix; `None` if the text does not have it.
+#[inline(always)]
+fn after<'a>(text: &'a [u8], prefix: &[u8]) -> Option<&'a [u8]>
+    ensures { IfSome result (λ rest. text.now ≡ prefix.now ++ rest.now) }
+{
+    text.strip_prefix(prefix)
+}
+
+/// Returns true only if a value is a JSON string of ASCII characters without escapes.
+fn is_string(value: &[u8]) -> bool
+    ensures { result ≡ true → IsPrintedValue value.now }
+{
+    match after_string(value) {
+        Some(rest) => rest.is_empty(),
+        None => false,
+    }
+}
+
+/// Returns the text after a JSON string of ASCII characters without escapes; `None` if a text does not begin with one.
+#[inline(always)]
+fn after_string(text: &[u8]) -> Option<&[u8]>
+    ensures { IfSome result (λ rest. BeginsWithString text.now rest.now) }
+{
+    if text.is_empty() || text[0] != b'"' {
+        return None;
+    }
+    let end = plain_end(text, 1);
+    if end >= text.len() || text[end] != b'"' {
+        return None;
+    }
+    let string = &text[1..end];
+    if !string.is_ascii() {
+        return None;
+    }
+    Some(&text[end + 1..])
+}
+
+/// Returns true only if a value has the form that CouchDB gives `_revisions`.
+fn is_revisions(value: &[u8]) -> bool
+    ensures { result ≡ true → IsPrintedValue value.now }
+{
+    match after(value, b"{\"start\":") {
+        Some(start) => is_started(start),
+        None => false,
+    }
+}
+
+/// Returns true only if a text has a number and then a list of ids, the last member of an object.
+fn is_started(start: &[u8]) -> bool
+    ensures { result ≡ true → IsStarted start.now }
+{
+    let count = comma(start);
+    if !is_start(&start[..count]) {
+        return false;
+    }
+    match after(&start[count..], b",\"ids\":[") {
+        Some(ids) => are_ids(ids),
+        None => false,
+    }
+}
+
+/// The number of bytes before the first comma.
+fn comma(text: &[u8]) -> usize
+    ensures { result ≤ length text.now }
+{
+    let mut count = 0;
+    while count < text.len() && text[count] != b',' {
+        count += 1;
+    }
+    count
+}
+
+/// Returns true only if a text is a number.
+fn is_start(text: &[u8]) -> bool
+    ensures { result ≡ true → IsDigits text.now }
+{
+    match simdutf8::basic::from_utf8(text) {
+        Ok(said) => is_number(said),
+        Err(_) => false,
+    }
+}
+
+/// Returns true only if a text has strings of ASCII characters without escapes, with commas between them, and then the
+/// brackets that close the list and the object.
+fn are_ids(text: &[u8]) -> bool
+    ensures { result ≡ true → AreIds text.now }
+{
+    let mut rest = text;
+    while let Some(more) = after_id(rest) {
+        rest = more;
+    }
+    is_last_id(rest)
+}
+
+/// Returns the text after a string without escapes and a comma; `None` if a text does not begin with them.
+#[inline(always)]
+fn after_id(text: &[u8]) -> Option<&[u8]>
+    ensures { IfSome result (λ rest. BeginsWithString text.now (44 ∷ rest.now)) }
+{
+    match after_string(text) {
+        Some(rest) => after(rest, b","),
+        None => None,
+    }
+}
+
+/// Returns true only if a text is a string without escapes and two closing brackets.
+fn is_last_id(text: &[u8]) -> bool
+    ensures { result ≡ true → BeginsWithString text.now (93 ∷ 125 ∷ []) }
+{
+    match after_string(text) {
+        Some(rest) => is(rest, b"]}"),
+        None => false,
+    }
+}
