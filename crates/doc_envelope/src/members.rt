@@ -44,8 +44,8 @@ fn nesting_behind(nesting: usize, byte: u8) -> usize
     }
 }
 
-/// The position after a byte in a string that is no plain text: a quotation mark, or another byte. A backslash is
-/// passed over with the byte after it.
+/// Returns the position after a quotation mark, a control character or a backslash in a string. A backslash is skipped
+/// with the byte after it.
 #[inline(always)]
 fn past_byte(text: &[u8], at: usize) -> usize
     requires { at < length text.now }
