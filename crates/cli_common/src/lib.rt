@@ -1,6 +1,6 @@
-//! Command-line parsing and exit status, shared by both programs.
+//! Parses command lines and determines exit statuses, for all programs.
 //!
-//! Each program defines its own options and what they do.
+//! Each program defines its own options.
 #![tactic(auto)]
 
 mod status;

@@ -1,4 +1,4 @@
-//! The arguments of a program, and its exit status if it has nothing to run.
+//! Reads the arguments of a program, and determines the exit status of a program that has nothing to run.
 ghost use Rattle.std.specs.Prelude.{◌≡◌, ◌≤◌};
 ghost use Rattle.clap.specs.Words.{kind_of};
 ghost use Rattle.cli_common.specs.Status.{kind_status};
@@ -13,11 +13,11 @@ use std::{env, io};
 /// The exit status for a usage error.
 pub const BAD_COMMAND_LINE: u8 = 2;
 
-/// Returns the command-line arguments, the program's name first.
+/// Returns the command-line arguments, of which the first is the program's name.
 ///
 /// # Errors
 ///
-/// `OutOfMemory`, or an argument that is not valid Unicode.
+/// The error is `OutOfMemory` if an allocation fails; another kind means that an argument is not valid Unicode.
 pub fn words_of<H: AllocGlobal + Env>(rt: &H) -> io::Result<Vec<String>> {
     let words = env::args(rt)?.collect(rt.alloc())?;
     Ok(words)
@@ -36,7 +36,8 @@ pub fn report_bad_arguments(rt: &impl Eprint, error: &io::Error) -> u8
     }
 }
 
-/// Prints `clap`'s message, and returns the exit status: 0 for help and version, 3 if memory ran out, 2 otherwise.
+/// Prints `clap`'s message, and returns the exit status, which is 0 for help and version, 3 if memory ran out, and 2
+/// for other errors.
 pub fn report_arguments<H: Print + Eprint>(rt: &H, error: &Error) -> u8
     ensures { result ≡ kind_status (kind_of error.now) }
 {

@@ -1,4 +1,4 @@
-//! The parts of a command line, and their parsed values.
+//! Defines the parts of a command line, and parses the arguments.
 ghost use Rattle.std.specs.Prelude.{◌≡◌, IfOk, IfErr, map, string_bytes, true, false};
 ghost use Rattle.clap.specs.Words.{HasKind, app_of, fault_of, is_simple_and_free, rule_of};
 ghost use Rattle.cli_common.specs.Words.{IsFound, flag_option, hidden_option, program_app};
@@ -6,7 +6,7 @@ ghost use Rattle.cli_common.specs.Words.{IsFound, flag_option, hidden_option, pr
 use clap::{Arg, ArgAction, ArgMatches, Command, Error};
 use std::alloc::Global;
 
-/// Defines a program without arguments: its name, its description, and the text after its help.
+/// Defines a program without arguments, with its name, its description, and the text after its help.
 pub fn program<'a>(alloc: Global, name: &'a str, about: &'a str, help: &'a str) -> Command<'a>
     ensures { app_of result ≡ program_app name.entry.now }
 {
@@ -27,8 +27,8 @@ pub fn flag<'a>(alloc: Global, name: &'a str, help: &'a str) -> Arg<'a>
         .help(help)
 }
 
-/// Defines a positional argument that does not appear in the help. The program accepts it and can then print its own
-/// error, for example about a file name.
+/// Defines a positional argument that does not appear in the help. A program accepts such an argument in order to print
+/// an error of its own, for example about a file name.
 pub fn hidden_word<'a>(alloc: Global, name: &'a str) -> Arg<'a>
     ensures rule { rule_of result ≡ hidden_option name.entry.now }
     ensures local { result.global ≡ false }
@@ -40,7 +40,7 @@ pub fn hidden_word<'a>(alloc: Global, name: &'a str) -> Arg<'a>
 ///
 /// # Errors
 ///
-/// `clap`'s error, which includes requests for help and version, or out of memory.
+/// The call returns `clap`'s error, which includes requests for help and version and failed allocations.
 pub fn find<'a>(command: Command<'a>, words: &'a [String]) -> Result<ArgMatches<'a>, Error>
     requires free { is_simple_and_free (app_of command) ≡ true }
     ensures ok { IfOk result (IsFound (app_of command.entry) (map string_bytes words.entry.now)) }

@@ -9,7 +9,7 @@ use clap::{Arg, ArgAction, ArgMatches, Command, Error};
 use cli_common::{find, flag, hidden_word, program};
 use std::alloc::{AllocError, Global};
 
-/// The description of the program.
+/// The description of the program for `--help`.
 const ABOUT: &str =
     "Converts responses of CouchDB to script lines, and documents to requests to CouchDB.";
 
@@ -78,7 +78,7 @@ impl From<AllocError> for NoTask {
     }
 }
 
-/// Parses the arguments, the program's name first.
+/// Parses the arguments, of which the first is the program's name.
 pub fn read_words<'a>(alloc: Global, words: &'a [String]) -> Result<Task, NoTask>
     ensures ok { IfOk result (λ task. Says (map string_bytes words.entry.now) task) }
     ensures err { IfErr result (λ why. Refuses (map string_bytes words.entry.now) why) }
@@ -90,7 +90,7 @@ pub fn read_words<'a>(alloc: Global, words: &'a [String]) -> Result<Task, NoTask
     }
 }
 
-/// Reads the task and its arguments.
+/// Reads the task and the task's arguments from the parsed command line.
 fn task_said(alloc: Global, matches: &ArgMatches<'_>) -> Result<Task, NoTask>
     ensures ok { IfOk result (λ task. SaysBy (first_value (found_of matches.now))
         (one_text (found_of matches.now) (codes "whole")) (one_text (found_of matches.now) (codes "svg")) task) }
@@ -137,7 +137,7 @@ fn first_word<'a>(alloc: Global) -> Arg<'a>
         .help("`load`, `ids`, `diff`, `leaves`, `bulk` or `trees`")
 }
 
-/// Defines the argument of the task.
+/// Defines the positional argument that the task takes.
 fn second_word<'a>(alloc: Global) -> Arg<'a>
     ensures rule { rule_of result ≡ second_word }
     ensures local { result.global ≡ false }

@@ -17,8 +17,9 @@ use std::env::Env;
 use std::io::{Eprint, Input, Print, Printer, Write};
 use std::{io, str};
 
-/// Runs the program. Returns the exit status: 0; 1 if something was skipped; 2 for a usage error; 3 if the input is not
-/// a response, or reading, writing or an allocation failed.
+/// Runs the program, and returns its exit status. The status is 0 on success, 1 if the program skipped an object
+/// without a document, and 2 for a usage error. It is 3 if the input is not a response, or if reading, writing or an
+/// allocation failed.
 pub fn run_program<H: AllocGlobal + Env + Input + Print + Eprint>(rt: &H) -> u8
     ensures { result ≤ 3 }
 {
@@ -56,7 +57,7 @@ where
     Ok((ended, reader, writer.into_inner()))
 }
 
-/// Flushes the output. Returns how the run ended after that.
+/// Flushes the output. Returns how the run ended, with a failed flush included.
 fn flushed<W: ScriptWrite>(writer: &mut W, first: Ended) -> Ended
     ensures kept { Keeps (W.held writer.old) (W.held writer.new) }
     ensures flushed { (Keeps (W.held writer.new) (W.sent writer.new) × (result ≡ first)) ⊎ (result ≡ unflushed first) }
@@ -67,7 +68,7 @@ fn flushed<W: ScriptWrite>(writer: &mut W, first: Ended) -> Ended
     }
 }
 
-/// The result of a run whose last output could not be flushed. An earlier error stays.
+/// Returns the result of a run whose output could not be flushed. An earlier error stays the result.
 fn unflushed(ended: Ended) -> Ended
     ensures { result ≡ unflushed ended }
 {
@@ -82,7 +83,7 @@ fn unflushed(ended: Ended) -> Ended
     }
 }
 
-/// The same for a drawing.
+/// Returns the result of a drawing whose output could not be flushed. An earlier error stays the result.
 fn undrawn(ended: Result<bool, ScriptFault>) -> Result<bool, ScriptFault>
     ensures { result ≡ undrawn ended }
 {
@@ -92,7 +93,7 @@ fn undrawn(ended: Result<bool, ScriptFault>) -> Result<bool, ScriptFault>
     }
 }
 
-/// The same for a conversion.
+/// Returns the result of a conversion whose output could not be flushed. An earlier error stays the result.
 fn unwritten(ended: Result<u64, AnswerFault>) -> Result<u64, AnswerFault>
     ensures { result ≡ unwritten ended }
 {
@@ -141,7 +142,7 @@ fn tell_drawn(rt: &impl Eprint, ended: &Result<bool, ScriptFault>) -> u8
     }
 }
 
-/// The usage of a task.
+/// Returns the usage line of a task.
 fn usage_of(named: Named) -> &'static str {
     match named {
         Named::Load => "load DB [--whole]",
@@ -153,7 +154,7 @@ fn usage_of(named: Named) -> &'static str {
     }
 }
 
-/// Reports what was skipped, or why the conversion stopped early, and returns the exit status.
+/// Reports the number of skipped objects, or why the conversion stopped early, and returns the exit status.
 fn tell_run(rt: &impl Eprint, run: &Run) -> u8
     ensures { result ≡ status_of run.now.ended }
 {
@@ -193,7 +194,7 @@ fn tell_refused(rt: &impl Eprint, run: &Run, why: Refusal, at: u64) -> u8
     3
 }
 
-/// Explains what the input is, and what to do.
+/// Returns a hint on what the rejected input is, and what the user can do.
 fn hint_of(why: Refusal) -> &'static str {
     match why {
         Refusal::Gzip => "it is gzip; use curl --compressed",
@@ -205,7 +206,7 @@ fn hint_of(why: Refusal) -> &'static str {
     }
 }
 
-/// Bytes as a string; empty if they are not UTF-8.
+/// Returns bytes as a string, or an empty string if the bytes are not UTF-8.
 fn text_of(bytes: &[u8]) -> &str {
     match str::from_utf8(bytes) {
         Ok(text) => text,
@@ -213,7 +214,7 @@ fn text_of(bytes: &[u8]) -> &str {
     }
 }
 
-/// A JSON string without its quotation marks and the white space around them.
+/// Returns the text of a JSON string without its quotation marks and without the white space around it.
 fn unquoted(bytes: &[u8]) -> &str {
     let text = text_of(bytes).trim();
     let text = match text.strip_prefix('"') {

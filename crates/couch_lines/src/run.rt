@@ -1,4 +1,4 @@
-//! A run of the program over any reader and writer.
+//! Runs the program over any reader and writer.
 ghost use Rattle.std.specs.Prelude.{◌≡◌, ℕ, List, [], Some, IfOk, OnOk, false, map, option_map, string_bytes};
 ghost use Rattle.response_output.specs.Stored.{words_of_wording};
 ghost use Rattle.std.specs.Io.KnownBytes.{Appends};
@@ -18,16 +18,17 @@ use std::alloc::{AllocError, Global};
 pub enum Ended {
     /// The arguments name no task, and nothing was read.
     NotRun(NoTask),
-    /// The input was converted, or the conversion stopped early.
+    /// The program converted the input, or the conversion stopped early.
     Ran(Run),
-    /// The input was drawn, or drawing stopped early; `false` if memory was insufficient for a line.
+    /// The program drew the input, or drawing stopped early. The value is `false` if memory was insufficient for a
+    /// line.
     Drawn(Result<bool, ScriptFault>),
 }
 
-/// A conversion.
+/// The result of a conversion.
 #[derive(Drop)]
 pub struct Run {
-    /// The number of skipped documents, or why the conversion stopped early.
+    /// The number of skipped objects without a document, or why the conversion stopped early.
     pub(crate) ended: Result<u64, AnswerFault>,
     /// The parser.
     pub(crate) reading: Reading,
@@ -35,7 +36,7 @@ pub struct Run {
     pub(crate) wording: Wording,
 }
 
-/// Parses the arguments, the program's name first, and runs the task.
+/// Parses the arguments, of which the first is the program's name, and runs the task.
 pub fn run_words<'a, R: ScriptRead, W: ScriptWrite>(
     alloc: Global,
     words: &'a [String],
@@ -44,7 +45,8 @@ pub fn run_words<'a, R: ScriptRead, W: ScriptWrite>(
 ) -> Ended
     ensures runs { RunsWords (map string_bytes words.entry.now) (R.left reader.old) (R.left reader.new)
         (W.held writer.old) (W.held writer.new) result }
-    // `runs` holds also for the bytes that the reads returned. On success the reads returned everything.
+    // The clause `runs` holds also for the bytes that the reads returned. On success the reads returned the complete
+    // input.
     ensures took { (input : List ℕ) × Appends (R.taken reader.old) (R.taken reader.new) input
         × RunsWords (map string_bytes words.entry.now) (Some input) (Some []) (W.held writer.old)
         (W.held writer.new) result }
@@ -89,14 +91,14 @@ fn draw<R: ScriptRead, W: ScriptWrite>(
     }
 }
 
-/// The format of the picture.
+/// Returns the format of the picture.
 fn form_of(svg: bool) -> Form
     ensures { result ≡ form_of svg }
 {
     if svg { Form::Svg } else { Form::Text }
 }
 
-/// What a task looks for in its input.
+/// Returns what a task looks for in its input.
 fn wanted_of(task: &Task) -> Wanted
     ensures { result ≡ wanted_of task.now }
 {
@@ -111,7 +113,7 @@ fn wanted_of(task: &Task) -> Wanted
     }
 }
 
-/// The formatter of a task.
+/// Returns the formatter that writes a task's output.
 fn wording_of(alloc: Global, task: &Task) -> Result<Wording, AllocError>
     ensures { IfOk result (λ wording. words_of_wording wording ≡ words_of_task task.now) }
 {

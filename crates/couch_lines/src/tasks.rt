@@ -11,20 +11,22 @@ use std::alloc::Global;
 /// A task with its arguments.
 #[derive(Drop)]
 pub enum Task {
-    /// Writes `load` lines for the documents in CouchDB responses; with `true`, wrapped in envelopes.
+    /// Writes `load` lines for the documents in CouchDB responses. If the Boolean is true, each document is wrapped in
+    /// an envelope.
     Load(String, bool),
-    /// Writes request bodies that ask for each leaf in a changes feed or a `_revs_diff` response, N per body, or all in
-    /// one if N is 0.
+    /// Writes bodies of `_bulk_get` for each leaf in a changes feed or a `_revs_diff` response. The number is the
+    /// maximum of leaves per body, or 0 for one body.
     Ids(u64),
-    /// Writes request bodies that ask which leaves of a changes feed are missing, N documents per body, or all in one
-    /// if N is 0.
+    /// Writes bodies of `_revs_diff` with the leaves of a changes feed. The number is the maximum of documents per
+    /// body, or 0 for one body.
     Diff(u64),
     /// Writes a `doc` line for each leaf in the `change` lines of a script's output.
     Leaves(String),
-    /// Writes request bodies that store documents, N per body; with `true`, unwrapped from envelopes.
+    /// Writes bodies of `_bulk_docs`. The number is the maximum of documents per body, and if the Boolean is true,
+    /// documents are unwrapped from envelopes.
     Bulk(u64, bool),
-    /// Draws the output of a script; with a database name, adds the commands that resolve conflicts; with `true`, in
-    /// SVG.
+    /// Draws the output of a script, in SVG if the Boolean is true. With a database name, the task also writes the
+    /// commands that resolve conflicts.
     Trees(Option<String>, bool),
 }
 
@@ -39,7 +41,7 @@ pub enum Named {
     Trees,
 }
 
-/// The default number of documents per body.
+/// The default number of documents per request body.
 const SIZE: u64 = 1000;
 
 /// The maximum number of bytes of a database name.
@@ -56,7 +58,7 @@ fn is_name_byte(byte: u8) -> bool
         || byte == b'_'
 }
 
-/// Whether all bytes are allowed in a database name.
+/// Whether each byte of a text is allowed in a database name.
 fn are_name_bytes(bytes: &[u8]) -> bool
     ensures { result ≡ list_all is_name_byte bytes.now }
 {
@@ -100,7 +102,7 @@ fn named_by(word: &str) -> Option<Named>
 ///
 /// # Errors
 ///
-/// `Unknown` if the task is unknown; `Wrong` if it does not take these arguments.
+/// The call returns `Unknown` if no task has this name, and `Wrong` if the task does not take these arguments.
 pub fn task_of(
     alloc: Global,
     word: Option<&str>,
@@ -133,7 +135,7 @@ pub fn task_of(
 ///
 /// # Errors
 ///
-/// `Wrong` if the task does not take them.
+/// The call returns `Wrong` if the task does not take this argument or these flags.
 fn fitting(
     alloc: Global,
     named: Named,
@@ -175,7 +177,7 @@ fn fitting(
 ///
 /// # Errors
 ///
-/// `Wrong` if the argument is not a database name, or `--whole` is given.
+/// The call returns `Wrong` if the argument is not a database name, or if `--whole` is given.
 fn drawing(alloc: Global, word: Option<&str>, whole: bool, svg: bool) -> Result<Task, NoTask>
     ensures ok { IfOk result (λ task. Fits named.Trees (option_map (λ s. s.now) word.entry) whole svg task) }
     ensures err { IfErr result (λ why. FitsNone named.Trees (option_map (λ s. s.now) word.entry) whole svg why) }
@@ -196,7 +198,7 @@ fn drawing(alloc: Global, word: Option<&str>, whole: bool, svg: bool) -> Result<
 ///
 /// # Errors
 ///
-/// `Wrong` if the argument is missing or not a database name.
+/// The call returns `Wrong` if the argument is missing or is not a database name.
 fn name_of(alloc: Global, named: Named, word: Option<&str>) -> Result<String, NoTask>
     ensures ok { IfOk result (λ db. IsNamed (option_map (λ s. s.now) word.entry) (string_bytes db)) }
     ensures err { IfErr result (λ why. NamesNone named (option_map (λ s. s.now) word.entry) why) }
@@ -211,7 +213,7 @@ fn name_of(alloc: Global, named: Named, word: Option<&str>) -> Result<String, No
     Ok(db)
 }
 
-/// Parses a number greater than 0; returns the default if the argument is absent.
+/// Parses a number greater than 0, or returns the default if the argument is absent.
 fn size_of(word: Option<&str>, absent: u64) -> Option<u64>
     ensures some { IfSome result (λ n. IsSize absent (option_map (λ s. s.now) word.entry) n) }
     ensures none { IfNone result ((n : ℕ) → IsSize absent (option_map (λ s. s.now) word.entry) n → ⊥) }

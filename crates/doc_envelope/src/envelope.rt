@@ -1,4 +1,4 @@
-//! Envelopes: documents whose other members are stored in one string.
+//! Wraps documents in envelopes, and unwraps them. An envelope stores most members of a document in one string.
 ghost use Rattle.std.specs.Prelude.{◌≡◌, ◌++◌, ◌∷◌, [], ◌<◌, ◌≤◌, ℕ, List, length, drop, cond, Some, None, option_map, option_and_then, true, IfOk, OnOk};
 ghost use Rattle.std.specs.Str.{is_utf8};
 ghost use Rattle.doc_envelope.specs.Texts.{is_json};
@@ -15,7 +15,7 @@ use crate::values::{is_envelope, quote, string_of};
 use json::Scratch;
 use std::alloc::{AllocError, Global};
 
-/// The name of the member that holds the other members.
+/// The name of an envelope's member whose string has the wrapped members.
 const WHOLE: &[u8] = b"\"whole\"";
 
 /// Wraps and unwraps documents, and reuses its buffers.
@@ -24,9 +24,9 @@ pub struct Envelope {
     alloc: Global,
     /// The last result.
     text: Vec<u8>,
-    /// The members that go into the string.
+    /// The text of the members that the envelope stores in its string.
     held: Vec<u8>,
-    /// Whether the members of the result are known to be written as the kit writes them.
+    /// Whether each member of the envelope outside of its string is known to have the text that the kit prints for it.
     printed: bool,
     scratch: Scratch,
 }
@@ -52,7 +52,7 @@ impl Envelope {
         self.text.as_slice()
     }
 
-    /// Wraps a document. Returns `false` if it is not an object, or if its `_deleted` is not a Boolean.
+    /// Wraps a document. Returns `false` if the text is not an object, or if its member `_deleted` is not a Boolean.
     pub fn put(&mut self, document: &[u8]) -> Result<bool, AllocError>
         ensures text { IfOk result (λ ok. enveloped document.now ≡ cond ok (Some (made_of self.new)) None) }
         ensures envelops { (ms : List (List ℕ)) → HasMembers document.now ms
@@ -79,7 +79,8 @@ impl Envelope {
         is_envelope(self.alloc, self.text.as_slice(), &mut self.scratch)
     }
 
-    /// Unwraps a document. Returns `false` if it is not an object, or if one of its members `whole` holds no members.
+    /// Unwraps a document. Returns `false` if the text is not an object, or if a member `whole` is not a string of
+    /// members.
     pub fn take(&mut self, document: &[u8]) -> Result<bool, AllocError>
         ensures text { IfOk result (λ ok. unfolded document.now ≡ cond ok (Some (made_of self.new)) None) }
         ensures gives_back { (fs ws os : List (List ℕ)) → HasMembers document.now (fs ++ ws) → AreOthers fs
@@ -103,7 +104,7 @@ impl Envelope {
         self.is_json()
     }
 
-    /// Whether the result is JSON.
+    /// Whether the text that was built is JSON.
     fn is_json(&mut self) -> Result<bool, AllocError>
         ensures value { IfOk result (λ json. json ≡ is_json (made_of self.old)) }
         ensures same { made_of self.new ≡ made_of self.old }
@@ -126,7 +127,7 @@ impl Envelope {
         Ok(())
     }
 
-    /// Copies each member, either to the result or to the string.
+    /// Copies each member of a document, either to the envelope itself or to the envelope's string.
     fn fold(&mut self, document: &[u8]) -> Result<(), AllocError>
         ensures made { OnOk result
             (made_of self.new ≡ texts_with (123 ∷ []) (members_in Outside 0 [] (drop 1 document.now))) }
@@ -144,7 +145,7 @@ impl Envelope {
         Ok(())
     }
 
-    /// Ends an envelope with the member `whole`. Returns `false` if the string is not UTF-8.
+    /// Ends an envelope with the member `whole`. Returns `false` if the wrapped members are not UTF-8.
     fn end_fold(&mut self) -> Result<bool, AllocError>
         ensures is { IfOk result (λ ok. ok ≡ is_utf8 (held_of self.old)) }
         ensures made { IfOk result (λ ok. ok ≡ true
@@ -157,7 +158,8 @@ impl Envelope {
         Ok(true)
     }
 
-    /// Copies each member, or the members that it holds. Returns `false` if a member `whole` holds no members.
+    /// Copies each member of an envelope, and the wrapped members instead of a member `whole`. Returns `false` if a
+    /// member `whole` is not a string of members.
     fn unfold(&mut self, document: &[u8]) -> Result<bool, AllocError>
         ensures { IfOk result (λ ok. all_taken (123 ∷ []) (members_in Outside 0 [] (drop 1 document.now))
             ≡ cond ok (Some (made_of self.new)) None) }
@@ -174,7 +176,7 @@ impl Envelope {
         Ok(true)
     }
 
-    /// Copies a member, either to the result or to the string.
+    /// Copies a member, either to the envelope itself or to the envelope's string.
     fn put_member(&mut self, member: &[u8]) -> Result<(), AllocError>
         ensures made { OnOk result (made_of self.new ≡ text_with (made_of self.old) member.now) }
         ensures held { OnOk result (held_of self.new ≡ held_by (held_of self.old) member.now) }
@@ -189,7 +191,7 @@ impl Envelope {
         self.hold(member)
     }
 
-    /// Appends a member to the result, and looks whether it is written as the kit writes it.
+    /// Appends a member to the envelope, and checks whether the member has the text that the kit prints for it.
     fn put_front(&mut self, member: &[u8]) -> Result<(), AllocError>
         ensures made { OnOk result (made_of self.new ≡ added (made_of self.old) member.now) }
         ensures held { held_of self.new ≡ held_of self.old }
@@ -199,7 +201,7 @@ impl Envelope {
         self.add(member)
     }
 
-    /// Appends a member to the result.
+    /// Appends a member, with a comma before it if it is not the first member.
     fn add(&mut self, member: &[u8]) -> Result<(), AllocError>
         ensures made { OnOk result (made_of self.new ≡ added (made_of self.old) member.now) }
         ensures held { held_of self.new ≡ held_of self.old }
@@ -211,7 +213,7 @@ impl Envelope {
         self.text.extend_from_slice(member)
     }
 
-    /// Appends a member to the string.
+    /// Appends a member to those that the envelope stores in its string.
     fn hold(&mut self, member: &[u8]) -> Result<(), AllocError>
         ensures held { OnOk result (held_of self.new ≡ held_with (held_of self.old) member.now) }
         ensures made { made_of self.new ≡ made_of self.old }
@@ -223,7 +225,7 @@ impl Envelope {
         self.held.extend_from_slice(member)
     }
 
-    /// Appends the member `whole`, if the string is not empty. Returns `false` if the string is not UTF-8.
+    /// Appends the member `whole` if there are wrapped members. Returns `false` if the wrapped members are not UTF-8.
     fn end_held(&mut self) -> Result<bool, AllocError>
         ensures is { IfOk result (λ ok. ok ≡ is_utf8 (held_of self.old)) }
         ensures made { IfOk result (λ ok. ok ≡ true
@@ -236,7 +238,8 @@ impl Envelope {
         quote(self.alloc, self.held.as_slice(), &mut self.text)
     }
 
-    /// Appends a member, or the members that it holds. Returns `false` if a member `whole` holds no members.
+    /// Appends a member of an envelope, or the wrapped members if its name is `whole`. Returns `false` if a member
+    /// `whole` is not a string of members.
     fn take_member(&mut self, member: &[u8]) -> Result<bool, AllocError>
         ensures { IfOk result (λ ok. taken_with (made_of self.old) member.now
             ≡ cond ok (Some (made_of self.new)) None) }
@@ -251,7 +254,7 @@ impl Envelope {
         Ok(true)
     }
 
-    /// Appends the members in a JSON string.
+    /// Appends the wrapped members that a JSON string contains.
     fn take_held(&mut self, value: &[u8]) -> Result<bool, AllocError>
         ensures { IfOk result (λ ok. option_map (added (made_of self.old))
             (option_and_then if_any (string_of value.now)) ≡ cond ok (Some (made_of self.new)) None) }
@@ -283,7 +286,8 @@ fn behind_brace(document: &[u8]) -> &[u8]
     }
 }
 
-/// Returns the text after a member of `count` bytes and its comma; empty if there is no comma.
+/// Returns the text after a member of `count` bytes and the comma that follows. Returns an empty text if no comma
+/// follows the member.
 fn behind_comma(text: &[u8], count: usize) -> &[u8]
     requires { count ≤ length text.now }
     ensures value { result.now ≡ behind_comma text.now count }
@@ -296,14 +300,14 @@ fn behind_comma(text: &[u8], count: usize) -> &[u8]
     }
 }
 
-/// Whether a text has only blanks.
+/// Whether each byte of a text is white space.
 fn is_blank(text: &[u8]) -> bool
     ensures { result ≡ is_blank text.now }
 {
     text.iter().all(|b| *b == b' ')
 }
 
-/// Whether a member stays outside of the string.
+/// Whether an envelope stores a member outside of its string.
 fn stays(member: &[u8]) -> bool
     ensures { result ≡ stays member.now }
 {

@@ -20,7 +20,7 @@ fn closes(byte: u8) -> bool
     byte == b'}' || byte == b']'
 }
 
-/// Whether a byte outside of strings ends a member, with `nesting` brackets open in the member.
+/// Whether a byte outside of strings ends a member. `nesting` is the number of brackets that are open in the member.
 #[inline(always)]
 fn ends(nesting: usize, byte: u8) -> bool
     ensures { result ≡ ends_member Outside nesting byte }
@@ -28,7 +28,7 @@ fn ends(nesting: usize, byte: u8) -> bool
     nesting == 0 && (byte == b',' || closes(byte))
 }
 
-/// The number of open brackets after a byte outside of strings.
+/// Returns the number of open brackets after a byte outside of strings.
 #[inline(always)]
 fn nesting_behind(nesting: usize, byte: u8) -> usize
     requires { nesting < 9223372036854775808 }
@@ -44,8 +44,8 @@ fn nesting_behind(nesting: usize, byte: u8) -> usize
     }
 }
 
-/// Returns the position after a quotation mark, a control character or a backslash in a string. A backslash is skipped
-/// with the byte after it.
+/// Returns the position after a quotation mark, a control character or a backslash in a string. The byte after a
+/// backslash is skipped.
 #[inline(always)]
 fn past_byte(text: &[u8], at: usize) -> usize
     requires { at < length text.now }
@@ -60,7 +60,7 @@ fn past_byte(text: &[u8], at: usize) -> usize
     }
 }
 
-/// The position after the closing quotation mark of a string, from a position within the string on.
+/// Returns the position after the closing quotation mark of a string, for a position inside the string.
 #[inline(always)]
 fn string_end(text: &[u8], from: usize) -> usize
     requires { from ≤ length text.now }
@@ -78,7 +78,7 @@ fn string_end(text: &[u8], from: usize) -> usize
     at
 }
 
-/// The number of bytes of the first member, up to its comma or closing bracket.
+/// Returns the number of bytes of the first member, up to the comma or closing brace after it.
 pub(crate) fn first_length(text: &[u8]) -> usize
     ensures value { result ≡ first_length text.now }
     ensures within { result ≤ length text.now }

@@ -1,10 +1,10 @@
-//! The names and the values of members.
+//! Finds the names and the values in the texts of members.
 ghost use Rattle.std.specs.Prelude.{◌≡◌, drop};
 ghost use Rattle.doc_envelope.specs.Names.{trimmed, has_name, value_of, first_member, id_of, is_log};
 
 use crate::members::first_length;
 
-/// Returns a text without leading blanks.
+/// Returns a text without leading white space.
 pub(crate) fn trimmed(text: &[u8]) -> &[u8]
     ensures { result.now ≡ trimmed text.now }
 {
@@ -15,7 +15,7 @@ pub(crate) fn trimmed(text: &[u8]) -> &[u8]
     rest
 }
 
-/// Whether a member has this name, which includes its quotation marks.
+/// Whether a member has a name, which is given with its quotation marks.
 pub(crate) fn has_name(member: &[u8], name: &[u8]) -> bool
     ensures { result ≡ has_name member.now name.now }
 {
@@ -33,7 +33,7 @@ fn behind(text: &[u8], count: usize) -> &[u8]
     }
 }
 
-/// Returns a member's value: the text after its name, which includes its quotation marks, and its colon.
+/// Returns the text of a member's value. `name` is the member's name with its quotation marks.
 pub(crate) fn value_of<'a>(member: &'a [u8], name: &[u8]) -> &'a [u8]
     ensures { result.now ≡ value_of member.now name.now }
 {
@@ -41,7 +41,7 @@ pub(crate) fn value_of<'a>(member: &'a [u8], name: &[u8]) -> &'a [u8]
     trimmed(behind(colon, 1))
 }
 
-/// The first member of a document.
+/// Returns the text of a document's first member.
 fn first_member(document: &[u8]) -> &[u8]
     ensures { result.now ≡ first_member document.now }
 {
@@ -49,7 +49,7 @@ fn first_member(document: &[u8]) -> &[u8]
     &members[..first_length(members)]
 }
 
-/// The text of a document's id, if it is the first member; otherwise empty.
+/// Returns the text of a document's id if `_id` is the first member, else an empty text.
 pub fn id_of(document: &[u8]) -> &[u8]
     ensures { result.now ≡ id_of document.now }
 {

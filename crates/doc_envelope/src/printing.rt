@@ -1,4 +1,4 @@
-//! Members of an envelope that are written as the kit writes them.
+//! Recognizes members of an envelope that have the text that the kit prints for them.
 ghost use Rattle.std.specs.Prelude.{◌≡◌, ◌≤◌, ◌++◌, [], ◌∷◌, length, true, IfSome};
 ghost use Rattle.std.specs.Str.{bytes_eq};
 ghost use Rattle.doc_envelope.specs.Printed.{IsPrintedMember, IsPrintedValue, IsDigits, BeginsWithString, AreIds, IsStarted};
@@ -6,22 +6,22 @@ ghost use Rattle.doc_envelope.specs.Printed.{IsPrintedMember, IsPrintedValue, Is
 use json::is_number;
 use json_values::plain_end;
 
-/// Returns true only if a member may be in an envelope, and is written as the kit writes it; and if all members before
-/// it are.
+/// Returns true only if a member, and each member before it, may be in an envelope and has the text that the kit
+/// prints.
 pub(crate) fn still_printed(printed: bool, member: &[u8]) -> bool
     ensures { result ≡ true → (printed ≡ true) × IsPrintedMember member.now }
 {
     printed && is_printed_member(member)
 }
 
-/// Returns true only if a member may be in an envelope, and is written as the kit writes it.
+/// Returns true only if a member may be in an envelope and has the text that the kit prints.
 fn is_printed_member(member: &[u8]) -> bool
     ensures { result ≡ true → IsPrintedMember member.now }
 {
     is_id(member) || is_rev(member) || is_revs(member) || is_deleted(member)
 }
 
-/// Returns true only if a member is an `_id` without escapes.
+/// Returns true only if a member is `_id` with a string of ASCII characters without escapes.
 fn is_id(member: &[u8]) -> bool
     ensures { result ≡ true → IsPrintedMember member.now }
 {
@@ -31,7 +31,7 @@ fn is_id(member: &[u8]) -> bool
     }
 }
 
-/// Returns true only if a member is a `_rev` without escapes.
+/// Returns true only if a member is `_rev` with a string of ASCII characters without escapes.
 fn is_rev(member: &[u8]) -> bool
     ensures { result ≡ true → IsPrintedMember member.now }
 {
@@ -41,7 +41,7 @@ fn is_rev(member: &[u8]) -> bool
     }
 }
 
-/// Returns true only if a member is `_revisions` in the form that CouchDB gives it.
+/// Returns true only if a member is `_revisions` with the text in which CouchDB prints a revision history.
 fn is_revs(member: &[u8]) -> bool
     ensures { result ≡ true → IsPrintedMember member.now }
 {
@@ -51,7 +51,7 @@ fn is_revs(member: &[u8]) -> bool
     }
 }
 
-/// Returns true only if a member says that the document is deleted.
+/// Returns true only if a member is `_deleted` with the value `true`, without white space.
 fn is_deleted(member: &[u8]) -> bool
     ensures { result ≡ true → IsPrintedMember member.now }
 {
@@ -66,7 +66,7 @@ fn is(text: &[u8], other: &[u8]) -> bool
     text == other
 }
 
-/// Returns the text after a prefix; `None` if the text does not have it.
+/// Returns the text after a prefix, or `None` if the text does not begin with the prefix.
 #[inline(always)]
 fn after<'a>(text: &'a [u8], prefix: &[u8]) -> Option<&'a [u8]>
     ensures { IfSome result (λ rest. text.now ≡ prefix.now ++ rest.now) }
@@ -84,7 +84,8 @@ fn is_string(value: &[u8]) -> bool
     }
 }
 
-/// Returns the text after a JSON string of ASCII characters without escapes; `None` if a text does not begin with one.
+/// Returns the text after a JSON string of ASCII characters without escapes, or `None` if the text does not begin with
+/// such a string.
 #[inline(always)]
 fn after_string(text: &[u8]) -> Option<&[u8]>
     ensures { IfSome result (λ rest. BeginsWithString text.now rest.now) }
@@ -103,7 +104,7 @@ fn after_string(text: &[u8]) -> Option<&[u8]>
     Some(&text[end + 1..])
 }
 
-/// Returns true only if a value has the form that CouchDB gives `_revisions`.
+/// Returns true only if a value has the text in which CouchDB prints a revision history.
 fn is_revisions(value: &[u8]) -> bool
     ensures { result ≡ true → IsPrintedValue value.now }
 {
@@ -113,7 +114,8 @@ fn is_revisions(value: &[u8]) -> bool
     }
 }
 
-/// Returns true only if a text has a number and then a list of ids, the last member of an object.
+/// Returns true only if a text is a number, the member `ids` with a list of strings, and the brace that closes an
+/// object.
 fn is_started(start: &[u8]) -> bool
     ensures { result ≡ true → IsStarted start.now }
 {
@@ -127,7 +129,7 @@ fn is_started(start: &[u8]) -> bool
     }
 }
 
-/// The number of bytes before the first comma.
+/// Returns the number of bytes before the first comma of a text.
 fn comma(text: &[u8]) -> usize
     ensures { result ≤ length text.now }
 {
@@ -148,8 +150,8 @@ fn is_start(text: &[u8]) -> bool
     }
 }
 
-/// Returns true only if a text has strings of ASCII characters without escapes, with commas between them, and then the
-/// brackets that close the list and the object.
+/// Returns true only if a text is a list's strings of ASCII characters without escapes, with commas between the
+/// strings, and the brackets that close the list and its object.
 fn are_ids(text: &[u8]) -> bool
     ensures { result ≡ true → AreIds text.now }
 {
@@ -160,7 +162,8 @@ fn are_ids(text: &[u8]) -> bool
     is_last_id(rest)
 }
 
-/// Returns the text after a string without escapes and a comma; `None` if a text does not begin with them.
+/// Returns the text after a string without escapes and a comma, or `None` if the text does not begin with such a string
+/// and a comma.
 #[inline(always)]
 fn after_id(text: &[u8]) -> Option<&[u8]>
     ensures { IfSome result (λ rest. BeginsWithString text.now (44 ∷ rest.now)) }

@@ -1,4 +1,4 @@
-//! Parsing and printing member values with the kit's JSON reader.
+//! Parses and prints the values of members with the kit's JSON reader.
 ghost use Rattle.std.specs.Prelude.{◌≡◌, ◌++◌, true, Some, IfOk, option_map};
 ghost use Rattle.std.specs.Str.{is_utf8};
 ghost use Rattle.json.specs.Print.{quoted};
@@ -10,7 +10,7 @@ use json::{Error, Scratch, Value, Writer};
 use std::alloc::{AllocError, Global};
 use std::mem;
 
-/// Parses a JSON string. Returns `None` if the text is not a JSON string.
+/// Parses a JSON string. The result is `None` if the text is not a JSON string.
 pub(crate) fn string_of<'a>(
     alloc: Global,
     text: &'a [u8],
@@ -27,7 +27,7 @@ pub(crate) fn string_of<'a>(
     }
 }
 
-/// Appends a text as a JSON string. Returns `false` if the text is not UTF-8.
+/// Appends a text as a JSON string, or returns `false` if the text is not UTF-8.
 pub(crate) fn quote(alloc: Global, text: &[u8], made: &mut Vec<u8>) -> Result<bool, AllocError>
     ensures is { IfOk result (λ ok. ok ≡ is_utf8 text.now) }
     ensures made { IfOk result (λ ok. ok ≡ true → made.new.items ≡ made.old.items ++ quoted text.now) }
@@ -41,7 +41,7 @@ pub(crate) fn quote(alloc: Global, text: &[u8], made: &mut Vec<u8>) -> Result<bo
     Ok(true)
 }
 
-/// Whether a text is an envelope.
+/// Whether a text is JSON with only members that an envelope may have.
 pub(crate) fn is_envelope(
     alloc: Global,
     text: &[u8],
@@ -58,7 +58,7 @@ pub(crate) fn is_envelope(
     }
 }
 
-/// Whether a value is an envelope.
+/// Whether a JSON value is an object with only members that an envelope may have.
 fn is_envelope_value(value: &Value<'_>) -> bool
     ensures { result ≡ is_envelope_value (Some (value_view value.now)) }
 {
@@ -68,7 +68,7 @@ fn is_envelope_value(value: &Value<'_>) -> bool
     }
 }
 
-/// Whether an envelope may have all these members.
+/// Whether an envelope may have each of these members.
 fn all_may_stand(members: &[(&str, Value<'_>)]) -> bool
     ensures { result ≡ list_all (λ m. may_stand m.0.now (value_view m.1)) members.now }
 {

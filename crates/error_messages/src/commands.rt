@@ -142,10 +142,10 @@ static WORDS: &[(&str, &[Member])] = &[
     ),
 ];
 
-/// Why an object is not a command. The first reason that is found.
+/// The first reason that is found why an object is not a command.
 #[derive(Drop)]
 pub(crate) enum CommandFault<'v> {
-    /// There is no member `do` that is a string.
+    /// The object has no member `do` that is a string.
     NoWord,
     /// The command is unknown.
     UnknownWord(&'v str),
@@ -174,7 +174,7 @@ pub(crate) fn fault_of<'v>(object: &'v LineValue<'_>) -> CommandFault<'v> {
     }
 }
 
-/// The members of a command, if it exists.
+/// Returns the members of a command, if a command has this name.
 fn members_of(word: &str) -> Option<&'static [Member]> {
     for row in WORDS {
         if is_same_text(word, row.0) {
@@ -184,7 +184,7 @@ fn members_of(word: &str) -> Option<&'static [Member]> {
     None
 }
 
-/// Finds out why an object is not this command.
+/// Finds out why an object is not a valid object of this command.
 fn fault_among<'v>(object: &'v LineValue<'_>, members: &'static [Member]) -> CommandFault<'v> {
     for member in members {
         match object.get(member.0) {
@@ -198,7 +198,7 @@ fn fault_among<'v>(object: &'v LineValue<'_>, members: &'static [Member]) -> Com
     unknown_member(object, members)
 }
 
-/// Finds the first member that the command does not have.
+/// Finds the object's first member that the command does not have.
 fn unknown_member<'v>(object: &'v LineValue<'_>, members: &'static [Member]) -> CommandFault<'v> {
     let Some(given) = object.as_object() else {
         return CommandFault::NoWord;
@@ -211,7 +211,7 @@ fn unknown_member<'v>(object: &'v LineValue<'_>, members: &'static [Member]) -> 
     CommandFault::NoneSeen
 }
 
-/// Whether one of these members has the name.
+/// Whether one of the command's members has this name.
 fn is_among(name: &str, members: &'static [Member]) -> bool {
     for member in members {
         if is_same_text(name, member.0) {
@@ -221,7 +221,7 @@ fn is_among(name: &str, members: &'static [Member]) -> bool {
     false
 }
 
-/// Whether a value has the type.
+/// Whether a JSON value has the type of a command's member.
 fn is_of_kind(value: &LineValue<'_>, kind: &Kind) -> bool {
     match kind {
         Kind::Name => is_text_where(value, is_name),

@@ -11,8 +11,8 @@ use json_values::{LineValue, ValueReader, is_same_text};
 use std::alloc::{AllocError, Global};
 
 /// Appends one explanation: the number of the line, the error name, the command, member, document or database at fault
-/// if the line shows it, and the meaning of the name (docs/PROFILE.md, "Names of refusals"). Strings of the line are
-/// printed as JSON.
+/// if the line shows it, and the meaning of the name (docs/PROFILE.md, "Names of refusals"). The explanation has the
+/// line's strings as JSON strings.
 ///
 /// The contract guarantees that the explanation is one line: the reason between its start and its line end is any text
 /// with no hidden character.
@@ -47,7 +47,7 @@ fn push_beginning(text: &mut String, number: u64, name: &str) -> Result<(), Allo
     text.push_str(": ")
 }
 
-/// Appends what is at fault, and the meaning of the error name.
+/// Appends the command, member, document or database at fault, and the meaning of the error name.
 fn push_reason(
     values: &mut ValueReader,
     alloc: Global,
@@ -63,7 +63,7 @@ fn push_reason(
     }
 }
 
-/// Appends what is at fault in an object, and the meaning of the error name.
+/// Appends the part at fault of a command's object, and the meaning of the error name.
 fn push_read_reason(text: &mut String, name: &str, object: &LineValue<'_>) -> Result<(), AllocError>
     ensures { OnOk result (AddsSeen (string_bytes text.old) (string_bytes text.new)) }
 {

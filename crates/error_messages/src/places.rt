@@ -7,7 +7,7 @@ use doc_json::has_fraction;
 use json_values::{LineValue, is_same_text};
 use std::alloc::AllocError;
 
-/// Appends what is at fault and a colon. Appends nothing if that is unknown.
+/// Appends the document, member or databases at fault and a colon. Appends nothing if the part at fault is unknown.
 #[tactic(auto, using(crate::proofs::Seen::seen_none))]
 pub(crate) fn push_place(
     text: &mut String,
@@ -30,7 +30,7 @@ pub(crate) fn push_place(
     Ok(())
 }
 
-/// Appends a document, its member at fault if one is known, and a colon.
+/// Appends a document, the document's member at fault if it is known, and a colon.
 fn push_document(
     text: &mut String,
     name: &str,
@@ -44,7 +44,7 @@ fn push_document(
     push_words(text, ": ")
 }
 
-/// Appends the member at fault, if one is known.
+/// Appends the document's member at fault, if it is known.
 #[tactic(auto, using(crate::proofs::Seen::seen_none))]
 fn push_member(text: &mut String, name: &str, object: &LineValue<'_>) -> Result<(), AllocError>
     ensures { OnOk result (AddsSeen (string_bytes text.old) (string_bytes text.new)) }
@@ -63,7 +63,7 @@ fn push_database(text: &mut String, db: &str) -> Result<(), AllocError>
     push_words(text, ": ")
 }
 
-/// Appends a source, the target if the line has one, and a colon.
+/// Appends the source of a replication, the target if the line names a target, and a colon.
 fn push_databases(text: &mut String, object: &LineValue<'_>, source: &str) -> Result<(), AllocError>
     ensures { OnOk result (AddsSeen (string_bytes text.old) (string_bytes text.new)) }
 {
@@ -72,7 +72,7 @@ fn push_databases(text: &mut String, object: &LineValue<'_>, source: &str) -> Re
     push_words(text, ": ")
 }
 
-/// Appends the target, if the line has one.
+/// Appends the target of a replication, if the line names a target.
 #[tactic(auto, using(crate::proofs::Seen::seen_none))]
 fn push_target(text: &mut String, object: &LineValue<'_>) -> Result<(), AllocError>
     ensures { OnOk result (AddsSeen (string_bytes text.old) (string_bytes text.new)) }
@@ -83,7 +83,7 @@ fn push_target(text: &mut String, object: &LineValue<'_>) -> Result<(), AllocErr
     }
 }
 
-/// The document id that a line names, if it is a string.
+/// Returns the document id that a line names, if that id is a string.
 fn id_of<'v>(object: &'v LineValue<'_>) -> Option<&'v str> {
     match object.get("doc") {
         Some(doc) => text_of(doc, "_id"),
@@ -91,7 +91,7 @@ fn id_of<'v>(object: &'v LineValue<'_>) -> Option<&'v str> {
     }
 }
 
-/// The string value of a member.
+/// Returns the value of a member, if the value is a string.
 fn text_of<'v>(object: &'v LineValue<'_>, name: &str) -> Option<&'v str> {
     match object.get(name) {
         Some(value) => value.as_str(),
@@ -99,7 +99,7 @@ fn text_of<'v>(object: &'v LineValue<'_>, name: &str) -> Option<&'v str> {
     }
 }
 
-/// The member of the line's document or body that caused the error.
+/// Returns the member of the line's document or body that caused the error, if it is known.
 fn member_at_fault<'v>(name: &str, object: &'v LineValue<'_>) -> Option<&'v str> {
     let document = match object.get("doc") {
         Some(doc) => doc,
@@ -113,7 +113,7 @@ fn member_at_fault<'v>(name: &str, object: &'v LineValue<'_>) -> Option<&'v str>
     None
 }
 
-/// Whether this member causes this error.
+/// Whether a member of a document causes this error.
 fn is_at_fault(name: &str, member: &str, value: &LineValue<'_>) -> bool {
     if is_same_text("Fraction", name) {
         return has_fraction(value);
@@ -127,8 +127,8 @@ fn is_at_fault(name: &str, member: &str, value: &LineValue<'_>) -> bool {
     false
 }
 
-/// Whether a document must not have this member: it begins with `_` and is not one of the four known ones, or it is a
-/// `_deleted` that is not a Boolean.
+/// Whether a document must not have this member. Such a member is `_deleted` with a value that is not a Boolean, or has
+/// a name with an initial `_` that is not one of the four known names.
 fn is_odd(member: &str, value: &LineValue<'_>) -> bool {
     if is_same_text("_deleted", member) {
         return value.as_bool().is_none();

@@ -2,7 +2,7 @@
 
 use json_values::is_same_text;
 
-/// The error names of lines and their meanings. Names that are not expected for a line are not in the table.
+/// The error names of lines and their meanings. The table omits names that no line is expected to fail with.
 static SENTENCES: &[(&str, &str)] = &[
     (
         "Attachments",
@@ -129,7 +129,7 @@ static SENTENCES: &[(&str, &str)] = &[
     ("UuidTaken", "another database has that UUID"),
 ];
 
-/// The meaning of an error name, or a text that it has none.
+/// Returns the meaning of an error name, or a text that says that the name has no meaning.
 pub(crate) fn sentence_of(name: &str) -> &'static str {
     for row in SENTENCES {
         if is_same_text(name, row.0) {

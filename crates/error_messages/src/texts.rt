@@ -5,14 +5,14 @@ ghost use Rattle.error_messages.specs.Told.{AddsSeen};
 use std::alloc::AllocError;
 use visible_text::{push_quoted, push_visible};
 
-/// Appends words, with the escape of each hidden character.
+/// Appends a text with each hidden character replaced by its escape.
 pub(crate) fn push_words(text: &mut String, words: &str) -> Result<(), AllocError>
     ensures { OnOk result (AddsSeen (string_bytes text.old) (string_bytes text.new)) }
 {
     push_visible(text, words)
 }
 
-/// Appends words and a string of the line, as a JSON string with no hidden character.
+/// Appends a text, and a string of the line as a JSON string without hidden characters.
 pub(crate) fn push_named(text: &mut String, words: &str, name: &str) -> Result<(), AllocError>
     ensures { OnOk result (AddsSeen (string_bytes text.old) (string_bytes text.new)) }
 {

@@ -1,8 +1,8 @@
-//! Splitting texts at a byte or a word.
+//! Splits texts at a byte or a word.
 ghost use Rattle.std.specs.Prelude.{◌≡◌, ◌++◌, ◌∷◌, List, ℕ, [], IfSome, IfNone, true};
 ghost use Rattle.output_parser.specs.Words.{lacks};
 
-/// Splits a text at the first occurrence of a byte; `None` if there is none.
+/// Splits a text at the first occurrence of a byte. Returns `None` if the text does not have the byte.
 pub fn cut_first(text: &[u8], byte: u8) -> Option<(&[u8], &[u8])>
     ensures some { IfSome result (λ x. (text.now ≡ x.0.now ++ byte ∷ x.1.now) × (lacks byte x.0.now ≡ true)) }
     ensures none { IfNone result (lacks byte text.now ≡ true) }
@@ -15,7 +15,7 @@ pub fn cut_first(text: &[u8], byte: u8) -> Option<(&[u8], &[u8])>
     None
 }
 
-/// Splits a text at the last occurrence of a byte; `None` if there is none.
+/// Splits a text at the last occurrence of a byte. Returns `None` if the text does not have the byte.
 pub fn cut_last(text: &[u8], byte: u8) -> Option<(&[u8], &[u8])>
     ensures some { IfSome result (λ x. (text.now ≡ x.0.now ++ byte ∷ x.1.now) × (lacks byte x.1.now ≡ true)) }
     ensures none { IfNone result (lacks byte text.now ≡ true) }
@@ -44,7 +44,7 @@ pub fn before<'a>(text: &'a [u8], end: &[u8]) -> Option<&'a [u8]>
     text.strip_suffix(end)
 }
 
-/// Splits off a name and the last word; `None` if the text does not end with the name and one word.
+/// Splits off a name and the last word. Returns `None` if the text does not end with the name and one word.
 pub fn cut_named<'a>(text: &'a [u8], name: &[u8]) -> Option<(&'a [u8], &'a [u8])>
     ensures some { IfSome result
         (λ x. (text.now ≡ x.0.now ++ (name.now ++ 32 ∷ x.1.now)) × (lacks 32 x.1.now ≡ true)) }

@@ -14,8 +14,8 @@ use rev_core::Rev;
 use std::alloc::{AllocError, Global};
 use std::str;
 
-/// Parses a line (docs/PROFILE.md, "Answers" and "Pictures"). A line is parsed as a kind of line exactly if it has the
-/// format of that kind.
+/// Parses a line (docs/PROFILE.md, "Answers" and "Pictures"). The result is a kind of line exactly if the line has that
+/// kind's format.
 pub fn read_line(alloc: Global, line: &[u8]) -> Result<Told, AllocError>
     ensures { IfOk result (λ told. Tells line.now told) }
 {
@@ -33,7 +33,7 @@ pub fn read_line(alloc: Global, line: &[u8]) -> Result<Told, AllocError>
     read_more(alloc, line)
 }
 
-/// Parses a line that does not describe a tree.
+/// Parses a line of a script's output that does not describe a revision tree.
 fn read_more(alloc: Global, line: &[u8]) -> Result<Told, AllocError>
     ensures { IfOk result (λ told. TellsMore line.now told) }
 {
@@ -61,7 +61,7 @@ fn read_more(alloc: Global, line: &[u8]) -> Result<Told, AllocError>
     }
 }
 
-/// Parses a line of `compare` about a document.
+/// Parses a line of the output of `compare` about a document.
 fn read_found(alloc: Global, line: &[u8], finding: Finding) -> Result<Option<Found>, AllocError>
     ensures some { IfOk result (λ o. IfSome o (λ f. (f.finding ≡ finding)
         × IsListed (finding_text finding) line.now (string_bytes f.id) f.revs.items)) }
@@ -91,7 +91,7 @@ fn read_doc(line: &[u8]) -> Option<(&str, u64)>
     }
 }
 
-/// Parses a `leaf` line: whether the leaf is live, and its ancestry.
+/// Parses a `leaf` line into whether the leaf is live, and the leaf's ancestry.
 fn read_leaf(alloc: Global, line: &[u8]) -> Result<Option<(bool, Vec<Rev>)>, AllocError>
     ensures some { IfOk result (λ o. IfSome o (λ x. IsLeafLine line.now x.0 x.1.items)) }
     ensures none { IfOk result (λ o. IfNone o ((live : Bool) (revs : List RevId) → IsLeafLine line.now live revs → ⊥)) }
@@ -111,7 +111,7 @@ fn read_leaf(alloc: Global, line: &[u8]) -> Result<Option<(bool, Vec<Rev>)>, All
     Ok(Some((live, revs)))
 }
 
-/// Splits a `leaf` line: the text of its revision, whether it is live, and the text of its ancestry.
+/// Splits a `leaf` line into the text of its revision, whether the leaf is live, and the text of its ancestry.
 fn leaf_parts(line: &[u8]) -> Option<(&[u8], bool, &[u8])>
     ensures some { IfSome result (λ x. LeafParts line.now x.0.now x.1 x.2.now) }
     ensures none { IfNone result ((own : List ℕ) (live : Bool) (list : List ℕ) → LeafParts line.now own live list → ⊥) }
@@ -125,7 +125,7 @@ fn leaf_parts(line: &[u8]) -> Option<(&[u8], bool, &[u8])>
     Some((own, false, list))
 }
 
-/// Whether the first revision has this text.
+/// Whether the first of these revisions has this text.
 fn begins_with(revs: &[Rev], own: &[u8]) -> bool
     ensures yes { result ≡ true → BeginsWith own.now revs.now }
     ensures no { result ≡ false → AllByRecursion IsRev revs.now → BeginsWith own.now revs.now → ⊥ }
@@ -139,7 +139,7 @@ fn begins_with(revs: &[Rev], own: &[u8]) -> bool
     revs[0] == own
 }
 
-/// Parses an id and revisions after a first word; `None` if the line does not begin with the word.
+/// Parses a document id and revisions after a first word. Returns `None` if the line does not begin with that word.
 fn read_listed<'a>(
     alloc: Global,
     line: &'a [u8],
@@ -157,7 +157,7 @@ fn read_listed<'a>(
     }
 }
 
-/// Splits such a line: the id, and the text of its revisions.
+/// Splits the text after a line's first word into a document id and the text of revisions.
 fn listed_parts<'a>(line: &'a [u8], word: &[u8]) -> Option<(&'a str, &'a [u8])>
     ensures some { IfSome result (λ x. ListedParts word.now line.now x.0.now x.1.now) }
     ensures none { IfNone result ((id list : List ℕ) → ListedParts word.now line.now id list → ⊥) }

@@ -27,7 +27,8 @@ pub fn read_log(alloc: Global, line: &[u8]) -> Result<Option<Log>, AllocError>
     }))
 }
 
-/// Parses the replication id, and returns the text after the start of the list; `None` if the line is not a log.
+/// Parses the replication id of a log, and returns it with the text after the start of the list of sessions. Returns
+/// `None` if the line is not a log.
 fn log_head(line: &[u8]) -> Option<(&str, &[u8])>
     ensures some { IfSome result (λ x. IsHead line.now x.0.now x.1.now) }
     ensures none { IfNone result ((id text : List ℕ) → IsHead line.now id text → ⊥) }
@@ -41,7 +42,7 @@ fn log_head(line: &[u8]) -> Option<(&str, &[u8])>
     }
 }
 
-/// Parses the sessions of a log; `None` if the text is not a list of sessions.
+/// Parses the sessions of a log. Returns `None` if the text is not a list of sessions.
 fn read_entries(alloc: Global, text: &[u8]) -> Result<Option<Vec<Entry>>, AllocError>
     ensures some { IfOk result (λ o. IfSome o (λ v. IsHistory text.now (map logged v.items))) }
     ensures none { IfOk result (λ o. IfNone o ((entries : List Logged) → IsHistory text.now entries → ⊥)) }
@@ -64,7 +65,8 @@ fn read_entries(alloc: Global, text: &[u8]) -> Result<Option<Vec<Entry>>, AllocE
     }
 }
 
-/// Parses a session at the start of a text, and returns the text after its closing brace; `None` if there is none.
+/// Parses a session at the start of a text, and returns it with the text after its closing brace. Returns `None` if the
+/// text does not start with a session.
 fn read_entry(alloc: Global, text: &[u8]) -> Result<Option<(Entry, &[u8])>, AllocError>
     ensures some { IfOk result (λ o. IfSome o (λ x. IsEntry (logged x.0) x.1.now text.now)) }
     ensures none { IfOk result (λ o. IfNone o ((e : Logged) (after : List ℕ) → IsEntry e after text.now → ⊥)) }
@@ -81,8 +83,8 @@ fn read_entry(alloc: Global, text: &[u8]) -> Result<Option<(Entry, &[u8])>, Allo
     }
 }
 
-/// Parses the values of members at the start of a text, and returns the text after them; `None` if the members are not
-/// there.
+/// Parses the values of members at the start of a text, and returns them with the text after the members. Returns
+/// `None` if the text does not start with these members.
 fn read_values<'a>(
     alloc: Global,
     text: &'a [u8],
@@ -104,8 +106,8 @@ fn read_values<'a>(
     Ok(Some((values, rest)))
 }
 
-/// Parses the value of a member at the start of a text, and returns the text after it; `None` if the member is not
-/// there.
+/// Parses the value of a member at the start of a text, and returns it with the text after the member. Returns `None`
+/// if the text does not start with this member.
 fn cut_member(text: &[u8], member: Member) -> Option<(&[u8], &[u8])>
     ensures some { IfSome result (λ x. IsMember member x.0.now x.1.now text.now) }
     ensures none { IfNone result ((value after : List ℕ) → IsMember member value after text.now → ⊥) }
@@ -114,7 +116,7 @@ fn cut_member(text: &[u8], member: Member) -> Option<(&[u8], &[u8])>
     cut_first(rest, member.end())
 }
 
-/// The members of a session, in order.
+/// The members of a session in a log, in the order in which a script prints them.
 fn members() -> &'static [Member]
     ensures { result.now ≡ all_members }
 {
@@ -133,7 +135,7 @@ fn members() -> &'static [Member]
     ]
 }
 
-/// Builds a session from the values of its members; `None` if they are invalid.
+/// Builds a session from the values of its members. Returns `None` if a value is invalid.
 fn read_told(alloc: Global, values: &[&[u8]]) -> Result<Option<Entry>, AllocError>
     ensures some { IfOk result (λ o. IfSome o (λ e. Values (texts_of values.now) (logged e))) }
     ensures none { IfOk result (λ o. IfNone o ((e : Logged) → Values (texts_of values.now) e → ⊥)) }
@@ -153,7 +155,7 @@ fn read_told(alloc: Global, values: &[&[u8]]) -> Result<Option<Entry>, AllocErro
     }))
 }
 
-/// The id of a session, and its start time.
+/// Returns the id and the start time from the values of a session's members.
 fn texts<'a>(values: &[&'a [u8]]) -> Option<(&'a str, &'a str)>
     ensures some { IfSome result (λ x. (get_or (texts_of values.now) 8 [] ≡ x.0.now) × (get_or (texts_of values.now) 10 [] ≡ x.1.now)
         × IsUtf8 x.0.now × IsUtf8 x.1.now) }
@@ -168,7 +170,8 @@ fn texts<'a>(values: &[&'a [u8]]) -> Option<(&'a str, &'a str)>
     }
 }
 
-/// The numbers of failed writes, of documents read, and of documents written.
+/// Returns the numbers of failed writes, of documents read, and of documents written from the values of a session's
+/// members.
 fn counts(values: &[&[u8]]) -> Option<(u64, u64, u64)>
     ensures some { IfSome result (λ x. IsNumber (get_or (texts_of values.now) 0 []) x.0 × IsNumber (get_or (texts_of values.now) 1 []) x.1
         × IsNumber (get_or (texts_of values.now) 2 []) x.2) }
@@ -181,7 +184,7 @@ fn counts(values: &[&[u8]]) -> Option<(u64, u64, u64)>
     Some((failed, read, written))
 }
 
-/// The value at an index; empty if there is none.
+/// Returns the value at an index, or an empty text if the list has no such index.
 fn value_at<'a>(values: &[&'a [u8]], place: usize) -> &'a [u8]
     ensures { result.now ≡ get_or (texts_of values.now) place [] }
 {

@@ -23,7 +23,7 @@ pub fn revision(text: &[u8]) -> Option<Rev>
     }
 }
 
-/// Parses a comma-separated list of revisions; `None` if the text is not such a list.
+/// Parses a comma-separated list of revisions. Returns `None` if the text is not such a list.
 pub fn read_revs(alloc: Global, text: &[u8]) -> Result<Option<Vec<Rev>>, AllocError>
     ensures some { IfOk result (λ o. IfSome o (λ v. IsRevs text.now v.items)) }
     ensures none { IfOk result (λ o. IfNone o ((revs : List RevId) → IsRevs text.now revs → ⊥)) }
@@ -44,7 +44,7 @@ pub fn read_revs(alloc: Global, text: &[u8]) -> Result<Option<Vec<Rev>>, AllocEr
     Ok(Some(revs))
 }
 
-/// Whether each generation is one above the next.
+/// Whether the generation of each revision is one more than that of the revision after it.
 pub fn falls_by_one(revs: &[Rev]) -> bool
     ensures yes { result ≡ true → FallsByOne revs.now }
     ensures no { result ≡ false → FallsByOne revs.now → ⊥ }

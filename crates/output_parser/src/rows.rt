@@ -10,7 +10,7 @@ use crate::told::{Column, Row, Table};
 use std::alloc::{AllocError, Global};
 use std::str;
 
-/// Parses a line of numbers for a table; `None` if the line is not one.
+/// Parses a line of numbers for a table. Returns `None` if the line is not a line of numbers.
 pub fn read_row(alloc: Global, line: &[u8], table: Table) -> Result<Option<Row>, AllocError>
     ensures some { IfOk result (λ o. IfSome o (λ r. (r.table ≡ table) × IsRow table line.now (string_bytes r.name) r.numbers.items)) }
     ensures none { IfOk result (λ o. IfNone o ((name numbers : List ℕ) → IsRow table line.now name numbers → ⊥)) }
@@ -29,7 +29,7 @@ pub fn read_row(alloc: Global, line: &[u8], table: Table) -> Result<Option<Row>,
     }))
 }
 
-/// The columns of a table, the last one first.
+/// Returns the columns of a table in reverse order.
 fn columns_back(table: Table) -> &'static [Column]
     ensures { result.now ≡ reverse (columns_of table) }
 {
@@ -63,8 +63,8 @@ fn columns_back(table: Table) -> &'static [Column]
     }
 }
 
-/// Parses columns at the end of a text, the last one first, and returns the text before them; `None` if the columns are
-/// not there.
+/// Parses columns at the end of a text, the last column first, and returns the text before the columns. Returns `None`
+/// if the text does not end with these columns.
 fn read_columns<'a>(
     alloc: Global,
     text: &'a [u8],
@@ -85,7 +85,8 @@ fn read_columns<'a>(
     Ok(Some((rest, numbers)))
 }
 
-/// Parses a column at the end of a text, and returns the text before it; `None` if the column is not there.
+/// Parses a column at the end of a text, and returns the text before the column. Returns `None` if the text does not
+/// end with this column.
 fn cut_column(text: &[u8], column: Column) -> Option<(&[u8], u64)>
     ensures some { IfSome result (λ x. EndsIn column x.1 x.0.now text.now) }
     ensures none { IfNone result ((front : List ℕ) (n : ℕ) → EndsIn column n front text.now → ⊥) }
@@ -97,7 +98,7 @@ fn cut_column(text: &[u8], column: Column) -> Option<(&[u8], u64)>
     }
 }
 
-/// Parses the name at the start of a line of numbers; `None` if it is invalid.
+/// Parses the name at the start of a line of numbers. Returns `None` if the name is invalid.
 fn name_of(front: &[u8], table: Table) -> Option<&str>
     ensures some { IfSome result (λ name. IsFront table name.now front.now × IsUtf8 name.now) }
     ensures none { IfNone result ((name : List ℕ) → IsFront table name front.now → IsUtf8 name → ⊥) }
@@ -109,7 +110,7 @@ fn name_of(front: &[u8], table: Table) -> Option<&str>
     }
 }
 
-/// The bytes of the name.
+/// Returns the bytes of the name at the start of a line of numbers.
 fn name_in(front: &[u8], table: Table) -> Option<&[u8]>
     ensures some { IfSome result (λ name. IsFront table name.now front.now) }
     ensures none { IfNone result ((name : List ℕ) → IsFront table name front.now → ⊥) }
@@ -121,7 +122,7 @@ fn name_in(front: &[u8], table: Table) -> Option<&[u8]>
     }
 }
 
-/// The empty name, if there is no text before the columns.
+/// Returns the empty name if the line has no text before its columns.
 fn empty_name(front: &[u8]) -> Option<&[u8]>
     ensures some { IfSome result (λ name. IsFront tables.Compared name.now front.now) }
     ensures none { IfNone result ((name : List ℕ) → IsFront tables.Compared name front.now → ⊥) }
@@ -129,7 +130,7 @@ fn empty_name(front: &[u8]) -> Option<&[u8]>
     if front.is_empty() { Some(front) } else { None }
 }
 
-/// The name of a database, before its UUID.
+/// Returns the name of a database, which the line has before the database's UUID.
 fn database_name(front: &[u8]) -> Option<&[u8]>
     ensures some { IfSome result (λ name. IsFront tables.Info name.now front.now) }
     ensures none { IfNone result ((name : List ℕ) → IsFront tables.Info name front.now → ⊥) }

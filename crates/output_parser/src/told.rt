@@ -1,4 +1,4 @@
-//! The contents of a line.
+//! The contents of a line of a script's output, and their types.
 ghost use Rattle.std.specs.Prelude.{◌≡◌};
 ghost use Rattle.output_parser.specs.Lines.{finding_text};
 ghost use Rattle.output_parser.specs.Columns.{column_text, columns_of};
@@ -9,11 +9,11 @@ use rev_core::Rev;
 /// The contents of a line of a script's output.
 #[derive(Drop)]
 pub enum Told {
-    /// A document of `show`: its id in JSON, and its number of leaves, which are in the next lines.
+    /// A document in the output of `show`, with its id in JSON and the number of `leaf` lines that follow.
     Document { id: String, count: u64 },
-    /// A leaf of `show`: whether it is live, and its known ancestry, the leaf first.
+    /// A leaf in the output of `show`, with whether it is live and its known ancestry, the leaf first.
     Leaf { live: bool, revs: Vec<Rev> },
-    /// A document of `conflicts`: its id in JSON, and its live leaves, the winner first.
+    /// A document in the output of `conflicts`, with its id in JSON and its live leaves, the winner first.
     Conflict { id: String, revs: Vec<Rev> },
     /// A line of `compare` about a document.
     Found(Found),
@@ -31,11 +31,11 @@ pub struct Found {
     pub finding: Finding,
     /// The document's id in JSON.
     pub id: String,
-    /// The revisions that the line lists.
+    /// The revisions that the line of `compare` lists.
     pub revs: Vec<Rev>,
 }
 
-/// What `compare` says about a document.
+/// The finding of `compare` about a document.
 #[derive(Clone, Copy, Debug, PartialEq, Eq)]
 pub enum Finding {
     /// The target lacks these leaves.
@@ -47,7 +47,7 @@ pub enum Finding {
 }
 
 impl Finding {
-    /// The start of such a line.
+    /// Returns the first word of a line of `compare` with this finding.
     pub fn text(self) -> &'static str
         ensures { result.now ≡ finding_text self }
     {
@@ -63,25 +63,25 @@ impl Finding {
 #[derive(Drop)]
 pub struct Row {
     pub table: Table,
-    /// The name of the database, or the id of the session; empty for `compare`.
+    /// The name of the database or the id of the session, and an empty text for `compare`.
     pub name: String,
-    /// A number for each column of the table, in order.
+    /// The numbers of the line, one for each column of the table, in order.
     pub numbers: Vec<u64>,
 }
 
-/// The kind of a line of numbers.
+/// The command that printed a line of numbers.
 #[derive(Clone, Copy, Debug, PartialEq, Eq)]
 pub enum Table {
     /// The counts of `compare`.
     Compared,
-    /// The counts of a database, from `info`.
+    /// The counts of a database, which `info` prints.
     Info,
-    /// The counts of a session, from `replicate`.
+    /// The counts of a session, which `replicate` prints.
     Session,
 }
 
 impl Table {
-    /// The columns of the table.
+    /// Returns the columns of the table for a kind of line.
     pub fn columns(self) -> &'static [Column]
         ensures { result.now ≡ columns_of self }
     {
@@ -119,8 +119,8 @@ impl Table {
 /// A column of a table.
 #[derive(Clone, Copy, Debug, PartialEq, Eq)]
 pub enum Column {
-    /// Of `compare`: documents and leaves of the source, leaves that the target lacks, contradicting documents, and
-    /// leaves that differ.
+    /// The counts of `compare`, which are the source's documents and leaves, the leaves that the target lacks, the
+    /// contradicting documents, and the leaves that differ.
     ComparedDocuments,
     ComparedLeaves,
     ComparedMissing,
@@ -146,7 +146,7 @@ pub enum Column {
 }
 
 impl Column {
-    /// The text before the column's number, without the blank.
+    /// Returns the text that a line has before the column's number, without the blank.
     pub fn text(self) -> &'static str
         ensures { result.now ≡ column_text self }
     {
@@ -189,7 +189,7 @@ pub struct Log {
 pub struct Entry {
     /// The session id.
     pub session: String,
-    /// The start time, as the log prints it.
+    /// The session's start time, as a script prints it in the log.
     pub begun: String,
     /// The numbers of documents read, of documents written, and of failed writes.
     pub read: u64,
@@ -214,7 +214,7 @@ pub enum Member {
 }
 
 impl Member {
-    /// The text before the value.
+    /// Returns the text that a log has before the member's value.
     pub fn text(self) -> &'static str
         ensures { result.now ≡ member_text self }
     {
@@ -233,7 +233,7 @@ impl Member {
         }
     }
 
-    /// The byte after the value: a comma, or the quotation mark that ends a string.
+    /// Returns the byte after the member's value, which is a comma, or the quotation mark that ends a string.
     pub fn end(self) -> u8
         ensures { result ≡ member_end self }
     {

@@ -1,23 +1,23 @@
-//! The text around the documents, ids and revisions that are written.
+//! The text that each output format has around documents, ids and revisions.
 ghost use Rattle.std.specs.Prelude.{◌≡◌};
 ghost use Rattle.response_output.specs.Forms.{opening as opening_of, separator as separator_of, ends as ends_of, closing as closing_of, empty as empty_of, before_rev as before_rev_of, has_lists as has_lists_of};
 
 /// The format of the output.
 #[derive(Clone, Copy, Debug, PartialEq, Eq)]
 pub enum Form {
-    /// `load` lines of a script.
+    /// `load` lines of a script, one for each document.
     Loads,
-    /// Request bodies that ask for leaves (`_bulk_get`).
+    /// Bodies of `_bulk_get` requests, which request leaves.
     Asked,
-    /// Request bodies that ask for missing revisions (`_revs_diff`).
+    /// Bodies of `_revs_diff` requests, which request the missing revisions.
     Diffs,
-    /// `doc` lines of a script.
+    /// `doc` lines of a script, one for each revision.
     Docs,
-    /// Request bodies that store documents (`_bulk_docs`).
+    /// Bodies of `_bulk_docs` requests, which store documents.
     Bodies,
 }
 
-/// The text that opens a body.
+/// Returns the text that opens a request body.
 pub(crate) fn opening(form: Form) -> &'static [u8]
     ensures { result.now ≡ opening_of form }
 {
@@ -29,7 +29,7 @@ pub(crate) fn opening(form: Form) -> &'static [u8]
     }
 }
 
-/// The text between two items of a body.
+/// Returns the text between two items of a request body.
 pub(crate) fn separator(form: Form) -> &'static [u8]
     ensures { result.now ≡ separator_of form }
 {
@@ -40,7 +40,7 @@ pub(crate) fn separator(form: Form) -> &'static [u8]
     }
 }
 
-/// The text after each item.
+/// Returns the text after each item of the output.
 pub(crate) fn ends(form: Form) -> &'static [u8]
     ensures { result.now ≡ ends_of form }
 {
@@ -51,7 +51,7 @@ pub(crate) fn ends(form: Form) -> &'static [u8]
     }
 }
 
-/// The text that closes a body.
+/// Returns the text that closes a request body.
 pub(crate) fn closing(form: Form) -> &'static [u8]
     ensures { result.now ≡ closing_of form }
 {
@@ -61,7 +61,7 @@ pub(crate) fn closing(form: Form) -> &'static [u8]
     }
 }
 
-/// The body that is written if there is nothing else to write.
+/// Returns the request body that is written if the input has no item.
 pub(crate) fn empty(form: Form) -> &'static [u8]
     ensures { result.now ≡ empty_of form }
 {
@@ -72,7 +72,7 @@ pub(crate) fn empty(form: Form) -> &'static [u8]
     }
 }
 
-/// The text between a document id and its revision.
+/// Returns the text between a document id and its revision.
 pub(crate) fn before_rev(form: Form) -> &'static [u8]
     ensures { result.now ≡ before_rev_of form }
 {

@@ -27,7 +27,7 @@ use thiserror::Error;
 /// Why reading stopped early.
 #[derive(Debug, Drop, Error)]
 pub enum AnswerFault {
-    /// The input is not a response. `at` is the number of bytes read, including the one at fault.
+    /// The parser rejected the input. `at` is the number of bytes read, including the rejected byte.
     #[error("refused: {why} at byte {at}")]
     Refused { why: Refusal, at: u64 },
     /// A device or an allocation failed.
@@ -53,7 +53,7 @@ impl From<AllocError> for AnswerFault {
     }
 }
 
-/// Writes what the last byte completed.
+/// Writes the item that the last byte completed.
 fn tell<W: ScriptWrite>(
     reading: &Reading,
     wording: &mut Wording,
@@ -75,7 +75,7 @@ fn tell<W: ScriptWrite>(
     }
 }
 
-/// Reads bytes, and writes their contents.
+/// Parses bytes of a response, and writes each completed item.
 fn feed<W: ScriptWrite>(
     reading: &mut Reading,
     wording: &mut Wording,
@@ -102,7 +102,7 @@ fn feed<W: ScriptWrite>(
     Ok(())
 }
 
-/// The result at the end of the input.
+/// Returns the result of a run whose input has ended.
 fn ended(reading: &Reading) -> Result<u64, AnswerFault>
     ensures { result ≡ ended_of (state_of reading.now) }
 {
@@ -115,7 +115,7 @@ fn ended(reading: &Reading) -> Result<u64, AnswerFault>
     }
 }
 
-/// Ends a last line that has no line end.
+/// Reads a line feed if the input's last line has no line end.
 fn feed_rest<W: ScriptWrite>(
     reading: &mut Reading,
     wording: &mut Wording,
@@ -134,7 +134,7 @@ fn feed_rest<W: ScriptWrite>(
     feed(reading, wording, writer, b"\n")
 }
 
-/// Writes the last text, if the input consists of complete responses.
+/// Writes the text that closes the output, if the input consists of complete responses.
 fn end<W: ScriptWrite>(
     reading: &Reading,
     wording: &Wording,
@@ -153,7 +153,7 @@ fn end<W: ScriptWrite>(
     }
 }
 
-/// Handles the end of the input.
+/// Handles the end of the input, and closes the output.
 fn finish<W: ScriptWrite>(
     reading: &mut Reading,
     wording: &mut Wording,
@@ -169,7 +169,7 @@ fn finish<W: ScriptWrite>(
     }
 }
 
-/// Reads in chunks, and writes their contents.
+/// Reads the input in chunks, and writes the items of each chunk.
 fn run_chunks<R: ScriptRead, W: ScriptWrite>(
     reading: &mut Reading,
     wording: &mut Wording,
@@ -213,13 +213,13 @@ fn run_chunks<R: ScriptRead, W: ScriptWrite>(
 }
 
 /// Reads responses to the end of the input with a new parser, and writes each item as soon as it is complete. Returns
-/// the number of skipped documents.
+/// the number of objects that were skipped because they have no document.
 ///
 /// # Errors
 ///
-/// - `Refused`: the input is not a response. The items before the byte at fault are written.
-/// - `Device`: `Read` or `Write` if that device failed in this call; `Read` also if 4,294,967,295 reads of at most
-///   65,536 bytes were made; `Memory` if an allocation failed.
+/// - `Refused` if the input is not a response; the items before the rejected byte have been written.
+/// - `Device` with the fault `Read` if the reader failed in this call, or if 4,294,967,295 reads of at most 65,536
+///   bytes were made; with `Write` if the writer failed in this call; with `Memory` if an allocation failed.
 pub fn run_answers<R: ScriptRead, W: ScriptWrite>(
     alloc: Global,
     reading: &mut Reading,
@@ -229,15 +229,15 @@ pub fn run_answers<R: ScriptRead, W: ScriptWrite>(
 ) -> Result<u64, AnswerFault>
     requires begins { state_of reading.old ≡ start reading.old.wanted }
 
-    // If the input consists of CouchDB responses, their contents are written. Such input is never rejected if objects
-    // without documents are skipped.
+    // If the input consists of CouchDB responses, the call writes the contents of these responses. It never rejects
+    // such input if it skips objects without documents.
     ensures forms { (text : List ℕ) → (held : List Piece) → wants_documents reading.old.wanted ≡ true
         → is_strict reading.old.wanted ≡ false → R.left reader.old ≡ Some text
         → IsAnswered reading.old.wanted text held → ReadsAnswers (words_of_wording wording.old) held
         (W.held writer.old) (W.held writer.new) result }
 
-    // The same holds for the documents in the output of a script, if only documents are requested, and for the changes
-    // in it.
+    // If the caller requests only documents, the call writes the documents in the output of a script. If the caller
+    // requests changes, it writes the changes in that output.
     ensures script { (text : List ℕ) → (held : List Piece) → wants_documents reading.old.wanted ≡ true
         → is_strict reading.old.wanted ≡ true → R.left reader.old ≡ Some text
         → IsScript reading.old.wanted text held → ReadsAnswers (words_of_wording wording.old) held
@@ -247,7 +247,8 @@ pub fn run_answers<R: ScriptRead, W: ScriptWrite>(
         → R.left reader.old ≡ Some text → IsChangeScript text held
         → ReadsAnswers (words_of_wording wording.old) held (W.held writer.old) (W.held writer.new) result }
 
-    // The same holds for the leaves in a page of `_changes` or in a response of `_revs_diff`, if leaves are requested.
+    // If the caller requests leaves, the call writes the leaves in a page of `_changes` or in a response of
+    // `_revs_diff`.
     ensures leaves { (text : List ℕ) → (held : List Piece) → reading.old.wanted ≡ Leaves
         → R.left reader.old ≡ Some text → AreLeaves text held
         → ReadsAnswers (words_of_wording wording.old) held (W.held writer.old) (W.held writer.new) result }
@@ -256,7 +257,8 @@ pub fn run_answers<R: ScriptRead, W: ScriptWrite>(
     ensures ok { IfOk result (λ passed. Answered reading.old.wanted (words_of_wording wording.old)
         (R.left reader.old) (W.held writer.old) (W.held writer.new) passed) }
     ensures end { OnOk result (IsAtEnd (R.left reader.new)) }
-    // `ok` and `fault` hold also for the bytes that the reads returned. On success the reads returned everything.
+    // The clauses `ok` and `fault` hold also for the bytes that the reads returned. On success the reads returned the
+    // complete input.
     ensures took { (input : List ℕ) × Appends (R.taken reader.old) (R.taken reader.new) input
         × Converts result reading.old.wanted (words_of_wording wording.old) (Some input) (W.held writer.old)
         (W.held writer.new) }

@@ -1,4 +1,4 @@
-//! Formats the items that were found.
+//! Formats the items that the parser of responses found.
 ghost use Rattle.std.specs.Prelude.{◌≡◌, ◌++◌, ◌∷◌, [], IfOk, OnOk};
 ghost use Rattle.response_parser.specs.State.{more};
 ghost use Rattle.response_output.specs.Stored.{made_of, words_of_wording};
@@ -10,28 +10,28 @@ use doc_envelope::id_of;
 use response_parser::Found;
 use std::alloc::{AllocError, Global};
 
-/// The state of a formatter.
+/// The state of a formatter of documents, ids and revisions.
 #[derive(Drop)]
 pub struct Wording {
     form: Form,
-    /// The text before each item.
+    /// The text that the formatter writes before each item.
     begins: Vec<u8>,
     /// The last id.
     id: Vec<u8>,
-    /// Whether a revision of the last id was written.
+    /// Whether the formatter has written a revision of the last document id.
     listed: bool,
-    /// The number of items in the open body.
+    /// The number of items in the open request body.
     count: u64,
-    /// The maximum number of items per body; 0 for no limit.
+    /// The maximum number of items per request body, or 0 for no limit.
     size: u64,
     /// Whether anything was written.
     told: bool,
-    /// The text of the last item.
+    /// The text of the item that the formatter formatted last.
     text: Vec<u8>,
 }
 
 impl Wording {
-    /// Writes a `load` line for each document, for a database whose name is copied unchanged.
+    /// Creates a formatter of `load` lines, one for each document. The name of the database is copied unchanged.
     pub fn loads(alloc: Global, db: &str) -> Result<Wording, AllocError>
         ensures { IfOk result (λ wording. words_of_wording wording ≡ loads_of db.now) }
     {
@@ -44,7 +44,8 @@ impl Wording {
         Ok(made(alloc, Form::Loads, begins, 0))
     }
 
-    /// Writes `_bulk_get` bodies that request each revision, `size` per body, or all in one if `size` is 0.
+    /// Creates a formatter of `_bulk_get` bodies, which request `size` revisions per body, or all revisions in one body
+    /// if `size` is 0.
     pub fn asked(alloc: Global, size: u64) -> Result<Wording, AllocError>
         ensures { IfOk result (λ wording. words_of_wording wording ≡ asked_of size) }
     {
@@ -52,14 +53,15 @@ impl Wording {
         Ok(made(alloc, Form::Asked, begins, size))
     }
 
-    /// Writes `_revs_diff` bodies of `size` documents, or all in one if `size` is 0.
+    /// Creates a formatter of `_revs_diff` bodies of `size` documents, or of one body with all documents if `size` is
+    /// 0.
     pub fn diffs(alloc: Global, size: u64) -> Wording
         ensures { words_of_wording result ≡ diffs_of size }
     {
         made(alloc, Form::Diffs, Vec::new(alloc), size)
     }
 
-    /// Writes a `doc` line for each revision, for a database whose name is copied unchanged.
+    /// Creates a formatter of `doc` lines, one for each revision. The name of the database is copied unchanged.
     pub fn docs(alloc: Global, db: &str) -> Result<Wording, AllocError>
         ensures { IfOk result (λ wording. words_of_wording wording ≡ docs_of db.now) }
     {
@@ -72,7 +74,8 @@ impl Wording {
         Ok(made(alloc, Form::Docs, begins, 0))
     }
 
-    /// Writes `_bulk_docs` bodies of `size` documents, or all in one if `size` is 0.
+    /// Creates a formatter of `_bulk_docs` bodies of `size` documents, or of one body with all documents if `size` is
+    /// 0.
     pub fn bodies(alloc: Global, size: u64) -> Wording
         ensures { words_of_wording result ≡ bodies_of size }
     {
@@ -81,7 +84,7 @@ impl Wording {
 
     /// Formats an item.
     ///
-    /// If an allocation fails, the formatter cannot be used further.
+    /// After a failed allocation the formatter must not be used further.
     pub fn put(&mut self, found: Found, text: &[u8]) -> Result<(), AllocError>
         ensures text { OnOk result (made_of self.new ≡ text_for (words_of_wording self.old) found text.now) }
         ensures words { OnOk result
@@ -96,21 +99,21 @@ impl Wording {
         }
     }
 
-    /// The text of the last item.
+    /// Returns the text of the item that the formatter formatted last.
     pub fn text(&self) -> &[u8]
         ensures { result.now ≡ made_of self.now }
     {
         self.text.as_slice()
     }
 
-    /// The last id, with its quotation marks. For documents, the id of the last one.
+    /// Returns the id of the last document or revision, with its quotation marks.
     pub fn id(&self) -> &[u8]
         ensures { result.now ≡ (words_of_wording self.now).id }
     {
         self.id.as_slice()
     }
 
-    /// The text that is written at the end.
+    /// Returns the text that closes the output at the end of the input.
     pub fn last(&self) -> &'static [u8]
         ensures { result.now ≡ last_text (words_of_wording self.now) }
     {
@@ -123,7 +126,7 @@ impl Wording {
         }
     }
 
-    /// Formats a document, by its text.
+    /// Formats a document that is given as JSON text.
     fn put_document(&mut self, text: &[u8]) -> Result<(), AllocError>
         requires { made_of self.old ≡ [] }
         ensures text { OnOk result (made_of self.new ≡ document_text (words_of_wording self.old) text.now) }
@@ -147,7 +150,7 @@ impl Wording {
         self.id.extend_from_slice(text)
     }
 
-    /// Formats a revision of the stored id.
+    /// Formats a revision of the document id that was read last.
     fn put_rev(&mut self, rev: &[u8]) -> Result<(), AllocError>
         requires { made_of self.old ≡ [] }
         ensures text { OnOk result (made_of self.new ≡ rev_text (words_of_wording self.old) rev.now) }
@@ -159,7 +162,7 @@ impl Wording {
         self.put_first(rev)
     }
 
-    /// Formats the first revision of a document.
+    /// Formats the first of a document's requested revisions.
     fn put_first(&mut self, rev: &[u8]) -> Result<(), AllocError>
         requires { made_of self.old ≡ [] }
         ensures text { OnOk result (made_of self.new ≡ first_rev_text (words_of_wording self.old) rev.now) }
@@ -174,7 +177,7 @@ impl Wording {
         Ok(())
     }
 
-    /// Formats a revision with its id.
+    /// Formats a revision together with its document id.
     fn put_named(&mut self, rev: &[u8]) -> Result<(), AllocError>
         ensures text { OnOk result (made_of self.new ≡ made_of self.old
             ++ ((words_of_wording self.old).id ++ (before_rev_of (words_of_wording self.old).form ++ rev.now))) }
@@ -185,7 +188,7 @@ impl Wording {
         self.text.extend_from_slice(rev)
     }
 
-    /// Formats a further revision of a document, in its list.
+    /// Formats a further revision in a document's list of revisions.
     fn put_further(&mut self, rev: &[u8]) -> Result<(), AllocError>
         requires { made_of self.old ≡ [] }
         ensures text { OnOk result (made_of self.new ≡ 44 ∷ rev.now) }
@@ -195,7 +198,7 @@ impl Wording {
         self.text.extend_from_slice(rev)
     }
 
-    /// Closes a full body of lists.
+    /// Closes a request body that has the maximum number of documents.
     fn put_over(&mut self) -> Result<(), AllocError>
         requires { made_of self.old ≡ [] }
         ensures text { OnOk result (made_of self.new ≡ over_text (words_of_wording self.old)) }
@@ -208,7 +211,7 @@ impl Wording {
         Ok(())
     }
 
-    /// Appends the text before an item.
+    /// Appends the text that the output format has before an item.
     fn put_before(&mut self) -> Result<(), AllocError>
         ensures text { OnOk result (made_of self.new ≡ made_of self.old ++ before (words_of_wording self.old)) }
         ensures words { words_of_wording self.new ≡ words_of_wording self.old }
@@ -222,7 +225,7 @@ impl Wording {
         self.text.extend_from_slice(self.begins.as_slice())
     }
 
-    /// Appends the text after an item.
+    /// Appends the text that the output format has after an item.
     fn put_behind(&mut self) -> Result<(), AllocError>
         ensures text { OnOk result (made_of self.new ≡ made_of self.old ++ behind (words_of_wording self.old)) }
         ensures words { words_of_wording self.new ≡ words_of_wording self.old }
@@ -234,7 +237,7 @@ impl Wording {
         Ok(())
     }
 
-    /// Whether the body is full after one more item, and is then closed.
+    /// Whether one more item fills the request body, which is then closed.
     fn is_full(&self) -> bool
         ensures { result ≡ is_full (words_of_wording self.now) }
     {
@@ -267,7 +270,7 @@ fn made(alloc: Global, form: Form, begins: Vec<u8>, size: u64) -> Wording
     }
 }
 
-/// A count increased by one, at most 2^64 - 1.
+/// Returns a count increased by one, or 2^64 - 1 if the count has that maximum.
 fn more(count: u64) -> u64
     ensures { result ≡ more count }
 {

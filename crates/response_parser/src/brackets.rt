@@ -1,4 +1,4 @@
-//! Brackets and commas outside of values.
+//! Brackets and commas that are not part of a copied value.
 ghost use Rattle.std.specs.Prelude.{◌≡◌};
 ghost use Rattle.response_parser.specs.Stored.{state_of};
 ghost use Rattle.response_parser.specs.State.{at, refused};
@@ -29,7 +29,7 @@ impl Reading {
         self.place = Place::Refused(why);
     }
 
-    /// Opens a list or an object, and continues at a place within it.
+    /// Opens a list or an object, and sets the parser's place to one inside the list or object.
     pub(crate) fn open(&mut self, place: Place)
         ensures { state_of self.new ≡ opened place (state_of self.old) }
     {
@@ -45,7 +45,8 @@ impl Reading {
         }
     }
 
-    /// Closes a list or an object, and continues at a place after it, unless it was the outermost one.
+    /// Closes a list or an object. Sets the parser's place to one after the bracket, unless the outermost bracket was
+    /// closed.
     pub(crate) fn close(&mut self, place: Place)
         ensures { state_of self.new ≡ closed place (state_of self.old) }
     {
@@ -84,7 +85,7 @@ impl Reading {
         }
     }
 
-    /// The place after an object, which is an item or the entry of a document.
+    /// Returns the parser's place after an object that is an item of a list or the entry of a document.
     fn behind_object(&self) -> Place
         ensures { result ≡ behind_object (state_of self.now) }
     {
@@ -95,7 +96,7 @@ impl Reading {
         }
     }
 
-    /// Closes an object without members. A `_revs_diff` response without members means that nothing is missing.
+    /// Closes an object without members. An empty object as a `_revs_diff` response means that no revision is missing.
     pub(crate) fn close_empty(&mut self)
         ensures { state_of self.new ≡ empty_closed (state_of self.old) }
     {
@@ -103,7 +104,7 @@ impl Reading {
         self.close_object();
     }
 
-    /// Opens the entry of a document, whose id is the member's name.
+    /// Opens the entry of a document in a `_revs_diff` response, in which the member's name is the document's id.
     pub(crate) fn open_entry(&mut self)
         ensures { state_of self.new ≡ entry_opened (state_of self.old) }
     {

@@ -1,4 +1,4 @@
-//! Several bytes of a value, read at once.
+//! Copies several bytes of a value at once.
 ghost use Rattle.std.specs.Prelude.{◌≡◌, ◌+◌, ◌<◌, ◌≤◌, ◌==◌, ◌&&◌, ◌||◌, nat_le, [], length, take, get_or, true, false, IfOk, OnOk};
 ghost use Rattle.response_parser.specs.Stored.{state_of};
 ghost use Rattle.response_parser.specs.Reading.{after, pieces};
@@ -11,19 +11,20 @@ use crate::values::MAX_NESTING;
 use json_values::plain_end;
 use std::alloc::AllocError;
 
-/// A position in the bytes of a value.
+/// A position in the text of a JSON value.
 #[derive(Clone, Copy)]
 struct Spot {
-    /// The number of bytes before the position.
+    /// The number of the value's bytes before the position.
     count: usize,
-    /// Whether the position is within a string.
+    /// Whether the position is inside a JSON string.
     quoted: bool,
-    /// The number of open brackets.
+    /// The number of brackets that are open at the position.
     nesting: u8,
 }
 
 impl Spot {
-    /// The position after the next bytes that are copied; the same position if the next byte has to be read alone.
+    /// Returns the position after the next bytes that can be copied. Returns the given position if the next byte must
+    /// be read alone.
     #[inline(always)]
     fn next(self, bytes: &[u8]) -> Spot
         requires { self.count < length bytes.now }
@@ -38,7 +39,8 @@ impl Spot {
         }
     }
 
-    /// The position after the content of a string, and after a quotation mark or an escape that follows it.
+    /// Returns the position after the content of a string and after the quotation mark or the escape that ends the
+    /// content.
     #[inline(always)]
     fn in_string(self, bytes: &[u8]) -> Spot
         requires within { self.count < length bytes.now }
@@ -56,7 +58,7 @@ impl Spot {
         }
     }
 
-    /// The position after a quotation mark or an escape.
+    /// Returns the position after a quotation mark or an escape in a string.
     #[inline(always)]
     fn after_string(self, bytes: &[u8]) -> Spot
         requires within { self.count + 1 < length bytes.now }
@@ -82,7 +84,7 @@ impl Spot {
         }
     }
 
-    /// The position after a byte outside of strings.
+    /// Returns the position after a byte that is outside of strings.
     #[inline(always)]
     fn outside(self, bytes: &[u8]) -> Spot
         requires within { self.count < length bytes.now }
@@ -104,7 +106,8 @@ impl Spot {
         }
     }
 
-    /// The position after a quotation mark, a bracket, a blank or another byte outside of strings.
+    /// Returns the position after a byte outside of strings, which is a quotation mark, a bracket, a blank or another
+    /// byte.
     #[inline(always)]
     fn past_sign(self, bytes: &[u8], byte: u8) -> Spot
         requires within { self.count < length bytes.now }
@@ -135,7 +138,7 @@ impl Spot {
         }
     }
 
-    /// The position after an opening bracket; the same position if too many brackets are open.
+    /// Returns the position after an opening bracket, or the given position if too many brackets are open.
     #[inline(always)]
     fn opened(self, bytes: &[u8]) -> Spot
         requires within { self.count < length bytes.now }
@@ -156,7 +159,7 @@ impl Spot {
         }
     }
 
-    /// The position after a closing bracket; the same position if it closes the outermost one.
+    /// Returns the position after a closing bracket, or the given position if the bracket closes the complete value.
     #[inline(always)]
     fn closed(self, bytes: &[u8]) -> Spot
         requires within { self.count < length bytes.now }
@@ -178,8 +181,7 @@ impl Spot {
     }
 }
 
-/// Whether a byte belongs to a number, a keyword, a colon or a comma, among others. False for quotation marks, brackets
-/// and white space.
+/// Whether a byte outside of strings is neither a quotation mark, nor a bracket, nor white space.
 #[inline(always)]
 fn is_solid(byte: u8) -> bool
     ensures { result ≡ (nat_le 35 byte && nat_le byte 90 || nat_le 97 byte && nat_le byte 122) }
@@ -187,7 +189,7 @@ fn is_solid(byte: u8) -> bool
     byte >= b'#' && byte <= b'Z' || byte >= b'a' && byte <= b'z'
 }
 
-/// Whether a byte is white space other than a blank.
+/// Whether a byte is a tab, a line feed or a carriage return.
 #[inline(always)]
 fn is_line_space(byte: u8) -> bool
     ensures { result ≡ (byte == 9 || byte == 10 || byte == 13) }
@@ -211,7 +213,7 @@ fn is_closing(byte: u8) -> bool
     byte == b'}' || byte == b']'
 }
 
-/// The position up to which the first bytes are copied, in a value that has begun.
+/// Returns the position up to which the first of the bytes belong to the current value and can be copied.
 #[inline(always)]
 fn spot_after(bytes: &[u8], quoted: bool, nesting: u8) -> Spot
     ensures within { result.count ≤ length bytes.now }
@@ -233,7 +235,8 @@ fn spot_after(bytes: &[u8], quoted: bool, nesting: u8) -> Spot
 }
 
 impl Reading {
-    /// Copies the first bytes if they belong to a value that has begun, and complete nothing. Returns their number.
+    /// Copies the first of the bytes that belong to the current value, and stops before a byte that completes the
+    /// value. Returns their number.
     #[inline(always)]
     pub(crate) fn copy(&mut self, bytes: &[u8]) -> Result<usize, AllocError>
         requires { (state_of self.old).found ≡ Nothing }
@@ -250,7 +253,7 @@ impl Reading {
         }
     }
 
-    /// Copies the first bytes of a value, if it has begun. Returns their number.
+    /// Copies the first of the bytes if the parser is inside a value. Returns their number.
     fn copy_value(&mut self, name: Name, quoted: bool, bytes: &[u8]) -> Result<usize, AllocError>
         requires found { (state_of self.old).found ≡ Nothing }
         requires place { (state_of self.old).place ≡ in_value_of name quoted }
@@ -275,7 +278,7 @@ impl Reading {
         Ok(spot.count)
     }
 
-    /// Whether the current value has not begun.
+    /// Whether the parser has read no byte of the current value yet.
     #[inline(always)]
     fn has_no_text(&self) -> bool
         ensures { result ≡ (length (state_of self.now).text == 0) }

@@ -1,4 +1,4 @@
-//! Complete documents, wrapped or unwrapped if requested.
+//! Reports complete documents, and wraps or unwraps their envelopes if the caller requested it.
 ghost use Rattle.std.specs.Prelude.{◌≡◌, OnOk, Some};
 ghost use Rattle.response_parser.specs.Stored.{state_of};
 ghost use Rattle.response_parser.specs.Values.{document_found, found_as};
@@ -9,7 +9,7 @@ use crate::reading::Reading;
 use std::alloc::AllocError;
 
 impl Reading {
-    /// Handles a complete document: reports it unchanged, wrapped or unwrapped.
+    /// Reports a complete document unchanged, in an envelope, or unwrapped from its envelope.
     pub(crate) fn find_document(&mut self) -> Result<(), AllocError>
         ensures { OnOk result (state_of self.new ≡ document_found (state_of self.old)) }
     {
@@ -23,7 +23,7 @@ impl Reading {
         }
     }
 
-    /// Reports the document in an envelope.
+    /// Wraps the complete document in an envelope, and reports the envelope.
     fn find_put(&mut self) -> Result<(), AllocError>
         requires { self.old.wanted ≡ Wanted.Enveloped }
         ensures { OnOk result (state_of self.new ≡ document_found (state_of self.old)) }
@@ -35,7 +35,7 @@ impl Reading {
         Ok(())
     }
 
-    /// Reports the document from its envelope.
+    /// Unwraps the complete envelope, and reports the document inside it.
     fn find_taken(&mut self) -> Result<(), AllocError>
         requires { self.old.wanted ≡ Wanted.Unfolded }
         ensures { OnOk result (state_of self.new ≡ document_found (state_of self.old)) }
@@ -47,7 +47,7 @@ impl Reading {
         Ok(())
     }
 
-    /// Reports the text that was built.
+    /// Reports the envelope or document that was built, or rejects the input if none could be built.
     fn find_made(&mut self) -> Result<(), AllocError>
         ensures { OnOk result (state_of self.new ≡ found_as (Some (made_of self.old.envelope)) (state_of self.old)) }
     {

@@ -1,7 +1,7 @@
 //! A streaming parser that finds the documents in CouchDB responses.
 //!
-//! docs/PROFILE.md, "CouchDB's answers", defines the responses. The parser reads byte by byte, and keeps the text of
-//! one value at a time.
+//! docs/PROFILE.md, "CouchDB's answers", defines the responses. The parser stores the text of at most one value at a
+//! time.
 #![tactic(auto)]
 
 mod brackets;

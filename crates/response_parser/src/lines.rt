@@ -11,7 +11,7 @@ use crate::wanted::{is_strict, wants_changes, wants_leaves};
 use std::alloc::AllocError;
 
 impl Reading {
-    /// Reads a byte in a line.
+    /// Reads a byte in a line of a script's output.
     pub(crate) fn in_line(&mut self, place: LinePlace, byte: u8) -> Result<(), AllocError>
         ensures { OnOk result (state_of self.new ≡ in_line place (state_of self.old) byte) }
     {
@@ -37,7 +37,7 @@ impl Reading {
         }
     }
 
-    /// Starts a text with a byte.
+    /// Starts the parser's text of a name or value with this byte.
     fn begin_text(&mut self, place: LinePlace, byte: u8) -> Result<(), AllocError>
         ensures { OnOk result (state_of self.new ≡ text_begun place (state_of self.old) byte) }
     {
@@ -47,7 +47,7 @@ impl Reading {
         Ok(())
     }
 
-    /// Reads a byte before a response or a line of output.
+    /// Reads a byte before the first byte of a response or of a line of a script's output.
     pub(crate) fn at_answer(&mut self, byte: u8) -> Result<(), AllocError>
         ensures { OnOk result (state_of self.new ≡ at_answer (state_of self.old) byte) }
     {
@@ -62,7 +62,7 @@ impl Reading {
         Ok(())
     }
 
-    /// Reads the first byte of a line of output, or of an invalid response.
+    /// Reads the first byte of a line of a script's output, or of input that is no response.
     fn at_begin(&mut self, byte: u8) -> Result<(), AllocError>
         ensures { OnOk result (state_of self.new ≡ at_begin (state_of self.old) byte) }
     {
@@ -76,7 +76,7 @@ impl Reading {
         Ok(())
     }
 
-    /// Reads a byte of the first word of a line, or the byte after it.
+    /// Reads a byte of a line's first word, or the byte after that word.
     fn in_word(&mut self, byte: u8) -> Result<(), AllocError>
         ensures { OnOk result (state_of self.new ≡ in_word (state_of self.old) byte) }
     {
@@ -106,7 +106,7 @@ impl Reading {
         }
     }
 
-    /// Ends a line. Before the first response, the parser returns to its first place.
+    /// Ends a line. If the line comes before the first response, the parser returns to its first place.
     fn end_line(&mut self)
         ensures { state_of self.new ≡ line_ended (state_of self.old) }
     {
@@ -117,7 +117,7 @@ impl Reading {
         };
     }
 
-    /// Whether the first word is `change`, and changes are requested.
+    /// Whether the line's first word is `change`, and the caller requested changes.
     fn is_change(&self) -> bool
         ensures { result ≡ is_change (state_of self.now) }
     {
@@ -136,7 +136,7 @@ impl Reading {
         }
     }
 
-    /// Reads a byte of the rest of a line, which is ignored.
+    /// Reads a byte of an ignored rest of a line.
     fn in_rest(&mut self, byte: u8)
         ensures { state_of self.new ≡ in_rest (state_of self.old) byte }
     {
@@ -145,7 +145,7 @@ impl Reading {
         }
     }
 
-    /// Reads a byte of the sequence of a change.
+    /// Reads a byte of the sequence in a `change` line.
     fn in_seq(&mut self, byte: u8)
         ensures { state_of self.new ≡ in_seq (state_of self.old) byte }
     {
@@ -159,7 +159,7 @@ impl Reading {
         }
     }
 
-    /// Reads the first byte of an id.
+    /// Reads the first byte of the document id in a `change` line.
     fn before_id(&mut self, byte: u8) -> Result<(), AllocError>
         ensures { OnOk result (state_of self.new ≡ before_id (state_of self.old) byte) }
     {
@@ -170,7 +170,7 @@ impl Reading {
         Ok(())
     }
 
-    /// Reads a byte of an id.
+    /// Reads a byte of the document id in a `change` line.
     fn in_id(&mut self, byte: u8) -> Result<(), AllocError>
         ensures { OnOk result (state_of self.new ≡ in_id (state_of self.old) byte) }
     {
@@ -196,7 +196,7 @@ impl Reading {
         Ok(())
     }
 
-    /// Reads a byte after a backslash in an id.
+    /// Reads a byte after a backslash in a document id.
     fn in_id_escape(&mut self, byte: u8) -> Result<(), AllocError>
         ensures { OnOk result (state_of self.new ≡ in_id_escape (state_of self.old) byte) }
     {
@@ -205,7 +205,7 @@ impl Reading {
         Ok(())
     }
 
-    /// Reads the byte after an id.
+    /// Reads the byte after the document id in a `change` line.
     fn after_id(&mut self, byte: u8)
         ensures { state_of self.new ≡ after_id (state_of self.old) byte }
     {
@@ -216,7 +216,7 @@ impl Reading {
         }
     }
 
-    /// Reads the first byte of a revision.
+    /// Reads the first byte of a revision in a `change` line.
     fn before_rev(&mut self, byte: u8) -> Result<(), AllocError>
         ensures { OnOk result (state_of self.new ≡ before_rev (state_of self.old) byte) }
     {
@@ -228,7 +228,7 @@ impl Reading {
         self.add(byte)
     }
 
-    /// Reads a byte of a revision, or the byte after it.
+    /// Reads a byte of a revision in a `change` line, or the byte after the revision.
     fn in_rev(&mut self, byte: u8) -> Result<(), AllocError>
         ensures { OnOk result (state_of self.new ≡ in_rev (state_of self.old) byte) }
     {
@@ -243,7 +243,7 @@ impl Reading {
         Ok(())
     }
 
-    /// Ends a revision, and continues at a place.
+    /// Reports the complete revision, and sets the parser's place.
     fn end_rev(&mut self, place: Place) -> Result<(), AllocError>
         ensures { OnOk result (state_of self.new ≡ rev_ended place (state_of self.old)) }
     {
@@ -280,7 +280,7 @@ fn is_rev_byte(byte: u8) -> bool
         || byte == b'.'
 }
 
-/// Whether no response comes before a place.
+/// Whether the parser, at this place, has read no response yet.
 fn is_first(place: Place) -> bool
     ensures { result ≡ is_first place }
 {

@@ -1,4 +1,4 @@
-//! Names of members, and the bytes around them.
+//! Reads the names of JSON members, and the bytes around the names.
 ghost use Rattle.std.specs.Prelude.{◌≡◌, OnOk};
 ghost use Rattle.response_parser.specs.Stored.{state_of};
 ghost use Rattle.response_parser.specs.State.{added};
@@ -48,7 +48,7 @@ impl Reading {
         Ok(())
     }
 
-    /// Reads a byte after the opening brace of an object.
+    /// Reads a byte after the opening brace of a JSON object.
     pub(crate) fn at_member(&mut self, byte: u8) -> Result<(), AllocError>
         ensures { OnOk result (state_of self.new ≡ at_member (state_of self.old) byte) }
     {
@@ -63,7 +63,7 @@ impl Reading {
         Ok(())
     }
 
-    /// Reads a byte after a comma of an object.
+    /// Reads a byte after a comma between two members of an object.
     pub(crate) fn at_next_member(&mut self, byte: u8) -> Result<(), AllocError>
         ensures { OnOk result (state_of self.new ≡ at_next_member (state_of self.old) byte) }
     {
@@ -91,7 +91,7 @@ impl Reading {
         }
     }
 
-    /// Reads a byte of a name.
+    /// Reads a byte of a member's name.
     pub(crate) fn in_key(&mut self, byte: u8) -> Result<(), AllocError>
         ensures { OnOk result (state_of self.new ≡ in_key (state_of self.old) byte) }
     {
@@ -106,7 +106,7 @@ impl Reading {
         }
     }
 
-    /// Reads a byte after a backslash in a name.
+    /// Reads a byte after a backslash in a member's name.
     pub(crate) fn in_key_escape(&mut self, byte: u8) -> Result<(), AllocError>
         ensures { OnOk result (state_of self.new ≡ in_key_escape (state_of self.old) byte) }
     {
@@ -131,7 +131,7 @@ impl Reading {
         Ok(())
     }
 
-    /// The meaning of the current name.
+    /// Returns the meaning of the current member's name.
     fn name(&self) -> Name
         ensures { result ≡ name_in (state_of self.now) }
     {
@@ -145,7 +145,7 @@ impl Reading {
         )
     }
 
-    /// Starts a document, after its first name `_id`.
+    /// Starts a document whose first member is `_id`.
     fn begin_plain(&mut self) -> Result<(), AllocError>
         ensures { OnOk result (state_of self.new ≡ plain_begun (state_of self.old)) }
     {
@@ -156,7 +156,7 @@ impl Reading {
         Ok(())
     }
 
-    /// Reads a byte after a name.
+    /// Reads a byte after a member's name.
     fn at_colon(&mut self, name: Name, byte: u8)
         ensures { state_of self.new ≡ at_colon name (state_of self.old) byte }
     {
@@ -172,7 +172,7 @@ impl Reading {
         }
     }
 
-    /// Whether the next value may be the entry of a document, with the name as its id.
+    /// Whether the value of the current member may be the entry of a document whose id is the member's name.
     fn is_ahead(&self) -> bool
         ensures { result ≡ is_ahead (state_of self.now) }
     {
@@ -198,7 +198,7 @@ impl Reading {
         self.in_begun(byte)
     }
 
-    /// Reads the first byte of a value, by the meaning of its name.
+    /// Reads the first byte of a member's value, as the meaning of the member's name requires.
     fn in_begun(&mut self, byte: u8) -> Result<(), AllocError>
         ensures { OnOk result (state_of self.new ≡ begun_in (state_of self.old) byte) }
     {
@@ -211,7 +211,7 @@ impl Reading {
         }
     }
 
-    /// Starts a value, by the meaning of its name.
+    /// Starts a member's value, as the meaning of the member's name requires.
     fn begin_as(&mut self, name: Name)
         ensures { state_of self.new ≡ begun_as name (state_of self.old) }
     {
@@ -222,7 +222,7 @@ impl Reading {
         }
     }
 
-    /// Starts a value after the colon.
+    /// Starts a member's value after the colon.
     fn begin_value(&mut self, name: Name)
         ensures { state_of self.new ≡ value_begun name (state_of self.old) }
     {
@@ -249,7 +249,7 @@ impl Reading {
     }
 }
 
-/// The place at which the value of a name starts.
+/// Returns the parser's place at the start of a member's value, by the meaning of the member's name.
 fn value_place(name: Name) -> Place
     ensures { result ≡ value_place name }
 {
@@ -260,28 +260,28 @@ fn value_place(name: Name) -> Place
     }
 }
 
-/// Whether a name is known.
+/// Whether the parser knows the meaning of a member's name.
 fn is_known(name: Name) -> bool
     ensures { result ≡ is_known name }
 {
     !matches!(name, Name::Other | Name::Id | Name::Reason)
 }
 
-/// Whether a name means that its object is a document.
+/// Whether a member's name means that the object with this member is a document.
 pub(crate) fn is_plain(name: Name) -> bool
     ensures { result ≡ is_plain name }
 {
     matches!(name, Name::Plain)
 }
 
-/// Whether a name means an id.
+/// Whether a member's name means that its value is a document id.
 fn is_id(name: Name) -> bool
     ensures { result ≡ is_id name }
 {
     matches!(name, Name::Id)
 }
 
-/// Whether a name means a list of revisions.
+/// Whether a member's name means that its value is a list of revisions.
 fn is_changes(name: Name) -> bool
     ensures { result ≡ is_changes name }
 {

@@ -2,16 +2,16 @@
 
 use thiserror::Error;
 
-/// What the parser looks for, and in which kind of input.
+/// A caller's request: what the parser looks for, and in which kind of input.
 #[derive(Clone, Copy, Debug, PartialEq, Eq)]
 pub enum Wanted {
-    /// Documents in responses; objects without a document are skipped.
+    /// Documents in CouchDB responses. The parser skips objects without a document.
     Documents,
     /// The same, in envelopes.
     Enveloped,
-    /// Documents in responses; objects without a document are rejected.
+    /// Documents in CouchDB responses. The parser rejects objects without a document.
     Bodies,
-    /// The same, unwrapped from their envelopes.
+    /// Documents in CouchDB responses, unwrapped from their envelopes. The parser rejects objects without a document.
     Unfolded,
     /// Document ids and revisions in a changes feed or a `_revs_diff` response.
     Leaves,
@@ -19,7 +19,7 @@ pub enum Wanted {
     Changes,
 }
 
-/// What the name of a member says about its value.
+/// The meaning of a member's name for the member's value.
 #[derive(Clone, Copy, Debug, PartialEq, Eq)]
 pub enum Name {
     /// The object of this member is a document.
@@ -28,29 +28,29 @@ pub enum Name {
     Document,
     /// A document id.
     Id,
-    /// A list of further objects.
+    /// A list of objects in which documents or leaves may be.
     List,
     /// A list of the revisions of the document whose id precedes it in the same object.
     Changes,
-    /// A revision in such a list.
+    /// A revision in a document's list of revisions.
     Rev,
-    /// A list of missing revisions.
+    /// A list of missing revisions in a `_revs_diff` response.
     Missing,
-    /// A substitute for a document, which is skipped.
+    /// A value that a response has instead of a document, such as an error. The parser skips the value.
     Passed,
-    /// The end of a changes feed.
+    /// The member `last_seq`, which ends a changes feed.
     Last,
-    /// The `error` of a CouchDB error.
+    /// The member `error` of a CouchDB error.
     Error,
-    /// The `reason` of a CouchDB error.
+    /// The member `reason` of a CouchDB error.
     Reason,
-    /// A value that is ignored.
+    /// A value that the parser ignores.
     Other,
-    /// A value that is not allowed here.
+    /// A value that the parser rejects, because the input is not a known response.
     Foreign,
 }
 
-/// What is complete after a byte.
+/// The item that the last byte completed.
 #[derive(Clone, Copy, Debug, PartialEq, Eq)]
 pub enum Found {
     /// Nothing.
@@ -63,25 +63,25 @@ pub enum Found {
     Rev,
 }
 
-/// Why input is not a response.
+/// The reason why the parser rejected its input.
 #[derive(Clone, Copy, Debug, PartialEq, Eq, Error)]
 pub enum Refusal {
-    /// It is not JSON in UTF-8, or is nested deeper than 128.
+    /// The input is not JSON in UTF-8, or is nested deeper than 128.
     #[error("NotJson")]
     NotJson,
-    /// It is JSON, but not in one of the known forms.
+    /// The input is JSON, but has none of the known forms of a response.
     #[error("NoAnswer")]
     NoAnswer,
-    /// It ends within a response.
+    /// The input ends inside a response.
     #[error("CutOff")]
     CutOff,
-    /// It is an object without a document, but only documents are allowed.
+    /// The input has an object without a document, but the caller allows only documents.
     #[error("NoDocument")]
     NoDocument,
-    /// It is a document that cannot be wrapped, or an envelope that cannot be unwrapped.
+    /// The input has a document that cannot be wrapped, or an envelope that cannot be unwrapped.
     #[error("NotWhole")]
     NotWhole,
-    /// It is an error of CouchDB.
+    /// The input is CouchDB's error response.
     #[error("CouchError")]
     CouchError,
     /// It is compressed.
@@ -93,38 +93,38 @@ pub enum Refusal {
     /// It has HTTP headers.
     #[error("Headers")]
     Headers,
-    /// It is a multipart response.
+    /// The input is a multipart response.
     #[error("Multipart")]
     Multipart,
-    /// It begins with a byte order mark.
+    /// The input begins with a byte order mark.
     #[error("ByteOrderMark")]
     ByteOrderMark,
 }
 
-/// The place of the next byte in a line of a script's output.
+/// The parser's place in a line of a script's output: what the next byte belongs to.
 #[derive(Clone, Copy, Debug, PartialEq, Eq)]
 pub enum LinePlace {
     /// In the first word.
     Word,
-    /// In the rest of the line, which is ignored.
+    /// In the ignored rest of the line.
     Rest,
-    /// In the sequence of a change.
+    /// In the sequence of a `change` line.
     Seq,
-    /// Before the id of a change.
+    /// Before the document id of a `change` line.
     BeforeId,
-    /// In the id of a change.
+    /// In the document id of a `change` line.
     Id,
-    /// After a backslash in the id.
+    /// After a backslash in the document id of a `change` line.
     IdEscape,
-    /// After the id of a change.
+    /// After the document id of a `change` line.
     AfterId,
-    /// At the start of a revision.
+    /// At the start of a revision of a `change` line.
     BeforeRev,
     /// In a revision.
     Rev,
 }
 
-/// The place of the next byte in a list of missing revisions.
+/// The parser's place in a list of missing revisions: what the next byte belongs to.
 #[derive(Clone, Copy, Debug, PartialEq, Eq)]
 pub enum RevPlace {
     /// Before the opening bracket.
@@ -135,32 +135,32 @@ pub enum RevPlace {
     Next,
     /// In a revision.
     Rev,
-    /// After a backslash in a revision.
+    /// After a backslash in a missing revision.
     Escape,
     /// After a revision.
     Behind,
 }
 
-/// The place of the next byte in a response.
+/// The parser's place in a response: what the next byte belongs to.
 #[derive(Clone, Copy, Debug, PartialEq, Eq)]
 pub enum Place {
-    /// Before the first response; there must be one.
+    /// Before the first response, in input that must have a response.
     Start,
-    /// Before the first response; there may be none.
+    /// Before the first response, in input that may have no response.
     Begin,
-    /// In the first bytes of a known format that is not a response.
+    /// In the first bytes of input that may be multipart or begin with a byte order mark.
     Sign,
     /// After a response.
     Between,
-    /// After the opening bracket of a list.
+    /// After the opening bracket of a JSON list.
     Item,
-    /// After a comma of a list.
+    /// After a comma between two items of a list.
     NextItem,
     /// After an item.
     AfterItem,
-    /// After the opening brace of an object.
+    /// After the opening brace of a JSON object.
     Member,
-    /// After a comma of an object.
+    /// After a comma between two members of an object.
     NextMember,
     /// After a member whose value is a list of objects.
     AfterMember,
@@ -182,8 +182,8 @@ pub enum Place {
     Escaped(Name),
     /// In a list of missing revisions.
     Revs(RevPlace),
-    /// In a line of a script's output.
+    /// Inside a line of a script's output.
     Line(LinePlace),
-    /// After a byte was rejected.
+    /// After the parser rejected a byte.
     Refused(Refusal),
 }

@@ -1,4 +1,4 @@
-//! The state of the parser.
+//! The parser of responses, and the calls that feed it bytes.
 ghost use Rattle.std.specs.Prelude.{◌≡◌, ◌<◌, ◌≤◌, false, length, take, IfOk, OnOk};
 ghost use Rattle.response_parser.specs.Stored.{state_of};
 ghost use Rattle.response_parser.specs.State.{start};
@@ -12,37 +12,37 @@ use doc_envelope::Envelope;
 use json::Scratch;
 use std::alloc::{AllocError, Global};
 
-/// The state of the parser between two bytes.
+/// The state of the parser of responses between two bytes.
 #[derive(Drop)]
 pub struct Reading {
     pub(crate) wanted: Wanted,
     pub(crate) place: Place,
-    /// Whether a list or an object was closed.
+    /// Whether the last byte closed a list or an object.
     pub(crate) some: bool,
     /// The number of open lists and objects.
     pub(crate) depth: u8,
-    /// Whether the innermost object has a known member.
+    /// Whether the innermost open object has a member whose name the parser knows.
     pub(crate) known: bool,
-    /// Whether the innermost object has an id.
+    /// Whether the innermost open object has a member with a document id.
     pub(crate) named: bool,
-    /// Whether the last name is the first one of its object.
+    /// Whether the current member is the first member of its object.
     pub(crate) first: bool,
-    /// Whether the innermost list is a document's list of revisions.
+    /// Whether the innermost open list is a document's list of revisions.
     pub(crate) inner: bool,
-    /// Whether the response is one of `_revs_diff`.
+    /// Whether the input is a response of `_revs_diff`.
     pub(crate) diff: bool,
-    /// Whether the response has an error.
+    /// Whether the response is a CouchDB error.
     pub(crate) failed: bool,
-    /// The number of open brackets within a value.
+    /// The number of open brackets inside the current value.
     pub(crate) nesting: u8,
-    /// The text of a name or a value.
+    /// The text of the current name or value, as far as the parser has read it.
     pub(crate) text: Vec<u8>,
-    /// The text of the last error.
+    /// The text of CouchDB's last error in the input.
     pub(crate) error: Vec<u8>,
     pub(crate) found: Found,
-    /// The number of skipped documents.
+    /// The number of objects that the parser skipped because they have no document.
     pub(crate) passed: u64,
-    /// The number of bytes read.
+    /// The number of bytes that the parser has read.
     pub(crate) taken: u64,
     pub(crate) scratch: Scratch,
     pub(crate) envelope: Envelope,
@@ -75,9 +75,10 @@ impl Reading {
         }
     }
 
-    /// Reads bytes until something is complete, a byte is rejected, or the bytes end. Returns the number of bytes read.
+    /// Reads bytes until a byte completes an item, the parser rejects a byte, or the bytes end. Returns the number of
+    /// bytes that this call read.
     ///
-    /// If an allocation fails, the parser cannot be used further.
+    /// After a failed allocation the parser must not be used further.
     pub fn take_in(&mut self, bytes: &[u8]) -> Result<usize, AllocError>
         requires { 0 < length bytes.now }
         ensures some { IfOk result (λ count. 0 < count) }
@@ -99,49 +100,49 @@ impl Reading {
         Ok(i)
     }
 
-    /// What the last byte completed.
+    /// Returns the item that the last byte completed.
     pub fn found(&self) -> Found
         ensures { result ≡ (state_of self.now).found }
     {
         self.found
     }
 
-    /// The completed text, if there is one.
+    /// Returns the text of the completed item, if the last byte completed an item.
     pub fn text(&self) -> &[u8]
         ensures { result.now ≡ (state_of self.now).text }
     {
         self.text.as_slice()
     }
 
-    /// The text of CouchDB's error, with its quotation marks.
+    /// Returns the text of CouchDB's error, with its quotation marks.
     pub fn error(&self) -> &[u8]
         ensures { result.now ≡ (state_of self.now).error }
     {
         self.error.as_slice()
     }
 
-    /// The number of skipped documents.
+    /// Returns the number of objects that the parser skipped because they have no document.
     pub fn passed(&self) -> u64
         ensures { result ≡ (state_of self.now).passed }
     {
         self.passed
     }
 
-    /// The number of bytes read, including a rejected one.
+    /// Returns the number of bytes that the parser has read, including a rejected byte.
     pub fn taken(&self) -> u64
         ensures { result ≡ (state_of self.now).taken }
     {
         self.taken
     }
 
-    /// Whether a byte was rejected.
+    /// Whether the parser has rejected a byte.
     pub fn is_refused(&self) -> bool
         ensures { result ≡ is_refused (state_of self.now).place }
     {
         is_refused(self.place)
     }
 
-    /// Ends the input. Returns why it does not consist of complete responses.
+    /// Ends the input. Returns the reason why the input does not consist of complete responses, if it does not.
     pub fn end(&self) -> Result<(), Refusal>
         ensures { result ≡ end_of (state_of self.now).place }
     {
@@ -153,14 +154,14 @@ impl Reading {
         }
     }
 
-    /// Whether the last line has no line end.
+    /// Whether the last line of a script's output has no line end.
     pub fn has_rest(&self) -> bool
         ensures { result ≡ has_rest (state_of self.now).place }
     {
         matches!(self.place, Place::Line(_))
     }
 
-    /// Whether the last byte completed something, or was rejected.
+    /// Whether the last byte completed an item, or the parser rejected that byte.
     #[inline(always)]
     fn stops(&self) -> bool
         ensures { result ≡ stops (state_of self.now) }
@@ -178,7 +179,7 @@ impl Reading {
         self.advance(byte)
     }
 
-    /// Counts a byte, unless one was rejected before.
+    /// Counts a byte as read, unless the parser has rejected an earlier byte.
     #[inline(always)]
     fn begin(&mut self)
         ensures { state_of self.new ≡ begun (state_of self.old) }
@@ -189,7 +190,7 @@ impl Reading {
         }
     }
 
-    /// Reads a byte at the current place.
+    /// Reads a byte at the parser's current place.
     #[inline(always)]
     fn advance(&mut self, byte: u8) -> Result<(), AllocError>
         ensures { OnOk result (state_of self.new ≡ moved self.old.place (state_of self.old) byte) }
@@ -215,7 +216,7 @@ impl Reading {
     }
 }
 
-/// Whether a byte was rejected.
+/// Whether the parser is at the place after a rejected byte.
 #[inline(always)]
 fn is_refused(place: Place) -> bool
     ensures { result ≡ is_refused place }

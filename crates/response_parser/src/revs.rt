@@ -29,7 +29,7 @@ impl Reading {
         }
     }
 
-    /// Reads a byte before the opening bracket.
+    /// Reads a byte before the opening bracket of a list of missing revisions.
     fn at_revs(&mut self, byte: u8)
         ensures { state_of self.new ≡ at_revs (state_of self.old) byte }
     {
@@ -43,7 +43,7 @@ impl Reading {
         }
     }
 
-    /// Reads a byte after the opening bracket.
+    /// Reads a byte after the opening bracket of a list of missing revisions.
     fn at_first_rev(&mut self, byte: u8) -> Result<(), AllocError>
         ensures { OnOk result (state_of self.new ≡ at_first_rev (state_of self.old) byte) }
     {
@@ -54,7 +54,7 @@ impl Reading {
         self.at_next_rev(byte)
     }
 
-    /// Reads a byte after a comma.
+    /// Reads a byte after a comma in a list of missing revisions.
     fn at_next_rev(&mut self, byte: u8) -> Result<(), AllocError>
         ensures { OnOk result (state_of self.new ≡ at_next_rev (state_of self.old) byte) }
     {
@@ -70,7 +70,7 @@ impl Reading {
         self.add(byte)
     }
 
-    /// Reads a byte of a revision.
+    /// Reads a byte of a missing revision.
     fn in_missing(&mut self, byte: u8) -> Result<(), AllocError>
         ensures { OnOk result (state_of self.new ≡ in_missing (state_of self.old) byte) }
     {
@@ -96,7 +96,7 @@ impl Reading {
         Ok(())
     }
 
-    /// Reads a byte after a backslash in a revision.
+    /// Reads a byte after a backslash in a missing revision.
     fn in_missing_escape(&mut self, byte: u8) -> Result<(), AllocError>
         ensures { OnOk result (state_of self.new ≡ in_missing_escape (state_of self.old) byte) }
     {
@@ -105,7 +105,7 @@ impl Reading {
         Ok(())
     }
 
-    /// Reads a byte after a revision.
+    /// Reads a byte after a missing revision.
     fn after_missing(&mut self, byte: u8)
         ensures { state_of self.new ≡ after_missing (state_of self.old) byte }
     {

@@ -1,4 +1,4 @@
-//! The first bytes of known formats that are not responses.
+//! Detects known formats that are not responses by their first bytes: multipart, and text with a byte order mark.
 ghost use Rattle.std.specs.Prelude.{◌≡◌, OnOk};
 ghost use Rattle.response_parser.specs.Stored.{state_of};
 ghost use Rattle.response_parser.specs.Signs.{begins_sign, sign_of, in_sign, sign_begun};
@@ -9,7 +9,7 @@ use crate::spelling::is;
 use std::alloc::AllocError;
 
 impl Reading {
-    /// Starts with the first bytes of input that is not a response.
+    /// Reads the first byte of input that may be multipart or begin with a byte order mark.
     pub(crate) fn begin_sign(&mut self, byte: u8) -> Result<(), AllocError>
         ensures { OnOk result (state_of self.new ≡ sign_begun (state_of self.old) byte) }
     {
@@ -17,7 +17,7 @@ impl Reading {
         self.in_sign(byte)
     }
 
-    /// Reads a byte of the first bytes of input that is not a response.
+    /// Reads a further byte of the beginning of input that may be multipart or begin with a byte order mark.
     pub(crate) fn in_sign(&mut self, byte: u8) -> Result<(), AllocError>
         ensures { OnOk result (state_of self.new ≡ in_sign (state_of self.old) byte) }
     {
@@ -32,7 +32,7 @@ impl Reading {
     }
 }
 
-/// Whether a text is a proper prefix of the first bytes of a known format.
+/// Whether a text is a proper prefix of a multipart boundary's first bytes or of a byte order mark.
 fn begins_sign(text: &[u8]) -> bool
     ensures { result ≡ begins_sign text.now }
 {
@@ -49,7 +49,7 @@ fn begins_sign(text: &[u8]) -> bool
         || is(text, b"HTTP")
 }
 
-/// The format that begins with this text.
+/// Returns the reason for rejecting input that begins with this text, if the text identifies a known format.
 fn sign_of(text: &[u8]) -> Refusal
     ensures { result ≡ sign_of text.now }
 {

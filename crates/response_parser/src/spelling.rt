@@ -1,4 +1,4 @@
-//! Comparing single bytes and names.
+//! Compares single bytes and the names of members.
 ghost use Rattle.std.specs.Prelude.{◌≡◌, ◌||◌};
 ghost use Rattle.std.specs.Str.{bytes_eq};
 ghost use Rattle.doc_envelope.specs.Texts.{is_space};
@@ -15,7 +15,7 @@ pub(crate) fn is_space(byte: u8) -> bool
     byte == b' ' || byte == b'\t' || byte == b'\n' || byte == b'\r'
 }
 
-/// A count increased by one, at most 2^64 - 1.
+/// Returns a count increased by one, or 2^64 - 1 if the count has that maximum.
 #[inline(always)]
 pub(crate) fn more(count: u64) -> u64
     ensures { result ≡ more count }
@@ -31,7 +31,7 @@ pub(crate) fn is(text: &[u8], name: &[u8]) -> bool
     text == name
 }
 
-/// Whether a text equals one of two.
+/// Whether a text equals one of two given texts.
 #[inline(always)]
 fn is_either(text: &[u8], one: &[u8], other: &[u8]) -> bool
     ensures { result ≡ (bytes_eq text.now one.now || bytes_eq text.now other.now) }
@@ -39,9 +39,9 @@ fn is_either(text: &[u8], one: &[u8], other: &[u8]) -> bool
     is(text, one) || is(text, other)
 }
 
-/// The meaning of a member's name, which includes its quotation marks. `first`: it is the first name of its object.
-/// `inner`: it is in a document's list of revisions. `diff`: the response is one of `_revs_diff`. `depth`: the number
-/// of open lists and objects.
+/// Returns the meaning of a member's name, which is given with its quotation marks. `first` is whether the member is
+/// the first of its object. `inner` is whether the member is in a document's list of revisions. `diff` is whether the
+/// input is a response of `_revs_diff`. `depth` is the number of open lists and objects.
 #[tactic(auto, unfolding(crate::specs::Names::name_of))]
 pub(crate) fn name_of(
     wanted: Wanted,
@@ -62,7 +62,7 @@ pub(crate) fn name_of(
     wanted_name(wanted, first, inner, diff && depth == 2, text)
 }
 
-/// The meaning of a name in an inner object.
+/// Returns the meaning of a member's name in an object of a document's list of revisions.
 fn wanted_name(wanted: Wanted, first: bool, inner: bool, entry: bool, text: &[u8]) -> Name
     ensures { result ≡ wanted_name wanted first inner entry text.now }
 {
@@ -73,7 +73,7 @@ fn wanted_name(wanted: Wanted, first: bool, inner: bool, entry: bool, text: &[u8
     }
 }
 
-/// The meaning of a name when documents are requested.
+/// Returns the meaning of a member's name if the caller requested documents.
 fn name_of_documents(first: bool, text: &[u8]) -> Name
     ensures { result ≡ document_name first text.now }
 {
@@ -92,7 +92,7 @@ fn name_of_documents(first: bool, text: &[u8]) -> Name
     }
 }
 
-/// The meaning of a name when leaves are requested.
+/// Returns the meaning of a member's name if the caller requested document ids and revisions.
 fn name_of_leaves(inner: bool, entry: bool, text: &[u8]) -> Name
     ensures { result ≡ leaf_name inner entry text.now }
 {
@@ -121,7 +121,7 @@ fn name_of_leaves(inner: bool, entry: bool, text: &[u8]) -> Name
     }
 }
 
-/// The meaning of a name when a script's changes are requested.
+/// Returns the meaning of a member's name if the caller requested the changes in a script's output.
 fn name_of_changes(first: bool, text: &[u8]) -> Name
     ensures { result ≡ change_name first text.now }
 {

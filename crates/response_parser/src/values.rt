@@ -14,11 +14,11 @@ use crate::wanted::wants_documents;
 use doc_envelope::is_log;
 use std::alloc::AllocError;
 
-/// The maximum number of open brackets within a value.
+/// The maximum number of open brackets inside a value.
 pub(crate) const MAX_NESTING: u8 = 128;
 
 impl Reading {
-    /// Whether the current text is JSON in UTF-8.
+    /// Whether the parser's current text is JSON in UTF-8.
     pub(crate) fn is_json(&mut self) -> Result<bool, AllocError>
         ensures value { IfOk result (λ json. json ≡ is_json self.old.text.items) }
         ensures same { OnOk result (state_of self.new ≡ state_of self.old) }
@@ -32,7 +32,7 @@ impl Reading {
         json::is_valid(text, &mut self.scratch)
     }
 
-    /// Reads a byte of a value.
+    /// Reads a byte of a member's value.
     pub(crate) fn in_value(&mut self, name: Name, byte: u8) -> Result<(), AllocError>
         ensures { OnOk result (state_of self.new ≡ in_value name (state_of self.old) byte) }
     {
@@ -54,7 +54,7 @@ impl Reading {
         }
     }
 
-    /// Reads white space outside of strings. White space before a value is dropped.
+    /// Reads a byte of white space in a value, outside of strings. The parser drops white space before a value.
     fn space(&mut self) -> Result<(), AllocError>
         ensures { OnOk result (state_of self.new ≡ spaced (state_of self.old)) }
     {
@@ -93,7 +93,7 @@ impl Reading {
         Ok(())
     }
 
-    /// Ends a document that is the object itself.
+    /// Ends a document, at the brace that closes it.
     fn end_plain(&mut self) -> Result<(), AllocError>
         ensures { OnOk result (state_of self.new ≡ plain_ended (state_of self.old)) }
     {
@@ -109,7 +109,7 @@ impl Reading {
         Ok(())
     }
 
-    /// Reads the byte after a value: a comma, or the brace that closes the object.
+    /// Reads the byte after a member's value, which must be a comma or the brace that closes the object.
     fn end_value(&mut self, name: Name, byte: u8) -> Result<(), AllocError>
         ensures { OnOk result (state_of self.new ≡ value_ended name (state_of self.old) byte) }
     {
@@ -126,7 +126,7 @@ impl Reading {
         self.judge(name, first)
     }
 
-    /// Reads the byte after a value that was handled.
+    /// Reads the byte after a value that the parser has handled.
     fn pass_value(&mut self, byte: u8)
         ensures { state_of self.new ≡ value_passed (state_of self.old) byte }
     {
@@ -137,7 +137,7 @@ impl Reading {
         }
     }
 
-    /// Handles a complete value, by its first byte.
+    /// Handles a complete value, by the value's first byte.
     fn judge(&mut self, name: Name, first: u8) -> Result<(), AllocError>
         ensures { OnOk result (state_of self.new ≡ judged name first (state_of self.old)) }
     {
@@ -174,7 +174,7 @@ impl Reading {
         }
     }
 
-    /// Reads a byte of a string.
+    /// Reads a byte of a string in a value.
     pub(crate) fn in_quoted(&mut self, name: Name, byte: u8) -> Result<(), AllocError>
         ensures { OnOk result (state_of self.new ≡ in_quoted name (state_of self.old) byte) }
     {
@@ -187,7 +187,7 @@ impl Reading {
         Ok(())
     }
 
-    /// Reads a byte after a backslash in a string.
+    /// Reads a byte after a backslash in a string of a value.
     pub(crate) fn in_escaped(&mut self, name: Name, byte: u8) -> Result<(), AllocError>
         ensures { OnOk result (state_of self.new ≡ in_escaped name (state_of self.old) byte) }
     {
@@ -197,14 +197,14 @@ impl Reading {
     }
 }
 
-/// The first byte of a text; 0 if it is empty.
+/// Returns the first byte of a text, or 0 if the text is empty.
 fn first_of(text: &[u8]) -> u8
     ensures { result ≡ slice_index text.now 0 }
 {
     if text.is_empty() { 0 } else { text[0] }
 }
 
-/// What is found if a name has a value that begins with this byte.
+/// Returns the item that a member completes, by the meaning of its name and the first byte of its value.
 fn found_of(name: Name, first: u8) -> Found
     ensures { result ≡ found_of name first }
 {
@@ -216,7 +216,7 @@ fn found_of(name: Name, first: u8) -> Found
     }
 }
 
-/// Whether the value is a substitute for a document.
+/// Whether a response has the value instead of a document.
 fn passes(name: Name, first: u8) -> bool
     ensures { result ≡ passes name first }
 {
@@ -227,8 +227,8 @@ fn passes(name: Name, first: u8) -> bool
     }
 }
 
-/// Why a value is rejected: its name requires an id or a revision, and it is not a string; or it is the reason of an
-/// error.
+/// Returns why the parser rejects a value: because its name requires a string and the value is not a string, or because
+/// it is the `reason` of a CouchDB error.
 fn refusal_of(name: Name, first: u8, failed: bool) -> Option<Refusal>
     ensures { result ≡ refusal_of name first failed }
 {
@@ -239,7 +239,7 @@ fn refusal_of(name: Name, first: u8, failed: bool) -> Option<Refusal>
     }
 }
 
-/// Whether a name means an error.
+/// Whether a member's name means the `error` or the `reason` of a CouchDB error.
 fn is_error(name: Name) -> bool
     ensures { result ≡ is_error name }
 {

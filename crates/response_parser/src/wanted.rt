@@ -11,28 +11,28 @@ pub(crate) fn wants_documents(wanted: Wanted) -> bool
     !matches!(wanted, Wanted::Leaves | Wanted::Changes)
 }
 
-/// Whether ids and revisions in CouchDB responses are requested.
+/// Whether the caller requested document ids and revisions in CouchDB responses.
 pub(crate) fn wants_leaves(wanted: Wanted) -> bool
     ensures { result ≡ wants_leaves wanted }
 {
     matches!(wanted, Wanted::Leaves)
 }
 
-/// Whether changes in a script's output are requested.
+/// Whether the caller requested the changes in a script's output.
 pub(crate) fn wants_changes(wanted: Wanted) -> bool
     ensures { result ≡ wants_changes wanted }
 {
     matches!(wanted, Wanted::Changes)
 }
 
-/// Whether an object without a document is rejected.
+/// Whether the parser rejects an object without a document.
 pub(crate) fn is_strict(wanted: Wanted) -> bool
     ensures { result ≡ is_strict wanted }
 {
     matches!(wanted, Wanted::Bodies | Wanted::Unfolded | Wanted::Changes)
 }
 
-/// The first place of the parser.
+/// Returns the parser's place before the first byte.
 pub(crate) fn first_place(wanted: Wanted) -> Place
     ensures { result ≡ first_place wanted }
 {

@@ -1,5 +1,5 @@
-//! Text of a document as a terminal or a picture shows it: each character that is not seen, or that moves others, is
-//! replaced by its escape `\uXXXX` (docs/PROFILE.md, "Pictures").
+//! Prepares a document's text for a terminal or a picture. Each character that is invisible, or that moves other
+//! characters, is replaced by its escape `\uXXXX` (docs/PROFILE.md, "Pictures").
 #![tactic(auto)]
 
 mod visible;

@@ -1,12 +1,13 @@
-//! Hidden characters and their escapes.
+//! Finds hidden characters, and appends their escapes.
 ghost use Rattle.std.specs.Prelude.{◌≡◌, ◌<◌, ◌++◌, OnOk, chars, string_bytes, encode_utf8_all};
 ghost use Rattle.std.specs.Char.{digit_char};
 ghost use Rattle.visible_text.specs.Visible.{is_hidden, unit_of, escape_of, visible_char, visible, quoted_char, quoted_chars, quoted};
 
 use std::alloc::AllocError;
 
-/// Whether a character is hidden: a control character, a format character, a mark of direction, a line or paragraph
-/// separator, a character that Unicode 15 calls default-ignorable, or U+FFFE or U+FFFF, which XML forbids.
+/// Whether a character is hidden. Hidden characters are control characters, format characters, direction marks, line
+/// and paragraph separators, characters that Unicode 15 calls default-ignorable, and U+FFFE and U+FFFF, which XML
+/// forbids.
 #[tactic(auto, unfolding(crate::specs::Visible::is_hidden))]
 pub fn is_hidden(c: char) -> bool
     ensures { result ≡ is_hidden c }
@@ -26,8 +27,8 @@ pub fn is_hidden(c: char) -> bool
     }
 }
 
-/// Appends the escape of a character as JSON writes it: `\u` and four hexadecimal digits, twice for a character above
-/// U+FFFF (RFC 8259, section 7).
+/// Appends the JSON escape of a character, which is `\u` with four hexadecimal digits, and two such escapes for a
+/// character above U+FFFF (RFC 8259, section 7).
 ///
 /// # Errors
 ///
@@ -90,8 +91,8 @@ pub fn push_visible(out: &mut String, text: &str) -> Result<(), AllocError>
     Ok(())
 }
 
-/// Appends a character of a JSON string: a quotation mark or a backslash after a backslash, and a hidden character as
-/// its escape.
+/// Appends a character of a JSON string. A quotation mark or a backslash is appended after a backslash, and a hidden
+/// character as its escape.
 fn push_quoted_char(out: &mut String, c: char) -> Result<(), AllocError>
     ensures { OnOk result (string_bytes out.new ≡ string_bytes out.old ++ encode_utf8_all (quoted_char c)) }
 {
