@@ -33,9 +33,9 @@ impl Database {
         Ok(Asked::new(window.lo(), window.hi(), docs))
     }
 
-    /// Returns the documents for a request: for each requested document, the leaves at or above the requested
-    /// revisions, each with its known ancestry and its content; and the requested revisions that this database does not
-    /// have.
+    /// Returns the documents for a request, and the requested revisions that this database does not have. For each
+    /// requested document, these are the leaves at or above the requested revisions, each with its known ancestry and
+    /// its content.
     ///
     /// Documents are in the order of the request, the leaves of a document winner first.
     pub fn open_revs(&self, alloc: Global, asked: &Asked) -> Result<Parcel, AllocError>
@@ -45,7 +45,7 @@ impl Database {
         self.open_asked(alloc, again)
     }
 
-    /// As `open_revs`, but moves the request into the parcel instead of copying it.
+    /// Does the same as `open_revs`, but moves the request into the parcel instead of copying it.
     pub fn open_asked(&self, alloc: Global, asked: Asked) -> Result<Parcel, AllocError>
         ensures parcel { IfOk result (λ p. p ≡ open_revs self.now asked) }
     {
@@ -89,8 +89,8 @@ impl Database {
         Ok(leaves.as_slice().len() as u64)
     }
 
-    /// Returns the document at a revision, with its known ancestry and its content. `None` if the document does not
-    /// exist, its tree does not have the revision, or the revision has no content.
+    /// Returns the document at a revision, with its known ancestry and its content. The result is `None` if the
+    /// document does not exist, its tree does not have the revision, or the revision has no content.
     pub fn document(&self, alloc: Global, id: &DocId, rev: Rev) -> Result<Option<Doc>, AllocError>
         ensures document { IfOk result (λ d. d ≡ document_at self.now id.now rev) }
     {
@@ -185,7 +185,7 @@ fn add_documents(
     Ok(())
 }
 
-/// Returns the document of a leaf; a leaf always has a content.
+/// Returns the document of a leaf, which always has a content.
 fn leaf_document(alloc: Global, id: &DocId, tree: &Tree, leaf: Rev) -> Result<Doc, AllocError>
     requires document { IsDocumentTree tree.now }
     requires leaf { is_leaf tree.now leaf ≡ true }

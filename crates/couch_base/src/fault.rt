@@ -26,7 +26,7 @@ pub enum Put {
 /// Why a call failed.
 #[derive(Clone, Copy, Debug, Error)]
 pub enum BaseFault {
-    /// A given child has another parent in the document's tree; this is the first such child, newest first.
+    /// A given child has another parent in the document's tree. The variant names the newest such child.
     #[error("a revision has another parent in the document's tree")]
     Contradiction { child: Rev, known: Rev, given: Rev },
     /// The update sequence is the greatest one, 9,007,199,254,740,991.
@@ -47,7 +47,7 @@ pub enum BaseFault {
     /// An edit names a parent, and the document does not exist.
     #[error("no such document")]
     NoSuchDocument,
-    /// The edit's parent is not a leaf; or it names no parent, and the document has a live leaf.
+    /// The edit's parent is not a leaf, or the edit names no parent and the document has a live leaf.
     #[error("the edit's parent is not a leaf, or a live leaf is passed over")]
     Conflict,
     /// The edit's parent has the greatest generation, 4,294,967,295.

@@ -39,7 +39,7 @@ impl<'a> Change<'a> {
         self.id
     }
 
-    /// Returns all leaves of the document, winner first. Does not allocate for a single leaf.
+    /// Returns all leaves of the document, winner first. The call does not allocate for a single leaf.
     pub fn leaves(&self, alloc: Global) -> Result<Revs, AllocError>
         ensures { IfOk result (λ revs. revs ≡ self.now.leaves) }
     {

@@ -1,8 +1,9 @@
-//! How the table of documents hashes ids.
+//! The hash function of a database's table of documents.
 //!
 //! Ids come from untrusted sources. With a fixed initial state, anyone could choose ids whose hashes collide, and each
-//! lookup would scan all of them. The hash therefore starts with the database's UUID. This protects only if the UUID is
-//! not known to the author of the ids; a UUID that the program makes follows from its seed, which is 0 by default.
+//! lookup would scan all of them. The hash of an id therefore starts with the database's UUID. The UUID protects only
+//! if the author of the ids does not know it. A UUID that the program makes follows from the program's seed, which is 0
+//! by default.
 ghost use Rattle.std.specs.Prelude.{◌≡◌};
 ghost use Rattle.std.specs.Hash.{le_bytes};
 ghost use Rattle.std.specs.Hash.FoldHasher.{initial, write};
@@ -16,7 +17,7 @@ pub(crate) struct IdHash {
 }
 
 impl IdHash {
-    /// Creates the hash builder of a database. Each hash begins with the UUID.
+    /// Creates the hash builder of a database. Each hash begins with the database's UUID.
     pub(crate) fn new(uuid: u128) -> IdHash
         ensures { result.begun ≡ write initial (le_bytes 16 uuid) }
     {

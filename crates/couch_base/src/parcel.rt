@@ -21,11 +21,11 @@ pub struct Parcel {
     asked: Asked,
     docs: Vec<Doc>,
     gone: Vec<(DocId, Rev)>,
-    // A separate list, because few callers prepare a parcel, and documents stay small.
+    // Prepared trees have a list of their own, because few callers prepare a parcel, and documents stay small.
     made: Vec<Option<PreparedTree>>,
 }
 
-// Written by hand so that it is proved once: docs/DECISIONS.md, "Letting values go".
+// `Drop` is implemented by hand here so that it is proved once (docs/DECISIONS.md, "Letting values go").
 impl Drop for Parcel {
     fn drop(self) {
         let Parcel {
@@ -161,7 +161,8 @@ impl Parcel {
     }
 }
 
-/// Builds the trees of documents. Rows are searched in order; documents after one without a row get no tree.
+/// Builds the trees that documents would have as new documents. Rows are searched in order. If a document has no row,
+/// this document and those after it get no tree.
 fn make_all(
     alloc: Global,
     session: SessionId,

@@ -7,7 +7,8 @@ use doc_json::{Doc, DocId};
 use rev_tree::{Origin, SessionId, Tree};
 use std::alloc::{AllocError, Global};
 
-/// The tree that a document would have as a new document, with its id. Its origin is a session's feed at a sequence.
+/// The tree that a document would have as a new document, with its id. The origin of the tree is a session's feed at a
+/// sequence.
 #[derive(Drop)]
 pub struct PreparedTree {
     pub(crate) key: DocId,
@@ -27,7 +28,7 @@ impl PreparedTree {
         ensures { IfOk result (IsMadeOf doc.now) }
     {
         let ancestry = doc.ancestry();
-        // Gives proofs the fact that an ancestry has a revision.
+        // This call gives proofs the fact that an ancestry has a revision.
         let _revs = ancestry.revs();
         let content = content_of(doc.deleted(), doc.body())?;
         let mut tree = Tree::new(alloc);

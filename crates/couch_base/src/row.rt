@@ -14,7 +14,7 @@ pub struct Row {
     leaves: Revs,
 }
 
-// Written by hand so that it is proved once: docs/DECISIONS.md, "Letting values go".
+// `Drop` is implemented by hand here so that it is proved once (docs/DECISIONS.md, "Letting values go").
 impl Drop for Row {
     fn drop(self) {
         let Row {

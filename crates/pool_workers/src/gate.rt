@@ -38,8 +38,8 @@ pub trait Gate {
     fn at<R: Wait>(&self, rt: &R, place: Place) -> Turn
         ensures { Stops result (may_stop self.now place) };
 
-    /// Whether the gate may block a worker until another one has reached some place. If it never blocks, one thread may
-    /// do the work of several workers in turn.
+    /// Whether the gate may block a worker until another worker has reached a place. If the gate never blocks, one
+    /// thread may do the work of several workers in turn.
     fn may_block(&self) -> bool {
         true
     }

@@ -1,4 +1,4 @@
-//! Collecting the workers after they have ended.
+//! Collects the results of the workers after they have ended.
 ghost use Rattle.std.specs.Prelude.{◌≡◌, ◌+◌, ◌<◌, ◌≤◌, ◌++◌, [], length, None, IfSome, vec_len, vec_capacity, option_copied, option_to_list};
 ghost use Rattle.std.specs.List.{All};
 ghost use Rattle.crossbeam_channel.specs.Claims.{view, IsSeatAt};
@@ -24,7 +24,8 @@ use repl_target::WriteFilter;
 use std::sync::ledger::{Ledger, Share};
 use std::thread::Threads;
 
-/// What the fetchers did: the documents of each, the parcels of all, and why one stopped.
+/// The results of the fetchers, which are the number of documents of each fetcher, the parcels of all fetchers, and why
+/// a fetcher stopped.
 #[derive(Drop)]
 pub struct FetchedAll {
     pub counts: Vec<u64>,
@@ -32,14 +33,14 @@ pub struct FetchedAll {
     pub stopped: Option<Halt>,
 }
 
-/// What the writers did: the parcels of all, and why one stopped.
+/// The results of the writers, which are the parcels of all writers, and why a writer stopped.
 #[derive(Drop)]
 pub struct WrittenAll {
     pub got: u64,
     pub stopped: Option<Halt>,
 }
 
-/// Adds two counts, unless one was stopped or the sum overflows.
+/// Adds the counts of two groups of workers, unless a worker stopped or the sum overflows.
 fn count_up(
     total: u64,
     more: u64,
@@ -60,7 +61,7 @@ fn count_up(
 }
 
 impl FetchedAll {
-    /// Creates the value for no fetchers.
+    /// Creates the result of a group without fetchers.
     pub fn new(counts: Vec<u64>) -> FetchedAll
         ensures { result ≡ record { counts = counts; sent = 0; stopped = None } }
     {
@@ -119,7 +120,7 @@ impl FetchedAll {
 }
 
 impl WrittenAll {
-    /// Creates the value for no writers.
+    /// Creates the result of a group without writers.
     pub fn new() -> WrittenAll
         ensures { result ≡ record { got = 0; stopped = None } }
     {
@@ -180,7 +181,7 @@ impl<F: WriteFilter, S: SourceBrand, T: TargetBrand<F>, L: Ledger, G: Gate, R: T
     G,
     R,
 > {
-    /// Joins the fetchers and collects them.
+    /// Joins the fetchers' threads and collects their results.
     pub fn join_fetchers(
         &self,
         handles: Vec<FetcherHandle<'_, S, G>>,
@@ -220,7 +221,7 @@ impl<F: WriteFilter, S: SourceBrand, T: TargetBrand<F>, L: Ledger, G: Gate, R: T
         fetched
     }
 
-    /// Joins the writers and collects them, last first, so that their seats are returned in order.
+    /// Joins the writers' threads in reverse order and collects their results, so that the seats are returned in order.
     pub fn join_writers(
         &self,
         handles: Vec<WriterHandle<'_, S, L, G>>,

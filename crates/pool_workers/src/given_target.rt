@@ -1,4 +1,4 @@
-//! What is known about the given target without its lock.
+//! The facts about the run's target that are known without its lock.
 ghost use Rattle.std.specs.Prelude.{◌≡◌, [], Some, length, IfOk, IfSome};
 ghost use Rattle.std.specs.Option.{ForSome};
 ghost use Rattle.couch_base.specs.Database.{DatabaseValue};
@@ -12,7 +12,7 @@ use rev_tree::SessionId;
 use std::alloc::{AllocError, Global};
 use std::marker::PhantomData;
 
-/// An empty database, if the given target has no documents; otherwise nothing is known.
+/// An empty database if the given target has no documents, and otherwise nothing.
 #[derive(Drop)]
 pub struct GivenTarget<F: WriteFilter, T: TargetBrand<F>> {
     none: Option<Database>,
@@ -39,7 +39,8 @@ impl<F: WriteFilter, T: TargetBrand<F>> GivenTarget<F, T> {
         }
     }
 
-    /// Returns what the given target lacks of a page, if it had no documents: all leaves of the rows. Needs no lock.
+    /// Returns the request for the leaves of a page that the target lacks. If the given target had no documents, these
+    /// are all leaves of the rows. Needs no lock.
     pub fn diff<S: SourceBrand>(
         &self,
         alloc: Global,

@@ -1,4 +1,4 @@
-//! Messages that come from the source. Their types keep this fact when they move between threads.
+//! Messages that come from the source. The types of these messages keep this fact when messages move between threads.
 ghost use Rattle.std.specs.Prelude.{◌≡◌, ◌<◌, [], true, length, IfOk};
 ghost use Rattle.std.specs.List.{sum_by};
 ghost use Rattle.couch_base.specs.Database.{DatabaseValue};
@@ -14,7 +14,7 @@ use rev_tree::SessionId;
 use std::alloc::{AllocError, Global};
 use std::marker::{Model, PhantomData};
 
-/// The step by which the heap of a thread grows, in bytes; enough for a parcel of 500 small documents.
+/// The number of bytes by which the heap of a thread grows, which is enough for a parcel of 500 small documents.
 const HEAP_STEP: usize = 512 * 1024;
 
 /// Half of the bytes that a heap keeps at its end when blocks are freed.
@@ -69,14 +69,14 @@ impl<S: SourceBrand> Paged<S> {
         self.ready.window()
     }
 
-    /// Builds the form that a target keeps when the window is done: `ReadyWindow::prepare`.
+    /// Builds the shorter form that a target keeps when the window is done: `ReadyWindow::prepare`.
     pub fn prepare(&mut self, alloc: Global)
         ensures { self.new ≡ self.old }
     {
         self.ready.prepare(alloc);
     }
 
-    /// Returns the window with what was prepared.
+    /// Returns the window with its prepared shorter form.
     pub fn into_ready(self) -> ReadyWindow
         ensures value { result ≡ self }
         ensures page { IsNext S.source S.plan self }
@@ -84,7 +84,7 @@ impl<S: SourceBrand> Paged<S> {
         self.ready
     }
 
-    /// Copies the page, without what was prepared.
+    /// Copies the page, without its prepared shorter form.
     pub fn copy(&self, alloc: Global) -> Result<Paged<S>, AllocError>
         ensures { IfOk result (λ p. p ≡ self.now) }
     {
@@ -96,7 +96,7 @@ impl<S: SourceBrand> Paged<S> {
     }
 }
 
-/// What the source has for a request; counted, but not yet read.
+/// The source's documents for a request, which are counted, but not yet read.
 #[derive(Drop)]
 pub struct Found<S: SourceBrand> {
     page: Paged<S>,
@@ -118,7 +118,7 @@ impl<S: SourceBrand> Model for Found<S> {
 }
 
 impl<S: SourceBrand> Found<S> {
-    /// Counts what the source has for a request for a page.
+    /// Counts the source's documents for a request for the leaves of a page.
     pub fn count<F: WriteFilter>(
         alloc: Global,
         source: &Peer<F>,
@@ -136,8 +136,8 @@ impl<S: SourceBrand> Found<S> {
         })
     }
 
-    /// As `count`, for a request of all leaves of a page: the source has one document for each, so nothing is looked
-    /// up.
+    /// Does the same as `count` for a request of all leaves of a page. The source has one document for each leaf, so
+    /// the call looks nothing up.
     pub fn whole<F: WriteFilter>(source: &Peer<F>, asked: Asked, page: Paged<S>) -> Found<S>
         requires source { S.source ≡ source.now.1.db }
         requires whole { (db : DatabaseValue) × (db.docs ≡ []) × (asked ≡ revs_diff db page) }
@@ -183,7 +183,7 @@ impl<S: SourceBrand> Found<S> {
     }
 }
 
-/// What the source has for a request; already read.
+/// The source's documents for a request, which are already read.
 #[derive(Drop)]
 pub struct Fetched<S: SourceBrand> {
     ready: PreparedParcel,
@@ -203,7 +203,8 @@ impl<S: SourceBrand> Model for Fetched<S> {
 }
 
 impl<S: SourceBrand> Fetched<S> {
-    /// Reads what the source has for a request for a page, and prepares the documents for a session, if one is given.
+    /// Reads the source's documents for a request for the leaves of a page, and prepares the documents for a session,
+    /// if one is given.
     pub fn fetch<F: WriteFilter>(
         alloc: Global,
         source: &Peer<F>,
@@ -232,7 +233,7 @@ impl<S: SourceBrand> Fetched<S> {
         self.ready.parcel().docs().len() as u64
     }
 
-    /// Returns the parcel with what was prepared.
+    /// Returns the parcel with its prepared trees and arrivals.
     pub fn into_ready(self) -> PreparedParcel
         ensures value { result ≡ self }
         ensures answer { IsAnswerOf S.source self }
@@ -277,7 +278,7 @@ fn grow_heap(alloc: Global) {
     }
 }
 
-/// Makes heaps keep the memory of a parcel.
+/// Makes the heaps of all threads keep the memory of a parcel.
 ///
 /// The C library releases the end of a heap if more than 128 KiB are free there. It allocates large blocks directly
 /// from the system; after one such block was freed, heaps keep up to twice its size.

@@ -1,4 +1,4 @@
-//! Pairs: threads that are a fetcher and a writer in turn.
+//! Pairs are threads that each work as a fetcher and as a writer in turn.
 //!
 //! If the gate never blocks, a thread that has fetched a window may also settle a parcel, so half as many threads do
 //! the work of both groups.
@@ -59,8 +59,8 @@ impl<
     G: Gate + Sync,
     R: Wait + Sync,
 > Context<'e, F, S, T, L, G, R> {
-    /// Starts a pair, in addition to `others` pairs. If a thread cannot be created, sends the end of the windows to all
-    /// of them, receives one itself, and returns the seat as an error.
+    /// Starts a pair, in addition to `others` pairs. If a thread cannot be created, the call sends the end of the
+    /// windows to all pairs, receives one end itself, and returns the seat as an error.
     fn start_pair<'s, E>(
         &'e self,
         scope: &Scope<'s, E>,
@@ -113,7 +113,8 @@ impl<
     }
 
     /// Splits off passes and a part of the ledger, takes the last seat, and starts a pair with them: `start_pair`.
-    /// There are `others` other pairs. Returns `None` if a thread cannot be created; the seat is then returned.
+    /// `others` is the number of other pairs. Returns `None` if a thread cannot be created, and returns the seat to the
+    /// list.
     fn spawn_pair<'s, E>(
         &'e self,
         scope: &Scope<'s, E>,
@@ -164,8 +165,9 @@ impl<
         }
     }
 
-    /// Starts the pairs; if there is a board, each gets a seat, the first pair the last one. Starts fewer than
-    /// requested if a thread cannot be created or an allocation fails; those are then sent the end of the windows.
+    /// Starts the pairs. If there is a board, each pair gets a seat, and the first pair gets the last seat. If a thread
+    /// cannot be created or an allocation fails, the call starts fewer pairs than requested, and sends the end of the
+    /// windows to the started pairs.
     fn start_pairs<'s, E>(
         &'e self,
         scope: &Scope<'s, E>,
@@ -229,7 +231,7 @@ impl<
     G: Gate + Sync,
     R: Threads + Wait + Sync,
 > Context<'e, F, S, T, L, G, R> {
-    /// Joins the pairs and collects them, last first, so that their seats are returned in order.
+    /// Joins the pairs' threads in reverse order and collects their results, so that the seats are returned in order.
     fn join_pairs(
         &self,
         handles: Vec<PairHandle<'_, S, L, G>>,
@@ -286,8 +288,8 @@ impl<
         (fetched, written)
     }
 
-    /// Runs the pairs while the windows are read, and returns the seats. Returns `None` if a thread cannot be created;
-    /// then no window is read.
+    /// Runs the pairs while the windows are read, and returns the seats. Returns `None` if a thread cannot be created.
+    /// In that case, no window is read.
     pub fn pairs_in_scope<'s, E>(
         &'e self,
         scope: &Scope<'s, E>,

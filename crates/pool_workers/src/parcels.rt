@@ -1,4 +1,4 @@
-//! The channel of parcels: its messages, what each thread knows about it, and its rule.
+//! The channel of parcels, with its messages, each thread's facts about the channel, and the rule of the channel.
 use crate::brands::SourceBrand;
 use crate::messages::Found;
 use crossbeam_channel::protocol::{Join, Lesson, Outcome, Protocol, Split};
@@ -8,21 +8,23 @@ use std::collections::LinkedList;
 /// A message from a fetcher to a writer.
 #[derive(Drop)]
 pub enum ParcelMessage<S: SourceBrand> {
-    /// What the source has for the window with this number: counted by the fetcher, read by the writer.
+    /// The source's documents for the window with this number, which the fetcher counted and the writer will read.
     Parcel { number: u64, fetched: Found<S> },
     /// The end of the parcels.
     End,
 }
 
-/// What a thread knows about the channel: its parts (of 1,024) of the right to know everything; and what it has sent
-/// and received, each parcel by its number and its number of documents. Values of this type never exist at run time.
+/// A thread's facts about the channel. They are the thread's parts (of 1,024) of the right to know everything, and the
+/// parcels that the thread has sent and received, each with its number and its number of documents. Values of this type
+/// never exist at run time.
 pub struct ParcelView {
     pub parts: u64,
     pub sent: LinkedList<(u64, u64)>,
     pub got: LinkedList<(u64, u64)>,
 }
 
-/// The rule: what was sent is what was received and what is queued; each number with its documents, equally often.
+/// The rule of the channel of parcels. The sent parcels are the received and the queued parcels, each number with the
+/// same number of documents and equally often.
 pub struct Conserved;
 
 impl<S: SourceBrand> Protocol<ParcelMessage<S>, ParcelView> for Conserved {
@@ -34,7 +36,7 @@ impl<S: SourceBrand> Protocol<ParcelMessage<S>, ParcelView> for Conserved {
     ghost first = { parcel_view 1024 [] [] };
 }
 
-/// Splitting a pass off for a worker, and returning it.
+/// Calls that split a pass off for a worker and take it back.
 pub struct ParcelCut;
 
 impl Split<ParcelView> for ParcelCut {
@@ -83,7 +85,7 @@ impl<S: SourceBrand> Lesson<ParcelMessage<S>, ParcelView> for Gets {
     ghost fact = { λ _ _. Unit {0} };
 }
 
-/// What the pass with all parts knows.
+/// The facts that the pass with all parts gives.
 pub struct Whole;
 
 impl<S: SourceBrand> Lesson<ParcelMessage<S>, ParcelView> for Whole {
@@ -92,7 +94,7 @@ impl<S: SourceBrand> Lesson<ParcelMessage<S>, ParcelView> for Whole {
     ghost fact = { Accounts };
 }
 
-/// What a thread knows about the channel of parcels.
+/// The facts that a thread's pass gives about the channel of parcels.
 pub type ParcelPass<S> = Pass<ParcelMessage<S>, ParcelView>;
 
 /// The sending end.

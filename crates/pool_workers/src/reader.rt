@@ -21,8 +21,8 @@ use std::sync::ledger::Ledger;
 /// The maximum number of pages that are read before they are stored.
 const MOST_AHEAD: u64 = 8;
 
-/// Pages that were read in order and are to be sent, their copies to be stored, the end of the last one, and why
-/// reading stopped, if it failed.
+/// Pages that were read in order and must be sent, and their copies, which must be stored. Also the end of the last
+/// page, and why reading stopped if it failed.
 #[derive(Drop)]
 struct Ahead<S: SourceBrand> {
     pages: Vec<Paged<S>>,
@@ -31,7 +31,7 @@ struct Ahead<S: SourceBrand> {
     stopped: Option<Halt>,
 }
 
-/// Sends the window with this number. Returns whether it was sent.
+/// Sends the window with this number. Returns whether the window was sent.
 fn send_window<S: SourceBrand, R: Wait>(
     rt: &R,
     channels: &Channels<S>,
@@ -52,7 +52,7 @@ fn send_window<S: SourceBrand, R: Wait>(
         .is_ok()
 }
 
-/// Sends windows with numbers from `number` on. Returns the next number.
+/// Sends windows, which get numbers from `number` on. Returns the next number.
 fn send_all<S: SourceBrand, R: Wait>(
     rt: &R,
     channels: &Channels<S>,
@@ -90,7 +90,7 @@ impl<F: WriteFilter, S: SourceBrand, T: TargetBrand<F>, L: Ledger, G, R: Wait> C
     R,
 > {
     /// Stores pages at the target in order, and releases the lock. Returns the number of stored pages, and why the next
-    /// one was not stored. `Lost` if the plan allows no further window.
+    /// one was not stored. That reason is `Lost` if the plan allows no further window.
     fn store_all(&self, pages: Vec<Paged<S>>) -> (usize, Option<Halt>)
         ensures refused { IfSome result.1 (λ halt. (halt ≡ Halt.Lost)
             ⊎ (fault : TargetFault) × (halt ≡ Halt.Refused fault) × IsStepFault fault) }
@@ -122,7 +122,7 @@ impl<F: WriteFilter, S: SourceBrand, T: TargetBrand<F>, L: Ledger, G, R: Wait> C
         Ok((page, copy))
     }
 
-    /// Reads the page after the last one that was read.
+    /// Reads the page after the page that was read last.
     fn read_further(&self, ahead: &mut Ahead<S>) -> Result<(), AllocError>
         requires source { S.source ≡ self.now.source.now.1.db }
         requires plan { S.plan ≡ self.now.plan.now }
@@ -145,7 +145,7 @@ impl<F: WriteFilter, S: SourceBrand, T: TargetBrand<F>, L: Ledger, G, R: Wait> C
         Ok(())
     }
 
-    /// Reads pages above a sequence in order: at most `most`, and only as many as the plan allows.
+    /// Reads at most `most` pages above a sequence in order, and only the number that the plan allows.
     fn read_ahead(&self, since: u64, number: u64, most: u64) -> Ahead<S>
         requires source { S.source ≡ self.now.source.now.1.db }
         requires plan { S.plan ≡ self.now.plan.now }
@@ -181,8 +181,9 @@ impl<F: WriteFilter, S: SourceBrand, T: TargetBrand<F>, L: Ledger, G, R: Wait> C
         ahead
     }
 
-    /// Reads at most `most` pages above a sequence, stores them at the target under one lock, and sends them. Stored
-    /// pages are sent even if the next one fails. Returns the end of the last page, and the next number.
+    /// Reads at most `most` pages above a sequence, stores them at the target under one lock, and sends them. The call
+    /// sends the stored pages even if storing a later page fails. Returns the end of the last page, and the next
+    /// number.
     pub fn read_some(
         &self,
         windows: &mut WindowPass<S>,
@@ -224,8 +225,8 @@ impl<F: WriteFilter, S: SourceBrand, T: TargetBrand<F>, L: Ledger, G, R: Wait> C
         }
     }
 
-    /// Reads windows from a start until no other is due; stores each at the target and sends it. Reads one, then two,
-    /// and so on up to eight at a time.
+    /// Reads windows from a start until no further window is due, stores each window at the target, and sends it. The
+    /// call reads one window at first, then two at a time, and so on up to eight at a time.
     pub fn read_windows(&self, start: u64, windows: &mut WindowPass<S>) -> Option<Halt>
         requires source { S.source ≡ self.now.source.now.1.db }
         requires plan { S.plan ≡ self.now.plan.now }

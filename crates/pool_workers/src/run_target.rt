@@ -1,4 +1,5 @@
-//! The state behind the lock: the target, and a ledger of what its session has read.
+//! The state that the target's lock protects, which is the target with the counts of documents that its session has
+//! read.
 ghost use Rattle.std.specs.Prelude.{◌≡◌, ℕ, ◌+◌, ◌<◌, ◌≤◌, true, length, Option, Some, None, is_some, IfSome, IfOk, IfErr, OnOk, OnErr};
 ghost use Rattle.std.specs.Coded.{coded×};
 ghost use Rattle.rev_tree.specs.declared.origin.SessionId.{SessionId};
@@ -23,10 +24,11 @@ use std::alloc::{AllocError, Global};
 use std::marker::{Model, PhantomData};
 use std::sync::ledger::{Book, Ledger, Share};
 
-/// The target of a run: the given one, after calls whose messages come from the source. The ledger is what the run's
-/// session has read. `more` is the number of windows that may still be stored; there is no limit if the plan sets none.
-/// Each method is the call of the same name on the target, for the run's session; `append` also checks that the plan
-/// allows another window, and `settle_counted` is `settle` with its documents added to a share of the ledger.
+/// The target of a run, which is the given target after calls with messages that come from the source. The ledger has
+/// the number of documents that the run's session has read. `more` is the number of windows that may still be stored,
+/// if the plan sets a limit. Each method is the call of the same name on the target, for the run's session; `append`
+/// also checks that the plan allows another window, and `settle_counted` is `settle` with its documents added to a
+/// share of the ledger.
 #[derive(Drop)]
 pub struct RunTarget<F: WriteFilter, S: SourceBrand, T: TargetBrand<F>, L: Ledger> {
     target: Peer<F>,
@@ -123,14 +125,15 @@ impl<F: WriteFilter, S: SourceBrand, T: TargetBrand<F>, L: Ledger> RunTarget<F, 
         }
     }
 
-    /// Returns what the target lacks of a page.
+    /// Returns the request for the leaves of a page that the target lacks.
     pub fn diff(&self, alloc: Global, page: &Paged<S>) -> Result<Asked, AllocError>
         ensures asked { IfOk result (λ asked. asked ≡ revs_diff self.now.1.db page.now) }
     {
         self.target.revs_diff(alloc, page.window())
     }
 
-    /// Settles what the source has sent: `Peer::settle_into`. Adds the consumed documents to the share.
+    /// Settles a parcel that the source has sent: `Peer::settle_into`. The call adds the consumed documents to the
+    /// worker's share.
     pub fn settle_counted(
         &mut self,
         share: &mut Share<L>,

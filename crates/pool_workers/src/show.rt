@@ -1,4 +1,4 @@
-//! Showing a writer's progress on a board, at its own seat, if it has one. Takes no lock.
+//! Shows a writer's progress on a board, at the writer's own seat, if it has a seat. Takes no lock.
 ghost use Rattle.std.specs.Prelude.{◌≡◌, ◌+◌, ◌≤◌, ◌++◌, length, IfErr, OnOk, OnErr, vec_len, vec_capacity, option_copied, option_to_list};
 ghost use Rattle.pool_workers.specs.Boards.{MayFill, IsSeated, IsFullFor, HasRead, HasRoom, HasSettled};
 
@@ -30,7 +30,7 @@ pub fn show_read(
     }
 }
 
-/// Shows documents as settled, which were shown as read before.
+/// Shows documents as settled, after they were shown as read.
 pub fn show_settled(board: Option<&Board>, seat: &mut Option<BoardSeat>, documents: u64)
     requires seat { IsSeated (option_copied board) seat.old }
     requires room { HasRoom (option_copied board) documents seat.old }

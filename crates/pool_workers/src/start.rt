@@ -67,7 +67,8 @@ impl<
         self.start_fetcher(scope, window_pass, parcel_pass)
     }
 
-    /// Starts the fetchers. Starts fewer than requested if a thread cannot be created or an allocation fails.
+    /// Starts the fetchers. If a thread cannot be created or an allocation fails, the call starts fewer workers than
+    /// requested.
     pub fn start_fetchers<'s, E>(
         &'e self,
         scope: &Scope<'s, E>,
@@ -110,7 +111,8 @@ impl<
     }
 
     /// Splits off a pass and a part of the ledger, takes the last seat, and starts a writer with them: `start_writer`.
-    /// There are `others` other writers. Returns `None` if a thread cannot be created; the seat is then returned.
+    /// `others` is the number of other writers. Returns `None` if a thread cannot be created, and returns the seat to
+    /// the list.
     fn spawn_writer<'s, E>(
         &'e self,
         scope: &Scope<'s, E>,
@@ -155,8 +157,9 @@ impl<
         }
     }
 
-    /// Starts the writers; if there is a board, each gets a seat, the first writer the last one. Starts fewer than
-    /// requested if a thread cannot be created or an allocation fails; those are then sent the end of the parcels.
+    /// Starts the writers. If there is a board, each writer gets a seat, and the first writer gets the last seat. If a
+    /// thread cannot be created or an allocation fails, the call starts fewer writers than requested, and sends the end
+    /// of the parcels to the started writers.
     pub fn start_writers<'s, E>(
         &'e self,
         scope: &Scope<'s, E>,

@@ -25,8 +25,8 @@ use std::sync::ledger::{Ledger, Share};
 use std::thread;
 use std::thread::{Scope, Threads};
 
-/// What the caller's thread owns before the workers start: capacity for a count of each fetcher, all parts of what is
-/// known about both channels, the complete share of the ledger, and the seats of the board.
+/// The values that the caller's thread owns before the workers start. They are capacity for a count of each fetcher,
+/// the passes with all parts of both channels, the complete share of the ledger, and the seats of the board.
 #[derive(Drop)]
 pub struct Owned<S: SourceBrand, L: Ledger> {
     pub counts: Vec<u64>,
@@ -36,8 +36,8 @@ pub struct Owned<S: SourceBrand, L: Ledger> {
     pub seats: Vec<BoardSeat>,
 }
 
-/// What the caller's thread has after all workers have ended: all parts of what was known about both channels, the
-/// complete share of the ledger, why reading ended early, and what both groups did.
+/// The values that the caller's thread owns after all workers have ended. They are the passes with all parts of both
+/// channels, the complete share of the ledger, why reading ended early, and the results of both groups.
 #[derive(Drop)]
 pub struct Ended<S: SourceBrand, L: Ledger> {
     pub windows: WindowPass<S>,
@@ -57,8 +57,9 @@ impl<
     G: Gate + Sync,
     R: Threads + Wait + Sync,
 > Context<'e, F, S, T, L, G, R> {
-    /// Starts the fetchers, reads the windows, and joins the fetchers. Returns why reading ended early, and what the
-    /// fetchers did; `None` if a thread cannot be created. Then no window is read, and the writers are sent the end.
+    /// Starts the fetchers, reads the windows, and joins the fetchers. Returns why reading ended early, and the
+    /// fetchers' results, or `None` if a thread cannot be created. In that case, no window is read, and the writers
+    /// receive the end of the parcels.
     fn fetch_in_scope<'s, E>(
         &'e self,
         scope: &Scope<'s, E>,
@@ -102,7 +103,7 @@ impl<
     }
 
     /// Runs the workers while the windows are read, and returns the seats. Returns `None` if a thread cannot be
-    /// created; then no window is read.
+    /// created. In that case, no window is read.
     fn in_scope<'s, E>(
         &'e self,
         scope: &Scope<'s, E>,
@@ -155,8 +156,8 @@ impl<
         (Some(ended), seats)
     }
 
-    /// Runs the workers in their own scope: `in_scope`. If the gate never blocks, they are pairs (`pairs_in_scope`),
-    /// and a single pair runs on the caller's thread (`in_turn`).
+    /// Runs the workers in their own scope: `in_scope`. If the gate never blocks, the workers are pairs
+    /// (`pairs_in_scope`), and a single pair runs on the caller's thread (`in_turn`).
     pub fn with_workers(
         &'e self,
         workers: usize,

@@ -25,8 +25,8 @@ use repl_target::{Peer, WriteFilter};
 use std::alloc::Global;
 use std::sync::ledger::Ledger;
 
-/// The target, the number of documents that each fetcher fetched, the seats of the board, the error of a step, and
-/// whether as many parcels were received as sent.
+/// The result of a run, which has the target, the number of documents of each fetcher, the seats of the board, the
+/// error of a step, and whether all sent parcels were received.
 #[derive(Drop)]
 pub struct Summed<F: WriteFilter> {
     pub target: Peer<F>,
@@ -36,7 +36,7 @@ pub struct Summed<F: WriteFilter> {
     pub complete: bool,
 }
 
-/// Combines what the workers did, if they were started.
+/// Combines the results of the workers, if the workers were started.
 pub fn collect<F: WriteFilter, S: SourceBrand, T: TargetBrand<F>, L: Ledger, G: Gate>(
     alloc: Global,
     channels: &Channels<S>,
@@ -73,7 +73,7 @@ pub fn collect<F: WriteFilter, S: SourceBrand, T: TargetBrand<F>, L: Ledger, G: 
     }
 }
 
-/// Combines what the workers did: the target without its lock, and whether as many parcels were received as sent.
+/// Combines the results of the workers into the target without its lock, and whether all sent parcels were received.
 fn sum_up<F: WriteFilter, S: SourceBrand, T: TargetBrand<F>, L: Ledger, G: Gate>(
     channels: &Channels<S>,
     gate: &G,
@@ -127,9 +127,9 @@ fn sum_up<F: WriteFilter, S: SourceBrand, T: TargetBrand<F>, L: Ledger, G: Gate>
     }
 }
 
-/// Gives proofs the facts that each window was taken by at most one fetcher, and each parcel received by at most one
-/// writer; and that if as many were received as sent, these are the same, each number with its documents. The passes
-/// have these facts once they have all parts.
+/// Gives proofs the facts that at most one fetcher took each window, and at most one writer received each parcel. If
+/// the numbers of sent and received parcels are equal, the sent and the received parcels are the same, each with its
+/// number of documents. The passes give these facts when they have all parts.
 fn each_once<S: SourceBrand, L: Ledger>(channels: &Channels<S>, ended: &mut Ended<S, L>)
     requires window_seat { IsSeatAt (sends_on channels.now.to_fetchers) ended.old.windows }
     requires parcel_seat { IsSeatAt (sends_on channels.now.to_writers) ended.old.parcels }

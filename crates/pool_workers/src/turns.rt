@@ -1,4 +1,4 @@
-//! A fetcher and a writer on one thread, in turn; and a single pair, whose thread also reads the windows.
+//! Runs a fetcher and a writer on one thread in turn, also for a single pair on the thread that reads the windows.
 //!
 //! With one fetcher and one writer, no two documents are settled at the same time, and data read by one processor is
 //! not in the cache of another. Therefore no thread is started: the caller's thread takes each window through both
@@ -105,7 +105,8 @@ impl<F: WriteFilter, S: SourceBrand, T: TargetBrand<F>, L: Ledger, G: Gate, R: W
         Writer::new(its_parcels, share, seats.pop())
     }
 
-    /// Fetches a window, and settles a parcel if one was sent. Returns false at the end of the windows.
+    /// Receives and fetches a window, and settles a parcel if the fetcher sent one. Returns false at the end of the
+    /// windows.
     fn take_turn(&self, pair: &mut Pair<S, L>) -> bool
         requires source { S.source ≡ self.now.source.now.1.db }
         requires stand { StandBy self.now.channels.now (option_copied self.now.board) (G.may_stop self.now.gate.now)
@@ -123,7 +124,7 @@ impl<F: WriteFilter, S: SourceBrand, T: TargetBrand<F>, L: Ledger, G: Gate, R: W
         more
     }
 
-    /// Processes windows until their end, each in one turn.
+    /// Processes windows until the end of the windows, each window in one turn.
     pub fn take_turns(&self, pair: Pair<S, L>) -> Pair<S, L>
         requires source { S.source ≡ self.now.source.now.1.db }
         requires stand { StandBy self.now.channels.now (option_copied self.now.board) (G.may_stop self.now.gate.now)
@@ -142,7 +143,8 @@ impl<F: WriteFilter, S: SourceBrand, T: TargetBrand<F>, L: Ledger, G: Gate, R: W
         pair
     }
 
-    /// Reads windows from a start until no other is due; stores each at the target, and takes it through both channels.
+    /// Reads windows from a start until no further window is due, stores each window at the target, and takes it
+    /// through both channels.
     fn read_in_turn(
         &self,
         start: u64,

@@ -1,4 +1,4 @@
-//! The channel of windows: its messages, what each thread knows about it, and its rule.
+//! The channel of windows, with its messages, each thread's facts about the channel, and the rule of the channel.
 use crate::brands::SourceBrand;
 use crate::messages::Paged;
 use crossbeam_channel::protocol::{Join, Lesson, Outcome, Protocol, Split};
@@ -14,9 +14,9 @@ pub enum WindowMessage<S: SourceBrand> {
     End,
 }
 
-/// What a thread knows about the channel: its parts (of 1,024) of the right to know everything; 1 if it is the page
-/// reader's, else 0; how many windows the page reader has sent; and the numbers of the windows that it has taken.
-/// Values of this type never exist at run time.
+/// A thread's facts about the channel. They are the thread's parts (of 1,024) of the right to know everything, 1 for
+/// the page reader and 0 for other threads, the number of windows that the page reader has sent, and the numbers of the
+/// windows that the thread has taken. Values of this type never exist at run time.
 pub struct WindowView {
     pub parts: u64,
     pub reads: u64,
@@ -24,7 +24,8 @@ pub struct WindowView {
     pub taken: LinkedList<u64>,
 }
 
-/// The rule: what is queued and what was taken are the numbers below the reader's count, without repeats.
+/// The rule of the channel of windows. The queued and the taken windows have the numbers below the page reader's count,
+/// each number once.
 pub struct InTurn;
 
 impl<S: SourceBrand> Protocol<WindowMessage<S>, WindowView> for InTurn {
@@ -36,7 +37,7 @@ impl<S: SourceBrand> Protocol<WindowMessage<S>, WindowView> for InTurn {
     ghost first = { window_view 1024 1 0 [] };
 }
 
-/// Splitting a pass off for a fetcher, and returning it.
+/// Calls that split a pass off for a fetcher and take it back.
 pub struct WindowCut;
 
 impl Split<WindowView> for WindowCut {
@@ -58,7 +59,7 @@ impl Join<WindowView> for WindowCut {
     ghost spent = { window_view 0 0 0 [] };
 }
 
-/// Sending, as the page reader.
+/// The call by which the page reader sends.
 pub struct Reads;
 
 impl<S: SourceBrand> Outcome<WindowMessage<S>, WindowView> for Reads {
@@ -86,7 +87,7 @@ impl<S: SourceBrand> Lesson<WindowMessage<S>, WindowView> for Takes {
     ghost fact = { λ _ _. Unit {0} };
 }
 
-/// What the pass with all parts knows.
+/// The facts that the pass with all parts gives.
 pub struct AllTaken;
 
 impl<S: SourceBrand> Lesson<WindowMessage<S>, WindowView> for AllTaken {
@@ -95,7 +96,7 @@ impl<S: SourceBrand> Lesson<WindowMessage<S>, WindowView> for AllTaken {
     ghost fact = { Covers };
 }
 
-/// What a thread knows about the channel of windows.
+/// The facts that a thread's pass gives about the channel of windows.
 pub type WindowPass<S> = Pass<WindowMessage<S>, WindowView>;
 
 /// The sending end.

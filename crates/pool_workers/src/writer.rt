@@ -24,8 +24,8 @@ use rev_tree::SessionId;
 use std::sync::Wait;
 use std::sync::ledger::{Ledger, Share};
 
-/// A writer: what it knows about the channel of parcels, its share of the ledger, the number of parcels that it
-/// settled, its seat of the board (if there is one), and why it stopped.
+/// A writer of the pool. It has its pass of the channel of parcels, its share of the ledger, the number of parcels that
+/// it settled, its seat of the board if there is one, and why it stopped.
 #[derive(Drop)]
 pub struct Writer<S: SourceBrand, L: Ledger> {
     pub parcels: ParcelPass<S>,
@@ -65,7 +65,7 @@ impl<F: WriteFilter, S: SourceBrand, T: TargetBrand<F>, L: Ledger, G: Gate, R: W
     G,
     R,
 > {
-    /// Settles a parcel, and shows the counted documents as settled.
+    /// Settles a parcel, and shows the parcel's documents as settled.
     fn settle_and_show(
         &self,
         share: &mut Share<L>,
@@ -93,7 +93,7 @@ impl<F: WriteFilter, S: SourceBrand, T: TargetBrand<F>, L: Ledger, G: Gate, R: W
         }
     }
 
-    /// Records at the target, and releases the lock. Returns the recorded sequence.
+    /// Records the low water at the target, and releases the lock. Returns the recorded sequence.
     fn record(&self) -> Result<u64, Halt>
         ensures { IfErr result (λ halt. (fault : TargetFault) × (halt ≡ Halt.Refused fault) × IsStepFault fault) }
     {
@@ -103,8 +103,8 @@ impl<F: WriteFilter, S: SourceBrand, T: TargetBrand<F>, L: Ledger, G: Gate, R: W
         }
     }
 
-    /// Settles a parcel and records. Stops if the gate stops the writer or a call fails. The documents are shown as
-    /// read before, and those that were settled as settled before the gate is asked.
+    /// Settles a parcel and records the low water at the target. The writer stops if the gate stops it or a call fails.
+    /// The board shows the documents as read before they are settled, and as settled before the gate is asked.
     fn settle_and_record(
         &self,
         share: &mut Share<L>,
@@ -126,14 +126,15 @@ impl<F: WriteFilter, S: SourceBrand, T: TargetBrand<F>, L: Ledger, G: Gate, R: W
         show_read(self.board, seat, documents)?;
         self.settle_and_show(share, seat, fetched, &mut spent)?;
         pass(self.rt, self.gate, Place::Settled(number))?;
-        // The lock is usually still free: a waiting writer takes a while to wake up.
+        // The lock is usually still free at this point, because a waiting writer takes a while to wake up.
         let recorded = self.record()?;
         drop(spent);
         pass(self.rt, self.gate, Place::Recorded(number, recorded))
     }
 
-    /// Returns the session for which a parcel is prepared before the lock is taken. `None` if one thread does
-    /// everything: nobody waits for its lock, and data built where it is stored stays in the processor's cache.
+    /// Returns the session for which a parcel is prepared before the lock is taken. Returns `None` if one thread does
+    /// all work. In that case nobody waits for the lock, and data that is built where it is stored stays in the
+    /// processor's cache.
     fn session_ahead(&self) -> Option<SessionId> {
         if self.workers > 1 {
             Some(self.plan.session)
@@ -161,7 +162,7 @@ impl<F: WriteFilter, S: SourceBrand, T: TargetBrand<F>, L: Ledger, G: Gate, R: W
         ensures shows { HasWritten (option_copied self.now.board) share.old.amount share.new.amount (halt_in result)
             seat.old seat.new }
     {
-        // The page must live as long; otherwise its rows are dropped under the lock.
+        // The page must live until the lock is released, because its rows would otherwise be dropped under the lock.
         let page = found.page(self.alloc)?;
         let fetched = found.fetch(self.alloc, self.source, self.session_ahead())?;
         let settled = self.settle_and_record(share, seat, number, fetched);
@@ -169,8 +170,9 @@ impl<F: WriteFilter, S: SourceBrand, T: TargetBrand<F>, L: Ledger, G: Gate, R: W
         settled
     }
 
-    /// Settles the parcel that the writer received last and counts it, or stores why it halts. `CountFull` only if its
-    /// count is full, `BoardFull` only if its counter on the board would exceed its maximum.
+    /// Settles the parcel that the writer received last and counts it, or stores why it halts. The reason is
+    /// `CountFull` only if the writer's count is full, and `BoardFull` only if its counter on the board would exceed
+    /// its maximum.
     fn write(&self, writer: &mut Writer<S, L>, number: u64, found: Found<S>)
         requires source { S.source ≡ self.now.source.now.1.db }
         requires knows { WriterKnows ((number, length found.docs) ∷ []) writer.old × (writer.old.stopped ≡ None) }
@@ -195,7 +197,7 @@ impl<F: WriteFilter, S: SourceBrand, T: TargetBrand<F>, L: Ledger, G: Gate, R: W
         }
     }
 
-    /// Receives one message. Returns false at the end of the parcels.
+    /// Receives one message. Returns false if the writer received the end of the parcels.
     pub fn take_parcel(&self, writer: &mut Writer<S, L>) -> bool
         requires source { S.source ≡ self.now.source.now.1.db }
         requires seat { IsSeatAt (receives_on self.now.channels.now.from_fetchers) writer.old.parcels }

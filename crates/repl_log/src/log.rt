@@ -94,7 +94,7 @@ impl Log {
         ensures err { OnErr result (self.new ≡ self.old) }
         ensures log { IsLog self.new }
     {
-        // Gives proofs the fact that no id occurs twice.
+        // This call gives proofs the fact that no id occurs twice.
         let _len = self.entries.len();
         self.entries.insert(entry.session, entry)?;
         Ok(())
@@ -131,7 +131,7 @@ impl Log {
     pub fn recorded_of(&self, session: SessionId) -> Option<u64>
         ensures { result ≡ recorded_of self.now session }
     {
-        // Gives proofs the fact that no id occurs twice.
+        // This call gives proofs the fact that no id occurs twice.
         let _len = self.entries.len();
         let entry = self.entries.get(&session)?;
         Some(entry.recorded)

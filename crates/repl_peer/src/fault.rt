@@ -20,11 +20,12 @@ use thiserror::Error;
 pub enum Reason {
     /// The write filter refuses it.
     Filtered,
-    /// Its ancestry gives a child another parent than the tree; this is the first such child, newest first.
+    /// The document's ancestry gives a child another parent than the tree does. The variant names the newest such
+    /// child.
     Contradicting { child: Rev, known: Rev, given: Rev },
 }
 
-/// Why only a part of a parcel was settled.
+/// The reason why only a part of a parcel was settled.
 #[derive(Clone, Copy, Debug, PartialEq, Eq)]
 pub enum Cause {
     /// An allocation failed.
@@ -42,7 +43,7 @@ pub struct Settled {
     pub failures: u64,
 }
 
-/// Why a call on a peer's sessions failed.
+/// The reason why a call on a peer's sessions failed.
 #[derive(Debug, Drop, Error)]
 pub enum TargetFault {
     /// The peer already has a session with this id.
@@ -84,22 +85,22 @@ pub enum TargetFault {
     /// A count of the session would exceed 9,007,199,254,740,991.
     #[error("a count of the session is full")]
     CountFull,
-    /// Only the first `settled` documents are settled; `rest` are the others. The window is not done.
+    /// Only the first `settled` documents of the parcel are settled, and `rest` has the others. The window is not done.
     #[error("stopped after {settled} documents")]
     Stopped {
         settled: u64,
         rest: Vec<Doc>,
         cause: Cause,
     },
-    /// All documents are settled, but this leaf of the window's rows, the first such one, is not covered. The window is
-    /// not done.
+    /// All documents of the parcel are settled, but a leaf of the window's rows is not covered, so the window is not done.
+    /// The variant names the first such leaf.
     #[error("a leaf of the window is not covered")]
     Uncovered {
         seq: u64,
         id: DocId,
         rev: Rev,
     },
-    /// The session has not reached its goal; everything is done up to `low_water`.
+    /// The session has not reached its goal. Every window up to the sequence `low_water` is done.
     #[error("done only up to {low_water}")]
     Unfinished {
         low_water: u64,
@@ -134,9 +135,9 @@ pub enum TargetFault {
 pub struct Report {
     /// The session.
     pub session: SessionId,
-    /// The source's sequence above which it read.
+    /// The source's sequence above which the session read changes.
     pub start: u64,
-    /// The source's sequence up to which everything is done.
+    /// The source's sequence up to which every window of the session is done.
     pub recorded: u64,
     /// What the session counted.
     pub counts: Counts,
@@ -198,7 +199,7 @@ impl From<LogFault> for TargetFault {
         match refused {
             LogFault::Older { stored } => TargetFault::Older { stored },
             LogFault::Memory => TargetFault::Memory,
-            // Storing an entry returns neither of these.
+            // Storing an entry in a log never returns these two errors.
             LogFault::BadMoment | LogFault::EmptyLog => TargetFault::Older { stored: 0 },
         }
     }

@@ -1,4 +1,4 @@
-//! The logs of a peer: those of its incoming sessions, and the stored ones of its outgoing sessions.
+//! The logs of a peer. The logs of incoming sessions are computed, and the logs of outgoing sessions are stored.
 ghost use Rattle.std.specs.Prelude.{◌≡◌, OnOk, OnErr, IfOk};
 ghost use Rattle.std.specs.Option.{option_copied};
 ghost use Rattle.repl_log.specs.Entry.{value_of};
@@ -14,8 +14,8 @@ use repl_log::{Entry, Log, RepId};
 use rev_tree::SessionId;
 use std::alloc::{AllocError, Global};
 
-/// Returns the id of the replication from one peer into another: the UUIDs of their databases, and the selection, which
-/// is shared. Also gives proofs that both peers are lawful.
+/// Returns the id of the replication from one peer into another. The id has the UUIDs of both databases and shares the
+/// selection. The call also gives proofs the fact that both peers satisfy their invariants.
 pub fn rep_between<F: WriteFilter, G: WriteFilter>(
     source: &Peer<F>,
     target: &Peer<G>,
@@ -56,7 +56,7 @@ impl<F: WriteFilter> Peer<F> {
         self.sessions.log(alloc, rep)
     }
 
-    /// Returns the log of a replication from this peer; an empty log if there is none.
+    /// Returns the stored log of a replication from this peer, or an empty log if none is stored.
     pub fn source_log(&self, alloc: Global, rep: &RepId) -> Result<Log, AllocError>
         ensures log { IfOk result (λ l. l ≡ source_log self.now.1 rep.now) }
     {

@@ -43,7 +43,7 @@ pub struct Peer<F: WriteFilter> {
     pub(crate) outgoing: Logs,
 }
 
-// Written by hand so that it is proved once: docs/DECISIONS.md, "Letting values go".
+// `Drop` is implemented by hand here so that it is proved once (docs/DECISIONS.md, "Letting values go").
 impl<F: WriteFilter + Drop> Drop for Peer<F> {
     fn drop(self) {
         let Peer {
@@ -102,7 +102,7 @@ impl<F: WriteFilter> Peer<F> {
     ghost use Rattle.repl_peer.specs.peer.Law.{Lawful};
     ghost use Rattle.repl_peer.specs.peer.Trusted.{IsTrusted};
 
-    /// Creates a peer without documents. `uuid` is the database's UUID as a number; `filter` refuses replicated
+    /// Creates a peer without documents. `uuid` is the database's UUID as a number, `filter` refuses replicated
     /// documents.
     pub fn new(alloc: Global, uuid: u128, filter: F) -> Peer<F>
         ensures value { result ≡ (filter, new_peer uuid) }
@@ -140,7 +140,7 @@ impl<F: WriteFilter> Peer<F> {
         &self.db
     }
 
-    /// Does nothing; gives proofs the invariants of the peer and of its database.
+    /// Does nothing, but gives proofs the invariants of the peer and of its database.
     pub fn law(&self)
         ensures peer { Lawful (F.refuses self.now.0) self.now.1 }
         ensures database { LawfulDatabase self.now.1.db }
@@ -159,7 +159,8 @@ impl<F: WriteFilter> Peer<F> {
 
     /// Stores a user's document with its ancestry as given. If the database changes, this is the next local write.
     ///
-    /// Errors are those of `Database::put`; `Memory` only if that call may return it. An error changes nothing.
+    /// The call returns the errors of `Database::put`, and `Memory` only if that call may return `Memory`. An error
+    /// changes nothing.
     pub fn load(&mut self, doc: &Doc) -> Result<Put, BaseFault>
         ensures answer { PutGives result (put_answer self.old.1.db doc.now) }
         ensures filter { self.new.0 ≡ self.old.0 }
@@ -172,7 +173,8 @@ impl<F: WriteFilter> Peer<F> {
 
     /// Edits a document, as the next local write, and returns the new revision.
     ///
-    /// Errors are those of `Database::edit`; `Memory` only if that call may return it. An error changes nothing.
+    /// The call returns the errors of `Database::edit`, and `Memory` only if that call may return `Memory`. An error
+    /// changes nothing.
     pub fn edit(&mut self, id: &DocId, parent: Option<Rev>, deleted: bool, body: &Body) -> Revised
         ensures answer { EditGives result (edit_answer self.old.1.db id.now parent deleted body.now) }
         ensures filter { self.new.0 ≡ self.old.0 }
@@ -231,7 +233,7 @@ impl<F: WriteFilter> Peer<F> {
         self.db.open_revs(alloc, asked)
     }
 
-    /// As `open_revs`, but moves the request into the parcel.
+    /// Does the same as `open_revs`, but moves the request into the parcel.
     pub fn open_asked(&self, alloc: Global, asked: Asked) -> Result<Parcel, AllocError>
         ensures parcel { IfOk result (λ p. p ≡ open_revs self.now.1.db asked) }
     {
@@ -323,7 +325,8 @@ impl<F: WriteFilter> Peer<F> {
         self.append_prepared(id, ReadyWindow::new(window))
     }
 
-    /// As `append`, for a prepared window, which may already have the shorter form that is kept when it is done.
+    /// Does the same as `append` for a prepared window, which may already have the shorter form that is kept when the
+    /// window is done.
     pub fn append_prepared(&mut self, id: SessionId, ready: ReadyWindow) -> Result<(), TargetFault>
         ensures answer { GivesUnlessMemory result (append_answer self.old.1 id ready) }
         ensures filter { self.new.0 ≡ self.old.0 }
@@ -331,7 +334,7 @@ impl<F: WriteFilter> Peer<F> {
         ensures err { OnErr result (self.new.1 ≡ self.old.1) }
         ensures law { Lawful (F.refuses self.new.0) self.new.1 }
     {
-        // Gives proofs the fact that the window satisfies its invariant.
+        // This call gives proofs the fact that the window satisfies its invariant.
         let _hi = ready.window().hi();
         self.sessions.append(id, ready)
     }
@@ -339,7 +342,7 @@ impl<F: WriteFilter> Peer<F> {
     /// Settles a parcel of a session: applies its documents in order, then marks its window as done.
     ///
     /// Each document is stored, and counts as written even if it already existed; or it is refused by the filter or as
-    /// a contradiction, and goes into the session's ledger. Returns the numbers of both.
+    /// a contradiction, and goes into the session's ledger. Returns the numbers of written and of refused documents.
     ///
     /// # Errors
     ///
@@ -362,8 +365,8 @@ impl<F: WriteFilter> Peer<F> {
         self.settle_into(id, PreparedParcel::new(alloc, parcel), &mut spent)
     }
 
-    /// As `settle`, but moves the remains of the parcel into `spent` if all documents are settled. A caller that holds
-    /// the peer's lock can drop them after it releases the lock.
+    /// Does the same as `settle`, but moves the remains of the parcel into `spent` if all documents are settled. A
+    /// caller that holds the peer's lock can drop them after it releases the lock.
     pub fn settle_into(
         &mut self,
         id: SessionId,

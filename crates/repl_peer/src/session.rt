@@ -35,7 +35,8 @@ use std::marker::Model;
 
 /// An incoming session.
 ///
-/// Arrivals are stored in several lists, in order: a list of prepared arrivals is kept as it is.
+/// Arrivals are stored in several lists, in order. A list of prepared arrivals becomes one of these lists without a
+/// copy.
 #[derive(Drop)]
 pub(crate) struct Session {
     pub(crate) id: SessionId,
@@ -122,7 +123,7 @@ impl Session {
         Ok(())
     }
 
-    /// Records the low water, and returns it.
+    /// Records the low water of the session, and returns it.
     pub(crate) fn record(&mut self, at: Moment) -> u64
         ensures mark { result ≡ low_water self.old.front }
         ensures session { self.new ≡ recorded_at at self.old }
@@ -133,7 +134,8 @@ impl Session {
         mark
     }
 
-    /// Records and reports if everything is done up to the goal; otherwise returns `Unfinished` and changes nothing.
+    /// Records the session and returns its report if every window up to the goal is done. Otherwise returns
+    /// `Unfinished` and changes nothing.
     pub(crate) fn conclude(&mut self, at: Moment) -> Result<Report, TargetFault>
         ensures answer { result ≡ conclude_in self.old }
         ensures session { self.new

@@ -1,4 +1,4 @@
-//! Leaves with their sort keys.
+//! Leaves of a tree, with their sort keys.
 ghost use Rattle.std.specs.Prelude.{◌≡◌};
 ghost use Rattle.std.specs.Ordering.{bool_cmp, ordering_then};
 ghost use Rattle.rev_core.specs.Rev.{IsRev, rev_cmp};
@@ -36,8 +36,8 @@ impl<'a> Leaf<'a> {
         }
     }
 
-    /// Compares two leaves in the winner's order: live before deleted, then the greater generation, then the greater
-    /// signature.
+    /// Compares two leaves in the winner's order. Live leaves come before deleted leaves, then greater generations
+    /// before lesser ones, then greater signatures before lesser ones.
     pub(crate) fn order(&self, other: &Leaf<'_>) -> Ordering
         ensures { result ≡ ordering_then (bool_cmp self.now.deleted other.now.deleted)
             (rev_cmp other.now.rev.now self.now.rev.now) }

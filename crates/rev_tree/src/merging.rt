@@ -1,4 +1,4 @@
-//! Comparing an ancestry with the nodes of a tree, and inserting it.
+//! Compares an ancestry with the nodes of a tree, and inserts the ancestry.
 ghost use Rattle.std.specs.Prelude.{◌≡◌, ℕ, ◌<◌, [], Some, None, IfSome, IfOk, IfErr, OnOk, length, slice_get};
 ghost use Rattle.std.specs.FinMap.{get};
 ghost use Rattle.std.specs.List.{list_all};
@@ -18,8 +18,8 @@ impl Nodes {
     /// Whether every given child has a known parent. Returns the first child whose known parent differs from the given
     /// one as an error.
     ///
-    /// The index of a known parent is stored in the child, so a known ancestry needs one lookup. For a new child, the
-    /// parent of the last node is tried first.
+    /// A child's node stores the index of the known parent, so a known ancestry needs one lookup. For a new child, the
+    /// call tries the parent of the last node first.
     pub(crate) fn knows_edges(&self, revs: &[Rev]) -> Result<bool, Contradiction>
         requires some { 0 < length revs.now }
         ensures edges { IfOk result (λ b. b ≡ list_all (has_edge (tree_of self.now.items)) (edges_of revs.now)) }
@@ -55,8 +55,8 @@ impl Nodes {
         Ok(all)
     }
 
-    /// Returns a guess for the index of a child's parent: the parent of the child, or else the parent of the previous
-    /// node. Consecutive nodes are often leaves of one parent.
+    /// Returns a guess for the index of a child's parent. The guess is the child's known parent, or else the parent of
+    /// the previous node. Consecutive nodes are often leaves of one parent.
     fn near(&self, child: usize) -> Option<usize>
         requires { child < length self.now.items }
         ensures { IfSome result (λ i. i < length self.now.items) }
@@ -81,8 +81,8 @@ impl Nodes {
     }
 
     /// Inserts the revisions of an ancestry, its edges and the content of its head, and returns the index of the
-    /// winner's node. `best` is the index of the winner's node before. The caller has reserved space for the missing
-    /// revisions.
+    /// winner's node. `best` is the index of the winner's node before the call. The caller has reserved space for the
+    /// missing revisions.
     pub(crate) fn put(
         &mut self,
         best: usize,
@@ -106,7 +106,8 @@ impl Nodes {
         }
     }
 
-    /// Inserts an ancestry into an empty tree. The revisions of an ancestry differ, so none is looked up.
+    /// Inserts an ancestry into an empty tree. The revisions of an ancestry differ from one another, so the call looks
+    /// up no revision.
     fn put_first(&mut self, revs: &[Rev], content: Content, origin: Origin)
         requires none { self.old.items ≡ [] }
         requires ancestry { IsAncestry revs.now }
@@ -145,8 +146,8 @@ impl Nodes {
         head
     }
 
-    /// Appends a revision with its origin, unless it has a node, and returns its index. The index `near` is tried
-    /// first. The caller has reserved the space.
+    /// Appends a revision with its origin, unless it has a node, and returns its index. The call tries the index `near`
+    /// first. The caller has reserved the space for the node.
     fn add(&mut self, near: Option<usize>, rev: Rev, origin: Origin) -> usize
         requires near { IfSome near (λ i. i < length self.old.items) }
         requires room { HasRoom self.old (unless_among (revs_in self.old.items) rev) }
@@ -158,7 +159,7 @@ impl Nodes {
         }
     }
 
-    /// Returns the index of a revision. The index `near` is tried first.
+    /// Returns the index of a revision. The call tries the index `near` first.
     fn place_near(&self, near: Option<usize>, rev: &Rev) -> Option<usize>
         requires near { IfSome near (λ i. i < length self.now.items) }
         ensures place { result ≡ place_of self.now.items rev.now }

@@ -1,4 +1,4 @@
-//! A node of a tree: a revision with what the tree knows about it.
+//! A node of a tree, which is a revision with the tree's data about it.
 ghost use Rattle.std.specs.Prelude.{◌≡◌, ◌+◌, ◌<◌, ◌^◌, Some, None, IfOk, true, false};
 ghost use Rattle.std.specs.Option.{option_copied};
 ghost use Rattle.std.specs.Ordering.{eq_by_cmp};
@@ -12,12 +12,12 @@ use rev_core::Rev;
 use std::alloc::AllocError;
 use std::marker::Model;
 
-/// The number of 64-bit integers: a session's number is stored as two of them.
+/// The number 2^64 of values of a 64-bit integer. A session's 128-bit number is stored as two such integers.
 const HALF: u128 = 1 << 64;
 
 /// A revision, the index of its parent if it is known, its origin, and the other data of the tree.
 ///
-/// A tree may have very many nodes, so they are small. A session's number is stored in halves because a `u128` is
+/// A tree may have millions of nodes, so a node is small. A session's number is stored in halves because a `u128` is
 /// aligned to 16 bytes.
 #[derive(Drop)]
 pub(crate) struct Node {
@@ -37,8 +37,8 @@ pub(crate) struct Marks {
 
 /// The flags of a node, the index of its parent, and its content if it is known.
 ///
-/// One enum holds them all, because flags and index fit into the padding of its tag. The index is counted from 1; it is
-/// 0 if no parent is known.
+/// One enum holds the flags, the index and the content, because flags and index fit into the padding of the enum's tag.
+/// The index of the parent is counted from 1, and is 0 if no parent is known.
 #[derive(Drop)]
 pub(crate) enum Known {
     Bare(Marks, u32),
@@ -165,7 +165,7 @@ impl Node {
         self.rev.generation()
     }
 
-    /// Whether this is the node of the given revision.
+    /// Whether the node is that of the given revision.
     pub(crate) fn is_of(&self, rev: &Rev) -> bool
         ensures { result ≡ eq_by_cmp rev_cmp rev.now self.now.rev }
     {

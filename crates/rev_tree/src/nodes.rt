@@ -1,4 +1,4 @@
-//! The nodes of a tree, and lookup by revision.
+//! The nodes of a tree, which can be looked up by revision.
 ghost use Rattle.std.specs.Prelude.{◌≡◌, ℕ, ◌+◌, ◌<◌, ◌≤◌, ◌⊎◌, ◌∷◌, ◌++◌, [], Some, None, IfOk, IfSome, OnOk, slice_get, length, take, drop, true, nat_eq, vec_capacity};
 ghost use Rattle.std.specs.Option.{option_copied};
 ghost use Rattle.rev_core.specs.Rev.{RevId};
@@ -17,23 +17,23 @@ use std::alloc::{AllocError, Global};
 use std::hash::{FoldHasher, Hasher};
 use std::marker::Model;
 
-/// The maximum number of nodes that a lookup scans. A larger tree has an index.
+/// The maximum number of nodes that a lookup scans. A tree with more nodes has an index.
 pub(crate) const MOST_WALKED: usize = 8;
 
-/// The maximum number of nodes and given revisions together for which the missing revisions are counted, so that space
-/// is reserved for them alone.
+/// The maximum sum of the numbers of nodes and given revisions for which the missing revisions are counted. Up to this
+/// sum, space is reserved for the missing revisions alone.
 const MOST_COUNTED: usize = 4;
 
-/// The maximum number of nodes of a tree: the index of a parent, counted from 1, has 32 bits.
+/// The maximum number of nodes of a tree, because the index of a parent, counted from 1, has 32 bits.
 const MOST_NODES: usize = u32::MAX as usize;
 
 ghost use Rattle.rev_tree.specs.Index.{falls, index_for, mark_of, noted_from};
 ghost use Rattle.rev_tree.specs.Nodes.{Distinct, HasGained, HasRoom, IsLinked, count_new, node_of, place_of, revs_in, tree_of, unless_among};
 
-/// Nodes with their index. Nodes are never removed, so their positions do not change.
+/// Nodes with their index. A tree never removes a node, so the positions of nodes do not change.
 ///
-/// Invariant: no revision has two nodes, the index of each parent is in range, and a node is marked exactly if another
-/// node names it as its parent.
+/// The invariant of a tree's nodes is that no revision has two nodes, the index of each parent is in range, and a node
+/// is marked exactly if another node names it as its parent.
 #[derive(Drop)]
 pub(crate) struct Nodes {
     list: Vec<Node>,
@@ -106,13 +106,14 @@ impl Nodes {
             if self.list[place].is_of(rev) {
                 return Some(place);
             }
-            // Another revision has the same hash.
+            // The entry of the hash belongs to another revision with the same hash.
         }
         walked_to(&self.list, rev)
     }
 
-    /// Reserves space for inserting an ancestry. If nodes and ancestry together are few, exactly enough for all of its
-    /// revisions; if they are very few, only for the missing ones. Fails if the tree could exceed `MOST_NODES`.
+    /// Reserves space for inserting an ancestry. If nodes and ancestry together are few, the call reserves exactly the
+    /// space for all of the ancestry's revisions. If they are very few, it reserves space only for the missing
+    /// revisions. The call fails if the tree could exceed `MOST_NODES`.
     #[tactic(auto, using(crate::proofs::Rooms::count_within))]
     pub(crate) fn make_room(&mut self, revs: &[Rev]) -> Result<(), AllocError>
         ensures items { self.new.items ≡ self.old.items }
@@ -148,7 +149,7 @@ impl Nodes {
         place
     }
 
-    /// Sets the content of a node, unless it has one.
+    /// Sets the content of a node, unless the node has a content.
     pub(crate) fn give(&mut self, place: usize, content: Content)
         requires within { place < length self.old.items }
         ensures tree { (r : RevId)
@@ -162,7 +163,7 @@ impl Nodes {
         }
     }
 
-    /// Sets the parent of a node, unless it has one.
+    /// Sets the parent of a node, unless the node has a parent.
     pub(crate) fn link(&mut self, child: usize, parent: usize)
         requires child_within { child < length self.old.items }
         requires parent_within { parent < length self.old.items }
@@ -270,7 +271,7 @@ fn index_rest(nodes: &[Node], places: &mut Places, known: usize)
     index_from(nodes, places, 0);
 }
 
-/// Whether each node is one generation below the previous one, given that this is so for the first `known` nodes.
+/// Whether each node is one generation below the previous node. The caller knows this fact for the first `known` nodes.
 #[inline(never)]
 fn all_fall(nodes: &[Node], known: usize) -> bool
     requires known { known ≤ length nodes.now }
@@ -307,7 +308,8 @@ fn is_below(upper: &Node, lower: &Node) -> bool
     upper.generation() - 1 == lower.generation()
 }
 
-/// Adds the nodes from index `first` to the index, which has those before it. The caller has reserved the space.
+/// Adds the nodes from position `first` on to the index, which has the nodes before that position. The caller has
+/// reserved the space.
 fn index_from(nodes: &[Node], places: &mut Places, first: usize)
     requires first { first ≤ length nodes.now }
     requires begun { places.old.entries ≡ noted_from [] 0 (revs_in (take first nodes.now)) }
@@ -347,8 +349,8 @@ fn once_new(nodes: &[Node], rev: &Rev) -> usize
     }
 }
 
-/// Reserves space in the list for the revisions of an ancestry: exactly enough if all together are few, and only for
-/// the missing ones if they are very few.
+/// Reserves space in the list for the revisions of an ancestry. If nodes and ancestry together are few, it reserves
+/// exactly the space for all revisions, and if they are very few, only for the missing revisions.
 #[tactic(auto, using(crate::proofs::Rooms::count_within))]
 fn reserve_nodes(list: &mut Vec<Node>, revs: &[Rev]) -> Result<(), AllocError>
     ensures items { list.new.items ≡ list.old.items }

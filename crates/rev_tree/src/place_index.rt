@@ -10,9 +10,9 @@ use indexmap::IndexMap;
 use std::alloc::{AllocError, Global};
 use std::marker::Model;
 
-/// Positions of nodes by the hashes of their revisions, which need less memory than the revisions. If revisions share a
-/// hash, the first has its position here, and the others are found by scanning. In practice this happens only if
-/// someone constructs such revisions.
+/// Positions of nodes by the hashes of their revisions, which need less memory than the revisions. If several revisions
+/// share a hash, the index has the position of the first revision, and the others are found by scanning. In practice,
+/// revisions share a hash only if someone constructs such revisions.
 ///
 /// The index is empty, and takes no memory, if the tree has few nodes or if each node is one generation below the
 /// previous one.
@@ -23,7 +23,7 @@ pub(crate) struct Places {
     index: Option<Box<Index>>,
 }
 
-/// The positions by hash, and the tournament.
+/// The positions of nodes by hash, and the tournament among the leaves.
 #[derive(Drop)]
 struct Index {
     positions: IndexMap<u64, usize>,
@@ -83,7 +83,7 @@ impl Places {
         }
     }
 
-    /// Adds a hash with its position, unless the hash has an entry. The caller has reserved the space.
+    /// Adds a hash with a position, unless the hash has an entry. The caller has reserved the space.
     pub(crate) fn note(&mut self, mark: u64, place: usize)
         requires { 0 < self.old.spare }
         ensures entries { self.new.entries ≡ noted self.old.entries mark place }
@@ -96,7 +96,7 @@ impl Places {
         }
     }
 
-    /// Adds a new hash with its position. The caller has reserved the space.
+    /// Adds a new hash with a position. The caller has reserved the space.
     fn insert(&mut self, mark: u64, place: usize)
         requires room { 0 < self.old.spare }
         requires new { lookup (nat_eq mark) self.old.entries ≡ None }

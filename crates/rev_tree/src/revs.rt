@@ -16,14 +16,14 @@ pub struct Revs {
     kept: Kept,
 }
 
-// Written by hand so that it is proved once: docs/DECISIONS.md, "Letting values go".
+// `Drop` is implemented by hand here so that it is proved once (docs/DECISIONS.md, "Letting values go").
 impl Drop for Revs {
     fn drop(self) {
         let Revs { kept: _ } = self;
     }
 }
 
-/// How the revisions are stored.
+/// The two forms in which a list of revisions is stored.
 #[derive(Debug, Drop)]
 enum Kept {
     One(Rev),

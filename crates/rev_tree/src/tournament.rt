@@ -8,11 +8,11 @@ use std::alloc::Global;
 
 /// The winners of the matches of a tournament among the leaves of a tree, in the winner's order.
 ///
-/// Match `i` is between the players at `2 * i` and `2 * i + 1`, and match 1 is the final. If there is a match at an
-/// index, the player is its winner; node `n` is the player at `winners.len() + n`, while it is a leaf.
+/// Match `i` is between the players at `2 * i` and `2 * i + 1`, and match 1 is the final. The player at the index of a
+/// match is the winner of that match. Node `n` is the player at `winners.len() + n`, as long as the node is a leaf.
 ///
-/// A winner is stored as the index of its node, counted from 1; 0 means that there is no player. A winner that is no
-/// longer a leaf stays stored until its matches are replayed.
+/// A winner is stored as the index of its node, counted from 1, or as 0 if the match has no player. A winner that is no
+/// longer a leaf stays stored until its matches are played again.
 #[derive(Drop)]
 pub(crate) struct Tournament {
     winners: Vec<u32>,
@@ -57,8 +57,8 @@ impl Tournament {
         None
     }
 
-    /// Enters the nodes that do not take part yet. Returns whether all nodes take part, which is false if an allocation
-    /// fails.
+    /// Enters the nodes that do not take part in the tournament yet. Returns whether all nodes take part, which is
+    /// false if an allocation fails.
     fn enter_all(&mut self, nodes: &[Node]) -> bool
         requires few { length nodes.now < 2 ^ 32 }
         requires played { IsPlayed nodes.now self.old.winners.items self.old.entered 0 }
@@ -83,7 +83,7 @@ impl Tournament {
     }
 
     /// Restarts the tournament with twice as many matches as nodes if it has fewer matches than nodes. Returns whether
-    /// it has enough matches, which is false if an allocation fails.
+    /// the tournament has enough matches, which is false if an allocation fails.
     fn make_matches(&mut self, nodes: &[Node]) -> bool
         requires few { length nodes.now < 2 ^ 32 }
         requires played { IsPlayed nodes.now self.old.winners.items self.old.entered 0 }

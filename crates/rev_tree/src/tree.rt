@@ -13,8 +13,8 @@ use rev_core::{Ancestry, Rev};
 use std::alloc::{AllocError, Global};
 use std::marker::Model;
 
-/// What a tree has about one of its revisions: its ancestors, the revision itself first, and its content if it is
-/// known.
+/// A tree's data about one of its revisions, which are the known ancestors, the revision itself first, and the content
+/// if it is known.
 #[derive(Drop)]
 pub struct RevInfo<'a> {
     pub ancestry: Ancestry,
@@ -29,7 +29,7 @@ pub struct Tree {
     best: usize,
 }
 
-// Written by hand so that it is proved once: docs/DECISIONS.md, "Letting values go".
+// `Drop` is implemented by hand here so that it is proved once (docs/DECISIONS.md, "Letting values go").
 impl Drop for Tree {
     fn drop(self) {
         let Tree { nodes: _, best: _ } = self;
@@ -140,8 +140,8 @@ impl Tree {
         Ok(Ancestry::from_revs(revs))
     }
 
-    /// Returns a known ancestor by its distance: 0 is the revision itself, 1 its parent, and so on. `None` if fewer
-    /// ancestors are known.
+    /// Returns a known ancestor by its distance, which is 0 for the revision itself and 1 for its parent. Returns
+    /// `None` if fewer ancestors are known.
     pub fn ancestor(&self, rev: Rev, place: usize) -> Option<Rev>
         requires { has self.now rev ≡ true }
         ensures { result ≡ slice_get (ancestors self.now rev) place }
@@ -176,7 +176,7 @@ impl Tree {
         Some(*node.rev())
     }
 
-    /// Returns the leaves, winner first. Does not allocate for a single leaf.
+    /// Returns the leaves, winner first. The call does not allocate for a single leaf.
     pub fn leaves(&self, alloc: Global) -> Result<Revs, AllocError>
         ensures { IfOk result (λ out. out ≡ leaves self.now) }
     {

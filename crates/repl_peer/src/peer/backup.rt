@@ -21,7 +21,7 @@ pub struct Backup {
     pub(crate) outgoing: Logs,
 }
 
-// Written by hand so that it is proved once: docs/DECISIONS.md, "Letting values go".
+// `Drop` is implemented by hand here so that it is proved once (docs/DECISIONS.md, "Letting values go").
 impl Drop for Backup {
     fn drop(self) {
         let Backup {
@@ -54,7 +54,7 @@ impl Model for Backup {
 impl Backup {
     ghost use Rattle.repl_peer.specs.peer.Backups.{IsBackup};
 
-    /// Returns the copied database. Each of its revisions comes from a local write of the backup.
+    /// Returns the copied database. Each revision of the backup's database comes from a local write of the backup.
     pub fn db(&self) -> &Database
         ensures value { result.now ≡ self.now.db }
         ensures backup { IsBackup self.now }
@@ -105,7 +105,7 @@ impl<F: WriteFilter> Peer<F> {
         ensures law { Lawful (F.refuses self.new.0) self.new.1 }
     {
         let life = self.next_life(backup)?;
-        // Gives proofs the fact that the backup satisfies its invariant.
+        // This call gives proofs the fact that the backup satisfies its invariant.
         let _copy = backup.db();
         self.law();
         let alloc = *self.locals.allocator();

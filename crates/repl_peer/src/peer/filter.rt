@@ -17,7 +17,7 @@ pub enum Verdict {
 pub trait WriteFilter {
     ghost refuses: { Self → Document → Bool };
 
-    /// Returns whether the document is accepted.
+    /// Returns whether the filter accepts the document.
     fn verdict(&self, doc: &Doc) -> Verdict
         ensures { result ≡ (if refuses self.now doc.now then Verdict.Refuse else Verdict.Accept) };
 }

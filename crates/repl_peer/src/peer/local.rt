@@ -18,8 +18,8 @@ use std::alloc::AllocError;
 
 /// Stores a user's document and its local write.
 ///
-/// The local write is built first, so that an error changes nothing. If that fails, the result is still the error of
-/// the put, or `Same`, if it does not depend on memory.
+/// The local write is built first, so that an error changes nothing. If the local write cannot be built, the result is
+/// still the put's error, or `Same`, if that result does not depend on memory.
 pub(crate) fn load(
     db: &mut Database,
     locals: &mut Vec<Written>,
@@ -72,8 +72,8 @@ fn prepare_id(locals: &mut Vec<Written>, id: &DocId) -> Result<DocId, AllocError
 
 /// Edits a document and stores its local write.
 ///
-/// The local write is prepared first, so that an error changes nothing. If that fails, the result is still the error of
-/// the edit, if it does not depend on memory.
+/// The local write is prepared first, so that an error changes nothing. If the local write cannot be prepared, the
+/// result is still the edit's error, if that error does not depend on memory.
 pub(crate) fn edit(
     db: &mut Database,
     locals: &mut Vec<Written>,

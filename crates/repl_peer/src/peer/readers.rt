@@ -21,7 +21,7 @@ impl<F: WriteFilter> Peer<F> {
         &self.locals
     }
 
-    /// Returns the number of incoming sessions. Their times and counts are in their log entries.
+    /// Returns the number of incoming sessions. The times and counts of sessions are in their log entries.
     pub fn session_count(&self) -> usize
         ensures { result ≡ length self.now.1.sessions }
     {

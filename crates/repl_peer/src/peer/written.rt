@@ -15,8 +15,8 @@ use std::marker::Model;
 
 /// A local write or an arrival: a document's id and the revisions that were written, newest first.
 ///
-/// There may be very many, with long ancestries, so only the newest revision and the number of revisions are stored.
-/// The others are read from the document's tree, whose edges never change.
+/// A peer may have millions of writes with long ancestries, so a write stores only the newest revision and the number
+/// of revisions. The other revisions are read from the document's tree, whose edges never change.
 #[derive(Drop)]
 pub struct Written {
     id: DocId,
@@ -96,8 +96,8 @@ impl Written {
         &self.id
     }
 
-    /// Returns the revision at an index, if there is one. The newest has index 0; the others are read from the database
-    /// that has the write.
+    /// Returns the revision at an index, if there is one. The newest revision has index 0. All other revisions are read
+    /// from the database that has the write.
     pub fn rev(&self, db: &Database, place: usize) -> Option<Rev>
         requires { StandsIn db.now self.now }
         ensures { result ≡ slice_get self.now.ancestry place }

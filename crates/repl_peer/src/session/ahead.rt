@@ -1,4 +1,4 @@
-//! Settling the prepared documents at the front of a parcel in bulk.
+//! Settles the prepared documents at the front of a parcel in bulk.
 ghost use Rattle.std.specs.Prelude.{◌≡◌, ◌<◌, ◌≤◌, ◌+◌, ◌++◌, Some, Ok, true, false, map, length, take, drop, slice_get};
 ghost use Rattle.std.specs.List.{flat_map, list_all, list_any};
 ghost use Rattle.std.specs.Str.{bytes_eq};
@@ -27,11 +27,11 @@ use repl_log::Counts;
 use rev_tree::{Origin, SessionId};
 use std::mem::replace;
 
-/// Settles the first documents of a parcel, whose arrivals are prepared, until one cannot be stored. Returns their
-/// number. The caller settles that document individually and finds out why it stopped.
+/// Settles the first documents of a parcel, for which arrivals are prepared, until a document cannot be stored. Returns
+/// their number. The caller settles that document individually and finds out why it stopped.
 ///
-/// The arrivals are added as one list, so the peer spends no time on each under its lock. If the allocation for this
-/// list fails, no document is settled.
+/// The arrivals are added as one list, so the peer spends no time on each under its lock. If the allocation for the
+/// list of arrivals fails, no document is settled.
 pub(crate) fn settle_prepared<F: WriteFilter>(
     filter: &F,
     db: &mut Database,
@@ -64,7 +64,7 @@ pub(crate) fn settle_prepared<F: WriteFilter>(
     if arrivals.is_empty() || session.earlier.reserve(2).is_err() {
         return 0;
     }
-    // Only done windows drop their rows.
+    // Only windows that are done drop their rows.
     let Some(rows) = session.windows[place].rows() else {
         unreachable!()
     };
@@ -79,7 +79,8 @@ pub(crate) fn settle_prepared<F: WriteFilter>(
     count
 }
 
-/// Stores the first documents, at most `limit`, until one is refused or cannot be stored. Returns their number.
+/// Stores at most `limit` documents from the front of a parcel, until a document is refused or cannot be stored.
+/// Returns their number.
 fn put_ahead<F: WriteFilter>(
     filter: &F,
     db: &mut Database,
@@ -114,8 +115,8 @@ fn put_ahead<F: WriteFilter>(
     limit
 }
 
-/// Stores the document at an index, from its prepared tree if possible. Returns false if it cannot be stored; then
-/// nothing has changed, but the prepared tree may have been dropped.
+/// Stores the document at an index, from its prepared tree if possible. Returns false if the document cannot be stored.
+/// Nothing has changed in that case, but the prepared tree may have been dropped.
 fn put_next(
     db: &mut Database,
     docs: &[Doc],
@@ -152,7 +153,7 @@ pub(crate) fn put_prepared_at(
     i < made.len() && db.put_prepared(&docs[i], &mut made[i], origin)
 }
 
-/// Adds the first `count` of a list of arrivals, for which space is reserved, and counts them.
+/// Adds the first `count` arrivals of a list, for which space is reserved, and counts their documents.
 fn enter(
     earlier: &mut Vec<Vec<Written>>,
     arrivals: &mut Vec<Written>,

@@ -2,14 +2,14 @@
 use repl_log::RepId;
 use rev_tree::SessionId;
 
-/// What a session belongs to; this never changes (docs/PROFILE.md, "Sessions of a peer").
+/// What a session belongs to, which never changes (docs/PROFILE.md, "Sessions of a peer").
 #[derive(Debug, Drop)]
 pub struct Scope {
     /// The replication.
     pub rep: RepId,
     /// The life of the source's database when the log that gave the start was read.
     pub life: u64,
-    /// The earlier session that this one starts from, if there is one.
+    /// The earlier session from whose recorded sequence this session starts, if there is one.
     pub base: Option<SessionId>,
     /// The source's sequence up to which the session reads.
     pub goal: u64,
@@ -18,7 +18,7 @@ pub struct Scope {
 /// The parameters of a new session.
 #[derive(Debug, Drop)]
 pub struct Beginning {
-    /// What the session belongs to.
+    /// The replication, the base, the goal and the life that the new session belongs to.
     pub scope: Scope,
     /// The source's sequence above which the session reads.
     pub start: u64,

@@ -4,8 +4,8 @@ use doc_json::{Doc, DocId};
 use rev_core::Rev;
 use std::alloc::Global;
 
-/// The remains of settled parcels: requests, documents, gone revisions and unused prepared trees. They are dropped with
-/// this value, not while the peer is settling.
+/// The remains of settled parcels: requests, documents, gone revisions and unused prepared trees. The remains are
+/// dropped with this value, and not while the peer is settling.
 #[derive(Drop)]
 pub struct DeferredDrops {
     asked: Option<Asked>,

@@ -10,7 +10,7 @@ use indexmap::{IndexMap, IndexSet};
 use rev_core::Rev;
 use std::alloc::{AllocError, Global};
 
-/// The revisions in the ancestries of refused documents, by document.
+/// The revisions in the ancestries of refused documents, by document id.
 #[derive(Drop)]
 pub(crate) struct LedgerIndex {
     docs: IndexMap<DocId, IndexSet<Rev>>,
@@ -60,7 +60,7 @@ impl LedgerIndex {
     }
 }
 
-/// Adds revisions to a set. Space is reserved first, so that an error changes nothing.
+/// Adds revisions to a set. The call reserves space first, so that an error changes nothing.
 fn add_revs(known: &mut IndexSet<Rev>, revs: &[Rev]) -> Result<(), AllocError>
     ensures ok { OnOk result
         ((r : RevId) → is_among r known.new.keys ≡ (is_among r known.old.keys || is_among r revs.now)) }

@@ -18,7 +18,7 @@ pub struct PreparedParcel {
     arrivals: Vec<Written>,
 }
 
-// Written by hand so that it is proved once: docs/DECISIONS.md, "Letting values go".
+// `Drop` is implemented by hand here so that it is proved once (docs/DECISIONS.md, "Letting values go").
 impl Drop for PreparedParcel {
     fn drop(self) {
         let PreparedParcel {
@@ -51,8 +51,8 @@ impl PreparedParcel {
         }
     }
 
-    /// Builds the trees of the documents as new documents, with a session's feed at the sequences of the rows as
-    /// origins, and their arrivals. The parcel's value does not change.
+    /// Builds the arrivals of a parcel's documents, and the trees that these documents would have as new documents. The
+    /// origins of the trees are a session's feed at the sequences of the rows. The parcel's value does not change.
     pub fn prepare(
         &mut self,
         alloc: Global,

@@ -6,13 +6,14 @@ use couch_base::Window;
 use std::alloc::Global;
 use std::marker::Model;
 
-/// A window, optionally with the shorter form that is kept when it is done, which is built before the peer is locked.
+/// A window, optionally with its prebuilt shorter form, which the session keeps when the window is done. The shorter
+/// form is built before the peer is locked.
 pub struct ReadyWindow {
     window: Window,
     done: Option<DoneWindow>,
 }
 
-// Written by hand so that it is proved once: docs/DECISIONS.md, "Letting values go".
+// `Drop` is implemented by hand here so that it is proved once (docs/DECISIONS.md, "Letting values go").
 impl Drop for ReadyWindow {
     fn drop(self) {
         let ReadyWindow { window: _, done: _ } = self;
@@ -38,7 +39,8 @@ impl ReadyWindow {
         ReadyWindow { window, done: None }
     }
 
-    /// Builds the shorter form of the window. If the allocation fails, it is built when the window is done.
+    /// Builds the shorter form of the window. If the allocation fails, the shorter form is built when the window is
+    /// done.
     pub fn prepare(&mut self, alloc: Global)
         ensures { self.new ≡ self.old }
     {
@@ -54,7 +56,7 @@ impl ReadyWindow {
         &self.window
     }
 
-    /// Takes the shorter form of the window, and builds it if necessary. `None` if the allocation fails.
+    /// Takes the shorter form of the window, and builds it if necessary. Returns `None` if the allocation fails.
     pub(crate) fn take_done(&mut self, alloc: Global) -> Option<DoneWindow>
         ensures same { self.new ≡ self.old }
         ensures done { IfSome result (λ done. done ≡ self.old) }

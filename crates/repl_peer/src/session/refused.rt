@@ -3,7 +3,7 @@ use crate::fault::Reason;
 use doc_json::Doc;
 use std::marker::Model;
 
-/// A document in a ledger, and why it was refused.
+/// A document in a ledger, and the reason why it was refused.
 #[derive(Drop)]
 pub struct Refused {
     doc: Doc,

@@ -49,7 +49,8 @@ pub(crate) fn row_from(rows: &[Row], id: &DocId, from: usize) -> Option<usize>
     }
 }
 
-/// Returns the index and the sequence of the row with an id, which exists. Searches from an index on, then before it.
+/// Returns the index and the sequence of the row with an id, which exists. Searches the rows from an index on, and then
+/// the rows before that index.
 pub(crate) fn seq_from(rows: &[Row], id: &DocId, from: usize) -> (usize, u64)
     requires within { from ≤ length rows.now }
     requires there { list_any (λ row. bytes_eq row.id id.now) rows.now ≡ true }
@@ -107,7 +108,7 @@ pub(crate) fn has_in(tree: Option<&Tree>, rev: Rev) -> bool
     }
 }
 
-/// Whether a revision is in a document's tree or refused.
+/// Whether a revision is in a document's tree, or in the ancestry of a refused document.
 fn is_known(tree: Option<&Tree>, ledgered: &LedgerIndex, id: &DocId, rev: Rev) -> bool
     ensures { result
         ≡ (has (unwrap_or (option_copied tree.entry) no_revisions) rev || is_ledgered ledgered.now id.now rev) }

@@ -32,7 +32,8 @@ use std::marker::Model;
 /// The incoming sessions of a peer, newest first, with distinct ids, an index of refused revisions, and an index by
 /// replication.
 ///
-/// Stored oldest first, as a table by session id, so that a call about one session does not scan the others.
+/// Sessions are stored oldest first, in a table by session id, so that a call about one session does not scan all
+/// sessions.
 #[derive(Drop)]
 pub(crate) struct Sessions {
     entries: IndexMap<SessionId, Session>,
@@ -104,7 +105,8 @@ impl Sessions {
         self.ledgered.has(id, rev)
     }
 
-    /// Returns the log entries of the sessions of a replication, newest first. Scans only sessions of this replication.
+    /// Returns the log entries of the sessions of a replication, newest first. The call scans only the sessions of this
+    /// replication.
     pub(crate) fn log(&self, alloc: Global, rep: &RepId) -> Result<Log, AllocError>
         ensures log { IfOk result (λ l. l ≡ log_of self.now rep.now) }
     {
@@ -121,7 +123,7 @@ impl Sessions {
     }
 
     /// Returns the newest session of a replication that is also in the source's log, with the lesser of its two
-    /// recorded sequences. Scans only sessions of this replication, up to the one it finds.
+    /// recorded sequences. The call scans only the sessions of this replication, up to the session that it finds.
     pub(crate) fn shared_with(&self, rep: &RepId, source: &Log) -> Option<(SessionId, u64)>
         ensures { result ≡ common source.now (log_of self.now rep.now) }
     {
@@ -192,8 +194,8 @@ impl Sessions {
         Ok(())
     }
 
-    /// Returns the recorded sequence of the base, or 0 if there is none; `NoSuchBase` if it is not a session of the
-    /// same replication.
+    /// Returns the recorded sequence of the base, or 0 if there is no base. Returns `NoSuchBase` if the base is not a
+    /// session of the same replication.
     fn recorded_of(&self, rep: &RepId, base: Option<SessionId>) -> Result<u64, TargetFault>
         ensures { result ≡ recorded_by self.now rep.now base }
     {
@@ -255,7 +257,7 @@ impl Sessions {
         Ok(session.record(at))
     }
 
-    /// Concludes a session if everything is done up to its goal.
+    /// Concludes a session if every window up to its goal is done.
     pub(crate) fn conclude(&mut self, id: SessionId, at: Moment) -> Result<Report, TargetFault>
         ensures answer { result ≡ answer_in self.old id conclude_in }
         ensures sessions { self.new

@@ -1,4 +1,4 @@
-//! Finding the window that a parcel settles.
+//! Finds the window that a parcel settles.
 ghost use Rattle.std.specs.Prelude.{◌≡◌, ◌<◌, ◌≤◌, ◌+◌, ◌==◌, ◌&&◌, ℕ, Err, None, nat_le, IfOk, IfErr, IfSome, IfNone};
 ghost use Rattle.std.specs.List.{find};
 ghost use Rattle.std.specs.List.Sorted.{IsPartitionPoint};
@@ -22,8 +22,8 @@ pub(crate) struct Checked {
     pub(crate) asked: u64,
 }
 
-/// Checks a parcel: its window exists, has a row for each document and is not done, and the counts do not overflow.
-/// Returns the window, or the error.
+/// Checks that a parcel's window exists, has a row for each document and is not done, and that the counts do not
+/// overflow. Returns the window, or the error.
 pub(crate) fn check(session: &Session, parcel: &Parcel) -> Result<Checked, TargetFault>
     ensures ok { IfOk result
         (λ found. Passes session.now parcel.now found.place found.leaves found.asked) }
@@ -43,7 +43,7 @@ pub(crate) fn check(session: &Session, parcel: &Parcel) -> Result<Checked, Targe
     if session.front.is_done(lo, hi) {
         return Err(TargetFault::AlreadyDone);
     }
-    // Only done windows drop their rows.
+    // Only windows that are done drop their rows.
     let Some(rows) = window.rows() else {
         unreachable!()
     };

@@ -15,7 +15,7 @@ use std::marker::Model;
 
 // ---- done windows
 
-/// A row of a done window, without its leaves; only contracts see them.
+/// A row of a done window, without its leaves. The leaves are ghost values that only contracts see.
 #[derive(Drop)]
 pub(crate) struct DoneRow {
     seq: u64,
@@ -52,7 +52,7 @@ impl DoneRow {
     }
 }
 
-/// A done window. Only the ids of its rows are used, so the leaves are dropped.
+/// A done window. Calls use only the ids of a done window's rows, so the leaves are dropped.
 #[derive(Drop)]
 pub(crate) struct DoneWindow {
     life: u64,
@@ -108,7 +108,7 @@ fn done_rows(alloc: Global, rows: &[Row]) -> Result<Vec<DoneRow>, AllocError>
     Ok(done)
 }
 
-/// Whether there is a row with this id.
+/// Whether the window has a row with this id.
 fn has_done_row(rows: &[DoneRow], id: &DocId) -> bool
     ensures { result ≡ list_any (λ row. bytes_eq row.id id.now) rows.now }
 {
@@ -122,13 +122,13 @@ fn has_done_row(rows: &[DoneRow], id: &DocId) -> bool
 
 // ---- stored windows
 
-/// A window of a session: complete, or, if it is done, without the leaves of its rows.
+/// A window of a session. A window that is done may be stored without the leaves of its rows.
 #[derive(Drop)]
 pub struct StoredWindow {
     kept: Kept,
 }
 
-/// How a window is stored.
+/// The two forms in which a window is stored.
 #[derive(Drop)]
 pub(crate) enum Kept {
     /// The complete window.
