@@ -1,10 +1,11 @@
-//! What a run knows about its source and its target: type parameters with ghost members, which one call chooses.
+//! Brands are type parameters with ghost members, which state a run's facts about its source and its target. One call
+//! chooses them.
 //!
-//! Only the type's invariant is known about a value behind a lock or in a channel, and the invariant may refer to these
-//! members.
+//! About a value behind a lock or in a channel, only the invariant of its type is known, and that invariant may refer
+//! to a brand's ghost members.
 use std::marker::Brand;
 
-/// The source's database, and the plan by which it is read.
+/// The brand for the source's database and the plan by which the run reads it.
 pub trait SourceBrand {
     ghost use Rattle.couch_base.specs.Database.{DatabaseValue};
     ghost use Rattle.repl_target.specs.declared.replication.Plan.{Plan};
@@ -30,7 +31,7 @@ impl SourceBrand for Brand {
     } };
 }
 
-/// The given target, and the run's session.
+/// The brand for the given target and the run's session.
 pub trait TargetBrand<F> {
     ghost use Rattle.std.specs.Prelude.{Option};
     ghost use Rattle.repl_peer.specs.peer.Peer.{PeerValue};

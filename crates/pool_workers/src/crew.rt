@@ -1,4 +1,4 @@
-//! The workers of a run: what each guarantees, and how one is started.
+//! The workers of a run, with the guarantee of each worker and the calls that start a worker.
 ghost use Rattle.std.specs.Prelude.{◌≡◌, ◌<◌, [], IfSome, IfOk, IfErr, option_copied, option_to_list};
 ghost use Rattle.crossbeam_channel.specs.Claims.{view, IsSeatAt};
 ghost use Rattle.crossbeam_channel.specs.Ends.{sends_on};
@@ -97,8 +97,8 @@ impl<
         scope.spawn_with(promise, work).ok()
     }
 
-    /// Starts a writer, in addition to `others` writers. If a thread cannot be created, sends the end message to all of
-    /// them, receives one itself, and returns the seat as an error.
+    /// Starts a writer, in addition to `others` writers. If a thread cannot be created, the call sends the end of the
+    /// parcels to all writers, receives one end itself, and returns the seat as an error.
     pub fn start_writer<'s, E>(
         &'e self,
         scope: &Scope<'s, E>,

@@ -1,4 +1,4 @@
-//! Why a worker halts, and why a run fails.
+//! The reasons why a worker halts, and why a run fails.
 ghost use Rattle.std.specs.Prelude.{◌≡◌, None, IfSome};
 ghost use Rattle.pool_workers.specs.Faults.{fault_of, IsOneFault};
 ghost use Rattle.pool_workers.specs.declared.fault.Halt.TheVariants as halts;
@@ -11,14 +11,14 @@ use rev_core::Rev;
 use std::alloc::AllocError;
 use thiserror::Error;
 
-/// Why a worker, or the reading of windows, stopped.
+/// The reason why a worker, or the reading of windows, stopped.
 #[derive(Debug, Drop)]
 pub enum Halt {
     /// The gate stopped it.
     Stopped(Place),
     /// A call on the target failed.
     Refused(TargetFault),
-    /// A count would exceed its maximum.
+    /// A count of documents or parcels would exceed its maximum.
     CountFull,
     /// The worker's counter on the board would exceed its maximum.
     BoardFull,
@@ -36,7 +36,7 @@ impl From<AllocError> for Halt {
     }
 }
 
-/// Why a run of the pool failed.
+/// The reason why a run of the pool failed.
 #[derive(Debug, Drop, Error)]
 pub enum PoolFault {
     /// The plan has no workers.
@@ -57,15 +57,15 @@ pub enum PoolFault {
     /// The gate returned `Stop` at this place.
     #[error("stopped by the gate")]
     Halted(Place),
-    /// The first leaf of the source's feed above the start that a run left uncovered. Never returned: the contract of a
-    /// run excludes it (`runs`: `early`), and no code creates it.
+    /// The first leaf of the source's feed above the start that a run left uncovered. No run returns this error. The
+    /// contract of a run excludes it (clause `runs`, field `early`), and no code creates it.
     #[error("a leaf of the source is not covered")]
     Hole { seq: u64, id: DocId, rev: Rev },
     /// A fetcher's count of documents would exceed 9,007,199,254,740,991.
     #[error("a count of documents is full")]
     CountFull,
-    /// A writer's count of documents read, on the board, would exceed 9,007,199,254,740,991. Possible only for a run
-    /// with a board.
+    /// A writer's count of documents read, on the board, would exceed 9,007,199,254,740,991. This error is possible
+    /// only for a run with a board.
     #[error("a worker's count on the board is full")]
     BoardFull,
     /// An allocation failed, or a thread cannot be created.
@@ -96,7 +96,7 @@ impl From<Halt> for PoolFault {
     }
 }
 
-/// Returns one of the halts of reading, fetchers and writers, if there is one.
+/// Returns one of the reasons why reading, a fetcher or a writer halted, if one of them halted.
 pub fn merge(read: Option<Halt>, fetched: Option<Halt>, written: Option<Halt>) -> Option<PoolFault>
     ensures none { result ≡ None → (read ≡ None) × (fetched ≡ None) × (written ≡ None) }
     ensures some { IfSome result (IsOneFault read fetched written) }

@@ -21,7 +21,8 @@ use std::alloc::AllocError;
 use std::sync::Wait;
 use std::sync::ledger::Ledger;
 
-/// A fetcher: what it knows about both channels, the numbers of parcels sent and documents fetched, and why it stopped.
+/// A fetcher of the pool. It has its passes of both channels, the numbers of parcels sent and documents fetched, and
+/// why it stopped.
 #[derive(Drop)]
 pub struct Fetcher<S: SourceBrand> {
     pub windows: WindowPass<S>,
@@ -31,7 +32,7 @@ pub struct Fetcher<S: SourceBrand> {
     pub stopped: Option<Halt>,
 }
 
-/// Asks the gate. Returns an error if it returns `Stop`.
+/// Asks the gate. Returns an error if the gate returns `Stop`.
 pub fn pass<G: Gate, R: Wait>(rt: &R, gate: &G, place: Place) -> Result<(), Halt>
     ensures place { IfErr result (λ halt. halt ≡ Halt.Stopped place) }
     ensures allowed { IfErr result (Allows (G.may_stop gate.now)) }
@@ -43,7 +44,7 @@ pub fn pass<G: Gate, R: Wait>(rt: &R, gate: &G, place: Place) -> Result<(), Halt
     }
 }
 
-/// Sends a parcel. Returns whether it was sent.
+/// Sends a parcel. Returns whether the message was sent.
 fn put<S: SourceBrand, R: Wait>(
     rt: &R,
     parcels: &ParcelSender<S>,
@@ -107,7 +108,7 @@ impl<S: SourceBrand> Fetcher<S> {
         }
     }
 
-    /// Counts a parcel and sends it. Returns `CountFull` only if one of its counts would exceed its maximum.
+    /// Counts a parcel and sends it. Returns `CountFull` only if a count of the fetcher would exceed its maximum.
     fn send<G: Gate, R: Wait>(
         &mut self,
         rt: &R,
@@ -163,13 +164,13 @@ impl<F: WriteFilter, S: SourceBrand, T: TargetBrand<F>, L: Ledger, G: Gate, R: W
     G,
     R,
 > {
-    /// Requests what the target lacks of a page, and releases the lock.
+    /// Requests the leaves of a page that the target lacks, and releases the lock.
     fn ask(&self, page: &Paged<S>) -> Result<Asked, AllocError> {
         self.target.lock(self.rt).diff(self.alloc, page)
     }
 
-    /// Determines what the source has of what the target lacks of a page. Fails if the gate stops the fetcher or an
-    /// allocation fails.
+    /// Determines the source's documents for the leaves of a page that the target lacks. The call fails if the gate
+    /// stops the fetcher or an allocation fails.
     fn bring(&self, number: u64, page: Paged<S>) -> Result<Found<S>, Halt>
         requires source { S.source ≡ self.now.source.now.1.db }
         ensures allowed { IfErr result (Allows (G.may_stop self.now.gate.now)) }
@@ -211,7 +212,7 @@ impl<F: WriteFilter, S: SourceBrand, T: TargetBrand<F>, L: Ledger, G: Gate, R: W
         }
     }
 
-    /// Receives one message. Returns false at the end of the windows.
+    /// Receives one message. Returns false if the fetcher received the end of the windows.
     pub fn take_window(&self, fetcher: &mut Fetcher<S>) -> bool
         requires source { S.source ≡ self.now.source.now.1.db }
         requires window_seat { IsSeatAt (receives_on self.now.channels.now.from_reader) fetcher.old.windows }
@@ -239,7 +240,7 @@ impl<F: WriteFilter, S: SourceBrand, T: TargetBrand<F>, L: Ledger, G: Gate, R: W
         }
     }
 
-    /// Receives windows until their end, fetches them, and sends their parcels. Then sends the end.
+    /// Receives windows until the end of the windows, fetches each window, and sends its parcel. Then sends the end.
     pub fn fetch_all(&self, windows: WindowPass<S>, parcels: ParcelPass<S>) -> Fetcher<S>
         requires source { S.source ≡ self.now.source.now.1.db }
         requires windows { IsSeatAt (receives_on self.now.channels.now.from_reader) windows

@@ -1,17 +1,17 @@
 //! The counts of a session.
 
-/// What a session has done, in numbers.
+/// The numbers of leaves and documents that a session has processed.
 #[derive(Clone, Copy, Debug, PartialEq, Eq)]
 pub struct Counts {
     /// The number of leaves in the rows of done windows.
     pub checked: u64,
-    /// The number of these leaves that the target lacked.
+    /// The number of leaves in the rows of done windows that the target lacked.
     pub found: u64,
     /// The number of documents read.
     pub read: u64,
-    /// The number of these documents that the target accepted.
+    /// The number of read documents that the target accepted.
     pub written: u64,
-    /// The number of these documents that the target refused.
+    /// The number of read documents that the target refused.
     pub failures: u64,
 }
 
@@ -19,7 +19,7 @@ impl Counts {
     ghost use Rattle.std.specs.Prelude.{◌≡◌};
     ghost use Rattle.repl_log.specs.Counts.{no_counts};
 
-    /// The counts of a new session: all zero.
+    /// The counts of a new session, which are all zero.
     pub fn none() -> Counts
         ensures { result ≡ no_counts }
     {

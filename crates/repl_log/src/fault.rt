@@ -6,7 +6,7 @@ ghost use Rattle.repl_log.specs.declared.fault.LogFault.TheVariants.{Memory};
 use std::alloc::{AllocError, AllocFailed};
 use thiserror::Error;
 
-/// Why a timestamp, an entry or a log was rejected, or that an allocation failed.
+/// The reason why a timestamp, an entry or a log was rejected, or that an allocation failed.
 #[derive(Clone, Copy, Debug, PartialEq, Eq, Error)]
 pub enum LogFault {
     /// The timestamp is after the year 9999.

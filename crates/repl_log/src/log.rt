@@ -8,12 +8,13 @@ use std::marker::Model;
 
 /// The sessions of one replication, newest first, without duplicates.
 ///
-/// Stored oldest first, as a table by session id, so that a call about one session does not scan the others.
+/// The entries are stored oldest first, in a table by session id, so that a call about one session does not scan all
+/// entries.
 pub struct Log {
     entries: IndexMap<SessionId, Entry>,
 }
 
-// Written by hand so that it is proved once: docs/DECISIONS.md, "Letting values go".
+// `Drop` is implemented by hand here so that it is proved once (docs/DECISIONS.md, "Letting values go").
 impl Drop for Log {
     fn drop(self) {
         let Log { entries: _ } = self;
@@ -53,14 +54,15 @@ impl Log {
         }
     }
 
-    /// Stores an entry: that of a new session becomes the first; an existing one is replaced in place.
+    /// Stores an entry. The entry of a new session becomes the first one, and the entry of an existing session is
+    /// replaced in place.
     ///
     /// # Errors
     ///
     /// Checked in this order; an error changes nothing:
     ///
     /// - `Older`: the stored entry of the session has a greater recorded sequence.
-    /// - `Memory`: an allocation failed. Returned only for a new session.
+    /// - `Memory`: an allocation failed. This error is returned only for a new session.
     pub fn put(&mut self, entry: Entry) -> Result<(), LogFault>
         ensures answer { GivesUnlessMemory result (put_answer self.old (value_of entry)) }
         // Replacing the entry of an existing session does not allocate.

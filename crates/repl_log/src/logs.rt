@@ -16,7 +16,7 @@ pub struct Logs {
     logs: IndexMap<RepId, Log>,
 }
 
-// Written by hand so that it is proved once: docs/DECISIONS.md, "Letting values go".
+// `Drop` is implemented by hand here so that it is proved once (docs/DECISIONS.md, "Letting values go").
 impl Drop for Logs {
     fn drop(self) {
         let Logs { logs: _ } = self;
@@ -48,14 +48,14 @@ impl Logs {
         }
     }
 
-    /// Returns the log of a replication, if there is one.
+    /// Returns the log of a replication, if that log exists.
     pub fn get(&self, rep: &RepId) -> Option<&Log>
         ensures { option_copied result ≡ lookup (same_rep rep.now) self.now }
     {
         self.logs.get(rep)
     }
 
-    /// Copies the log of a replication; an empty log if there is none.
+    /// Returns a copy of the log of a replication, or an empty log if that log does not exist.
     pub fn copy_of(&self, alloc: Global, rep: &RepId) -> Result<Log, AllocError>
         ensures log { IfOk result (λ l. l ≡ log_in self.now rep.now) }
     {
@@ -65,7 +65,8 @@ impl Logs {
         }
     }
 
-    /// Stores an entry in the log of a replication as `Log::put` does. If there is no such log, creates it.
+    /// Stores an entry in the log of a replication as `Log::put` does. If the replication has no log, the call creates
+    /// it.
     ///
     /// # Errors
     ///
@@ -109,7 +110,7 @@ impl Logs {
     }
 }
 
-/// Releases the capacity that the first log does not use: most sources have one target.
+/// Releases the capacity that the first log does not use, because most sources have one target.
 fn fit(logs: &mut IndexMap<RepId, Log>)
     ensures { logs.new.entries ≡ logs.old.entries }
 {

@@ -4,7 +4,7 @@ ghost use Rattle.std.specs.Prelude.{◌≡◌, ◌<◌, nat_lt, if◌then◌else
 use crate::fault::LogFault;
 use std::marker::Model;
 
-/// The first second that is not a valid timestamp: the beginning of the year 10000.
+/// The first second that is not a valid timestamp, which is the beginning of the year 10000.
 const END: u64 = 253_402_300_800;
 
 /// A timestamp in seconds since 1 January 1970, up to the end of the year 9999 (docs/PROFILE.md, "Limits").
@@ -26,7 +26,7 @@ impl Model for Moment {
 }
 
 impl Moment {
-    /// Creates a timestamp from seconds since 1970. Returns `BadMoment` if they exceed 253,402,300,799.
+    /// Creates a timestamp from seconds since 1970. Returns `BadMoment` if the seconds exceed 253,402,300,799.
     pub fn new(seconds: u64) -> Result<Moment, LogFault>
         ensures { result ≡ (if nat_lt seconds 253_402_300_800 then Ok seconds else Err LogFault.BadMoment) }
     {

@@ -79,7 +79,7 @@ fn push_entries(alloc: Global, out: &mut Vec<u8>, log: &Log) -> Result<(), Alloc
     Ok(())
 }
 
-/// Appends a comma, if `later` is true.
+/// Appends a comma if `later` is true.
 fn push_comma(out: &mut Vec<u8>, later: bool) -> Result<(), AllocError>
     ensures { OnOk result (out.new.items ≡ out.old.items ++ comma_if later) }
 {
@@ -99,7 +99,7 @@ fn push_entry(alloc: Global, out: &mut Vec<u8>, entry: Entry) -> Result<(), Allo
     push_members(out, entry, session.as_str(), start.as_str(), end.as_str())
 }
 
-/// Appends the members of an entry, given its strings.
+/// Appends the members of an entry, given the entry's strings.
 fn push_members(
     out: &mut Vec<u8>,
     entry: Entry,

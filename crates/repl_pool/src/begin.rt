@@ -1,4 +1,4 @@
-//! The first checks of a run.
+//! Checks whether a run can begin.
 ghost use Rattle.std.specs.Prelude.{◌≡◌};
 ghost use Rattle.repl_pool.specs.Early.{early_answer};
 

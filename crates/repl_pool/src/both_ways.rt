@@ -14,18 +14,18 @@ use std::sync::Wait;
 use std::thread::Threads;
 use thiserror::Error;
 
-/// Which of the two runs failed, and why.
+/// The run that failed, of the two runs in both directions, and why it failed.
 #[derive(Debug, Drop, Error)]
 pub enum SyncFault {
-    /// The run from the first peer into the second failed; the other was not begun.
+    /// The run from the first peer into the second failed. The reverse run was not begun.
     #[error("there: {0}")]
     There(PoolFault),
-    /// The run from the second peer into the first failed; the other one succeeded.
+    /// The run from the second peer into the first failed. The forward run had succeeded.
     #[error("back: {0}")]
     Back(PoolFault),
 }
 
-/// The result of replicating in both directions: both peers, and how it ended.
+/// The result of replicating in both directions, with both peers and how the replication ended.
 #[derive(Drop)]
 pub struct SyncRan<F: WriteFilter> {
     /// The first peer.
@@ -37,15 +37,15 @@ pub struct SyncRan<F: WriteFilter> {
 }
 
 /// Replicates in both directions with a pool of threads: first `a` into `b`, then, if that succeeded, `b` into `a`.
-/// Each direction is a `run` with its own plan; both use the same gate.
+/// Each direction is a `run` with a plan of its own. Both runs use the same gate.
 ///
-/// The guarantees on success are those of `sync_alone`: for consistent peers (docs/PROFILE.md, "Tied peers"), each side
-/// has every leaf of the other, for each document that both plans select and neither side has refused; if the trees
-/// agreed before and had complete histories, both sides have the same document. Consistent peers stay consistent in
-/// both directions, whatever the result. Each of the two also stays consistent with every other peer that it was
-/// consistent with, if that peer has a UUID of its own.
+/// The guarantees on success are those of `sync_alone`. For consistent peers (docs/PROFILE.md, "Tied peers"), each side
+/// has every leaf of each document that both plans select and neither side has refused. If the trees agreed before and
+/// had complete histories, both sides have the same document. Consistent peers stay consistent in both directions,
+/// whatever the result. Each of the two peers also stays consistent with every third peer that it was consistent with,
+/// if the third peer has a UUID of its own.
 ///
-/// Blocks until the runs end. That they end is not proved.
+/// The call blocks until both runs end, and it is not proved that they end.
 pub fn sync<F: WriteFilter + Send + Sync, G: Gate + Sync, R: Threads + Wait + Sync>(
     rt: &R,
     alloc: Global,

@@ -11,7 +11,7 @@ use crate::running::Ran;
 use pool_workers::{PoolFault, Summed};
 use repl_target::{Peer, Plan, Report, TargetFault, WriteFilter, record_at_source};
 
-/// Records at the target, and returns the error for a run that did not reach its goal.
+/// Records the session's low water at the target, and returns the error for a run that did not reach its goal.
 fn record<F: WriteFilter>(target: &mut Peer<F>, plan: &Plan) -> PoolFault
     ensures told { result ≡ unfinished_at (record_answer target.old.1 plan.now.session) }
     ensures peer { target.new.1 ≡ after_record target.old.1 plan.now.session plan.now.at }
@@ -23,8 +23,8 @@ fn record<F: WriteFilter>(target: &mut Peer<F>, plan: &Plan) -> PoolFault
     }
 }
 
-/// Concludes at the target if nothing failed or stopped and as much was received as sent; otherwise, or if concluding
-/// fails, records.
+/// Concludes the session at the target if nothing failed or stopped and all sent parcels were received. Otherwise, or
+/// if concluding fails, the call records the session's low water.
 fn close_target<F: WriteFilter>(
     target: &mut Peer<F>,
     plan: &Plan,
@@ -51,10 +51,10 @@ fn close_target<F: WriteFilter>(
     }
 }
 
-/// Stores the entry of a run's session, which the target has, in the source's log. Skips an entry that is older than
-/// the stored one.
+/// Stores the entry of a run's session, which the target has, in the source's log. The call skips an entry that is
+/// older than the stored entry.
 ///
-/// Returns the outcome; or `Memory`, if the outcome is `Ok` and an allocation fails.
+/// Returns the outcome, or `Memory` if the outcome is `Ok` and an allocation fails.
 fn put_entry<F: WriteFilter>(
     source: &mut Peer<F>,
     target: &Peer<F>,
@@ -73,7 +73,8 @@ fn put_entry<F: WriteFilter>(
     Ok(report)
 }
 
-/// Ends a run: closes the session at the target, stores its entry at the source, and returns both peers.
+/// Ends a run. The call closes the session at the target, stores the session's entry at the source, and returns both
+/// peers.
 pub fn end<F: WriteFilter>(source: Peer<F>, summed: Summed<F>, plan: &Plan) -> Ran<F>
     requires held { (s : SessionValue) × (session_in summed.target.1.sessions plan.now.session ≡ Some s) }
     ensures fetched { result.fetched ≡ summed.fetched }

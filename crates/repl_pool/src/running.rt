@@ -26,32 +26,33 @@ use std::sync::ledger::{Blank, Ledger};
 use std::sync::{Mutex, Wait};
 use std::thread::Threads;
 
-/// The result of a run: both peers, the number of documents that each fetcher fetched, the writers' seats, and how it
-/// ended.
+/// The result of a run, with both peers, the number of documents that each fetcher fetched, the writers' seats, and how
+/// the run ended.
 #[derive(Drop)]
 pub struct Ran<F: WriteFilter> {
-    /// The source; only its log may have changed.
+    /// The source of the run, of which only the logs may have changed.
     pub source: Peer<F>,
     /// The target.
     pub target: Peer<F>,
-    /// The number of documents that each fetcher fetched; empty if none was started.
+    /// The number of documents that each fetcher fetched. The list is empty if no fetcher was started.
     pub fetched: Vec<u64>,
-    /// The seats that the writers were given, in the given order; empty after `run`.
+    /// The seats that the writers were given, in the given order. The list is empty after `run`.
     pub seats: Vec<BoardSeat>,
     /// The report of the plan's session, or the error.
     pub outcome: Result<Report, PoolFault>,
 }
 
-/// A board on which a run shows its progress, and the seats of its workers: one for each worker of the plan.
+/// A board on which a run shows its progress, with a seat for each worker of the plan.
 #[derive(Drop)]
 pub struct Progress<'a> {
     /// The board.
     pub board: &'a Board,
-    /// The seats, of workers of this board.
+    /// The seats of this board's workers.
     pub seats: Vec<BoardSeat>,
 }
 
-/// A run whose session has begun at the target: both peers, its start, and the number of workers in each group.
+/// A run whose session has begun at the target. It has both peers, the session's start, and the number of workers in
+/// each group.
 #[derive(Drop)]
 struct Begun<F: WriteFilter> {
     source: Peer<F>,
@@ -60,8 +61,8 @@ struct Begun<F: WriteFilter> {
     crew: u64,
 }
 
-/// Returns the number of workers in each group: that of the plan, but not more than there may be windows; 1 if there is
-/// nothing to read.
+/// Returns the number of workers in each group. It is the plan's number of workers, but at most the number of windows
+/// that there may be, and 1 if there is nothing to read.
 fn crew_of(plan: &Plan, start: u64, goal: u64) -> u64
     requires workers { 0 < plan.now.workers }
     requires batch { is_batch plan.now.batch ≡ true }
@@ -85,7 +86,7 @@ struct Shows<'a> {
     seats: Vec<BoardSeat>,
 }
 
-/// Ends a run whose workers were not started: an allocation failed, or, without a fault, there was nothing to read.
+/// Ends a run whose workers were not started, because an allocation failed, or because there was nothing to read.
 fn without_workers<F: WriteFilter>(
     alloc: Global,
     begun: Begun<F>,
@@ -218,7 +219,7 @@ fn run_begun<
     end(source, summed, plan)
 }
 
-/// Performs a run with a board (`run_on`) or without one (`run`).
+/// Performs a run with a board (`run_on`) or without a board (`run`).
 fn run_with<F: WriteFilter + Send + Sync, G: Gate + Sync, R: Threads + Wait + Sync>(
     rt: &R,
     alloc: Global,
@@ -272,22 +273,22 @@ fn run_with<F: WriteFilter + Send + Sync, G: Gate + Sync, R: Threads + Wait + Sy
 
 /// Replicates the source's documents into the target with a pool of threads. The caller's thread begins the session at
 /// the common checkpoint of the two logs, reads the source's feed in windows, stores each at the target, and sends it
-/// to `plan.workers` fetchers, or fewer if there may be fewer windows. Fetchers ask the target, count at the source,
-/// and send parcels to as many writers, which read, settle and record. The target is behind a lock; the source is
-/// shared. The gate is asked at each place, without a lock. If it says that it never blocks, a fetcher and a writer
-/// share one thread, in turn.
+/// to `plan.workers` fetchers, or fewer if there may be fewer windows. Fetchers request the missing leaves at the
+/// target, count documents at the source, and send parcels to the same number of writers. The writers read, settle and
+/// record. The target is behind a lock, and the source is shared. The gate is asked at each place, without a lock. If
+/// the gate says that it never blocks, a fetcher and a writer share one thread in turn.
 ///
 /// After all workers have ended, the caller's thread concludes the session, or records it if it cannot be concluded,
-/// and stores its entry in the source's log, unless that has a newer one. It does not scan the feed again: each leaf
-/// was checked when its window was marked as done, and it is proved that none above the start is uncovered if the
-/// session is concluded. `Hole`, the error for such a leaf, is therefore never returned.
+/// and stores its entry in the source's log, unless that has a newer one. The call does not scan the feed again,
+/// because each leaf was checked when its window was marked as done. It is proved that no leaf above the start is
+/// uncovered if the session is concluded. `Hole`, the error for such a leaf, is therefore never returned.
 ///
-/// If it succeeds, each leaf of the source's selected feed above the start is covered at the target; the report is that
-/// of the session, which began at the common checkpoint and is recorded at the source's update sequence; and the
-/// numbers that the fetchers fetched add up to the documents read. If the target was also empty and nothing was
-/// refused, each selected document has the same revisions, parents and contents of leaves as at the source. If the
-/// peers were consistent (docs/PROFILE.md, "Tied peers"), each leaf of the source's complete selected feed is covered,
-/// including those below the start.
+/// If the run succeeds, each leaf of the source's selected feed above the start is covered at the target. The report is
+/// that of the session, which began at the common checkpoint and is recorded at the source's update sequence. The
+/// fetchers' numbers of documents add up to the documents read. If the target was also empty and nothing was refused,
+/// each selected document has the same revisions, parents and contents of leaves as at the source. If the peers were
+/// consistent (docs/PROFILE.md, "Tied peers"), each leaf of the source's complete selected feed is covered, including
+/// those below the start.
 ///
 /// Whatever the result, only the source's log changes, and the target is the given one, or the given one after the
 /// session has begun and calls of this session with messages of the source. The target keeps everything it had,

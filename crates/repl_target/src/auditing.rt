@@ -14,11 +14,11 @@ use doc_json::{Chosen, is_chosen};
 use repl_peer::{Peer, WriteFilter, checkpoint, rep_between};
 use std::alloc::{AllocError, Global};
 
-/// Checks whether the target covers everything that the common checkpoint of the selected documents claims: each leaf
-/// of the source's selected feed at or below it.
+/// Checks whether the target covers each leaf of the source's selected feed that is at or below the common checkpoint
+/// of the selected documents.
 ///
-/// The result is `Clean` if the two peers are consistent (docs/PROFILE.md, "Tied peers"). Reads the source's feed in
-/// place.
+/// The result is `Clean` if the two peers are consistent (docs/PROFILE.md, "Tied peers"). The call reads the source's
+/// feed in place.
 pub fn audit<F: WriteFilter, G: WriteFilter>(
     alloc: Global,
     source: &Peer<F>,

@@ -31,7 +31,7 @@ pub const MOST_ROWS: u64 = 10_000;
 pub struct Plan {
     /// The id of the new session.
     pub session: SessionId,
-    /// The number of fetchers, and of writers; ignored by `replicate_alone`.
+    /// The number of fetchers and the number of writers, which `replicate_alone` ignores.
     pub workers: u64,
     /// The maximum number of rows of a window: 1 to 10,000.
     pub batch: u64,
@@ -44,7 +44,7 @@ pub struct Plan {
 }
 
 impl Plan {
-    /// Copies the plan; the copy shares the selection.
+    /// Copies the plan. The copy shares the selection.
     pub fn copy(&self) -> Result<Plan, AllocError>
         ensures copied { IfOk result (λ plan. plan ≡ self.now) }
     {
@@ -63,18 +63,19 @@ impl Plan {
     }
 }
 
-/// Replicates the source's documents into the target, on one thread. Starts at the common checkpoint of the two logs,
-/// and ends at the source's update sequence. Each window is settled before the next one is read. Then the session is
-/// recorded, first at the target, then in the source's log.
+/// Replicates the source's documents into the target, on one thread. The replication starts at the common checkpoint of
+/// the two logs, and ends at the source's update sequence. Each window is settled before the next one is read. Then the
+/// session is recorded, first at the target, then in the source's log.
 ///
-/// If it succeeds, each leaf of the source's selected feed above the start is covered at the target, and the report is
-/// the session's. If the target was also empty and nothing was refused, each selected document has the same revisions,
-/// parents and contents of leaves as at the source. The source's database never changes.
+/// If the call succeeds, each leaf of the source's selected feed above the start is covered at the target, and the
+/// report is the session's. If the target was also empty and nothing was refused, each selected document has the same
+/// revisions, parents and contents of leaves as at the source. The source's database never changes.
 ///
-/// Consistent peers (docs/PROFILE.md, "Tied peers") stay consistent, for every selection and whatever the result; an
-/// audit is then clean. If the call also succeeds, each leaf of the source's complete selected feed is covered,
-/// including those below the start. Another peer that was consistent with one of the two stays consistent with it, as a
-/// source and as a target. In two of these four cases the other peer needs a UUID of its own (`KeepsOthersTied`).
+/// Consistent peers (docs/PROFILE.md, "Tied peers") stay consistent for every selection and every result, so an audit
+/// after the call is clean. If the peers are consistent and the call succeeds, each leaf of the source's complete
+/// selected feed is covered, also below the start. A third peer that was consistent with one of the two peers stays
+/// consistent with that peer, as a source and as a target. In two of the four cases of third peers, the third peer
+/// needs a UUID of its own (`KeepsOthersTied`).
 ///
 /// # Errors
 ///
@@ -82,10 +83,10 @@ impl Plan {
 ///
 /// - `BadBatch`: the batch is not 1 to 10,000.
 /// - `SamePeer`: the two databases have the same UUID.
-/// - The error of a step. The steps before it keep their effect, and so does the failed step.
+/// - The error of a step. The steps before the failed step, and the failed step itself, keep their effects.
 /// - `Unfinished`: `stop_after` windows were read, and they end below the goal. Both sides are recorded.
 ///
-/// An entry that is older than the one in the source's log is skipped without an error.
+/// An entry that is older than the stored entry of the source's log is skipped without an error.
 pub fn replicate_alone<F: WriteFilter, G: WriteFilter>(
     alloc: Global,
     source: &mut Peer<F>,
@@ -177,7 +178,8 @@ pub fn check_plan(source: u128, target: u128, plan: &Plan) -> Result<(), TargetF
 }
 
 /// Begins the session of a plan, and returns its start. The session starts at the common checkpoint of the two logs,
-/// with that session as its base; or at 0, if there is none. Its goal is the source's update sequence.
+/// with the checkpoint's session as its base, or at 0 if the logs have no common checkpoint. The goal of the session is
+/// the source's update sequence.
 ///
 /// Returns `Memory`, or an error of `Peer::begin`. An error changes nothing.
 pub fn begin_plan<F: WriteFilter, G: WriteFilter>(
@@ -214,7 +216,7 @@ pub fn begin_plan<F: WriteFilter, G: WriteFilter>(
     Ok(start)
 }
 
-/// Reads windows from a start until no other is due; settles each before it reads the next.
+/// Reads windows from a start until no further window is due, and settles each window before it reads the next one.
 fn read_windows<F: WriteFilter, G: WriteFilter>(
     alloc: Global,
     source: &Peer<F>,
@@ -253,7 +255,8 @@ pub fn has_left(stop_after: Option<u64>, windows: u64) -> bool
     }
 }
 
-/// Reads the window above a sequence, stores it, and settles what the target lacks. Returns the end of the window.
+/// Reads the window above a sequence, stores it, and settles the leaves that the target lacks. Returns the end of the
+/// window.
 fn carry_window<F: WriteFilter, G: WriteFilter>(
     alloc: Global,
     source: &Peer<F>,
@@ -321,8 +324,8 @@ fn record_at_target<G: WriteFilter>(
     }
 }
 
-/// Stores the entry of a plan's session, which the target has, in the source's log. Skips an entry that is older than
-/// the stored one.
+/// Stores the entry of a plan's session, which the target has, in the source's log. The call skips an entry that is
+/// older than the stored entry.
 ///
 /// An error changes nothing.
 pub fn record_at_source<F: WriteFilter, G: WriteFilter>(

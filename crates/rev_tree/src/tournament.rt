@@ -32,7 +32,8 @@ impl Tournament {
         }
     }
 
-    /// Returns the index of the first leaf in the winner's order. Enters the nodes that do not take part yet.
+    /// Returns the index of the first leaf in the winner's order. The call first enters the nodes that do not take part
+    /// in the tournament yet.
     ///
     /// Returns `None` if an allocation fails, or if the caller must scan the nodes for another reason.
     pub(crate) fn first(&mut self, nodes: &[Node]) -> Option<usize>

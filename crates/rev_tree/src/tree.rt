@@ -186,7 +186,7 @@ impl Tree {
         }
     }
 
-    /// Returns the leaf, if there is exactly one.
+    /// Returns the only leaf, if the tree has exactly one leaf.
     fn only_leaf(&self) -> Option<&Rev>
         ensures { option_copied result ≡ only_of (leaves self.now) }
     {
@@ -239,7 +239,7 @@ impl Tree {
 
     /// Returns the leaves that are equal to or descend from one of the revisions, winner first.
     ///
-    /// Does not allocate if the only leaf is itself one of the revisions.
+    /// The call does not allocate if the only leaf is itself one of the revisions.
     pub fn leaves_above(&self, alloc: Global, revs: &[Rev]) -> Result<Revs, AllocError>
         ensures { IfOk result (λ out. out ≡ leaves_above self.now revs.now) }
     {
@@ -252,8 +252,8 @@ impl Tree {
         Ok(Revs::from(self.nodes.those_above(alloc, &leaves, revs)?))
     }
 
-    /// Returns the given revisions that are not in the tree, in their order. Does not allocate for a single given
-    /// revision.
+    /// Returns the given revisions that are not in the tree, in their order. The call does not allocate for a single
+    /// given revision.
     pub fn missing(&self, alloc: Global, revs: &[Rev]) -> Result<Revs, AllocError>
         ensures { IfOk result (λ out. out ≡ missing self.now revs.now) }
     {
@@ -292,8 +292,8 @@ impl Tree {
         })
     }
 
-    /// Returns what merging the ancestry would do, without allocating: `Same` if the tree has all revisions, their
-    /// edges and a content of the head; else `Changed`.
+    /// Returns the result that merging the ancestry would have, without allocating. The result is `Same` if the tree
+    /// has all revisions, their edges and a content of the head, and else `Changed`.
     ///
     /// # Errors
     ///
@@ -314,15 +314,15 @@ impl Tree {
         }
     }
 
-    /// Merges an ancestry and the content of its head into the tree, as a union. New revisions get the given origin;
-    /// known data stays.
+    /// Merges an ancestry and the content of its head into the tree, as a union. New revisions get the given origin,
+    /// and known data does not change.
     ///
-    /// Returns what `merge_answer` returns.
+    /// Returns the result that `merge_answer` returns.
     ///
     /// # Errors
     ///
-    /// - `Contradiction`: as `merge_answer`.
-    /// - `Memory`: an allocation failed. Not returned if the tree would stay the same.
+    /// - `Contradiction`: a given child's known parent differs from the given one, as for `merge_answer`.
+    /// - `Memory`: an allocation failed. This error is not returned if the tree would stay the same.
     ///
     /// After an error the tree is unchanged.
     pub fn merge(

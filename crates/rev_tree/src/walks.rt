@@ -49,7 +49,8 @@ impl Nodes {
         Some(*self.node_at(at).rev())
     }
 
-    /// Returns those leaves that are one of the given revisions or have one among their ancestors, in their order.
+    /// Returns the leaves that are one of the given revisions or descend from one of them. The order of the leaves
+    /// stays.
     ///
     /// The result for each visited node is stored for the next leaves, so each node is visited once.
     pub(crate) fn those_above(
@@ -77,7 +78,8 @@ impl Nodes {
         Ok(above)
     }
 
-    /// Creates the table of results by index: true for the given revisions, unknown for all others.
+    /// Creates the table of results by index, which has true for the given revisions and no result for all other
+    /// revisions.
     fn asked(&self, alloc: Global, revs: &[Rev]) -> Result<Vec<Option<bool>>, AllocError>
         ensures { IfOk result (λ v. IsTold self.now.items revs.now v.items) }
     {
@@ -90,8 +92,8 @@ impl Nodes {
         Ok(told)
     }
 
-    /// Whether the revision at an index or one of its ancestors is one of the given revisions. Stores the result for
-    /// all visited nodes.
+    /// Whether the revision at an index or one of its ancestors is one of the given revisions. The call stores the
+    /// result for all visited nodes.
     fn is_above(&self, told: &mut Vec<Option<bool>>, start: usize) -> bool
         requires within { start < length self.now.items }
         requires len { length told.old.items ≡ length self.now.items }
@@ -109,7 +111,8 @@ impl Nodes {
         answer
     }
 
-    /// Returns the first known result on the path from an index to its oldest ancestor, or false if there is none.
+    /// Returns the first known result on the path from an index to its oldest ancestor, or false if no node on the path
+    /// has a result.
     fn first_told(&self, told: &[Option<bool>], start: usize) -> bool
         requires within { start < length self.now.items }
         requires len { length told.now ≡ length self.now.items }
@@ -131,7 +134,7 @@ impl Nodes {
         false
     }
 
-    /// Stores a result for each node on the path from an index, up to the first node that has one.
+    /// Stores a result for each node on the path from an index to the first node that already has a result.
     fn tell(&self, told: &mut Vec<Option<bool>>, start: usize, answer: bool)
         requires within { start < length self.now.items }
         requires len { length told.old.items ≡ length self.now.items }

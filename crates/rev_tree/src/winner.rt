@@ -15,8 +15,8 @@ impl Nodes {
     /// Returns the index of the winner's node after an ancestry was inserted. `before` is the index of the previous
     /// winner.
     ///
-    /// It is the head's node if the head goes before the previous winner, or the previous winner's node if that is
-    /// still a leaf. Otherwise it is looked up among all leaves.
+    /// The winner is the ancestry's head if the head goes before the previous winner. Otherwise, if the previous winner
+    /// is still a leaf, it stays the winner. If neither holds, the winner is looked up among all leaves.
     pub(crate) fn winner_after(&mut self, before: usize, head: usize) -> usize
         requires before { before < length self.old.items }
         requires head { head < length self.old.items }
@@ -34,7 +34,7 @@ impl Nodes {
         }
     }
 
-    /// Returns the index of the winner's node, if it is the head's or the previous winner's.
+    /// Returns the index of the winner's node, if the winner is the ancestry's head or the previous winner.
     fn head_or_previous(&self, before: usize, head: usize) -> Option<usize>
         requires before { before < length self.now.items }
         requires head { head < length self.now.items }
@@ -95,8 +95,8 @@ impl Nodes {
     }
 }
 
-/// Whether a leaf goes before the best leaf so far, if there is one: live before deleted, then the greater generation,
-/// then the greater signature.
+/// Whether a leaf goes before the best leaf so far, or there is no best leaf yet. Live leaves go before deleted leaves,
+/// then greater generations before lesser ones, then greater signatures before lesser ones.
 pub(crate) fn goes_before(leaf: &Node, best: Option<&Node>) -> bool
     ensures { result ≡ goes_before leaf.now (option_copied best.entry) }
 {

@@ -1,13 +1,13 @@
-//! Comparing signatures eight bytes at a time.
+//! Compares signatures eight bytes at a time.
 ghost use Rattle.std.specs.Prelude.{◌≡◌, ◌+◌, ◌≤◌, true, drop, length, nat_eq};
 ghost use Rattle.std.specs.Cmp.Lexicographic.{pointwise};
 ghost use Rattle.rev_core.specs.Sig.{is_sig};
 ghost use Rattle.rev_tree.specs.Words.{front_of};
 
-/// The number of bytes in one integer.
+/// The number of bytes of a signature that are compared as one integer.
 const WORD: usize = 8;
 
-/// The number of digits of a digest, as most signatures have.
+/// The number of digits of an MD5 digest, which is the length of most signatures.
 const DIGITS: usize = 32;
 
 /// Returns the first eight bytes of a signature as a big-endian integer, with zeros after a shorter signature.
@@ -24,7 +24,7 @@ pub(crate) fn front_of(text: &[u8]) -> u64
 
 /// Whether two signatures are equal.
 ///
-/// Two digests are compared as four integers each, without a loop.
+/// Two signatures of the length of a digest are compared as four integers each, without a loop.
 pub(crate) fn is_same(one: &[u8], other: &[u8]) -> bool
     requires one { is_sig one.now ≡ true }
     requires other { is_sig other.now ≡ true }

@@ -29,9 +29,9 @@ fn row_in(rows: &[Row], id: &DocId) -> Option<usize>
     None
 }
 
-/// Returns the index of a row with an id. Tries the row after `from`, then searches from there on, then before it.
+/// Returns the index of a row with an id. Tries the row after `from`, then the rows after that row, then all rows before.
 ///
-/// The row of the next document is usually the next one, or the same.
+/// The next document of a parcel usually has the next row, or the same row.
 pub(crate) fn row_from(rows: &[Row], id: &DocId, from: usize) -> Option<usize>
     requires { from ≤ length rows.now }
     ensures some { IfSome result (IsRowOf rows.now id.now) }

@@ -20,28 +20,28 @@ pub struct Synced {
     pub back: Report,
 }
 
-/// Which of the two replications failed, and why.
+/// The replication that failed, of the two replications in both directions, and why it failed.
 #[derive(Debug, Drop, Error)]
 pub enum SyncFault {
-    /// The replication from the first peer into the second failed; the other was not begun.
+    /// The replication from the first peer into the second failed. The reverse replication was not begun.
     #[error("there: {0}")]
     There(TargetFault),
-    /// The replication from the second peer into the first failed; the other one succeeded.
+    /// The replication from the second peer into the first failed. The forward replication had succeeded.
     #[error("back: {0}")]
     Back(TargetFault),
 }
 
 /// Replicates in both directions, on one thread: first `a` into `b`, then, if that succeeded, `b` into `a`. Each
-/// direction is a `replicate_alone` with its own plan.
+/// direction is a `replicate_alone` with a plan of its own.
 ///
 /// Suppose that the peers are consistent in both directions (docs/PROFILE.md, "Tied peers"), and that the call
-/// succeeds. Then for each document that both plans select and neither side has refused, each side has every leaf of
-/// the other. If also the two trees agreed before (no revision with two parents or two contents) and had complete
-/// histories, the document is the same on both sides: revisions, parents, contents of leaves and winner. The trees then
-/// agree again and have complete histories.
+/// succeeds. In that case, for each document that both plans select and neither side has refused, each side has every
+/// leaf of the other side. If also the two trees agreed before (no revision with two parents or two contents) and had
+/// complete histories, the document is the same on both sides: revisions, parents, contents of leaves and winner. In
+/// that case, the trees agree again and have complete histories.
 ///
-/// Consistent peers stay consistent in both directions, whatever the result. Each of the two also stays consistent with
-/// every other peer that it was consistent with, if that peer has a UUID of its own.
+/// Consistent peers stay consistent in both directions, whatever the result. Each of the two peers also stays
+/// consistent with every third peer that it was consistent with, if the third peer has a UUID of its own.
 pub fn sync_alone<F: WriteFilter, G: WriteFilter>(
     alloc: Global,
     a: &mut Peer<F>,
