@@ -14,7 +14,7 @@ pub struct Wanted {
     revs: Revs,
 }
 
-// Written by hand so that it is proved once: docs/DECISIONS.md, "Letting values go".
+// `Drop` is implemented by hand here so that it is proved once (docs/DECISIONS.md, "Letting values go").
 impl Drop for Wanted {
     fn drop(self) {
         let Wanted { id: _, revs: _ } = self;
@@ -70,7 +70,7 @@ pub struct Asked {
     docs: Vec<Wanted>,
 }
 
-// Written by hand so that it is proved once: docs/DECISIONS.md, "Letting values go".
+// `Drop` is implemented by hand here so that it is proved once (docs/DECISIONS.md, "Letting values go").
 impl Drop for Asked {
     fn drop(self) {
         let Asked {

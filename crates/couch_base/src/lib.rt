@@ -1,6 +1,6 @@
 //! A database: puts, local edits, pages of its changes feed, and requesting and fetching revisions.
 //!
-//! The rules are in docs/PROFILE.md: "Sequences", "Merging", "Local edits", "Changes feed", "Missing revisions" and
+//! The rules are in docs/PROFILE.md, "Sequences", "Merging", "Local edits", "Changes feed", "Missing revisions" and
 //! "Fetching".
 #![tactic(auto)]
 

@@ -28,7 +28,7 @@ pub struct Body {
     text: ArcSlice<u8>,
 }
 
-// Written by hand so that it is proved once: docs/DECISIONS.md, "Letting values go".
+// `Drop` is implemented by hand here so that it is proved once (docs/DECISIONS.md, "Letting values go").
 impl Drop for Body {
     fn drop(self) {
         let Body { text: _ } = self;
@@ -77,7 +77,7 @@ impl Body {
         self.text.clone()
     }
 
-    /// Copies the body; the copy shares its bytes.
+    /// Copies the body. The copy shares its bytes.
     pub fn copy(&self) -> Result<Body, AllocError>
         ensures copied { IfOk result (λ b. b ≡ self.now) }
     {
@@ -96,21 +96,21 @@ impl Body {
 /// - `NotObject`: the value is not an object.
 /// - `SpecialMember`: a member begins with `_`.
 /// - `Fraction`: the value contains, at any depth, a number that is neither an i64 nor a u64.
-/// - `Memory`: an allocation failed. Returned only if the call would otherwise succeed.
+/// - `Memory`: an allocation failed. The call returns `Memory` only if it would otherwise succeed.
 pub fn read_body(alloc: Global, value: &Value) -> Result<Body, DocFault>
     ensures { GivesUnlessMemory result (body_read (view value.now)) }
 {
     body_of(alloc, value, NONE_KNOWN)
 }
 
-/// Reads a value inside a line as a body. Errors are those of `read_body`.
+/// Reads a value inside a line as a body. The call returns the errors of `read_body`.
 pub fn read_line_body(alloc: Global, part: &LinePart<'_, '_>) -> Result<Body, DocFault>
     ensures { GivesUnlessMemory result (body_read (line_view part.now)) }
 {
     body_of(alloc, part.value(), part.plain())
 }
 
-/// Reads a value as a body. `plain` says which of its strings are known to need no escapes.
+/// Reads a value as a body. `plain` says which strings of the value are known to need no escapes.
 fn body_of<'v, V: JsonValue<'v>>(
     alloc: Global,
     value: &'v V,

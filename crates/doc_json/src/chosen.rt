@@ -26,14 +26,14 @@ const MOST: usize = 1000;
 
 /// The ids of the selected documents: 1 to 1,000, in byte order, without duplicates.
 ///
-/// Copies of a selection share its ids.
+/// All copies of a selection share its ids.
 pub struct Chosen {
     ids: ArcSlice<DocId>,
-    /// A table of where the ids fall, which rejects most other ids with one lookup.
+    /// A table of hashes of the selected ids, which rejects most other ids with one lookup.
     marks: ArcSlice<bool>,
 }
 
-// Written by hand so that it is proved once: docs/DECISIONS.md, "Letting values go".
+// `Drop` is implemented by hand here so that it is proved once (docs/DECISIONS.md, "Letting values go").
 impl Drop for Chosen {
     fn drop(self) {
         let Chosen { ids: _, marks: _ } = self;
@@ -67,7 +67,7 @@ impl Chosen {
     ///
     /// - `NoneChosen`: `ids` is empty.
     /// - `TooManyChosen`: there are more than 1,000 distinct ids.
-    /// - `Memory`: an allocation failed. Returned only if the call would otherwise succeed.
+    /// - `Memory`: an allocation failed. The call returns `Memory` only if it would otherwise succeed.
     pub fn new(ids: Vec<DocId>) -> Result<Chosen, DocFault>
         ensures answer { GivesUnlessMemory result (chosen_answer ids.items) }
         ensures choice { IfOk result IsChoice }
@@ -100,7 +100,7 @@ impl Chosen {
         is_marked(self.marks.as_slice(), id) && self.ids().binary_search(id).is_ok()
     }
 
-    /// Copies the selection; the copy shares its ids.
+    /// Copies the selection. The copy shares its ids.
     pub fn copy(&self) -> Result<Chosen, AllocError>
         ensures copied { IfOk result (λ c. c ≡ self.now) }
     {
@@ -111,7 +111,7 @@ impl Chosen {
     }
 }
 
-/// Whether a document is selected. Without a selection, all documents are.
+/// Whether a document is selected. Without a selection, all documents are selected.
 pub fn is_chosen(chosen: Option<&Chosen>, id: &DocId) -> bool
     ensures { result ≡ is_chosen (option_copied chosen.entry) id.now }
 {

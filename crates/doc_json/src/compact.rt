@@ -16,12 +16,12 @@ use crate::text::push_name;
 use json_values::PlainTexts;
 use std::alloc::{AllocError, Global};
 
-/// The initial capacity of a buffer, in bytes. Most small documents need no more. The allocator rounds up by as much as
-/// 15 bytes to this size.
+/// The initial capacity of a buffer, in bytes. Most small documents need no larger buffer. The allocator rounds up by
+/// as much as 15 bytes to this size.
 const SHORT: usize = 136;
 
-/// Serializes the object of the members without a leading `_`. The buffer has fewer than 32 spare bytes; fewer than 16
-/// if the text is short and the allocation for a smaller buffer succeeds.
+/// Serializes the object of the members without a leading `_`. The buffer has fewer than 32 spare bytes. It has fewer
+/// than 16 spare bytes if the text is short and the allocation for a smaller buffer succeeds.
 pub(crate) fn plain_text<'v, V: JsonValue<'v>>(
     alloc: Global,
     members: &'v V::Object,
@@ -53,7 +53,7 @@ pub(crate) fn value_text<'v, V: JsonValue<'v>>(
     Ok(trimmed(out))
 }
 
-/// Shrinks the buffer if it has 32 or more spare bytes; the allocator cannot reuse less.
+/// Shrinks the buffer if it has 32 or more spare bytes, because the allocator cannot reuse fewer bytes.
 fn trimmed(text: Vec<u8>) -> Vec<u8>
     ensures { result.items ≡ text.items }
 {
@@ -103,7 +103,7 @@ fn push_plain<'v, V: JsonValue<'v>>(
     Ok(())
 }
 
-/// Serializes a member, unless its name begins with `_`. Returns whether a comma is needed before the next one.
+/// Serializes a member, unless its name begins with `_`. Returns whether the next member needs a comma before it.
 fn push_unless_special<'v, V: JsonValue<'v>>(
     name: &str,
     member: &'v V,

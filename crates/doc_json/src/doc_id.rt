@@ -14,7 +14,7 @@ use std::cmp::Ordering;
 use std::hash::{Hash, Hasher};
 use std::marker::Model;
 
-/// The string of an id: stored inline if it has at most 32 bytes.
+/// The string of a document id, which is stored inline if it has at most 32 bytes.
 #[derive(Debug, Drop)]
 enum IdText {
     LookupHint(NearText),
@@ -64,7 +64,7 @@ pub struct DocId {
     text: IdText,
 }
 
-// Written by hand so that it is proved once: docs/DECISIONS.md, "Letting values go".
+// `Drop` is implemented by hand here so that it is proved once (docs/DECISIONS.md, "Letting values go").
 impl Drop for DocId {
     fn drop(self) {
         let DocId { text: _ } = self;
@@ -95,7 +95,7 @@ impl DocId {
     ///
     /// - `NoId`: the string is empty.
     /// - `ReservedId`: the string begins with `_` and is not the id of a design document.
-    /// - `Memory`: an allocation failed. Returned only if the call would otherwise succeed.
+    /// - `Memory`: an allocation failed. The call returns `Memory` only if it would otherwise succeed.
     pub fn parse(alloc: Global, text: &str) -> Result<DocId, DocFault>
         ensures { GivesUnlessMemory result (doc_id_read text.now) }
     {

@@ -14,8 +14,8 @@ use std::alloc::AllocError;
 
 /// A JSON value that a document is read from: `serde_json`'s, or one inside a line.
 ///
-/// A clause sees it as its data (`seen`). Whether its members are in byte order of their names is known for some types
-/// from the caller (`in_order`), for others from the type.
+/// A clause sees it as its data (`seen`). For some types the caller knows whether an object's members are in byte order
+/// of their names (`in_order`), and for other types the type says so.
 pub(crate) trait JsonValue<'v>: Sized + 'v {
     /// The members of an object.
     type Object;

@@ -1,6 +1,6 @@
 //! CouchDB documents in JSON: reading them from values, and writing them.
 //!
-//! The rules are in docs/PROFILE.md: "Document ids", "Documents", "What `read_doc` accepts" and "What `write_doc`
+//! The rules are in docs/PROFILE.md, "Document ids", "Documents", "What `read_doc` accepts" and "What `write_doc`
 //! writes".
 #![tactic(auto)]
 

@@ -1,4 +1,4 @@
-//! `JsonValue` for the values of lines.
+//! Implements `JsonValue` for the values of lines.
 ghost use Rattle.std.specs.Prelude.{◌≡◌, ◌++◌, ◌∷◌, false, OnOk};
 ghost use Rattle.std.specs.Slice.Iter.{iter_rest};
 ghost use Rattle.json_values.specs.LineView.{line_view, line_items, line_members};
@@ -109,7 +109,7 @@ pub fn has_fraction(value: &LineValue<'_>) -> bool
     }
 }
 
-/// Whether an item is or contains such a number.
+/// Whether an item is or contains a number that is neither an i64 nor a u64.
 #[cycle(fraction)]
 #[inline(never)]
 fn items_have_fraction(items: &Vec<LineValue<'_>>) -> bool
@@ -123,7 +123,7 @@ fn items_have_fraction(items: &Vec<LineValue<'_>>) -> bool
     false
 }
 
-/// Whether a member is or contains such a number.
+/// Whether a member is or contains a number that is neither an i64 nor a u64.
 #[cycle(fraction)]
 #[inline(never)]
 fn members_have_fraction(members: &Vec<(&str, LineValue<'_>)>) -> bool

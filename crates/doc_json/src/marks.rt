@@ -19,7 +19,7 @@ const MOST: usize = 1024;
 /// The maximum number of entries.
 const PLACES: usize = MOST * PLACES_EACH;
 
-/// Returns the last eight bytes of a string, or all if it is shorter.
+/// Returns the last eight bytes of a string, or all bytes of a shorter string.
 fn ending(bytes: &[u8]) -> &[u8]
     ensures { result.now ≡ drop (length bytes.now - 8) bytes.now }
 {
@@ -46,7 +46,7 @@ fn places_for(ids: usize) -> usize
     ids.max(FEWEST).min(MOST) * PLACES_EACH
 }
 
-/// Builds the table: the entry of each id is true.
+/// Builds the table, in which the entry of each id is true.
 pub(crate) fn mark(alloc: Global, ids: &[DocId]) -> Result<ArcSlice<bool>, AllocError>
     ensures marks { IfOk result (λ marks. AreMarks (arc_slice_items marks) ids.now) }
 {

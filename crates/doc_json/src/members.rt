@@ -25,7 +25,7 @@ pub(crate) fn has_special<'v, V: JsonValue<'v>>(members: &'v V::Object) -> bool
     false
 }
 
-/// The members of a document that begin with `_`, whether there is an unknown one, and whether any other member is or
+/// The members of a document that begin with `_`, and whether one of them is unknown. Also whether another member is or
 /// contains a number that is neither an i64 nor a u64.
 #[derive_where(Clone, Copy)]
 pub(crate) struct FoundMembers<'v, V> {
@@ -38,7 +38,7 @@ pub(crate) struct FoundMembers<'v, V> {
     pub(crate) has_fraction: bool,
 }
 
-/// Finds the members that begin with `_`, and checks the others, in one pass.
+/// Finds the members that begin with `_`, and checks all other members, in one pass.
 pub(crate) fn find_members<'v, V: JsonValue<'v>>(members: &'v V::Object) -> FoundMembers<'v, V>
     ensures id { option_map (λ v. V.seen v.now) result.id
         ≡ get_member (codes "_id") (V.members_seen members.now) }
@@ -70,7 +70,7 @@ pub(crate) fn find_members<'v, V: JsonValue<'v>>(members: &'v V::Object) -> Foun
     found
 }
 
-/// Adds one member to what was found.
+/// Adds one member to the members that were found.
 fn looked<'v, V: JsonValue<'v>>(
     found: FoundMembers<'v, V>,
     name: &str,
@@ -109,7 +109,7 @@ fn looked<'v, V: JsonValue<'v>>(
     }
 }
 
-/// Adds one member that begins with `_` to what was found.
+/// Adds one member that begins with `_` to the members that were found.
 fn with_special<'v, V: JsonValue<'v>>(
     found: FoundMembers<'v, V>,
     name: &str,
@@ -144,7 +144,7 @@ fn with_special<'v, V: JsonValue<'v>>(
     }
 }
 
-/// Returns what was found for a name, or this member if it has the name.
+/// Returns the member that was found for a name, or the given member if it has that name.
 fn kept<'v, V: JsonValue<'v>>(
     found: Option<&'v V>,
     name: &str,
@@ -164,7 +164,7 @@ fn kept<'v, V: JsonValue<'v>>(
     }
 }
 
-/// Whether a name begins with `_` and is not one that a document may have.
+/// Whether a name begins with `_` and is not the name of a member that a document may have.
 pub(crate) fn is_unknown(name: &str) -> bool
     ensures { result ≡ is_unknown name.now }
 {

@@ -9,7 +9,7 @@ const MOST_BYTES: usize = 32;
 
 /// A string of at most 32 bytes, followed by zeros.
 ///
-/// The length has four bytes instead of a `usize`, because there may be very many ids.
+/// The length has four bytes instead of those of a `usize`, because a database may have millions of ids.
 #[derive(Drop)]
 pub(crate) struct NearText {
     len: u32,
@@ -27,7 +27,7 @@ impl Model for NearText {
 }
 
 impl NearText {
-    /// Stores the string, or returns `None` if it is too long.
+    /// Stores the string inline, or returns `None` if the string is too long.
     pub(crate) fn keep(text: &str) -> Option<NearText>
         ensures { IfSome result (λ t. t ≡ text.now) }
     {
@@ -43,7 +43,7 @@ impl NearText {
         })
     }
 
-    /// Copies the string. All 32 bytes are copied, so the compiler knows the size.
+    /// Copies the string. The call copies all 32 bytes, so that the compiler knows the size of the copy.
     pub(crate) fn copy(&self) -> NearText
         ensures { result ≡ self.now }
     {

@@ -1,4 +1,4 @@
-//! `JsonValue` for the values of `serde_json`.
+//! Implements `JsonValue` for the values of `serde_json`.
 ghost use Rattle.std.specs.Prelude.{◌≡◌, ◌++◌, ◌∷◌, false, OnOk};
 ghost use Rattle.std.specs.List.Sorted.{IsStrictlySortedBy};
 ghost use Rattle.std.specs.Map.{keys_of};
@@ -16,7 +16,7 @@ use serde_json::{Map, Number, Value};
 use std::alloc::AllocError;
 use std::collections::btree_map;
 
-/// Nothing is known about the strings of such a value.
+/// For a value of `serde_json`, nothing is known about the escapes of its strings.
 pub(crate) const NONE_KNOWN: PlainTexts = PlainTexts {
     names: false,
     values: false,
@@ -80,7 +80,7 @@ impl<'v> JsonValue<'v> for Value {
         has_fraction(self)
     }
 
-    // No string of the value is known to need no escapes.
+    // For a value of `serde_json`, no string is known to need no escapes.
     fn push(&'v self, _plain: PlainTexts, out: &mut Vec<u8>) -> Result<(), AllocError> {
         push_value(self, out)
     }
@@ -102,7 +102,7 @@ fn has_fraction(value: &Value) -> bool
     }
 }
 
-/// Whether an item is or contains such a number.
+/// Whether an item is or contains a number that is neither an i64 nor a u64.
 #[cycle(fraction)]
 #[inline(never)]
 fn items_have_fraction(items: &Vec<Value>) -> bool
@@ -116,7 +116,7 @@ fn items_have_fraction(items: &Vec<Value>) -> bool
     false
 }
 
-/// Whether a member is or contains such a number.
+/// Whether a member is or contains a number that is neither an i64 nor a u64.
 #[cycle(fraction)]
 #[inline(never)]
 fn members_have_fraction(members: &Map<String, Value>) -> bool

@@ -35,21 +35,21 @@ use std::alloc::Global;
 /// - `BadRevisions`: `_revisions` is not an ancestry.
 /// - `RevMismatch`: `_rev` is not the newest revision of `_revisions`.
 /// - `Fraction`: a member without a leading `_` contains, at any depth, a number that is neither an i64 nor a u64.
-/// - `Memory`: an allocation failed. Returned only if the call would otherwise succeed.
+/// - `Memory`: an allocation failed. The call returns `Memory` only if it would otherwise succeed.
 pub fn read_doc(alloc: Global, value: &Value) -> Result<Doc, DocFault>
     ensures { GivesUnlessMemory result (doc_read (view value.now)) }
 {
     document_of(alloc, value, NONE_KNOWN)
 }
 
-/// Reads a value inside a line as a document. Errors are those of `read_doc`.
+/// Reads a value inside a line as a document. The call returns the errors of `read_doc`.
 pub fn read_line_doc(alloc: Global, part: &LinePart<'_, '_>) -> Result<Doc, DocFault>
     ensures { GivesUnlessMemory result (doc_read (line_view part.now)) }
 {
     document_of(alloc, part.value(), part.plain())
 }
 
-/// Reads a value as a document. `plain` says which of its strings are known to need no escapes.
+/// Reads a value as a document. `plain` says which strings of the value are known to need no escapes.
 fn document_of<'v, V: JsonValue<'v>>(
     alloc: Global,
     value: &'v V,

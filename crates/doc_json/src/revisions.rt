@@ -1,4 +1,4 @@
-//! The members `_rev` and `_revisions`.
+//! Reads the members `_rev` and `_revisions` of a document.
 ghost use Rattle.std.specs.Prelude.{◌≡◌, ◌≤◌, [], ◌∷◌, List, Some, Ok, Err, IfSome, IfNone, IsOk, IfOk, IfErr, OnOk};
 ghost use Rattle.std.specs.Prelude.{codes, map, length, is_some, is_ok, option_map, option_and_then, slice_get};
 ghost use Rattle.std.specs.Ordering.{eq_by_cmp};
@@ -13,7 +13,7 @@ use crate::json_value::JsonValue;
 use rev_core::{Ancestry, Rev, Sig};
 use std::alloc::{AllocError, Global};
 
-/// Reads the member `_rev`, if there is one.
+/// Reads the member `_rev` of a document, if the document has it.
 pub(crate) fn read_rev<'v, V: JsonValue<'v>>(member: Option<&'v V>) -> Result<Option<Rev>, DocFault>
     ensures { result ≡ rev_member (option_map (λ v. V.seen v.now) member.entry) }
 {
@@ -87,7 +87,7 @@ fn read_numbered<'v, V: JsonValue<'v>>(
     }
 }
 
-/// Returns the ancestry if `_rev` is missing or is its newest revision.
+/// Returns the ancestry if `_rev` is missing or is the ancestry's newest revision.
 pub(crate) fn matched(
     ancestry: Ancestry,
     rev: Option<Rev>,
@@ -104,7 +104,8 @@ pub(crate) fn matched(
     Ok(Ok(ancestry))
 }
 
-/// Reads an ancestry from a start and a list of signatures. `None` if they do not form one.
+/// Reads an ancestry from a start and a list of signatures. Returns `None` if the start and the list do not form an
+/// ancestry.
 fn numbered_from<'v, V: JsonValue<'v>>(
     alloc: Global,
     start: u64,
@@ -147,7 +148,7 @@ fn numbered<'v, V: JsonValue<'v>>(
     Ok(Some(revs))
 }
 
-/// Checks whether a start and a list form an ancestry that agrees with `_rev`, and returns the error if not.
+/// Checks whether a start and a list form an ancestry that agrees with `_rev`, and returns the error if they do not.
 fn check_numbered<'v, V: JsonValue<'v>>(
     start: u64,
     ids: &'v Vec<V>,
@@ -196,7 +197,7 @@ fn are_ids<'v, V: JsonValue<'v>>(start: u64, ids: &'v Vec<V>) -> bool
     1 <= count && count <= start
 }
 
-/// Whether all items are signatures.
+/// Whether each item of a list is a signature.
 fn are_sigs<'v, V: JsonValue<'v>>(items: &'v Vec<V>) -> bool
     ensures { result ≡ is_some (sigs_of (items_of (map V.seen items.now.items))) }
 {
@@ -222,7 +223,7 @@ fn agrees<'v, V: JsonValue<'v>>(rev: Option<Rev>, start: u64, ids: &'v Vec<V>) -
     }
 }
 
-/// Returns the first item as a signature.
+/// Returns the first item of a list as a signature.
 fn first_sig<'v, V: JsonValue<'v>>(items: &'v Vec<V>) -> Option<Sig>
     ensures { result ≡ option_and_then (λ v. sig_of (as_str (V.seen v))) (slice_get items.now.items 0) }
 {
@@ -240,7 +241,7 @@ pub(crate) fn is_revision(rev: Rev, generation: u64, sig: Sig) -> bool
     u64::from(rev.generation()) == generation && same_sig
 }
 
-/// Returns a value as a signature.
+/// Returns a JSON value as a signature, if the value is a string that is a signature.
 fn sig_of<'v, V: JsonValue<'v>>(value: &'v V) -> Option<Sig>
     ensures { result ≡ sig_of (as_str (V.seen value.now)) }
 {

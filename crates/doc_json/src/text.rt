@@ -1,4 +1,4 @@
-//! Appending strings and integers as JSON to a buffer.
+//! Appends strings and integers as JSON to a buffer.
 ghost use Rattle.std.specs.Prelude.{◌≡◌, ◌<◌, ◌≤◌, ◌++◌, [], ◌∷◌, false, take, decimal, OnOk};
 ghost use Rattle.std.specs.Fmt.{signed_decimal};
 ghost use Rattle.std.specs.Char.{digit_char};
@@ -15,7 +15,7 @@ use json_values::{is_plain, plain_end};
 use serde_json::Number;
 use std::alloc::AllocError;
 
-/// Appends a comma, if `later` is true.
+/// Appends a comma if `later` is true.
 #[inline(always)]
 pub(crate) fn push_comma(out: &mut Vec<u8>, later: bool) -> Result<(), AllocError>
     ensures { OnOk result (out.new.items ≡ out.old.items ++ comma_if later) }
@@ -44,9 +44,9 @@ pub(crate) fn push_name(
     Ok(())
 }
 
-/// Appends a string in quotation marks. Usually it needs no escapes.
+/// Appends a string in quotation marks. The string usually needs no escapes.
 ///
-/// If an allocation fails, a part of the string may have been appended; the previous content is kept in any case.
+/// If an allocation fails, a part of the string may have been appended, but the previous content of the buffer stays.
 pub fn push_text(out: &mut Vec<u8>, text: &str) -> Result<(), AllocError>
     ensures text { OnOk result (out.new.items ≡ out.old.items ++ quoted text.now) }
     ensures kept { Keeps out.old.items out.new.items }
@@ -57,7 +57,7 @@ pub fn push_text(out: &mut Vec<u8>, text: &str) -> Result<(), AllocError>
     push_standing(out, text)
 }
 
-/// Appends a string in quotation marks. `is_plain` says whether it is known to need no escapes.
+/// Appends a string in quotation marks. `is_plain` says whether the string is known to need no escapes.
 #[inline(always)]
 pub(crate) fn push_known_text(
     out: &mut Vec<u8>,

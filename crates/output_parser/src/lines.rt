@@ -157,7 +157,7 @@ fn read_listed<'a>(
     }
 }
 
-/// Splits the text after a line's first word into a document id and the text of revisions.
+/// Splits the rest of a line into a document id and the text of revisions.
 fn listed_parts<'a>(line: &'a [u8], word: &[u8]) -> Option<(&'a str, &'a [u8])>
     ensures some { IfSome result (λ x. ListedParts word.now line.now x.0.now x.1.now) }
     ensures none { IfNone result ((id list : List ℕ) → ListedParts word.now line.now id list → ⊥) }

@@ -1,6 +1,6 @@
 //! The workers of a run of the pool: their messages, their steps, and their combined effect.
 //!
-//! The rules are in docs/PROFILE.md: "The pool".
+//! The rules are in docs/PROFILE.md, "The pool".
 #![tactic(auto)]
 
 mod brands;

@@ -1,4 +1,4 @@
-//! A board with two counters for each worker: documents read and documents settled.
+//! A board with two counters for each worker, one for documents read and one for documents settled.
 ghost use Rattle.std.specs.Prelude.{◌≡◌, ◌+◌, ◌<◌, ◌≤◌, None, Some, true, IfErr, OnOk, OnErr, sum};
 ghost use Rattle.progress_board.specs.Rule.{SeesRead, SeesSettled};
 
@@ -6,8 +6,8 @@ use crate::fault::BoardFault;
 use crate::seat::BoardSeat;
 use crate::steps::{BoardTable, add_to_read, add_to_settled, look_at_read, look_at_settled};
 
-/// A board of counters that threads share: for each worker, the documents that it has read and those that it has
-/// settled.
+/// A board of counters that threads share. It counts, for each worker, the documents that the worker has read and the
+/// documents that it has settled.
 #[derive(Drop)]
 pub struct Board {
     table: BoardTable,
@@ -35,8 +35,9 @@ impl Board {
 
     /// Returns the totals of all workers, settled and read in this order, as this seat now sees them.
     ///
-    /// Settled is at most read, neither is below an earlier result for this seat, and a worker sees at least its own
-    /// additions. Never blocks, and does not allocate. The seat must have been created with this board.
+    /// The total of settled documents is at most that of read documents, and neither is below an earlier total for this
+    /// seat. A worker sees at least its own additions. Never blocks, and does not allocate. The seat must have been
+    /// created with this board.
     pub fn read(&self, seat: &mut BoardSeat) -> (u64, u64)
         requires came { CameWith self.now seat.old }
         ensures came { CameWith self.now seat.new }
@@ -60,7 +61,7 @@ impl Board {
     /// - `NotWorker`: the seat is a viewer's.
     /// - `BoardFull`: the worker's counter would exceed 2^53 - 1.
     ///
-    /// Never blocks, and does not allocate. The seat must have been created with this board.
+    /// The call never blocks, and does not allocate. The seat must have been created with this board.
     pub fn add_read(&self, seat: &mut BoardSeat, n: u64) -> Result<(), BoardFault>
         requires came { CameWith self.now seat.old }
         ensures came { CameWith self.now seat.new }
@@ -94,7 +95,7 @@ impl Board {
     /// - `NotWorker`: the seat is a viewer's.
     /// - `AheadOfRead`: the worker would have settled more than it has read.
     ///
-    /// Never blocks, and does not allocate. The seat must have been created with this board.
+    /// The call never blocks, and does not allocate. The seat must have been created with this board.
     pub fn add_settled(&self, seat: &mut BoardSeat, n: u64) -> Result<(), BoardFault>
         requires came { CameWith self.now seat.old }
         ensures came { CameWith self.now seat.new }

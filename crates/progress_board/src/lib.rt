@@ -1,8 +1,8 @@
-//! A board of counters that threads share without a lock: how many documents each worker has read and settled, and what
-//! a viewer sees of all of them.
+//! A board of counters that threads share without a lock. It shows how many documents each worker has read and settled,
+//! and viewers read the totals.
 //!
 //! A worker changes only its own two counters. A reading never goes back, never shows more settled than read, and never
-//! shows what no worker added. The rules are in docs/PROFILE.md: "The progress board".
+//! shows what no worker added. The rules are in docs/PROFILE.md, "The progress board".
 #![tactic(auto)]
 
 mod board;

@@ -1,4 +1,4 @@
-//! Creating a board with its seats.
+//! Creates a board with its seats.
 ghost use Rattle.std.specs.Prelude.{◌≡◌, ◌+◌, ◌<◌, ◌≤◌, true, [], IfOk, IfErr, length, vec_len, vec_capacity};
 ghost use Rattle.progress_board.specs.Rule.{dealer, AllZero};
 ghost use Rattle.progress_board.specs.Seats.{SeatsAre, are_seats, new_fault, AreNew};
@@ -11,11 +11,11 @@ use crate::steps::{BoardTable, Place, admit, hire};
 use atomic_table::Table;
 use std::alloc::{AllocError, Global};
 
-/// The maximum number of workers of a board, and of viewers.
+/// The maximum number of workers of a board, and the maximum number of viewers.
 pub const MOST_WORKERS: u64 = 64;
 
 impl Board {
-    /// Creates a board with all counters at 0, and its seats: one for each worker, then one for each viewer.
+    /// Creates a board with all counters at 0, and with a seat for each worker and then a seat for each viewer.
     ///
     /// Returns `BadSeats` if the number of workers or of viewers is not 1 to 64.
     pub fn new(

@@ -1,12 +1,12 @@
-//! What a seat knows about the counters, and the rule that the counters satisfy.
+//! The facts that a seat has about the counters, and the rule that the counters satisfy.
 //!
-//! No value of these types exists at run time; they represent knowledge in proofs.
+//! No value of the types in this file exists at run time. The types represent knowledge in proofs.
 
 use atomic_table::{Play, Split, TableRule};
 use std::collections::LinkedList;
 
-/// What a seat knows: whether it creates seats or is a worker's, its number, and a lower bound for each read and each
-/// settled counter.
+/// The facts that a seat has, which are whether it creates seats or is a worker's, its number, and a lower bound for
+/// each counter.
 pub struct SeatView {
     pub deals: bool,
     pub works: bool,
@@ -15,7 +15,8 @@ pub struct SeatView {
     pub settles: LinkedList<u64>,
 }
 
-/// The rule of a board of k workers: counters 0 to k - 1 are what each has read, k to 2k - 1 what each has settled.
+/// The rule of a board of k workers. Counters 0 to k - 1 count the documents that each worker has read, and counters k
+/// to 2k - 1 those that it has settled.
 pub struct BoardRule;
 
 impl TableRule<(), SeatView, u64> for BoardRule {

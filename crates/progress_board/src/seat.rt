@@ -4,7 +4,7 @@ ghost use Rattle.progress_board.specs.Rule.{most, IsFresh};
 
 use crate::steps::Place;
 
-/// A seat of a board: a worker's, with its number and its own two counters, or a viewer's.
+/// A seat of a board, which is a viewer's, or a worker's with a number and two counters of its own.
 ///
 /// A seat stores what it has seen of every worker's counters. Only the holder of a worker's seat can change that
 /// worker's counters.
@@ -27,7 +27,7 @@ pub struct BoardSeat {
     ghost held: { works ≡ true → number < length place.me.0.reads },
 }
 
-/// Creates a seat that has seen nothing.
+/// Creates a seat that has seen no counter.
 pub(crate) fn seat_of(place: Place, works: bool, number: usize, workers: usize) -> BoardSeat
     requires empty { place.me.1 ≡ [] }
     requires fresh { IsFresh workers works number place.me.0 }

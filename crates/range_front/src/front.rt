@@ -7,21 +7,21 @@ use crate::ranges::{DoneRange, is_covered, join};
 use std::alloc::{AllocError, Global};
 use std::marker::Model;
 
-/// A sequence of adjacent windows `(lo, hi]` of sequences, each done or not.
+/// A front is a list of adjacent windows `(lo, hi]` of sequences. Each window is done or not done.
 ///
 /// Windows are appended in order and finished in any order. The low water is the sequence up to which all windows are
-/// done. The done windows above it are stored as ranges that touch neither each other nor the low water.
+/// done. The done windows above the low water are stored as ranges that touch neither each other nor the low water.
 pub struct Front {
     start: u64,
-    /// The upper bounds of the windows, rising.
+    /// The upper bounds of the windows, in rising order.
     ends: Vec<u64>,
     /// The low water.
     mark: u64,
-    /// The done windows above the low water, rising; adjacent windows form one range.
+    /// The done windows above the low water, in rising order. Adjacent done windows form one range.
     ranges: Vec<DoneRange>,
 }
 
-// Written by hand so that it is proved once: docs/DECISIONS.md, "Letting values go".
+// `Drop` is implemented by hand here so that it is proved once (docs/DECISIONS.md, "Letting values go").
 impl Drop for Front {
     fn drop(self) {
         let Front {
@@ -75,7 +75,7 @@ impl Front {
         self.start
     }
 
-    /// Returns the upper bound of the last window, or the start if there is none.
+    /// Returns the upper bound of the last window, or the start if there is no window.
     pub fn end(&self) -> u64
         ensures value { result ≡ end_of self.now.front }
         ensures front { IsFront self.now.front }
@@ -90,7 +90,7 @@ impl Front {
     ///
     /// # Errors
     ///
-    /// Exactly if its condition holds, in this order; an error changes nothing:
+    /// Each error is returned exactly if its condition holds, the first in this order, and changes nothing:
     ///
     /// - `NotRising`: `hi` is not above the end.
     /// - `Memory`: an allocation failed.
@@ -111,7 +111,7 @@ impl Front {
 
     /// Reserves space, so that the next `finish` does not return `Memory`, even if windows are appended before it.
     ///
-    /// The windows stay the same, whether or not the allocation succeeds.
+    /// The call does not change the windows, whether or not the allocation succeeds.
     pub fn reserve(&mut self) -> Result<(), AllocError>
         ensures room { OnOk result (0 < self.new.room) }
         ensures kept { self.new.front ≡ self.old.front }

@@ -1,6 +1,6 @@
 //! Windows of a feed that are finished in any order, and the sequence up to which all are done.
 //!
-//! The rules are in docs/PROFILE.md: "Goal and windows" and "Windows and low water".
+//! The rules are in docs/PROFILE.md, "Goal and windows" and "Windows and low water".
 #![tactic(auto)]
 
 mod ends;

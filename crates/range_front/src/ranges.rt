@@ -6,7 +6,7 @@ ghost use Rattle.range_front.specs.Ranges.{Apart, covers, absorbed, joined};
 
 use std::alloc::AllocError;
 
-/// Adjacent done windows: all of `(lo, hi]` is done.
+/// A range of adjacent done windows, in which each sequence of `(lo, hi]` is done.
 #[derive(Clone, Copy)]
 pub(crate) struct DoneRange {
     pub(crate) lo: u64,
@@ -22,8 +22,8 @@ fn place_from(ranges: &[DoneRange], bound: u64) -> usize
     ranges.partition_point(|range| range.hi < bound)
 }
 
-/// Whether the window that ends at `hi` is done: it is at or below the low water `mark`, or in one of the ranges above
-/// it.
+/// Whether the window that ends at `hi` is done, because it is at or below the low water `mark`, or in one of the
+/// ranges above it.
 pub(crate) fn is_covered(mark: u64, ranges: &[DoneRange], hi: u64) -> bool
     requires { Apart mark ranges.now }
     ensures { result ≡ covers mark ranges.now hi }
@@ -37,7 +37,8 @@ pub(crate) fn is_covered(mark: u64, ranges: &[DoneRange], hi: u64) -> bool
     }
 }
 
-/// Removes the range at an index if it begins at `hi`. Returns the sequence up to which the windows are then done.
+/// Removes the range at an index if it begins at `hi`. Returns the sequence up to which all windows are done after
+/// that.
 fn absorb(ranges: &mut Vec<DoneRange>, place: usize, hi: u64) -> u64
     ensures reach { result ≡ (absorbed hi (drop place ranges.old.items)).0 }
     ensures rest { ranges.new.items ≡ take place ranges.old.items ++ (absorbed hi (drop place ranges.old.items)).1 }
@@ -52,8 +53,8 @@ fn absorb(ranges: &mut Vec<DoneRange>, place: usize, hi: u64) -> u64
     }
 }
 
-/// Marks `(lo, hi]`, which is above the low water and outside the ranges, as done. Merges it with the ranges that it
-/// touches.
+/// Marks `(lo, hi]`, which is above the low water and outside the ranges, as done. The call merges the new range with
+/// the ranges that it touches.
 ///
 /// An error changes nothing.
 pub(crate) fn join(

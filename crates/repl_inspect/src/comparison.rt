@@ -18,7 +18,7 @@ pub struct Comparison {
     differing: Vec<Rev>,
 }
 
-// Written by hand so that it is proved once: docs/DECISIONS.md, "Letting values go".
+// `Drop` is implemented by hand here so that it is proved once (docs/DECISIONS.md, "Letting values go").
 impl Drop for Comparison {
     fn drop(self) {
         let Comparison {

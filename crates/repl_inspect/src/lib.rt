@@ -1,7 +1,7 @@
 //! Questions about databases and replications: what a target lacks of a source, which documents are in conflict, how
 //! much a database contains, what was refused and why, and the complete leaves of a document.
 //!
-//! Nothing here changes a database or reads a log. The rules are in docs/PROFILE.md: "Missing revisions", "Merging",
+//! Nothing here changes a database or reads a log. The rules are in docs/PROFILE.md, "Missing revisions", "Merging",
 //! "Leaves and the winner", "Fetching" and "Covered leaves".
 #![tactic(auto)]
 

@@ -1,6 +1,6 @@
 //! Logs of replications, and the checkpoint on which two sides agree.
 //!
-//! The rules are in docs/PROFILE.md: "Replication ids and logs", "Common checkpoint" and "Limits".
+//! The rules are in docs/PROFILE.md, "Replication ids and logs", "Common checkpoint" and "Limits".
 #![tactic(auto)]
 
 mod checkpoint;

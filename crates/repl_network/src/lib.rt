@@ -1,6 +1,6 @@
 //! Any number of peers, and replications between any two of them: a crate of theorems.
 //!
-//! The rules are in docs/PROFILE.md: "Nets".
+//! The rules are in docs/PROFILE.md, "Nets".
 #![tactic(auto)]
 
 mod along;

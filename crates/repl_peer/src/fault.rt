@@ -92,8 +92,8 @@ pub enum TargetFault {
         rest: Vec<Doc>,
         cause: Cause,
     },
-    /// All documents of the parcel are settled, but a leaf of the window's rows is not covered, so the window is not done.
-    /// The variant names the first such leaf.
+    /// All documents of the parcel are settled, but a leaf of the window's rows is not covered, so the window is not
+    /// done. The variant names the first such leaf.
     #[error("a leaf of the window is not covered")]
     Uncovered {
         seq: u64,

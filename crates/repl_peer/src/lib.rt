@@ -1,7 +1,7 @@
 //! A replication peer: the state that a lock protects, which is a database with its incoming sessions, local writes and
 //! logs.
 //!
-//! The rules are in docs/PROFILE.md: "Sessions of a peer", "Settling" and "Replication ids and logs".
+//! The rules are in docs/PROFILE.md, "Sessions of a peer", "Settling" and "Replication ids and logs".
 #![tactic(auto)]
 
 mod fault;

@@ -342,7 +342,8 @@ impl<F: WriteFilter> Peer<F> {
     /// Settles a parcel of a session: applies its documents in order, then marks its window as done.
     ///
     /// Each document is stored, and counts as written even if it already existed; or it is refused by the filter or as
-    /// a contradiction, and goes into the session's ledger. Returns the numbers of written and of refused documents.
+    /// a contradiction, and goes into the session's ledger. Returns the number of stored documents and the number of
+    /// documents that went into the ledger.
     ///
     /// # Errors
     ///

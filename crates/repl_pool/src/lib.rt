@@ -1,6 +1,6 @@
 //! A pool of fetchers and writers that replicates one peer into another.
 //!
-//! The rules are in docs/PROFILE.md: "The pool".
+//! The rules are in docs/PROFILE.md, "The pool".
 #![tactic(auto)]
 
 mod begin;

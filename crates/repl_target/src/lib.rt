@@ -1,6 +1,6 @@
 //! Replication of one peer into another by one thread, and audits.
 //!
-//! The rules are in docs/PROFILE.md: "Goal and windows", "Common checkpoint" and "Audit". This crate re-exports
+//! The rules are in docs/PROFILE.md, "Goal and windows", "Common checkpoint" and "Audit". This crate re-exports
 //! everything public of `repl_peer`.
 #![tactic(auto)]
 

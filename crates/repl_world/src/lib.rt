@@ -1,6 +1,6 @@
 //! Two peers and a bag of messages, under every order of steps: a crate of theorems.
 //!
-//! The rules are in docs/PROFILE.md: "Worlds" and "Tied windows and messages".
+//! The rules are in docs/PROFILE.md, "Worlds" and "Tied windows and messages".
 #![tactic(auto)]
 
 mod bag;

@@ -6,7 +6,7 @@ ghost use Rattle.rev_core.specs.declared.fault.RevFault.TheVariants.{Memory};
 use std::alloc::{AllocError, AllocFailed};
 use thiserror::Error;
 
-/// Why a string or a list was rejected, or that an allocation failed.
+/// The reason why a string or a list was rejected, or that an allocation failed.
 #[derive(Clone, Copy, Debug, PartialEq, Eq, Error)]
 pub enum RevFault {
     /// The string has no `-`, or the part before the first `-` is not a generation.
@@ -15,10 +15,10 @@ pub enum RevFault {
     /// The signature does not have 1 to 64 bytes, or has a byte other than an ASCII letter, a digit, `-`, `_` or `.`.
     #[error("not a signature of 1 to 64 letters, digits, '-', '_' or '.'")]
     BadSig,
-    /// The list of signatures is empty; an ancestry has at least one revision.
+    /// The list of signatures is empty, but an ancestry has at least one revision.
     #[error("an ancestry without revisions")]
     NoIds,
-    /// There are more signatures than the newest generation, so generations would fall below 1.
+    /// The number of signatures exceeds the newest generation, so a generation would be below 1.
     #[error("more revisions than generations")]
     StartTooSmall,
     /// The parent has the greatest possible generation, 4,294,967,295.

@@ -10,21 +10,21 @@ use std::marker::Model;
 
 /// A revision in 24 bytes instead of the 72 of a `Rev`, for lists of many revisions.
 ///
-/// A short signature is stored in the value itself; any other revision is stored in a heap block. A signature is short
-/// if it is the 32 lower-case hexadecimal digits of a digest, as most signatures are, or has at most 16 bytes.
+/// A revision with a short signature is stored in the value itself, and any other revision in a heap block. A signature
+/// is short if it is the 32 lower-case hexadecimal digits of a digest, as most signatures are, or has at most 16 bytes.
 #[derive(Debug)]
 pub struct KeptRev {
     form: Form,
 }
 
-// Written by hand so that it is proved once: docs/DECISIONS.md, "Letting values go".
+// `Drop` is implemented by hand here so that it is proved once (docs/DECISIONS.md, "Letting values go").
 impl Drop for KeptRev {
     fn drop(self) {
         let KeptRev { form: _ } = self;
     }
 }
 
-/// How the revision is stored.
+/// The two forms in which a revision is stored.
 #[derive(Debug, Drop)]
 enum Form {
     Short {
@@ -50,7 +50,7 @@ impl Model for KeptRev {
 impl KeptRev {
     ghost use Rattle.std.specs.Prelude.{IfOk};
 
-    /// Converts a revision. Allocates only if the signature is not short.
+    /// Converts a revision. The call allocates only if the signature is not short.
     pub fn keep(alloc: Global, rev: &Rev) -> Result<KeptRev, AllocError>
         ensures { IfOk result (λ k. k ≡ rev.now) }
     {
@@ -61,7 +61,7 @@ impl KeptRev {
     }
 
     /// Converts a revision with a short signature, without allocating. Returns `None` if the signature is not short.
-    // Inlined into an edit, this function takes more instructions.
+    // This function is not inlined, because an edit takes more instructions if it is.
     #[inline(never)]
     pub fn short(rev: &Rev) -> Option<KeptRev>
         ensures { result ≡ short_of rev.now }

@@ -1,6 +1,6 @@
-//! Revision ids of CouchDB documents, and ancestries: lists of revisions, newest first.
+//! Revision ids of CouchDB documents, and ancestries, which are lists of revisions, newest first.
 //!
-//! The rules are in docs/PROFILE.md: "Revision ids", "Revision id text", "Ancestries" and "Ids of local edits".
+//! The rules are in docs/PROFILE.md, "Revision ids", "Revision id text", "Ancestries" and "Ids of local edits".
 #![tactic(auto)]
 
 mod ancestry;

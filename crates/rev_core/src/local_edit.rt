@@ -11,8 +11,8 @@ use crate::sig::Sig;
 use md5::{Digest, Md5};
 use std::alloc::{AllocError, Global};
 
-/// Computes the revision id of a local edit: the generation after the parent's, and a digest of the parent, the deleted
-/// flag and the body's serialized form.
+/// Computes the revision id of a local edit. It has the generation after the parent's, and a digest of the parent, the
+/// deleted flag and the body's serialized form.
 ///
 /// # Errors
 ///
@@ -57,7 +57,7 @@ fn edit_sig(
     Ok(digits(&hasher.finalize()))
 }
 
-/// Returns the parent's string, or an empty one if there is no parent.
+/// Returns the parent's string, or an empty string if there is no parent.
 fn parent_text(alloc: Global, parent: Option<Rev>) -> Result<Vec<u8>, AllocError>
     ensures { IfOk result (λ v. v.items ≡ parent_text parent) }
 {

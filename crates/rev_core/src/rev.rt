@@ -49,8 +49,8 @@ impl Rev {
         Rev { generation, sig }
     }
 
-    /// Parses a revision id. The string is split at its first `-`; only the string that `write` returns is accepted for
-    /// a revision.
+    /// Parses a revision id. The call splits the string at its first `-`. It accepts for a revision only the string
+    /// that `write` returns.
     ///
     /// # Errors
     ///
@@ -119,7 +119,7 @@ impl PartialEq for Rev {
     ghost laws = { Cmp.partial_equiv_from_equiv (eq_by_cmp_equiv rev_cmp_total) };
 
     fn eq(&self, other: &Rev) -> bool {
-        // Most compared revisions differ in the generation.
+        // The comparison begins with the generation, because most compared revisions differ in it.
         if self.generation != other.generation {
             return false;
         }

@@ -13,7 +13,7 @@ const DIGITS: usize = 32;
 const ROOM: usize = 16;
 
 /// A short signature, packed into two little-endian integers of eight bytes. `len` is the number of bytes of the
-/// signature; if it is 0, the signature is the 32 hexadecimal digits of the 16 bytes.
+/// signature. A `len` of 0 means that the signature is the 32 hexadecimal digits of the 16 bytes.
 #[derive(Clone, Copy)]
 pub(crate) struct ShortSig {
     pub(crate) len: u8,
@@ -93,8 +93,8 @@ fn is_hex_digit(b: u8) -> bool
     (b >= b'0') & (b <= b'9') | (b >= b'a') & (b <= b'f')
 }
 
-/// Whether all bytes are hexadecimal digits, and if so, their 16 bytes: the first half of the string has the high
-/// digits of all bytes, the second half the low digits.
+/// Whether each byte is a hexadecimal digit, and the 16 bytes that the digits encode. The first half of the string has
+/// the high digits of all bytes, and the second half the low digits.
 fn joined(text: &[u8]) -> ([u8; ROOM], bool)
     requires { length text.now ≡ 32 }
     ensures all { result.1 ≡ list_all is_hex_digit text.now }
@@ -102,7 +102,7 @@ fn joined(text: &[u8]) -> ([u8; ROOM], bool)
 {
     let mut bytes = [0; ROOM];
     let mut all = true;
-    // One loop without an early exit, so that the compiler can process many bytes per instruction.
+    // The loop has no early exit, so that the compiler can process many bytes per instruction.
     for i in 0..ROOM {
         let (high, low) = (text[i], text[i + ROOM]);
         all = is_hex_digit(high) & is_hex_digit(low) & all;
@@ -111,7 +111,7 @@ fn joined(text: &[u8]) -> ([u8; ROOM], bool)
     (bytes, all)
 }
 
-/// Returns the value of a digit. For any other byte the value is unspecified, but below 16.
+/// Returns the value of a hexadecimal digit. For any other byte the value is unspecified, but below 16.
 fn value_of(digit: u8) -> u8
     ensures low { result < 16 }
     ensures digit { is_hex_digit digit ≡ true → digit_of result ≡ digit }
@@ -123,7 +123,7 @@ fn value_of(digit: u8) -> u8
     }
 }
 
-/// Formats bytes as digits: the high digits of all bytes, then the low digits.
+/// Formats bytes as hexadecimal digits. The high digits of all bytes come first, and then the low digits.
 fn digits_of(bytes: &[u8; ROOM]) -> [u8; DIGITS]
     ensures { result ≡ digits_of bytes.now }
 {

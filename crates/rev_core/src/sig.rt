@@ -1,4 +1,4 @@
-//! Signatures: the part of a revision id after the `-`.
+//! Signatures are the parts of revision ids after the `-`.
 ghost use Rattle.std.specs.Prelude.{◌≡◌, ◌≤◌, ◌∷◌, [], true, length, nat_eq};
 ghost use Rattle.std.specs.List.{list_all};
 ghost use Rattle.std.specs.Ordering.{nat_cmp, as_partial_cmp};
@@ -69,7 +69,7 @@ impl Sig {
         &self.bytes[..self.len as usize]
     }
 
-    /// Returns the first sixteen bytes of the signature, followed by zeros if it is shorter.
+    /// Returns the first sixteen bytes of the signature, with zeros after a shorter signature.
     pub(crate) fn front(&self) -> [u8; 16]
         ensures { result ≡ take 16 (padded self.now) }
     {
@@ -115,7 +115,7 @@ impl Ord for Sig {
     ghost matches_eq = { Prim.search (comparing, rules) };
 
     fn cmp(&self, other: &Sig) -> Ordering {
-        // Most compared signatures differ in the first byte.
+        // The comparison begins with the first byte, because most compared signatures differ in it.
         let (first, against) = (self.bytes[0], other.bytes[0]);
         if first != against {
             return first.cmp(&against);
@@ -142,7 +142,7 @@ fn is_sig(text: &[u8]) -> bool
     1 <= text.len() && text.len() <= MOST_BYTES && all
 }
 
-/// Whether all bytes are allowed in a signature.
+/// Whether each byte of a string is allowed in a signature.
 fn all_sig_bytes(text: &[u8]) -> bool
     ensures { result ≡ list_all is_sig_byte text.now }
 {
@@ -161,14 +161,14 @@ fn is_sig_byte(b: u8) -> bool
     b.is_ascii_alphanumeric() || b == b'-' || b == b'_' || b == b'.'
 }
 
-/// Returns the string, followed by zeros up to 64 bytes.
+/// Returns the string with zeros after it, 64 bytes in all.
 fn padded(text: &[u8]) -> [u8; 64]
     requires { length text.now ≤ 64 }
     ensures { result ≡ padded text.now }
 {
     let mut bytes = [0; 64];
     if text.len() == 32 {
-        // Most signatures are the digits of a digest: a copy of a known length needs no call.
+        // Most signatures are the digits of a digest, and a copy of a known length needs no call.
         bytes[..32].copy_from_slice(text);
     } else {
         bytes[..text.len()].copy_from_slice(text);

@@ -1,6 +1,6 @@
 //! Revision trees of CouchDB documents, and merging into them.
 //!
-//! The rules are in docs/PROFILE.md: "Revision trees", "Merging" and "Leaves and the winner".
+//! The rules are in docs/PROFILE.md, "Revision trees", "Merging" and "Leaves and the winner".
 #![tactic(auto)]
 
 mod content;

@@ -29,7 +29,7 @@ fn row_in(rows: &[Row], id: &DocId) -> Option<usize>
     None
 }
 
-/// Returns the index of a row with an id. Tries the row after `from`, then the rows after that row, then all rows before.
+/// Returns the index of a row with an id. Tries the row after `from`, then the later rows, then the earlier rows.
 ///
 /// The next document of a parcel usually has the next row, or the same row.
 pub(crate) fn row_from(rows: &[Row], id: &DocId, from: usize) -> Option<usize>
