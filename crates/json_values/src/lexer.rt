@@ -1,4 +1,4 @@
-//! Lexemes of a text, read in order.
+//! Reads the lexemes of a JSON text in order.
 ghost use Rattle.std.specs.Prelude.{◌≡◌, ◌≢◌, ◌≤◌, ℕ, List, [], length, drop, true, Some, None, MatchOption, IfSome};
 ghost use Rattle.json.specs.Text.{content, plain};
 ghost use Rattle.json.specs.Word.{head, word};
@@ -18,15 +18,15 @@ use json::Token;
 use serde_json::Number;
 use std::marker::Model;
 
-/// A text and the position up to which it has been read. A clause sees the text from the next lexeme on.
+/// A JSON text and the position up to which it has been read. Clauses see the text from the next lexeme on.
 #[derive(Drop)]
 pub(crate) struct Lexer<'a> {
     text: &'a str,
     /// The position of the next lexeme.
     at: usize,
-    /// The buffer for unescaped strings. It is at least as long as the remaining text.
+    /// The buffer for unescaped strings. The buffer is at least as long as the remaining text.
     room: &'a mut [u8],
-    /// What is known about the strings read so far.
+    /// The facts that are known about the strings read so far.
     plain: PlainTexts,
 }
 
@@ -73,7 +73,7 @@ impl<'a> Lexer<'a> {
         byte_at(self.text.as_bytes(), self.at)
     }
 
-    /// Returns what is known about the strings read so far.
+    /// Returns the facts that are known about the strings read so far.
     #[inline(always)]
     pub(crate) fn plain(&self) -> PlainTexts
         ensures { result ≡ self.now.plain }
@@ -105,8 +105,8 @@ impl<'a> Lexer<'a> {
         Some(token)
     }
 
-    /// Reads the next number if it has only a few digits, with an optional minus sign. If another lexeme comes next,
-    /// nothing is read.
+    /// Reads the next lexeme if it is a number of a few digits with an optional minus sign. If another lexeme comes
+    /// next, the call reads nothing.
     #[inline(always)]
     pub(crate) fn integer(&mut self) -> Option<Number>
         ensures kept { result ≡ None → self.new ≡ self.old }

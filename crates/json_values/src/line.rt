@@ -17,7 +17,7 @@ pub enum LineValue<'a> {
     Object(Vec<(&'a str, LineValue<'a>)>),
 }
 
-// Written by hand, so that dropping a value that owns no memory needs no call.
+// `Drop` is implemented by hand, so that dropping a value that owns no memory needs no call.
 impl<'a> Drop for LineValue<'a> {
     #[cycle(dropping)]
     #[inline(always)]
@@ -132,7 +132,7 @@ fn find<'v, 'a>(members: &'v Vec<(&'a str, LineValue<'a>)>, name: &str) -> Optio
     None
 }
 
-/// Whether two strings are equal. Compares lengths and last bytes first, which usually decide.
+/// Whether two strings are equal. The comparison begins with the lengths and the last bytes, which usually decide.
 #[inline(always)]
 pub fn is_same_text(a: &str, b: &str) -> bool
     ensures { result ≡ bytes_eq a.now b.now }

@@ -11,8 +11,8 @@ use crate::plain_texts::PlainTexts;
 use std::alloc::Global;
 use std::marker::Model;
 
-/// A line: a JSON value and what is known about its strings. A clause sees the value. At each depth, the members are in
-/// byte order of their names.
+/// A line that was read, which is a JSON value with the facts about its strings. Clauses see the value. At each depth,
+/// the members are in byte order of their names.
 #[derive(Drop)]
 pub struct Line<'a> {
     value: LineValue<'a>,
@@ -90,7 +90,7 @@ impl<'a> Line<'a> {
     }
 }
 
-/// A value inside a line. A clause sees the value. At each depth, the members are in byte order of their names.
+/// A JSON value inside a line. Clauses see the value. At each depth, the members are in byte order of their names.
 #[derive(Drop)]
 pub struct LinePart<'v, 'a> {
     value: &'v LineValue<'a>,

@@ -13,12 +13,12 @@ use std::mem;
 /// The number of members up to which a member out of order is inserted into a list.
 const FEW: usize = 64;
 
-/// The members of an object; each name occurs once.
+/// The members of an object, in which each name occurs once.
 #[derive(Drop)]
 pub(crate) enum Members<'a, T> {
-    /// A list: there are few members, or they came in order.
+    /// A list, for few members, or for members that came in order.
     Listed(Vec<(&'a str, T)>),
-    /// A map: there are many members, and they came out of order.
+    /// A map, for many members that came out of order.
     Mapped(BTreeMap<&'a str, T>),
 }
 
@@ -110,7 +110,7 @@ fn put_mapped<'a, T: Drop>(
     Ok(())
 }
 
-/// Inserts a member into a list: appends it, then moves it to its position.
+/// Inserts a member into a list. The call appends the member, and then moves it to its position.
 #[inline(always)]
 fn put_listed<'a, T: Drop>(
     entries: &mut Vec<(&'a str, T)>,
@@ -146,7 +146,7 @@ fn move_last<'a, T>(entries: &mut Vec<(&'a str, T)>, place: usize)
     }
 }
 
-/// Compares two names by their bytes. The first bytes usually decide.
+/// Compares two names by their bytes. The comparison begins with the first bytes, which usually decide.
 #[inline(always)]
 fn order_of(a: &str, b: &str) -> Ordering
     ensures { result ≡ slice_cmp nat_cmp a.now b.now }
@@ -165,7 +165,7 @@ fn order_of(a: &str, b: &str) -> Ordering
     }
 }
 
-/// Compares two names with the same first byte. The second bytes usually decide.
+/// Compares two names with the same first byte. The comparison begins with the second bytes, which usually decide.
 #[inline(always)]
 fn order_behind(a: &str, b: &str) -> Ordering
     requires { (0 < length a.now) × (0 < length b.now) × (slice_index a.now 0 ≡ slice_index b.now 0) }
@@ -199,8 +199,8 @@ fn comes_last<T>(entries: &[(&str, T)], name: &str) -> bool
     }
 }
 
-/// Returns the index of the member with a name as `Ok`, or the index at which to insert it as `Err`. Searches from the
-/// end, since names usually come nearly in order.
+/// Returns the index of the member with a name as `Ok`, or the index at which to insert it as `Err`. The call searches
+/// from the end, because names usually come nearly in order.
 #[inline(always)]
 fn place_of<T>(entries: &[(&str, T)], name: &str) -> Result<usize, usize>
     requires { IsRising entries.now }

@@ -1,14 +1,14 @@
-//! Which strings of a line need no escapes.
+//! Facts about which strings of a line need no escapes.
 ghost use Rattle.std.specs.Prelude.{◌≡◌, true, false};
 ghost use Rattle.json_values.specs.Plain.{Narrows};
 
-/// Which strings of a line are known to need no escapes: they contain no quotation mark, no backslash and no control
-/// byte, so they can be written as JSON unchanged.
+/// The facts about which strings of a line need no escapes. Such a string contains no quotation mark, no backslash and
+/// no control byte, so it can be written as JSON unchanged.
 #[derive(Clone, Copy, Drop)]
 pub struct PlainTexts {
     /// All names of members.
     pub names: bool,
-    /// All strings that are values.
+    /// All strings of the line that are values.
     pub values: bool,
 }
 

@@ -16,7 +16,7 @@ use std::alloc::{AllocError, Global};
 const MAX_DEPTH: usize = 127;
 
 /// Reads JSON values, and reuses its buffer for all of them. The buffer grows to the length of the longest text. No
-/// read depends on an earlier one, or on its result.
+/// read depends on an earlier read or on its result.
 #[derive(Drop)]
 pub struct ValueReader {
     /// The buffer for unescaped strings.
@@ -38,7 +38,7 @@ impl ValueReader {
     ///
     /// - `NotJson`: the bytes are not UTF-8, are not one JSON value, nest deeper than 127, or contain a number too
     ///   large for a float.
-    /// - `Memory`: an allocation failed. Possible for any input that is not empty.
+    /// - `Memory`: an allocation failed. `Memory` is possible for any input that is not empty.
     pub fn read_line<'a>(
         &'a mut self,
         alloc: Global,

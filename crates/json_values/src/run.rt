@@ -1,4 +1,4 @@
-//! Skipping blanks, digits, and the unescaped content of a string.
+//! Skips blanks, digits, and the unescaped content of a string.
 ghost use Rattle.std.specs.Prelude.{◌≡◌, ◌+◌, ◌<◌, ◌≤◌, length, drop, get_or, true, IsTrue};
 ghost use Rattle.std.specs.Prelude.{map};
 ghost use Rattle.std.specs.List.{prefix_len};
@@ -87,7 +87,7 @@ fn plain_end_slowly(text: &[u8], from: usize) -> usize
     i
 }
 
-/// As `plain_end`, for a text of fewer than eight bytes.
+/// Does the same as `plain_end`, for a text of fewer than eight bytes.
 #[inline(always)]
 fn plain_end_4(text: &[u8], from: usize) -> usize
     requires { from ≤ length text.now }
@@ -103,7 +103,7 @@ fn plain_end_4(text: &[u8], from: usize) -> usize
     plain_end_slowly(text, from + 4)
 }
 
-/// As `plain_end`, for the last eight bytes of a text or fewer.
+/// Does the same as `plain_end`, for at most the last eight bytes of a text.
 #[inline(always)]
 fn plain_end_of_8(text: &[u8], from: usize) -> usize
     requires { (8 ≤ length text.now) × (length text.now ≤ from + 8) × (from ≤ length text.now) }
@@ -117,7 +117,7 @@ fn plain_end_of_8(text: &[u8], from: usize) -> usize
     text.len()
 }
 
-/// As `plain_end`, for a text of which fewer than sixteen bytes remain.
+/// Does the same as `plain_end`, for a text of which fewer than sixteen bytes remain.
 #[inline(never)]
 fn plain_end_short(text: &[u8], from: usize) -> usize
     requires { (from ≤ length text.now) × (length text.now < from + 16) }
@@ -136,7 +136,7 @@ fn plain_end_short(text: &[u8], from: usize) -> usize
     plain_end_of_8(text, from + 8)
 }
 
-/// As `plain_end`, for the last bytes of a text, fewer than sixteen.
+/// Does the same as `plain_end`, for fewer than sixteen bytes at the end of a text.
 #[inline(always)]
 fn plain_end_last(text: &[u8], from: usize) -> usize
     requires { (from ≤ length text.now) × (length text.now < from + 16) }
@@ -189,7 +189,8 @@ pub fn is_plain(text: &[u8]) -> bool
     stops_16(u8x16::from_slice(&text[text.len() - 16..])) == 0
 }
 
-/// As `is_plain`, for fewer than sixteen bytes. Tests the first and the last eight (or four) bytes, which may overlap.
+/// Does the same as `is_plain`, for fewer than sixteen bytes. The call tests the first and the last eight (or four)
+/// bytes, which may overlap.
 #[inline(always)]
 fn is_plain_short(text: &[u8]) -> bool
     requires { length text.now < 16 }
@@ -204,7 +205,7 @@ fn is_plain_short(text: &[u8]) -> bool
     is_plain_8(text)
 }
 
-/// As `is_plain`, for four to eight bytes.
+/// Does the same as `is_plain`, for four to eight bytes.
 #[inline(always)]
 fn is_plain_4(text: &[u8]) -> bool
     requires { (4 ≤ length text.now) × (length text.now ≤ 8) }
@@ -215,7 +216,7 @@ fn is_plain_4(text: &[u8]) -> bool
     (first == 0) & (last == 0)
 }
 
-/// As `is_plain`, for eight to sixteen bytes.
+/// Does the same as `is_plain`, for eight to sixteen bytes.
 #[inline(always)]
 fn is_plain_8(text: &[u8]) -> bool
     requires { (8 ≤ length text.now) × (length text.now ≤ 16) }

@@ -1,4 +1,4 @@
-//! The tokens of a text: its lexemes, with commas and colons checked.
+//! Reads the tokens of a JSON text, which are its lexemes, and checks commas and colons.
 ghost use Rattle.std.specs.Prelude.{◌≡◌, ◌≢◌, ◌≤◌, ◌⊎◌, ℕ, List, [], ◌∷◌, length, true, false, Some, None, IfOk, IfSome, MatchOption, MatchResult};
 ghost use Rattle.std.specs.Bool.{MatchBool};
 ghost use Rattle.json.specs.Word.{head};
@@ -29,7 +29,7 @@ pub(crate) enum Place {
 }
 
 impl Place {
-    /// Whether an array or an object may end here.
+    /// Whether an array or an object may end at this grammatical position.
     #[inline(always)]
     fn may_close(self) -> bool
         ensures { result ≡ closes_at self }
@@ -37,7 +37,7 @@ impl Place {
         matches!(self, Place::Fresh | Place::AfterValue)
     }
 
-    /// Whether a value or a name may begin here.
+    /// Whether a value or a name may begin at this grammatical position.
     #[inline(always)]
     fn may_begin(self) -> bool
         ensures { result ≡ begins_at self }
@@ -46,7 +46,7 @@ impl Place {
     }
 }
 
-/// The tokens of a text. A clause sees the remaining tokens.
+/// The tokens of a JSON text. Clauses see the remaining tokens.
 #[derive(Drop)]
 pub(crate) struct Tokens<'a> {
     lexer: Lexer<'a>,
@@ -146,7 +146,7 @@ fn close<'a>(lexer: &mut Lexer<'a>, c: u8) -> (Token<'a>, Place)
     }
 }
 
-/// Returns the bad token, after which there are no others.
+/// Returns the token for invalid text, after which no other token follows.
 #[cold]
 fn refuse<'a>(place: Place) -> (Option<Token<'a>>, Place)
     ensures { Yields (refused_at place) result.0 [] × (result.1 ≡ Place.Failed) }
@@ -190,7 +190,8 @@ fn read<'a>(lexer: &mut Lexer<'a>, place: Place) -> (Option<Token<'a>>, Place)
 }
 
 impl<'a> Tokens<'a> {
-    /// Creates the tokens of a text. Strings with escapes are written to `room`; all others are slices of the text.
+    /// Creates the tokens of a text. Strings with escapes are unescaped into the buffer `room`, and all other strings
+    /// are slices of the text.
     #[inline(always)]
     pub(crate) fn new(text: &'a str, room: &'a mut [u8]) -> Tokens<'a>
         requires { length text.now ≤ length room.old }
@@ -202,7 +203,7 @@ impl<'a> Tokens<'a> {
         }
     }
 
-    /// Returns what is known about the strings read so far.
+    /// Returns the facts that are known about the strings read so far.
     #[inline(always)]
     pub(crate) fn plain(&self) -> PlainTexts
         ensures { result ≡ self.now.plain }
@@ -223,8 +224,8 @@ impl<'a> Tokens<'a> {
         token
     }
 
-    /// Reads the next token if it is the name of a member. Otherwise a following name or end of an object can still be
-    /// read.
+    /// Reads the next token if it is the name of a member. If another token comes next, a name or the end of an object
+    /// can still be read.
     #[inline(always)]
     pub(crate) fn take_key(&mut self) -> Option<&'a str>
         ensures name { MatchOption result
@@ -283,7 +284,7 @@ impl<'a> Tokens<'a> {
         Some(number)
     }
 
-    /// Reads the closing brace of an object, if it is next.
+    /// Reads the closing brace of an object, if that brace comes next.
     #[inline(always)]
     pub(crate) fn take_end_object(&mut self) -> bool
         ensures end { MatchBool result (read_key self.old.tokens ≡ Some (None, self.new.tokens))
@@ -298,8 +299,8 @@ impl<'a> Tokens<'a> {
         true
     }
 
-    /// Returns the capacity for an array or object whose first element is next: eight, since most have no more, or 0 if
-    /// it ends here.
+    /// Returns the initial capacity for an array or object whose first element comes next. The capacity is eight,
+    /// because most have no more elements, or 0 if the array or object is empty.
     #[inline(always)]
     pub(crate) fn room(&self) -> usize {
         let next = self.lexer.peek();
@@ -310,7 +311,7 @@ impl<'a> Tokens<'a> {
         }
     }
 
-    /// Reads the closing bracket of an array, if it is next.
+    /// Reads the closing bracket of an array, if that bracket comes next.
     #[inline(always)]
     pub(crate) fn take_end_array(&mut self) -> bool
         ensures end { MatchBool result (after_end_array self.old.tokens ≡ Some self.new.tokens)

@@ -1,4 +1,4 @@
-//! Unescaping the content of a string into a buffer.
+//! Unescapes the content of a string into a buffer.
 ghost use Rattle.std.specs.Prelude.{◌≡◌, ◌+◌, ◌-◌, ◌<◌, ◌≤◌, ◌++◌, length, take, drop, get_or, Some, None, MatchOption, IfSome};
 ghost use Rattle.std.specs.Char.{digit_value};
 ghost use Rattle.std.specs.Str.{IsUtf8, IsCharBoundary};
@@ -19,7 +19,8 @@ fn append(out: &mut [u8], at: usize, bytes: &[u8])
     out[at..at + bytes.len()].copy_from_slice(bytes);
 }
 
-/// Copies the bytes from `from` to `to`. Copies complete vectors if both sides have space for the excess bytes.
+/// Copies the bytes from `from` to `to`. The call copies complete vectors if both sides have space for the excess
+/// bytes.
 #[inline(always)]
 fn append_run(out: &mut [u8], at: usize, text: &[u8], from: usize, to: usize)
     requires { (from ≤ to) × (to ≤ length text.now) × (at + (to - from) ≤ length out.old) }
@@ -121,7 +122,7 @@ fn unicode(text: &[u8], i: usize) -> Option<(char, usize)>
     Some((c, i + 4))
 }
 
-/// Reads the rest of an escape after its backslash, at index `i`: the character, and the index after the escape.
+/// Reads the rest of an escape after its backslash, at index `i`. Returns the character and the index after the escape.
 fn escape(text: &[u8], i: usize) -> Option<(char, usize)>
     requires { i ≤ length text.now }
     ensures { Escape text.now after_backslash i result }

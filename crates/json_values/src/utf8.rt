@@ -4,7 +4,7 @@ ghost use Rattle.std.specs.Str.{IsAscii, IsUtf8};
 
 use std::simd::prelude::*;
 
-/// Returns the bytes as a string if they are UTF-8. Usually they are ASCII, which is tested first.
+/// Returns the bytes as a string if they are UTF-8. The bytes are usually ASCII, which the call tests first.
 #[inline(never)]
 pub(crate) fn text_of(bytes: &[u8]) -> Option<&str>
     ensures { MatchOption result (¬ (IsUtf8 bytes.now)) (λ s. (s.now ≡ bytes.now) × IsUtf8 bytes.now) }
@@ -44,7 +44,7 @@ fn is_ascii_16(v: u8x16) -> bool
     v.simd_ge(u8x16::splat(128)).to_bitmask() == 0
 }
 
-/// As `is_ascii`, for fewer than sixteen bytes.
+/// Does the same as `is_ascii`, for fewer than sixteen bytes.
 fn is_ascii_slowly(bytes: &[u8]) -> bool
     ensures { IsTrue result → IsAscii bytes.now }
 {

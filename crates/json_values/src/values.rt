@@ -16,7 +16,7 @@ use crate::tokens::Tokens;
 use json::Token;
 use std::alloc::Global;
 
-/// Reads the next value, of at most this nesting depth. Tries a string first, since most values are strings.
+/// Reads the next value, of at most this nesting depth. The call tries a string first, because most values are strings.
 #[cycle(read)]
 #[inline(always)]
 pub(crate) fn read_value<'a>(
@@ -39,7 +39,8 @@ pub(crate) fn read_value<'a>(
     }
 }
 
-/// Reads the next value if it is not a string. Tries an integer first, since most other values are integers.
+/// Reads the next value if it is not a string. The call tries an integer first, because most values that are not
+/// strings are integers.
 #[cycle(read)]
 #[inline(always)]
 fn read_no_text<'a>(
@@ -61,8 +62,8 @@ fn read_no_text<'a>(
     }
 }
 
-/// Reads the next value if it is neither a string nor an integer. A separate function, so that its callers are small
-/// enough to be inlined.
+/// Reads the next value if it is neither a string nor an integer. This is a separate function so that its callers are
+/// small enough to be inlined.
 #[cycle(read)]
 #[inline(never)]
 fn read_other<'a>(

@@ -52,7 +52,7 @@ fn whole(text: &[u8], i: usize) -> Option<usize>
     }
 }
 
-/// Returns the end of the fraction, if there is one.
+/// Returns the end of the number's fraction, if it has one.
 #[inline(always)]
 fn fraction(text: &[u8], i: usize) -> Option<usize>
     requires { i ≤ length text.now }
@@ -65,7 +65,7 @@ fn fraction(text: &[u8], i: usize) -> Option<usize>
     }
 }
 
-/// Returns the end of the sign, if there is one.
+/// Returns the end of the exponent's sign, if it has one.
 #[inline(always)]
 fn sign_end(text: &[u8], i: usize) -> usize
     requires { i ≤ length text.now }
@@ -76,7 +76,7 @@ fn sign_end(text: &[u8], i: usize) -> usize
     if (c == b'-') | (c == b'+') { i + 1 } else { i }
 }
 
-/// Returns the end of the minus sign, if there is one.
+/// Returns the end of the number's minus sign, if it has one.
 #[inline(always)]
 fn minus_end(text: &[u8], i: usize) -> usize
     requires { i ≤ length text.now }
@@ -86,7 +86,7 @@ fn minus_end(text: &[u8], i: usize) -> usize
     if byte_at(text, i) == b'-' { i + 1 } else { i }
 }
 
-/// Returns the end of the exponent, if there is one.
+/// Returns the end of the number's exponent, if it has one.
 #[inline(always)]
 fn exponent(text: &[u8], i: usize) -> Option<usize>
     requires { i ≤ length text.now }
@@ -161,7 +161,7 @@ pub(crate) fn word<'a>(text: &'a str, from: usize) -> Option<(Token<'a>, usize)>
     }
 }
 
-/// Returns the value and the number of the digits at the front, unless there are too many.
+/// Returns the value and the number of digits at the front of a text, unless the text has too many digits.
 #[inline(always)]
 fn digits_sum(rest: &[u8]) -> Option<(u64, usize)>
     ensures bounds { IfSome result (λ r. (0 < r.1) × (r.1 ≤ length rest.now) × (r.0 < 2 ^ 63)) }

@@ -1,4 +1,4 @@
-//! Counting the content of a database.
+//! Counts the content of a database.
 ghost use Rattle.std.specs.Prelude.{◌≡◌, ◌++◌, ◌∷◌, [], ◌≤◌, List, IfOk, OnOk, OnErr, map};
 ghost use Rattle.rev_tree.specs.Tree.{TreeValue};
 ghost use Rattle.couch_base.specs.Database.{tree_of};
@@ -21,7 +21,7 @@ pub struct Census {
     pub documents: u64,
     /// The number of documents without a live leaf.
     pub deleted: u64,
-    /// The number of documents in conflict: with two or more live leaves.
+    /// The number of documents in conflict, which have two or more live leaves.
     pub conflicts: u64,
     /// The number of leaves.
     pub leaves: u64,
@@ -30,7 +30,7 @@ pub struct Census {
 }
 
 impl Census {
-    /// The counts of no documents.
+    /// Returns the counts of an empty set of documents.
     pub fn none() -> Census
         ensures { result ≡ census_of [] }
     {
@@ -43,7 +43,7 @@ impl Census {
         }
     }
 
-    /// Adds a document's tree to the counts. If an allocation fails, nothing is added.
+    /// Adds a document's tree to the counts. If an allocation fails, the call adds nothing.
     pub fn add(&mut self, alloc: Global, tree: &Tree) -> Result<(), AllocError>
         ensures ok { OnOk result ((earlier : List TreeValue) → self.old ≡ census_of earlier
             → self.new ≡ census_of (earlier ++ tree.now ∷ [])) }
@@ -59,7 +59,7 @@ impl Census {
     }
 }
 
-/// Counts the content of a database. Reads the feed in pages.
+/// Counts the content of a database. The call reads the feed in pages.
 pub fn census_of(alloc: Global, database: &Database) -> Result<Census, AllocError>
     ensures { IfOk result (λ c. c ≡ census_of (trees database.now)) }
 {

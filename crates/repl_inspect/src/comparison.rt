@@ -1,4 +1,4 @@
-//! Comparing one document of a source with a target's.
+//! Compares one document of a source with the target's document.
 ghost use Rattle.std.specs.Prelude.{◌≡◌, true, filter, IfOk};
 ghost use Rattle.std.specs.List.{list_all};
 ghost use Rattle.std.specs.Option.{option_copied};
@@ -10,7 +10,7 @@ use rev_tree::{Content, Contradiction, Revs, Tree};
 use std::alloc::{AllocError, Global};
 use std::marker::Model;
 
-/// What a target lacks of one document of a source.
+/// The differences between one document of a source and the target's document.
 pub struct Comparison {
     leaves: usize,
     missing: Revs,
@@ -53,22 +53,23 @@ impl Comparison {
         self.leaves
     }
 
-    /// Returns its leaves that the target's tree lacks, winner first.
+    /// Returns the source's leaves that the target's tree lacks, winner first.
     pub fn missing(&self) -> &[Rev]
         ensures { result.now ≡ self.now.missing }
     {
         self.missing.as_slice()
     }
 
-    /// Returns the first revision in the ancestries of the missing leaves to which the target gives another parent:
-    /// leaf by leaf, each newest first. The target would refuse that leaf.
+    /// Returns the first revision in the ancestries of the missing leaves to which the target gives another parent.
+    /// Leaves are searched in order, and each ancestry from the newest revision on. The target would refuse the leaf
+    /// with such a revision in its ancestry.
     pub fn contradiction(&self) -> Option<Contradiction>
         ensures { result ≡ self.now.contradiction }
     {
         self.contradiction
     }
 
-    /// Returns its leaves of which both sides have a content, and the contents differ, winner first.
+    /// Returns the source's leaves of which both sides have different contents, winner first.
     pub fn differing(&self) -> &[Rev]
         ensures { result.now ≡ self.now.differing }
     {
@@ -76,7 +77,7 @@ impl Comparison {
     }
 }
 
-/// Compares a document's tree at a source with the target's.
+/// Compares a document's tree at a source with the target's tree.
 pub(crate) fn compare_trees(
     alloc: Global,
     source: &Tree,
@@ -96,7 +97,8 @@ pub(crate) fn compare_trees(
     })
 }
 
-/// Returns the first contradiction of the ancestries of leaves with the target's tree. The leaves are the source's.
+/// Returns the first contradiction of the ancestries of leaves with the target's tree. The leaves are leaves of the
+/// source.
 fn first_under(
     alloc: Global,
     source: &Tree,
@@ -115,7 +117,7 @@ fn first_under(
     Ok(None)
 }
 
-/// Returns the revisions of which both trees have a content, and the contents differ.
+/// Returns the revisions of which both trees have different contents.
 fn differing_of(
     alloc: Global,
     source: &Tree,
@@ -133,7 +135,7 @@ fn differing_of(
     Ok(found)
 }
 
-/// Whether both trees have a content of a revision, and the contents differ.
+/// Whether both trees have different contents of a revision.
 fn is_other(source: &Tree, target: &Tree, rev: Rev) -> bool
     ensures { result ≡ differs source.now target.now rev }
 {

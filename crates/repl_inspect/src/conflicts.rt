@@ -7,7 +7,7 @@ use rev_core::Rev;
 use rev_tree::Tree;
 use std::alloc::{AllocError, Global};
 
-/// Returns the live leaves of a document, winner first, if there are two or more; otherwise an empty list.
+/// Returns the live leaves of a document, winner first, if it has two or more, and otherwise an empty list.
 pub fn conflicting(alloc: Global, tree: &Tree) -> Result<Vec<Rev>, AllocError>
     ensures { IfOk result (λ v. v.items ≡ conflicting tree.now) }
 {
@@ -26,7 +26,7 @@ pub(crate) fn live(alloc: Global, tree: &Tree) -> Result<Vec<Rev>, AllocError>
     live_of(alloc, tree, leaves.as_slice())
 }
 
-/// Returns those of the revisions that are not deleted.
+/// Returns the revisions that are not deleted.
 fn live_of(alloc: Global, tree: &Tree, revs: &[Rev]) -> Result<Vec<Rev>, AllocError>
     ensures { IfOk result (λ v. v.items ≡ filter (λ r. not (is_deleted tree.now r)) revs.now) }
 {

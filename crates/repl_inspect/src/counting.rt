@@ -1,4 +1,4 @@
-//! Counts of documents and revisions.
+//! Adds counts of documents and revisions.
 ghost use Rattle.std.specs.Prelude.{◌≡◌, ◌+◌, if◌then◌else◌};
 ghost use Rattle.repl_inspect.specs.Counting.{counted};
 

@@ -1,4 +1,4 @@
-//! Comparing the complete feed of a source with a target, and what that says about coverage.
+//! Compares the complete feed of a source with a target, and states what the result says about coverage.
 ghost use Rattle.std.specs.Prelude.{◌≡◌, IfOk};
 ghost use Rattle.std.specs.Option.{option_copied};
 ghost use Rattle.couch_base.specs.Feed.{chosen_feed};
@@ -13,11 +13,11 @@ use doc_json::Chosen;
 use repl_target::{Peer, WriteFilter};
 use std::alloc::{AllocError, Global};
 
-/// Returns the total of what a target lacks of a source's complete feed, or of the feed of selected documents. Ignores
-/// logs; reads the source's feed in pages.
+/// Returns the total of the differences between a source's complete feed, or its feed of selected documents, and a
+/// target. The call ignores logs, and reads the source's feed in pages.
 ///
 /// If no leaf is missing, the target covers the complete feed. If the target covers the complete feed, each missing
-/// leaf is in a ledger of the target; so if all ledgers are empty, none is missing.
+/// leaf is in a ledger of the target. If all ledgers are empty as well, no leaf is missing.
 pub fn compare_feed<F: WriteFilter, G: WriteFilter>(
     alloc: Global,
     source: &Peer<F>,

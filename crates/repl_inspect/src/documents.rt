@@ -14,8 +14,8 @@ use rev_core::Rev;
 use rev_tree::Tree;
 use std::alloc::{AllocError, Global};
 
-/// Returns the leaves of a document, winner first, each as a document with its known ancestry and its content; an empty
-/// list if the database does not have the document.
+/// Returns the leaves of a document, winner first, each as a document with its known ancestry and its content. The list
+/// is empty if the database does not have the document.
 ///
 /// If the documents of all rows of a feed are loaded in order into a peer without documents and sessions, with enough
 /// sequences left, all are accepted, and each selected document is then as it is here.
@@ -47,7 +47,7 @@ fn documents_at(
     Ok(found)
 }
 
-/// Returns a leaf of a document as a document, with its ancestry and its content; a leaf always has a content.
+/// Returns a leaf of a document as a document, with its ancestry and its content. A leaf always has a content.
 pub fn leaf_document(
     alloc: Global,
     database: &Database,

@@ -1,4 +1,4 @@
-//! Comparing one document, or all documents of a source's feed, with a target.
+//! Compares one document, or all documents of a source's feed, with a target.
 ghost use Rattle.std.specs.Prelude.{◌≡◌, ◌++◌, List, IfOk, OnOk};
 ghost use Rattle.std.specs.Option.{option_copied};
 ghost use Rattle.couch_base.specs.Feed.{chosen_feed};
@@ -17,8 +17,8 @@ use std::alloc::{AllocError, Global};
 /// The number of feed rows that are read at once.
 const PAGE: u64 = 1000;
 
-/// Compares a document of a source with the target's, by their trees only; replications do not matter. A missing
-/// document counts as one without revisions.
+/// Compares a document of a source with the target's document by their trees alone, without regard to replications. A
+/// missing document counts as a document without revisions.
 pub fn compare(
     alloc: Global,
     source: &Database,
@@ -33,7 +33,7 @@ pub fn compare(
     compare_trees(alloc, ours, theirs)
 }
 
-/// Returns the total of what a target's database lacks of a source's feed.
+/// Returns the total of the differences between a source's feed and a target's database.
 pub(crate) fn compare_databases(
     alloc: Global,
     source: &Database,

@@ -4,13 +4,13 @@ ghost use Rattle.repl_inspect.specs.Ledgers.{Says};
 use repl_target::{Reason, Refused};
 use rev_core::Rev;
 
-/// Why a document was refused, and for which revision.
+/// The reason why a document was refused, and the revision that caused the refusal.
 #[derive(Clone, Copy, Debug)]
 pub enum LedgerRow {
-    /// The write filter refuses the document, whose newest revision this is.
+    /// The write filter refuses the document. The variant names the document's newest revision.
     Denied { rev: Rev },
-    /// The document's ancestry gives this revision another parent than the tree; this is the first such revision,
-    /// newest first.
+    /// The document's ancestry gives a revision another parent than the tree does. The variant names the newest such
+    /// revision.
     Contradicted { rev: Rev, known: Rev, given: Rev },
 }
 

@@ -1,8 +1,8 @@
-//! Questions about databases and replications: what a target lacks of a source, which documents are in conflict, how
-//! much a database contains, what was refused and why, and the complete leaves of a document.
+//! Read-only queries about databases and replications. They compare a source with a target, list documents in conflict,
+//! count a database's content, explain refused documents, and return the leaves of a document.
 //!
-//! Nothing here changes a database or reads a log. The rules are in docs/PROFILE.md, "Missing revisions", "Merging",
-//! "Leaves and the winner", "Fetching" and "Covered leaves".
+//! No call of this crate changes a database or reads a log. The rules are in docs/PROFILE.md, "Missing revisions",
+//! "Merging", "Leaves and the winner", "Fetching" and "Covered leaves".
 #![tactic(auto)]
 
 mod census;

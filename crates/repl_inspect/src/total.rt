@@ -11,9 +11,9 @@ use crate::counting::{plus, plus_if};
 pub struct Total {
     /// The number of compared documents.
     pub documents: u64,
-    /// The number of their leaves at the source.
+    /// The number of the compared documents' leaves at the source.
     pub leaves: u64,
-    /// The number of these leaves that the target's trees lack.
+    /// The number of the source's leaves that the target's trees lack.
     pub missing: u64,
     /// The number of documents that contradict the target's tree.
     pub contradicting: u64,
@@ -22,7 +22,7 @@ pub struct Total {
 }
 
 impl Total {
-    /// The total of no comparisons.
+    /// Returns the total of an empty set of comparisons.
     pub fn none() -> Total
         ensures { result ≡ total_of [] }
     {

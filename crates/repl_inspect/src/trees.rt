@@ -7,7 +7,7 @@ use couch_base::Database;
 use doc_json::DocId;
 use rev_tree::Tree;
 
-/// Returns the tree of a document, or an empty tree if it does not exist.
+/// Returns the tree of a document, or an empty tree if the document does not exist.
 pub(crate) fn tree_or<'a>(database: &'a Database, id: &DocId, none: &'a Tree) -> &'a Tree
     requires { none.now ≡ no_revisions }
     ensures { result.now ≡ tree_of database.now.docs id.now }

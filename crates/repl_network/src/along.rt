@@ -21,12 +21,13 @@ use rev_core::Rev;
 use std::alloc::Global;
 
 /// Replicates along hops between the peers of a network, in order, until one fails. Each hop is a `replicate_alone`
-/// with its plan.
+/// with the hop's plan.
 ///
-/// If every two peers are consistent (docs/PROFILE.md, "Nets"), they stay so, whatever the result. Suppose that the
-/// call succeeds, that each plan selects a document, that no peer has refused it, and that its trees agreed and had
-/// complete histories. If a chain of hops leads from every place to every other, the document is then the same
-/// everywhere, and so has the same winner. Its trees agree again and have complete histories.
+/// If every two peers are consistent (docs/PROFILE.md, "Nets"), every two peers stay consistent, also if the call
+/// fails. Suppose that the call succeeds, that each plan selects a document, that no peer has refused that document,
+/// and that its trees agreed and had complete histories. If chains of hops also lead from every peer to every other
+/// peer, all peers have the same document, with the same winner. The trees of the document agree again and have
+/// complete histories.
 pub fn replicate_along<F: WriteFilter>(
     alloc: Global,
     peers: &mut [Peer<F>],
@@ -112,7 +113,7 @@ pub fn edit_at<F: WriteFilter>(
     }
 }
 
-/// Gives proofs the invariant of each peer's database.
+/// This call gives proofs the invariant of each peer's database.
 fn hold_laws<F: WriteFilter>(peers: &[Peer<F>])
     ensures { AllLawful (peers_of peers.now) }
 {
@@ -121,7 +122,7 @@ fn hold_laws<F: WriteFilter>(peers: &[Peer<F>])
     }
 }
 
-/// Replicates from one place into another.
+/// Replicates from the peer at one index into the peer at another index.
 fn take_hop<F: WriteFilter>(
     alloc: Global,
     peers: &mut [Peer<F>],
@@ -150,7 +151,7 @@ fn take_hop<F: WriteFilter>(
     }
 }
 
-/// Replicates between two existing places.
+/// Replicates between the peers at two existing indices.
 fn carry<F: WriteFilter>(
     alloc: Global,
     peers: &mut [Peer<F>],

@@ -7,19 +7,19 @@ use repl_target::TargetFault;
 use std::alloc::AllocError;
 use thiserror::Error;
 
-/// Why a call on a network failed.
+/// The reason why a call on a network failed.
 #[derive(Debug, Drop, Error)]
 pub enum NetFault {
-    /// There is no peer at this place.
+    /// The network has no peer at this index.
     #[error("no peer is at place {0}")]
     NoPeer(usize),
-    /// The peer at this place already has the UUID.
+    /// The peer at this index already has the UUID.
     #[error("the peer at place {0} has this UUID")]
     SameUuid(usize),
-    /// The hop at this index failed; the hops before it succeeded.
+    /// The hop at this index failed, and the hops before it succeeded.
     #[error("hop {0}: {1}")]
     Hop(usize, TargetFault),
-    /// There is not exactly one plan in each direction for each peer other than the hub.
+    /// The number of plans in a direction is not the number of peers other than the hub.
     #[error("one plan each way is wanted for each peer behind the hub")]
     Plans,
     /// An allocation failed, and nothing was added or replicated.

@@ -2,13 +2,13 @@
 
 use repl_target::Plan;
 
-/// A replication from the peer at one place into the peer at another.
+/// A replication from the peer at one index into the peer at another index.
 #[derive(Debug, Drop)]
 pub struct Hop {
-    /// The place of the source.
+    /// The index of the source peer.
     pub from: usize,
-    /// The place of the target.
+    /// The index of the target peer.
     pub to: usize,
-    /// The parameters of the replication.
+    /// The parameters of the hop's replication.
     pub plan: Plan,
 }

@@ -1,4 +1,5 @@
-//! Replication through a hub: every peer into the first one, then the first one into every other.
+//! Replication through a hub, which replicates every peer into the first peer, and then the first peer into every other
+//! peer.
 ghost use Rattle.std.specs.Prelude.{◌≡◌, ◌+◌, ◌++◌, length, IfOk, OnOk};
 ghost use Rattle.repl_network.specs.Nets.{peers_of, filters_of, AreTied, IsNet};
 ghost use Rattle.repl_network.specs.Made.{StaysMade};
@@ -11,11 +12,11 @@ use crate::hop::Hop;
 use repl_target::{Peer, Plan, WriteFilter};
 use std::alloc::{AllocError, Global};
 
-/// Replicates every peer of a network into the first one, its hub, and then the hub into every other peer, on one
-/// thread: two replications per peer. The plans are those of the other peers, in order.
+/// Replicates every peer of a network into the hub, which is the first peer, and then the hub into every other peer.
+/// One thread makes all replications, two per peer. The plans are given for the peers other than the hub, in order.
 ///
-/// Consistent peers stay consistent, whatever the result. If the call succeeds, each document that all plans select and
-/// no peer has refused, and whose trees agreed and had complete histories, is the same everywhere; its trees agree
+/// Consistent peers stay consistent, also if the call fails. If the call succeeds, each document that all plans select
+/// and no peer has refused, and whose trees agreed and had complete histories, is the same everywhere; its trees agree
 /// again and have complete histories.
 ///
 /// # Errors

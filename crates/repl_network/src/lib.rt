@@ -1,4 +1,4 @@
-//! Any number of peers, and replications between any two of them: a crate of theorems.
+//! A crate of theorems about any number of peers, and replications between any two of them.
 //!
 //! The rules are in docs/PROFILE.md, "Nets".
 #![tactic(auto)]

@@ -13,10 +13,10 @@ use rev_core::Rev;
 use std::alloc::{AllocError, Global};
 use std::marker::Model;
 
-/// Peers that were added empty, each at its place, with what they have written and replicated to each other.
+/// A network is a list of peers that were added empty, with what they have written and replicated to one another.
 ///
-/// Every two of them are consistent in both directions (docs/PROFILE.md, "Nets"). Calls here therefore need no such
-/// premise, and an audit between two of them is always clean.
+/// Every two peers of a network are consistent in both directions (docs/PROFILE.md, "Nets"). Calls of a network
+/// therefore do not require consistent peers, and an audit between two peers is always clean.
 #[derive(Drop)]
 pub struct Net<F: WriteFilter> {
     peers: Vec<Peer<F>>,
@@ -62,13 +62,13 @@ impl<F: WriteFilter> Net<F> {
         }
     }
 
-    /// Adds a new peer without documents, and returns its place.
+    /// Adds a new peer without documents, and returns its index.
     ///
     /// # Errors
     ///
     /// An error changes nothing:
     ///
-    /// - `SameUuid`: the peer at this place has this UUID.
+    /// - `SameUuid`: the peer at the named index has this UUID.
     /// - `Memory`: an allocation failed.
     pub fn add(&mut self, alloc: Global, uuid: u128, filter: F) -> Result<usize, NetFault>
     where
@@ -87,15 +87,15 @@ impl<F: WriteFilter> Net<F> {
         Ok(place)
     }
 
-    /// Returns the peer at a place.
+    /// Returns the peer at an index.
     pub fn peer(&self, place: usize) -> Option<&Peer<F>>
         ensures { option_copied result ≡ slice_get self.now place }
     {
         self.peers.get(place)
     }
 
-    /// Does nothing; gives proofs the invariant of the network. Also states that the trees of a document that was made
-    /// only by edits, no two different ones with the same MD5, agree and have complete histories.
+    /// Does nothing, but gives proofs the invariant of the network. If a document was made only by edits, and no two
+    /// different edits have the same MD5, then all trees of that document agree and have complete histories.
     pub fn law(&self)
         ensures net { IsNet (peers_of self.now) }
         ensures agree { MadeAgree (peers_of self.now) }
@@ -148,7 +148,7 @@ impl<F: WriteFilter> Net<F> {
         replicate_along(alloc, &mut self.peers, hops)
     }
 
-    /// Replicates every peer into the first one, and the first one into every other: `sync_by_hub`.
+    /// Replicates every peer into the first peer, and the first peer into every other peer: `sync_by_hub`.
     pub fn sync_by_hub(
         &mut self,
         alloc: Global,
@@ -163,7 +163,7 @@ impl<F: WriteFilter> Net<F> {
         sync_by_hub(alloc, &mut self.peers, there, back)
     }
 
-    /// Audits the replication between two peers. The result for two different places is always `Clean`.
+    /// Audits the replication between two peers. The result for two different indices is always `Clean`.
     pub fn audit(
         &self,
         alloc: Global,
@@ -185,7 +185,7 @@ impl<F: WriteFilter> Net<F> {
     }
 }
 
-/// Returns the place of the peer with a UUID, if there is one.
+/// Returns the index of the peer with a UUID, if the network has such a peer.
 fn place_of<F: WriteFilter>(peers: &[Peer<F>], uuid: u128) -> Option<usize>
     ensures there { IfSome result (λ place. IsHeldAt (peers_of peers.now) uuid place) }
     ensures none { IfNone result (IsHeld (peers_of peers.now) uuid → ⊥) }

@@ -2,7 +2,7 @@
 
 use thiserror::Error;
 
-/// Why a world cannot be created.
+/// The reason why a world cannot be created.
 #[derive(Clone, Copy, Debug, PartialEq, Eq, Error)]
 pub enum WorldFault {
     /// The source and the target have the same UUID.

@@ -1,4 +1,4 @@
-//! Two peers and a bag of messages, under every order of steps: a crate of theorems.
+//! A crate of theorems about two peers and a bag of messages, under every order of steps.
 //!
 //! The rules are in docs/PROFILE.md, "Worlds" and "Tied windows and messages".
 #![tactic(auto)]

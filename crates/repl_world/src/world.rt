@@ -18,7 +18,7 @@ use rev_tree::SessionId;
 use std::alloc::{AllocError, Global};
 use std::marker::Model;
 
-/// A source, a target, a bag of windows, requests, parcels, entries and logs, and backups of the source.
+/// A world has a source, a target, a bag of windows, requests, parcels, entries and logs, and backups of the source.
 #[derive(Drop)]
 pub struct World<F: WriteFilter> {
     source: Peer<F>,
@@ -53,8 +53,8 @@ impl<F: WriteFilter + Drop> World<F> {
     ghost use Rattle.repl_world.specs.Worlds.{new_answer};
     ghost use Rattle.repl_world.specs.Tied.{IsWorld, Tied, HoldNone};
 
-    /// Creates a world of two peers, with an empty bag. Its replication is that of the selected documents, or of all if
-    /// there is no selection.
+    /// Creates a world of two peers, with an empty bag. The world's replication is that of the selected documents, or
+    /// of all documents if there is no selection.
     ///
     /// Returns `SamePeer` if the two databases have the same UUID. If the target has no session of the replication from
     /// the source, and the source has no entry of it, the new world is consistent.
@@ -121,7 +121,7 @@ impl<F: WriteFilter> World<F> {
         self.bag.sizes()
     }
 
-    /// Does nothing; gives proofs the invariant of the world.
+    /// Does nothing, but gives proofs the invariant of the world.
     fn law(&self)
         ensures { IsWorld (F.refuses self.now.0.1) self.now.1 }
     {
@@ -133,11 +133,11 @@ impl<F: WriteFilter> World<F> {
     /// Takes steps in order.
     ///
     /// A failed step has the effect of the failed call, and a step with an index that is not in the bag changes
-    /// nothing. If an allocation fails in a step, the world is that after the previous steps; a settling may have
-    /// settled a part (`Stopped`).
+    /// nothing. If an allocation fails in a step, the world is the one after the previous steps, except that a settling
+    /// may have settled a part of its parcel (`Stopped`).
     ///
-    /// If the world was consistent, it stays consistent and may be trusted: what both logs claim is covered, for the
-    /// source's feed as it is now.
+    /// If the world was consistent, it stays consistent, and the target covers what both logs claim of the source's
+    /// current feed.
     pub fn run(&mut self, alloc: Global, steps: &[Step]) -> Result<(), AllocError>
         ensures filters { self.new.0 ≡ self.old.0 }
         ensures ok { OnOk result (self.new.1 ≡ run (F.refuses self.old.0.1) self.old.1 steps.now) }
@@ -355,7 +355,7 @@ impl<F: WriteFilter> World<F> {
         unless_memory(self.target.append(session, window))
     }
 
-    /// Puts a request for what the target lacks of a window of the bag into the bag.
+    /// Puts the target's request for the missing leaves of a window of the bag into the bag.
     fn diff(&mut self, alloc: Global, place: usize) -> Result<(), AllocError>
         ensures filters { self.new.0 ≡ self.old.0 }
         ensures ok { OnOk result (self.new.1 ≡ differs self.old.1 place (slice_get self.old.1.bag.windows place)) }
@@ -408,7 +408,7 @@ impl<F: WriteFilter> World<F> {
         self.bag.record(&mut self.target, session, at)
     }
 
-    /// Concludes a session; if that succeeds, puts its entry into the bag.
+    /// Concludes a session, and puts its entry into the bag if concluding succeeds.
     fn conclude(&mut self, session: SessionId, at: Moment) -> Result<(), AllocError>
         ensures filters { self.new.0 ≡ self.old.0 }
         ensures ok { OnOk result (self.new.1 ≡ concludes self.old.1 session at) }
@@ -458,7 +458,7 @@ impl<F: WriteFilter> World<F> {
     }
 }
 
-/// Converts a database error: only `Memory` ends a run.
+/// Converts a database error, of which only `Memory` ends a run.
 fn passed(fault: BaseFault) -> Result<(), AllocError>
     ensures ok { OnOk result (fault ≡ base_faults.Memory → ⊥) }
     ensures err { OnErr result (fault ≡ base_faults.Memory) }
