@@ -1,4 +1,4 @@
-//! The trait of commands, and the function that runs a line as a command.
+//! Defines the trait of commands, and the function that runs a line as a command.
 ghost use Rattle.std.specs.Prelude.{◌≡◌, [], option_map};
 ghost use Rattle.script_engine.specs.Serving.{MayTell};
 ghost use Rattle.command_api.specs.Checks.{needed};
@@ -9,8 +9,8 @@ use std::alloc::Global;
 use std::sync::Wait;
 use std::thread::Threads;
 
-/// A command: reads its parameters from a line, runs, and prints its output. The implementing type holds the parameters
-/// and borrows from the line.
+/// A command of scripts, which reads its parameters from a line, runs, and prints its output. The implementing type
+/// holds the parameters and borrows from the line.
 pub trait Command<L>: Sized + Drop {
     ghost use Rattle.std.specs.Prelude.{Result};
     ghost use Rattle.std.specs.Thread.{IsSync};
@@ -19,7 +19,7 @@ pub trait Command<L>: Sized + Drop {
     ghost use Rattle.script_databases.specs.Databases.{State};
     ghost use Rattle.script_databases.specs.declared.refusal.Refusal.{Refusal};
 
-    // The value of a line.
+    // The JSON value of a line.
     ghost seen: { L → Data };
 
     // The parameters of the command, independent of where they are stored.
@@ -27,19 +27,19 @@ pub trait Command<L>: Sized + Drop {
 
     ghost asked: { Self → Ask };
 
-    // The parameters that an object gives: all members have their types, and there are no other members.
+    // The parameters that an object gives, in which all members have their types and no other members exist.
     ghost asked_in: { Data → Result Ask Refusal };
 
-    // The possible results, and the states that they leave.
+    // The possible results of the command, and the states that they leave.
     ghost answers: { Answering State Ask };
 
-    /// Reads the parameters from an object. Returns `None` if it is not such a command; the line then fails with
-    /// `BadCommand`.
+    /// Reads the parameters from an object. Returns `None` if the object is not a command of this kind, and the line
+    /// then fails with `BadCommand`.
     fn read(line: L) -> Option<Self>
         ensures { needed (option_map asked result) ≡ asked_in (seen line) };
 
-    /// Runs the command, and writes its output into the buffer. Every line may fail with `Memory`; the command then had
-    /// its complete effect or no effect.
+    /// Runs the command, and writes its output into the buffer. Every line may fail with `Memory`, and in that case the
+    /// command had its complete effect or no effect.
     fn serve<H: Threads + Wait + Sync>(
         &self,
         rt: &H,

@@ -1,5 +1,4 @@
-//! Parsing the values of a line: ids, revisions, bodies and documents. Commands call these functions in the order of
-//! checks.
+//! Parses the ids, revisions, bodies and documents of a line. Commands call these functions in the order of checks.
 ghost use Rattle.std.specs.Prelude.{◌≡◌, option_map};
 ghost use Rattle.std.specs.Option.{option_copied};
 ghost use Rattle.json_values.specs.LineView.{line_view, line_items};
@@ -42,7 +41,7 @@ fn read_ids(alloc: Global, texts: &Vec<LineValue<'_>>) -> Result<Vec<DocId>, Ref
     Ok(ids)
 }
 
-/// Builds the selection of some ids.
+/// Builds the selection of the documents with these ids.
 fn choose(ids: Vec<DocId>) -> Result<Option<Chosen>, Refusal>
     ensures { GivesOrMemory result (chosen_given ids.items) }
 {
@@ -52,7 +51,7 @@ fn choose(ids: Vec<DocId>) -> Result<Option<Chosen>, Refusal>
     }
 }
 
-/// Parses the selection of a line; `None` if the line has no list of ids.
+/// Parses the selection of a line, or returns `None` if the line has no list of ids.
 ///
 /// # Errors
 ///
@@ -95,7 +94,7 @@ fn read_content(alloc: Global, part: &LinePart<'_, '_>) -> Result<Body, Refusal>
     }
 }
 
-/// Parses an optional body; an empty object if absent.
+/// Parses an optional body. An absent body means an empty object.
 pub fn read_content_or_empty(
     alloc: Global,
     body: &Option<LinePart<'_, '_>>,

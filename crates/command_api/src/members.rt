@@ -1,4 +1,4 @@
-//! Reading typed members of a line's object.
+//! Reads typed members of a line's object.
 ghost use Rattle.std.specs.Prelude.{◌≡◌, map, option_map};
 ghost use Rattle.std.specs.List.{list_all, list_any};
 ghost use Rattle.std.specs.Str.{bytes_eq};
@@ -30,7 +30,7 @@ pub fn name_member<'v>(value: &'v LineValue<'_>, key: &str) -> Option<&'v str>
     }
 }
 
-/// Reads an optional Boolean. Returns `Some(None)` if it is absent, and `None` if it has another type.
+/// Reads an optional Boolean. Returns `Some(None)` if the member is absent, and `None` if the member has another type.
 pub fn optional_flag(value: &LineValue<'_>, key: &str) -> Option<Option<bool>>
     ensures { result ≡ optional as_bool key.now (line_view value.now) }
 {
@@ -76,7 +76,7 @@ pub fn optional_texts<'v, 'a>(
     Some(Some(items))
 }
 
-/// Whether every item is a string.
+/// Whether every item of a list is a string.
 fn are_texts(items: &Vec<LineValue<'_>>) -> bool
     ensures { result ≡ are_texts (line_items items.now.items) }
 {
@@ -127,7 +127,7 @@ fn as_uuid(value: &LineValue<'_>) -> Option<u128>
     }
 }
 
-/// Whether a value is an object without members other than these.
+/// Whether a value is an object that has only members with these names.
 #[inline(always)]
 pub fn has_only_members(value: &LineValue<'_>, keys: &[&str]) -> bool
     ensures { result ≡ has_only (map (λ x. x.now) keys.now) (line_view value.now) }

@@ -1,4 +1,4 @@
-//! Printing values that several commands print (docs/PROFILE.md, "Answers").
+//! Prints values that several commands print (docs/PROFILE.md, "Answers").
 ghost use Rattle.std.specs.Prelude.{◌≡◌, ◌<◌, ◌≤◌, ◌++◌, ◌∷◌, length, IfOk, OnOk, decimal, string_bytes};
 ghost use Rattle.rev_core.specs.Text.{rev_text};
 ghost use Rattle.repl_log.specs.Text.{id_digits};

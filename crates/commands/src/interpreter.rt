@@ -87,7 +87,7 @@ impl<'a, H: Threads + Wait + Sync, L: ObserveAnswers> Serve for Interpreter<'a, 
     }
 }
 
-/// Runs a line that is not blank: returns its output, or the first piece of its output and the rest.
+/// Runs a line that is not blank, and returns its output, or the first piece of its output and the rest.
 fn answer_line<H: Threads + Wait + Sync>(
     rt: &H,
     alloc: Global,
@@ -134,23 +134,23 @@ pub fn read_object<'a>(
 }
 
 /// Runs a script: reads lines to the end of the input, runs each as one command, and writes their output in order
-/// (docs/PROFILE.md, "Command lines" and "Answers"). Returns whether no line failed.
+/// (docs/PROFILE.md, "Command lines" and "Answers"). Returns true if no line failed.
 ///
 /// Before each read, the output of all lines read so far is flushed. A line that runs out of memory fails with
-/// `Memory`, and the script continues. The observer learns the result of each line and the start of its output; it does
-/// not affect the output.
+/// `Memory`, and the script continues. The observer learns the result of each line and the start of its output, and
+/// does not affect the output.
 ///
-/// The call blocks on the threads of `replicate` and `sync` lines; that it returns is not proved. The databases are not
-/// freed, because freeing takes long and a program ends after this call.
+/// The call blocks on the threads of `replicate` and `sync` lines, and it is not proved that the call returns. The
+/// databases are not freed, because freeing takes long and a program ends after this call.
 ///
 /// # Errors
 ///
 /// - `Read`: the reader failed in this call, or 4,294,967,295 reads of at most 65,536 bytes were made.
 /// - `Write`: the writer failed in this call.
-/// - `Memory`: an allocation failed before anything was read, or while a line was read. All lines before it are
-///   complete.
-/// - `Cut`: an allocation failed after the first piece of a line's output. The output of all lines before it is
-///   complete, and a part of that line's output is missing.
+/// - `Memory`: an allocation failed before anything was read, or while a line was read. The output of all lines before
+///   the failed allocation is complete.
+/// - `Cut`: an allocation failed after the first piece of a line's output. The output of all earlier lines is complete,
+///   and a part of this line's output is missing.
 pub fn run_script<H, R: ScriptRead, W: ScriptWrite, L: ObserveAnswers>(
     rt: &H,
     reader: &mut R,
@@ -165,14 +165,15 @@ where
         (λ clean. (input : List ℕ) × (text : List ℕ) × (state : State) × Gives (R.left reader.old) input
         × Appends (W.held writer.old) (W.held writer.new) text
         × IsAnswered LinesAnswer (no_databases (program_of settings.now)) input clean text state) }
-    // All databases are tied to each other before and after every line. So no audit reports a hole, and if a session
-    // prints that it reached its goal, the target covers the source's selected feed.
+    // All databases are consistent with each other before and after every line. Therefore no audit reports a hole, and
+    // if a session prints that it reached its goal, the target covers the source's selected feed.
     ensures trust { IfOk result
         (λ clean. (input : List ℕ) × (text : List ℕ) × (state : State) × Gives (R.left reader.old) input
         × Appends (W.held writer.old) (W.held writer.new) text
         × IsAnswered TrustedLines (no_databases (program_of settings.now)) input clean text state) }
     ensures end { OnOk result (IsAtEnd (R.left reader.new)) }
-    // The same for the bytes that the reads returned, and the last read returned the end of the input.
+    // This clause states the guarantee for the bytes that the reads returned, and that the last read returned the end
+    // of the input.
     ensures took { IfOk result
         (λ clean. (input : List ℕ) × (text : List ℕ) × (state : State)
         × Appends (R.taken reader.old) (R.taken reader.new) input × Appends (W.held writer.old) (W.held writer.new) text
@@ -180,22 +181,22 @@ where
     ensures ended { OnOk result (R.ended reader.new) }
     ensures counted { OnOk result ((R.failures reader.new ≡ R.failures reader.old)
         × (W.failures writer.new ≡ W.failures writer.old)) }
-    // After an error, the text is a prefix of such output, and the named device has failed. `Memory` occurs before
-    // anything is read, or while a line is read; the output of all lines before it is complete.
+    // After an error, the text is a prefix of the output of the lines, and the named device has failed. `Memory` occurs
+    // before anything is read, or while a line is read, and the output of all earlier lines is complete.
     ensures fault { IfErr result (λ fault. (input : List ℕ) × (text : List ℕ) × Gives (R.left reader.old) input
         × Appends (W.held writer.old) (W.held writer.new) text
         × IsToldUntil fault LinesAnswer (no_databases (program_of settings.now)) input text
         × IsFaultOf fault (R.reads reader.old) (R.reads reader.new) (R.failures reader.old) (R.failures reader.new)
         (W.failures writer.old) (W.failures writer.new)) }
-    // The same guarantee up to an error.
+    // This clause states the guarantee for the output before an error.
     ensures trust_until { IfErr result (λ fault. (input : List ℕ) × (text : List ℕ) × Gives (R.left reader.old) input
         × Appends (W.held writer.old) (W.held writer.new) text
         × IsToldUntil fault TrustedLines (no_databases (program_of settings.now)) input text) }
     ensures took_until { IfErr result (λ fault. (input : List ℕ) × (text : List ℕ)
         × Appends (R.taken reader.old) (R.taken reader.new) input × Appends (W.held writer.old) (W.held writer.new) text
         × IsToldUntil fault TrustedLines (no_databases (program_of settings.now)) input text) }
-    // If a read fails, the output of all lines read before is complete; and unless a write failed, that output has been
-    // flushed. Each read may fail, so this is the state before each read.
+    // If a read fails, the output of all lines that were read is complete. Unless a write failed, that output has been
+    // flushed. Each read may fail, so this clause describes the state before each read.
     ensures read { IfErr result (λ fault. fault ≡ Read → (taken : List ℕ) × (text : List ℕ) × (state : State)
         × Consumes (R.left reader.old) (R.left reader.new) taken × Appends (W.held writer.old) (W.held writer.new) text
         × AnswersEnded TrustedLines (no_databases (program_of settings.now)) taken text state) }

@@ -4,8 +4,8 @@ use script_engine::{Nobody, Observe};
 
 /// An observer of the results of lines (`Observe`) and of the start of their output.
 pub trait ObserveAnswers: Observe {
-    /// Notes the output of a successful line, or its first piece, before `observe` is called for the line. It does not
-    /// affect the output.
+    /// Notes the output of a successful line, or its first piece, before `observe` is called for the line. The call
+    /// does not affect the output.
     fn observe_answer(&mut self, answer: &[u8]);
 }
 

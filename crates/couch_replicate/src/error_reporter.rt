@@ -1,4 +1,4 @@
-//! The messages on standard error: explanations of errors, and progress (docs/PROFILE.md, "Options").
+//! Prints explanations of errors, and progress, on standard error (docs/PROFILE.md, "Options").
 
 use crate::seen::Seen;
 use commands::ObserveAnswers;
@@ -31,7 +31,7 @@ pub struct ErrorReporter<'a, H> {
     rt: &'a H,
     /// Whether errors are explained.
     explains: bool,
-    /// The time of the last progress message; `None` if progress is not shown.
+    /// The time of the last progress message, or `None` if progress is not shown.
     told_at: Option<Instant>,
     /// The progress so far.
     seen: Seen,
@@ -80,7 +80,7 @@ impl<'a, H: Eprint + Clock> ObserveAnswers for ErrorReporter<'a, H> {
 }
 
 impl<'a, H: Eprint + Clock> ErrorReporter<'a, H> {
-    /// Creates a reporter. It explains errors if `explains`, and shows progress if `shows`.
+    /// Creates a reporter. The reporter explains errors if `explains` is true, and shows progress if `shows` is true.
     pub(crate) fn new(
         rt: &'a H,
         alloc: Global,
@@ -124,7 +124,7 @@ impl<'a, H: Eprint + Clock> ErrorReporter<'a, H> {
         }
     }
 
-    /// Explains an error. Prints nothing if an allocation fails.
+    /// Explains an error. The call prints nothing if an allocation fails.
     #[inline(never)]
     fn tell(&mut self, number: u64, line: &[u8], name: &'static str) {
         let _ = self.count(name);

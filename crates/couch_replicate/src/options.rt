@@ -83,14 +83,14 @@ pub struct Options {
     pub progress: bool,
 }
 
-/// Why a command line gives no settings.
+/// The reason why a command line gives no settings.
 #[derive(Drop)]
 pub enum NoSettings {
     /// `clap`'s error, which includes requests for help.
     Words(Error),
     /// The value of an option is not a number. `clap` has already checked this.
     NoNumber,
-    /// There is a positional argument.
+    /// The command line has a positional argument.
     File,
     /// An allocation failed.
     Memory,
@@ -104,7 +104,7 @@ impl From<AllocError> for NoSettings {
     }
 }
 
-/// Parses the arguments, the program's name first.
+/// Parses the arguments, of which the first is the program's name.
 pub fn read_words<'a>(alloc: Global, words: &'a [String]) -> Result<Options, NoSettings>
     ensures ok { IfOk result (λ o. Says (map string_bytes words.entry.now) o) }
     ensures err { IfErr result (λ why. Refuses (map string_bytes words.entry.now) why) }

@@ -16,8 +16,8 @@ use std::rt::Clock;
 use std::sync::Wait;
 use std::thread::Threads;
 
-/// Runs the program. Returns the exit status: 0; 1 if a line failed; 2 for a usage error; 3 if reading, writing or an
-/// allocation failed.
+/// Runs the program. Returns the exit status, which is 0 on success, 1 if a line failed, 2 for a usage error, and 3 if
+/// reading, writing or an allocation failed.
 ///
 /// `is_watched` is whether standard error is a terminal, which `--progress` requires.
 pub fn run_program<H>(rt: &H, is_watched: bool) -> u8
@@ -87,7 +87,7 @@ fn tell_fault(rt: &impl Eprint, ended: &Result<bool, ScriptFault>) -> u8
     status_of(ended)
 }
 
-/// The exit status of a script.
+/// Returns the exit status of a script.
 fn status_of(ended: &Result<bool, ScriptFault>) -> u8
     ensures { result ≡ status_of ended.now }
 {

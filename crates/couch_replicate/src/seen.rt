@@ -11,7 +11,7 @@ pub(crate) struct Seen {
     pub(crate) sessions: u64,
     /// The number of documents read by the sessions that reached their goal.
     pub(crate) read: u64,
-    /// The number of documents that these sessions wrote.
+    /// The number of documents written by the sessions that reached their goal.
     pub(crate) written: u64,
 }
 
@@ -26,8 +26,8 @@ impl Seen {
         }
     }
 
-    /// Counts the output of a line, or its first piece. The output of `load` and `edit` is empty if the program is
-    /// quiet.
+    /// Counts the output of a line, or the first piece of that output. The output of `load` and `edit` is empty if the
+    /// program is quiet.
     pub(crate) fn note(&mut self, answer: &[u8]) {
         let Ok(text) = str::from_utf8(answer) else {
             return;

@@ -52,7 +52,7 @@ pub fn replicate_along<F: WriteFilter>(
 
 /// Stores a user's document at one peer of a network: `Peer::load`.
 ///
-/// Consistent peers stay consistent, whatever the result. If the trees of the document agreed and had complete
+/// Consistent peers stay consistent, also if the call fails. If the trees of the document agreed and had complete
 /// histories, they still do, provided that the new document gives no revision another parent or content than a peer
 /// has, and that its history is complete or ends at a revision that its peer has.
 pub fn load_at<F: WriteFilter>(
@@ -81,7 +81,7 @@ pub fn load_at<F: WriteFilter>(
 
 /// Edits a document at one peer of a network: `Peer::edit`.
 ///
-/// Consistent peers stay consistent, whatever the result. If the trees of the document agreed and had complete
+/// Consistent peers stay consistent, also if the call fails. If the trees of the document agreed and had complete
 /// histories, they still do, provided that no peer has the new revision with another parent or content; this holds
 /// unless two different edits have the same MD5.
 pub fn edit_at<F: WriteFilter>(

@@ -27,7 +27,7 @@ impl Model for NamedBackup {
 }
 
 impl NamedBackup {
-    /// Stores a backup under its names.
+    /// Stores a backup under the names of its database and of the backup.
     pub fn new(
         alloc: Global,
         db: &str,
@@ -41,7 +41,7 @@ impl NamedBackup {
         Ok(NamedBackup { db, name, backup })
     }
 
-    /// Whether this is the backup `name` of the database `db`.
+    /// Whether a backup is the backup `name` of the database `db`.
     fn is_named(&self, db: &str, name: &str) -> bool
         ensures { result ≡ is_named db.now name.now self.now }
     {

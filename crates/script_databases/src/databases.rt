@@ -41,7 +41,7 @@ pub struct PutBack {
 pub type Names = IndexMap<String, Peer<Rules>>;
 
 /// The databases of a script: peers by name, an index of their UUIDs, and the number of generated ids. All peers have
-/// the filter from the settings.
+/// the write filter from the settings.
 pub struct Databases {
     settings: Settings,
     by_name: Names,
@@ -52,7 +52,7 @@ pub struct Databases {
     backups: Vec<NamedBackup>,
 }
 
-// Implemented by hand, so that it is proved once: docs/DECISIONS.md, "Letting values go".
+// `Drop` is implemented by hand here so that it is proved once (docs/DECISIONS.md, "Letting values go").
 impl Drop for Databases {
     fn drop(self) {
         let Databases {
@@ -98,21 +98,21 @@ impl Databases {
         })
     }
 
-    /// The settings of the program.
+    /// Returns the settings of the program.
     pub fn settings(&self) -> &Settings
         ensures { program_of result.now ≡ self.now.program }
     {
         &self.settings
     }
 
-    /// The peer with this name, if there is one.
+    /// Returns the peer with this name, if it exists.
     pub fn find(&self, name: &str) -> Option<&Peer<Rules>>
         ensures { option_map (λ p. p.1) (option_copied result) ≡ peer_at self.now name.now }
     {
         self.by_name.get(name)
     }
 
-    /// Whether there is a peer with this name.
+    /// Whether a peer with this name exists.
     pub fn has(&self, name: &str) -> bool
         ensures { result ≡ contains_key self.now.peers name.now }
     {
@@ -272,7 +272,7 @@ impl Databases {
         Ok(PutBack { seq, life })
     }
 
-    /// Replicates between two existing databases with the pool. Blocks until the run has ended.
+    /// Replicates between two existing databases with the pool. The call blocks until the run has ended.
     ///
     /// A plan that is rejected at the start changes nothing. A replication from a database to itself is rejected in
     /// this way.
@@ -306,12 +306,12 @@ impl Databases {
         outcome
     }
 
-    /// Replicates like `replicate`, with a new progress board. Reads the board through its one viewer after the run has
-    /// ended.
+    /// Does the same as `replicate`, with a new progress board. The call reads the board through its only viewer after
+    /// the run has ended.
     ///
     /// # Errors
     ///
-    /// Those of `replicate`; also `Memory` if the board cannot be allocated, which changes nothing.
+    /// The call returns the errors of `replicate`, and `Memory`, without any change, if the board cannot be allocated.
     pub fn replicate_watched<H: Threads + Wait + Sync>(
         &mut self,
         rt: &H,

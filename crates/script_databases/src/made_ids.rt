@@ -6,11 +6,11 @@ use rand_chacha::ChaCha8Rng;
 use rand_core::SeedableRng;
 use uuid::Uuid;
 
-/// The number of ids before the stream repeats.
+/// The number of ids before the stream of random numbers repeats.
 const IDS: u128 = 1 << 66;
 
-/// A generator of ids: ChaCha with 8 rounds, four 32-bit words per id. The key is the seed as 8 bytes, least
-/// significant first, and 24 zeros.
+/// A generator of ids: The random generator is ChaCha with 8 rounds, and an id takes four 32-bit words. The key is the
+/// seed as 8 bytes, least significant first, and 24 zeros.
 #[derive(Drop)]
 pub struct MadeIds {
     pub seed: u64,
@@ -19,14 +19,14 @@ pub struct MadeIds {
 }
 
 impl MadeIds {
-    /// Starts the stream of a seed.
+    /// Starts the stream of random numbers of a seed.
     pub fn new(seed: u64) -> MadeIds
         ensures { result ≡ record { seed = seed; drawn = 0 } }
     {
         MadeIds { seed, drawn: 0 }
     }
 
-    /// Generates the next id: a version 4 UUID from the next 16 bytes of the stream.
+    /// Generates the next id, which is a version 4 UUID from the next 16 bytes of the stream.
     pub fn draw(&mut self) -> u128
         ensures id { result ≡ made_id self.old.seed self.old.drawn }
         ensures next { self.new ≡ record self.old { drawn = next_place self.old.drawn } }
@@ -40,7 +40,7 @@ impl MadeIds {
     }
 }
 
-/// The random generator of a seed, at its start.
+/// Returns the random generator of a seed at its start.
 fn rng_of(seed: u64) -> ChaCha8Rng
     ensures { result ≡ of_number seed }
 {

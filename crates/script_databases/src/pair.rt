@@ -1,4 +1,4 @@
-//! Looking up two peers, taking them out of the table, and putting them back.
+//! Looks up two peers, takes them out of the table, and stores them again.
 ghost use Rattle.std.specs.Prelude.{◌≡◌, ◌≢◌, true, Some};
 ghost use Rattle.std.specs.FinMap.{contains_key, get, insert};
 ghost use Rattle.script_databases.specs.Stored.{deny_of, denied_of, peers_of, IsEmptied};
@@ -8,7 +8,7 @@ use repl_target::{Peer, Rules};
 use std::alloc::Global;
 use std::mem;
 
-/// The peers of two existing names.
+/// Returns the peers of two existing names.
 pub fn find_both<'a>(
     names: &'a Names,
     source: &str,

@@ -11,27 +11,27 @@ use repl_target::TargetFault;
 use rev_core::RevFault;
 use std::alloc::{AllocError, AllocFailed};
 
-/// Why a line failed (docs/PROFILE.md, "Order of checks"). `name` returns the printed name. The variants
-/// that are not expected for a line exist so that each error of a call has its own name.
+/// The reason why a line failed (docs/PROFILE.md, "Order of checks"). `name` returns the printed name. Some variants
+/// are not expected for any line, and exist so that each error of a call has a name.
 #[derive(Clone, Copy, Debug, PartialEq, Eq)]
 pub enum Refusal {
-    /// A window is already done. Not expected for a line.
+    /// A window is already done. No line is expected to fail with this error.
     AlreadyDone,
     /// A document has attachments.
     Attachments,
     /// A batch size is not 1 to 10,000.
     BadBatch,
-    /// The object is not a command: its command, a member or a type is wrong.
+    /// The object is not a command, because the name, a member or a type is wrong.
     BadCommand,
     /// A revision id has no generation.
     BadGeneration,
-    /// A page of no rows was requested. Not expected for a line.
+    /// A page of no rows was requested. No line is expected to fail with this error.
     BadLimit,
     /// The line is not a JSON object.
     BadLine,
     /// A timestamp is after the year 9999.
     BadMoment,
-    /// The goal of a page is not above its start. Not expected for a line.
+    /// The goal of a page is not above its start. No line is expected to fail with this error.
     BadRange,
     /// A document's `_revisions` is not an ancestry.
     BadRevisions,
@@ -51,27 +51,27 @@ pub enum Refusal {
     DatabaseExists,
     /// The requested log has no entries.
     EmptyLog,
-    /// A backup is from a different database. Not expected for a line.
+    /// A backup is from a different database. No line is expected to fail with this error.
     ForeignBackup,
-    /// A parcel belongs to no window of the session. Not expected for a line.
+    /// A parcel belongs to no window of the session. No line is expected to fail with this error.
     ForeignParcel,
     /// A number is not a 64-bit integer.
     Fraction,
-    /// A window does not follow the previous one. Not expected for a line.
+    /// A window does not follow the previous one. No line is expected to fail with this error.
     Gap,
     /// An edit's parent has the maximum generation.
     GenerationFull,
-    /// The goal of a page is above the update sequence. Not expected for a line.
+    /// The goal of a page is above the update sequence. No line is expected to fail with this error.
     GoalAhead,
-    /// A session's goal is below its start. Not expected for a line.
+    /// A session's goal is below its start. No line is expected to fail with this error.
     GoalBelowStart,
-    /// A worker was stopped. Not expected for a line.
+    /// A worker was stopped. No line is expected to fail with this error.
     Halted,
-    /// A leaf of the source is not covered. Not expected for a line.
+    /// A leaf of the source is not covered. No line is expected to fail with this error.
     Hole,
     /// The database has been a replication target.
     IsTarget,
-    /// There is no unused life.
+    /// The database has no unused life.
     LifeFull,
     /// An allocation failed.
     Memory,
@@ -85,7 +85,7 @@ pub enum Refusal {
     NoneChosen,
     /// A document has no revision id.
     NoRev,
-    /// A session's base session does not exist. Not expected for a line.
+    /// A session's base session does not exist. No line is expected to fail with this error.
     NoSuchBase,
     /// The database has no document with this id.
     NoSuchDocument,
@@ -97,11 +97,11 @@ pub enum Refusal {
     NoWorkers,
     /// A document or a body is not an object.
     NotObject,
-    /// The stored log entry has a greater recorded sequence. Not expected for a line.
+    /// The stored log entry has a greater recorded sequence. No line is expected to fail with this error.
     Older,
-    /// A window or an entry is from another life. Not expected for a line.
+    /// A window or an entry is from another life. No line is expected to fail with this error.
     OtherLife,
-    /// A window ends above the goal. Not expected for a line.
+    /// A window ends above the goal. No line is expected to fail with this error.
     PastGoal,
     /// A document's id begins with `_`, and is not the id of a design document.
     ReservedId,
@@ -113,30 +113,30 @@ pub enum Refusal {
     SamePeer,
     /// The update sequence is at its maximum.
     SeqFull,
-    /// A new database's update sequence is above the maximum. Not expected for a line.
+    /// A new database's update sequence is above the maximum. No line is expected to fail with this error.
     SeqTooLarge,
     /// The target already has this session.
     SessionExists,
     /// A special member is unknown, or `_deleted` is not a Boolean.
     SpecialMember,
-    /// A session starts above what its base session has recorded. Not expected for a line.
+    /// A session starts above what its base session has recorded. No line is expected to fail with this error.
     StartAboveBase,
-    /// Only part of a window was settled: no memory, or no update sequence, was left.
+    /// Only part of a window was settled, because no memory or no update sequence was left.
     Stopped,
     /// More than 1,000 documents are selected.
     TooManyChosen,
     /// The number of workers is above 64.
     TooManyWorkers,
-    /// The fetched documents do not cover a leaf of the window. Not expected for a line.
+    /// The fetched documents do not cover a leaf of the window. No line is expected to fail with this error.
     Uncovered,
-    /// A session has not reached its goal. Not expected for a line.
+    /// A session has not reached its goal. No line is expected to fail with this error.
     Unfinished,
     /// Another database has this UUID.
     UuidTaken,
 }
 
 impl Refusal {
-    /// The printed name (docs/PROFILE.md, "Names of refusals").
+    /// Returns the printed name (docs/PROFILE.md, "Names of refusals").
     pub fn name(&self) -> &'static str
         ensures { result.now ≡ name_of self.now }
     {
@@ -203,7 +203,7 @@ impl Refusal {
         }
     }
 
-    /// The low water of a replication that its plan stopped, or the error of the line.
+    /// Returns the low water of a replication that its plan stopped, or the error of the line.
     pub fn stop_of(fault: TargetFault) -> Result<u64, Refusal>
         ensures { result ≡ stop_of fault }
     {
@@ -213,7 +213,7 @@ impl Refusal {
         }
     }
 
-    /// The low water of a pool run that its plan stopped, or the error of the line.
+    /// Returns the low water of a pool run that its plan stopped, or the error of the line.
     pub fn run_stop_of(fault: PoolFault) -> Result<u64, Refusal>
         ensures { result ≡ run_stop_of fault }
     {
@@ -248,7 +248,7 @@ impl<T: Drop> From<AllocFailed<T>> for Refusal {
     }
 }
 
-/// The error of a line whose document, body or id is invalid.
+/// Returns the error of a line whose document, body or id is invalid.
 impl From<DocFault> for Refusal {
     ghost from_gives = { λ fault e. e ≡ doc_refusal fault };
 
@@ -270,7 +270,7 @@ impl From<DocFault> for Refusal {
     }
 }
 
-/// The error of a line whose revision id is invalid.
+/// Returns the error of a line whose revision id is invalid.
 ///
 /// The two errors of ancestries do not occur for the text of a revision id.
 impl From<RevFault> for Refusal {
@@ -288,7 +288,7 @@ impl From<RevFault> for Refusal {
     }
 }
 
-/// The error of a line whose database call failed.
+/// Returns the error of a line whose database call failed.
 impl From<BaseFault> for Refusal {
     ghost from_gives = { λ fault e. e ≡ base_refusal fault };
 
@@ -309,7 +309,7 @@ impl From<BaseFault> for Refusal {
     }
 }
 
-/// The error of a line whose log or timestamp is invalid.
+/// Returns the error of a line whose log or timestamp is invalid.
 impl From<LogFault> for Refusal {
     ghost from_gives = { λ fault e. e ≡ log_refusal fault };
 
@@ -323,7 +323,7 @@ impl From<LogFault> for Refusal {
     }
 }
 
-/// The error of a line whose call of a peer failed.
+/// Returns the error of a line whose call of a peer failed.
 impl From<TargetFault> for Refusal {
     ghost from_gives = { λ fault e. e ≡ target_refusal fault };
 

@@ -4,7 +4,7 @@ ghost use Rattle.script_databases.specs.Stored.{program_of};
 
 use std::alloc::{AllocError, Global};
 
-/// The settings, as the program's options set them.
+/// The settings that the program's options set.
 #[derive(Drop)]
 pub struct Settings {
     /// The id prefix of the documents that a target refuses.
@@ -22,7 +22,8 @@ pub struct Settings {
 }
 
 impl Settings {
-    /// The default settings: no prefix, seed 0, timestamp 0, 4 workers, batches of 500, not quiet.
+    /// Returns the default settings, which are no prefix, seed 0, timestamp 0, 4 workers, batches of 500, and not
+    /// quiet.
     pub fn new() -> Settings
         ensures { result ≡ record { deny = None; seed = 0; at = 0; workers = 4; batch = 500; quiet = false } }
     {

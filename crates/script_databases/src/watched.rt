@@ -11,7 +11,7 @@ use repl_pool::{PoolFault, Seats, board_with_seats};
 use repl_target::Report;
 use std::alloc::Global;
 
-/// A run that reached its goal, with the counters of its board after its end.
+/// A run that reached its goal, with the totals of its board after the end of the run.
 #[derive(Clone, Copy, Debug, PartialEq, Eq)]
 pub struct Watched {
     /// The number of documents that all workers settled.
@@ -22,7 +22,7 @@ pub struct Watched {
     pub report: Report,
 }
 
-/// Creates a board for a run, with a seat for each worker and one for the viewer.
+/// Creates a board for a run, with a seat for each worker and a seat for the viewer.
 pub fn board_for(
     alloc: Global,
     workers: u64,

@@ -27,7 +27,7 @@ pub struct Chunks {
 }
 
 impl Chunks {
-    /// Allocates the buffer. Nothing has been read yet.
+    /// Allocates the buffer. The new value has read nothing yet.
     pub fn new(alloc: Global) -> Result<Chunks, AllocError>
         ensures begun { IfOk result (λ c. c.turns ≡ 0) }
         ensures room { IfOk result AreChunks }
@@ -40,7 +40,7 @@ impl Chunks {
         })
     }
 
-    /// Reads the next chunk. Returns `false` at the end of the input.
+    /// Reads the next chunk. Reads the next chunk, or returns `false` at the end of the input.
     ///
     /// # Errors
     ///

@@ -1,8 +1,8 @@
 //! Runs a script of commands from standard input with the default settings, and prints the results.
 //!
-//! It is `couch_replicate` without options, `--explain` and `--progress`: the same interpreter, so the same results. It
-//! builds faster, because it does not use a library for command lines. docs/PROFILE.md, "Command lines" and "Answers",
-//! defines a script.
+//! The program has the interpreter of `couch_replicate`, and therefore the same results, but no options. It builds
+//! faster, because it does not use a library for command lines. docs/PROFILE.md, "Command lines" and "Answers", defines
+//! a script.
 #![tactic(auto)]
 
 ghost use Rattle.std.specs.Prelude.{◌≡◌, ℕ, List, Some, IfOk};
@@ -46,7 +46,8 @@ where
     Ok((ended, reader, writer.into_inner()))
 }
 
-/// Runs the program. Returns its exit status: 0, or 1 if a line was refused, or 3 if reading, writing or memory failed.
+/// Runs the program. Returns the exit status, which is 0 on success, 1 if a line failed, and 3 if reading, writing or
+/// an allocation failed.
 fn run_program<H>(rt: &H) -> u8
 where
     H: AllocGlobal + Input + Print + Eprint + Threads + Wait + Sync,
