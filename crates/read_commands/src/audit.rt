@@ -21,7 +21,7 @@ use std::thread::Threads;
 pub struct Audit<'v, 'a> {
     pub source: &'v str,
     pub target: &'v str,
-    /// The ids of the selected documents, which are strings; all documents if absent.
+    /// The ids of the selected documents, which are strings. If the ids are absent, all documents are selected.
     pub doc_ids: Option<&'v Vec<LineValue<'a>>>,
 }
 

@@ -69,7 +69,7 @@ impl<'v, 'a> Command<&'v Line<'a>> for Changes<'v> {
 /// The maximum number of rows per read.
 const PAGE: u64 = 10_000;
 
-/// Prints the rows after a sequence, and the update sequence.
+/// Prints the rows of the feed after a sequence, and the update sequence.
 fn print(
     alloc: Global,
     answer: &mut Vec<u8>,

@@ -1,4 +1,4 @@
-//! `compare`: prints what a target lacks of a source, without using logs.
+//! The command `compare`, which prints the differences between a source and a target, without using logs.
 ghost use Rattle.std.specs.Prelude.{◌≡◌, ◌++◌, ◌<◌, ◌≤◌, [], length, true, if◌then◌else◌, IfOk, OnOk};
 ghost use Rattle.json_values.specs.LineView.{line_view};
 ghost use Rattle.read_commands.specs.Compare.{FitsCompare, compare_left, compared_line, compared_part, comparison_lines, contradicts_line, found_part};
@@ -21,7 +21,7 @@ use std::alloc::{AllocError, Global};
 pub struct Compare<'v, 'a> {
     pub source: &'v str,
     pub target: &'v str,
-    /// The ids of the selected documents, which are strings; all documents if absent.
+    /// The ids of the selected documents, which are strings. If the ids are absent, all documents are selected.
     pub doc_ids: Option<&'v Vec<LineValue<'a>>>,
 }
 
@@ -154,7 +154,7 @@ fn push_found(answer: &mut Vec<u8>, total: &Total) -> Result<(), AllocError>
     push_number(answer, total.differing)
 }
 
-/// Prints what the target lacks of each row's document, and counts it.
+/// Prints and counts the differences between each row's document and the target's document.
 #[derive(Drop)]
 struct ComparedRows<'a> {
     source: &'a Database,
@@ -201,7 +201,7 @@ fn push_comparison(
     Ok(())
 }
 
-/// Prints the revision whose parent differs in the target, if there is one.
+/// Prints the revision whose parent differs in the target, if such a revision exists.
 fn push_contradiction(
     answer: &mut Vec<u8>,
     id: &str,

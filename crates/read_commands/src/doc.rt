@@ -22,7 +22,7 @@ use std::thread::Threads;
 pub struct Doc<'a> {
     pub db: &'a str,
     pub id: &'a str,
-    /// The revision; the winner if absent.
+    /// The revision to print. If it is absent, the winner is printed.
     pub rev: Option<&'a str>,
 }
 
@@ -78,7 +78,7 @@ impl<'v, 'a> Command<&'v Line<'a>> for Doc<'v> {
     }
 }
 
-/// The named revision, or the winner.
+/// Returns the named revision, or the winner if no revision is named.
 fn chosen(tree: &Tree, named: Option<Rev>) -> Option<Rev>
     ensures { result ≡ chosen tree.now named }
 {

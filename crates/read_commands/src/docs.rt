@@ -23,7 +23,7 @@ pub struct Docs<'v, 'a> {
     pub db: &'v str,
     /// The sequence after which documents are printed.
     pub since: u64,
-    /// The ids of the selected documents, which are strings; all documents if absent.
+    /// The ids of the selected documents, which are strings. If the ids are absent, all documents are selected.
     pub doc_ids: Option<&'v Vec<LineValue<'a>>>,
 }
 
@@ -67,7 +67,7 @@ impl<'v, 'a> StreamingCommand<&'v Line<'a>> for Docs<'v, 'a> {
     }
 }
 
-/// The maximum number of rows per read. It is small because documents can be large.
+/// The maximum number of rows per read. The number is small because documents can be large.
 const PAGE: u64 = 16;
 
 /// The rest of the output of `docs`.

@@ -17,7 +17,7 @@ const PIECE: usize = 65_536;
 pub struct Walk {
     /// The sequence after which rows are left.
     pub since: u64,
-    /// The selected documents; all if absent.
+    /// The selected documents. If the selection is absent, all documents are selected.
     pub chosen: Option<Chosen>,
 }
 
@@ -32,10 +32,10 @@ pub trait RowPrinter {
     // The text that is printed for a row.
     ghost row_text: { Self → RowValue → List ℕ };
 
-    // Whether these are the counts of these rows.
+    // Whether the given counts are the counts of the given rows.
     ghost counts: { Self → Self.Tally → List RowValue → Type 0 } = { λ _ _ _. Unit {0} };
 
-    /// Prints a row, and counts it.
+    /// Prints a row of the feed, and counts it.
     fn push_row(
         &self,
         alloc: Global,
@@ -52,8 +52,8 @@ pub trait RowPrinter {
 #[derive(Drop)]
 pub struct NoTally;
 
-/// Prints rows, at most `limit` per read, until the piece is full. Returns whether the piece is full; otherwise no rows
-/// are left.
+/// Prints rows of the feed, at most `limit` per read, until the piece is full. Returns whether the piece is full, and
+/// if it is not, no rows are left.
 pub fn fill<P: RowPrinter>(
     alloc: Global,
     piece: &mut Vec<u8>,

@@ -1,4 +1,4 @@
-//! `ledger`: prints the documents that the target refused in a session, and why.
+//! The command `ledger`, which prints the documents that the target refused in a session, with the reasons.
 ghost use Rattle.std.specs.Prelude.{◌≡◌, ◌++◌, OnOk};
 ghost use Rattle.std.specs.List.{flat_map};
 ghost use Rattle.json_values.specs.LineView.{line_view};

@@ -1,5 +1,4 @@
-//! The commands that change nothing: their parameters, and what they print (docs/PROFILE.md, "Command lines" and
-//! "Answers").
+//! The commands that change nothing, with their parameters and output (docs/PROFILE.md, "Command lines" and "Answers").
 //!
 //! Each command has its own file. `feed` prints a database's feed row by row. A command whose output is produced in
 //! pieces implements `StreamingCommand` (`streaming_command`), and `rest` produces its remaining pieces.

@@ -22,7 +22,7 @@ pub struct Log<'v, 'a> {
     pub source: &'v str,
     pub target: &'v str,
     pub side: Side,
-    /// The ids of the selected documents, which are strings; all documents if absent.
+    /// The ids of the selected documents, which are strings. If the ids are absent, all documents are selected.
     pub doc_ids: Option<&'v Vec<LineValue<'a>>>,
 }
 
@@ -97,7 +97,7 @@ fn side_member(value: &LineValue<'_>) -> Option<Side>
     }
 }
 
-/// The log of a replication on one side.
+/// Returns the log of a replication on one side.
 fn log_held(
     alloc: Global,
     source: &Peer<Rules>,

@@ -8,8 +8,8 @@ use crate::docs::DocsRest;
 use script_databases::Databases;
 use std::alloc::{AllocError, Global};
 
-/// The rest of an output. It names its databases instead of borrowing them. The type is small because each line returns
-/// one.
+/// The rest of an output. A rest names its databases instead of borrowing them. The type is small because each line
+/// returns one.
 #[derive(Drop)]
 pub enum Rest {
     Compare(Box<CompareRest>),

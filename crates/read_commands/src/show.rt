@@ -96,7 +96,7 @@ fn push_head(answer: &mut Vec<u8>, id: &str, tree: &Tree, all: &[Rev]) -> Result
     Ok(())
 }
 
-/// Prints the winner, which is the first leaf. Every tree of a database has one.
+/// Prints the winner, which is the first leaf. Every tree of a database has a winner.
 fn push_winner(answer: &mut Vec<u8>, all: &[Rev]) -> Result<(), AllocError>
     ensures { OnOk result (answer.new.items ≡ answer.old.items ++ text_of_any (first_of all.now)) }
 {

@@ -19,7 +19,7 @@ pub trait StreamingCommand<L>: Sized + Drop {
     ghost use Rattle.script_databases.specs.Databases.{State};
     ghost use Rattle.script_databases.specs.declared.refusal.Refusal.{Refusal};
 
-    // The value of a line.
+    // The JSON value of a line.
     ghost seen: { L → Data };
 
     // The parameters of the command, independent of where they are stored.
@@ -27,14 +27,14 @@ pub trait StreamingCommand<L>: Sized + Drop {
 
     ghost asked: { Self → Ask };
 
-    // The parameters that an object gives: all members have their types, and there are no other members.
+    // The parameters that an object gives, in which all members have their types and no other members exist.
     ghost asked_in: { Data → Result Ask Refusal };
 
-    // The possible results, and the states that they leave.
+    // The possible results of the command, and the states that they leave.
     ghost answers: { Answering State Ask };
 
-    /// Reads the parameters from an object. Returns `None` if it is not such a command; the line then fails with
-    /// `BadCommand`.
+    /// Reads the parameters from an object. Returns `None` if the object is not a command of this kind, and the line
+    /// then fails with `BadCommand`.
     fn read(line: L) -> Option<Self>
         ensures { needed (option_map asked result) ≡ asked_in (seen line) };
 
@@ -44,8 +44,8 @@ pub trait StreamingCommand<L>: Sized + Drop {
         ensures fits { IfOk result (λ rest. FitsRest databases.now rest) };
 }
 
-/// Runs a command whose output is produced in pieces: returns its first piece, and the rest. If a rest is returned, the
-/// first piece has at least 65,536 bytes.
+/// Runs a command whose output is produced in pieces, and returns the first piece and the rest. If a rest is returned,
+/// the first piece has at least 65,536 bytes.
 #[inline(never)]
 pub fn begin_in<L, A: StreamingCommand<L>>(
     alloc: Global,
@@ -91,7 +91,7 @@ fn give(
     Ok(None)
 }
 
-/// The result of a command whose output was produced completely.
+/// Returns the result of a command whose output was produced completely.
 pub fn whole(served: Result<(), Refusal>) -> Result<Option<Rest>, Refusal>
     ensures told { (s : State) → (text : List ℕ) → told_begun s result text ≡ told_by served text }
     ensures fits { (s : State) → IfOk result (λ rest. Fits (FitsRest s) rest) }

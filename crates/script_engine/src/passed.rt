@@ -4,7 +4,7 @@ ghost use Rattle.std.specs.Borrow.{ftrue};
 
 use std::marker::Model;
 
-/// All bytes that came through a stream, in order. The value takes no memory: only contracts can see the bytes.
+/// All bytes that came through a stream, in order. The value takes no memory, because only contracts can see the bytes.
 #[derive(Drop)]
 pub struct Passed {
     pub ghost bytes: { List ℕ },
@@ -17,7 +17,7 @@ impl Model for Passed {
 /// A step of a stream's history.
 #[derive(Clone, Copy, Drop)]
 pub(crate) enum Pass<'a> {
-    /// The start of the history: no bytes.
+    /// The start of the history, with no bytes.
     Nothing,
     /// The history so far, and the bytes that follow it.
     More(&'a Passed, &'a [u8]),

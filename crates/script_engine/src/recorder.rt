@@ -5,7 +5,7 @@ use crate::passed::{Pass, Passed};
 use std::io;
 use std::io::Write;
 
-/// Records the bytes that a `std` writer accepts. Contracts can name all of them, whichever writer it is.
+/// Records the bytes that a `std` writer accepts. Contracts can name all accepted bytes of any writer.
 #[derive(Drop)]
 pub struct Recorder<W> {
     inner: W,
@@ -13,7 +13,7 @@ pub struct Recorder<W> {
 }
 
 impl<W: Write> Recorder<W> {
-    /// Wraps a writer. It has accepted no bytes through the wrapper yet.
+    /// Wraps a writer. The writer has accepted no bytes through the wrapper yet.
     pub fn new(inner: W) -> Self
         ensures { ⟦<Recorder<W> as Write>⟧.contents result ≡ Some [] }
     {

@@ -1,4 +1,4 @@
-//! The commands that change databases: their parameters, effects and output (docs/PROFILE.md, "Command lines" and
+//! The commands that change databases, with their parameters, effects and output (docs/PROFILE.md, "Command lines" and
 //! "Answers"). Each command has its own file.
 #![tactic(auto)]
 

@@ -1,4 +1,4 @@
-//! `load`: creates a database, or stores a document in one.
+//! The command `load`, which creates a database or stores a document in a database.
 ghost use Rattle.std.specs.Prelude.{◌≡◌, ◌++◌, [], None, Some, OnOk, IfOk, IfErr, option_map};
 ghost use Rattle.json_values.specs.LineView.{line_view};
 ghost use Rattle.script_engine.specs.Serving.{MayTell};
@@ -67,7 +67,7 @@ impl<'v, 'a> Command<&'v Line<'a>> for Load<'v, 'a> {
     }
 }
 
-/// Loads, and prints the result. A UUID may be given only for a new database.
+/// Performs a `load` line, and prints the result. A UUID may be given only for a new database.
 fn load_loud(
     alloc: Global,
     databases: &mut Databases,
@@ -83,7 +83,8 @@ fn load_loud(
     }
 }
 
-/// Creates a database with a given UUID. Checks first that the name is unused, then that the UUID is.
+/// Creates a database with a given UUID. The call first checks that the name is unused, and then that the UUID is
+/// unused.
 fn load_given(
     alloc: Global,
     databases: &mut Databases,
@@ -109,7 +110,7 @@ fn load_given(
     }
 }
 
-/// Loads into an existing or a new database. Parses the document before it looks up the database.
+/// Loads a document into an existing or a new database. The call parses the document before it looks up the database.
 fn load_named(
     alloc: Global,
     databases: &mut Databases,

@@ -29,7 +29,7 @@ use std::thread::Threads;
 pub struct Replicate<'v, 'a> {
     pub source: &'v str,
     pub target: &'v str,
-    /// The ids of the selected documents, which are strings; all documents if absent.
+    /// The ids of the selected documents, which are strings. If the ids are absent, all documents are selected.
     pub doc_ids: Option<&'v Vec<LineValue<'a>>>,
     pub options: Options,
 }
@@ -49,18 +49,18 @@ pub struct Options {
     pub at: Option<u64>,
     /// The number of windows after which the replication stops.
     pub stop_after: Option<u64>,
-    /// Whether to print the counters of the run. Has no effect with one thread.
+    /// Whether to print the counters of the run. The option has no effect with one thread.
     pub progress: bool,
 }
 
-/// How a replication ended that did not fail.
+/// The way in which a replication ended that did not fail.
 #[derive(Drop)]
 enum Ending {
     /// The replication reached its goal.
     Done(Report),
-    /// The replication reached its goal; its board was read after that.
+    /// The replication reached its goal, and its board was read after the end.
     Shown(Watched),
-    /// The plan stopped the replication; everything up to this sequence is done.
+    /// The plan stopped the replication, and every window up to this sequence is done.
     Stopped(u64),
 }
 
@@ -149,7 +149,7 @@ pub fn serve_replication<H: Threads + Wait + Sync>(
     Ok(())
 }
 
-/// Reads the other parameters of a replication.
+/// Reads the parameters of a replication other than its databases and selection.
 fn options_of(value: &LineValue<'_>) -> Option<Options>
     ensures { needed result ≡ options_in (line_view value.now) }
 {
@@ -171,7 +171,7 @@ fn options_of(value: &LineValue<'_>) -> Option<Options>
     })
 }
 
-/// The given session id, or a generated one.
+/// Returns the given session id, or a generated id if none is given.
 fn session_asked(databases: &mut Databases, options: &Options) -> u128
     ensures state { databases.new ≡ with_session databases.old options.now }
     ensures session { result ≡ session_of databases.old options.now }
@@ -182,7 +182,7 @@ fn session_asked(databases: &mut Databases, options: &Options) -> u128
     }
 }
 
-/// Builds the plan of a line, with the program's settings for what is absent.
+/// Builds the plan of a line, with the program's settings for absent parameters.
 ///
 /// # Errors
 ///
@@ -213,8 +213,8 @@ fn plan_asked(
     })
 }
 
-/// Replicates between the two existing databases of a line: by one thread if the line says so, otherwise with the pool,
-/// with a progress board if requested.
+/// Replicates between the two existing databases of a line. The call uses one thread if the line says so, and otherwise
+/// the pool, with a progress board if the line requests it.
 fn run_plan<H: Threads + Wait + Sync>(
     rt: &H,
     alloc: Global,
@@ -237,7 +237,7 @@ fn run_plan<H: Threads + Wait + Sync>(
     ending_of_run(databases.replicate(rt, alloc, ask.source, ask.target, plan))
 }
 
-/// The ending of a watched pool run.
+/// Returns the ending of a pool run with a progress board.
 fn ending_of_watched(outcome: Result<Watched, PoolFault>) -> Result<Ending, Refusal>
     ensures { result ≡ ending_of_watched outcome }
 {
@@ -247,7 +247,7 @@ fn ending_of_watched(outcome: Result<Watched, PoolFault>) -> Result<Ending, Refu
     }
 }
 
-/// The ending of a pool run. A run that its plan stopped has not failed.
+/// Returns the ending of a pool run. A run that its plan stopped has not failed.
 fn ending_of_run(outcome: Result<Report, PoolFault>) -> Result<Ending, Refusal>
     ensures { result ≡ ending_of_run outcome }
 {
@@ -260,7 +260,7 @@ fn ending_of_run(outcome: Result<Report, PoolFault>) -> Result<Ending, Refusal>
     }
 }
 
-/// The ending of a replication by one thread. A replication that its plan stopped has not failed.
+/// Returns the ending of a replication by one thread. A replication that its plan stopped has not failed.
 fn ending_of(outcome: Result<Report, TargetFault>) -> Result<Ending, Refusal>
     ensures { result ≡ ending_of outcome }
 {

@@ -15,7 +15,7 @@ use std::alloc::Global;
 use std::sync::Wait;
 use std::thread::Threads;
 
-/// The parameters of a `sync` line: a replication from `a` to `b`, and one from `b` to `a`.
+/// The parameters of a `sync` line, which replicates from `a` to `b` and then from `b` to `a`.
 #[derive(Drop)]
 pub struct BothWays<'v, 'a> {
     pub there: Replicate<'v, 'a>,
@@ -80,8 +80,8 @@ impl<'v, 'a> Command<&'v Line<'a>> for BothWays<'v, 'a> {
         })
     }
 
-    /// Runs `sync`. The reverse direction does not start if the forward direction fails. Blocks, unless the line asks
-    /// for one thread.
+    /// Runs `sync`. The reverse direction does not start if the forward direction fails. The call blocks, unless the
+    /// line requests one thread.
     fn serve<H: Threads + Wait + Sync>(
         &self,
         rt: &H,
@@ -113,7 +113,8 @@ fn shared_of(value: &LineValue<'_>) -> Option<Shared>
     })
 }
 
-/// The parameters of one direction, with its session id. No direction stops early or prints counters.
+/// Returns the parameters of one direction, with the session id of that direction. Neither direction stops early or
+/// prints counters.
 fn options_of(shared: &Shared, session: Option<u128>) -> Options
     ensures { result ≡ way_options shared.now session }
 {
