@@ -1,17 +1,17 @@
-//! The columns of a diagram. A generation with a fork or an end has a column of its own; the generations between two
-//! such columns share one.
+//! The columns of a diagram. A generation with a fork or an end has a column of its own. The generations between two
+//! such columns share one column.
 
 use crate::document::Leaf;
 use crate::rows::Row;
 use crate::sheet::{digits, short_len};
 use std::alloc::{AllocError, Global};
 
-/// A column for the generations from `low` to `high`.
+/// A column of a diagram, for the generations from `low` to `high`.
 #[derive(Clone, Copy, Debug)]
 pub struct Cell {
     pub low: u32,
     pub high: u32,
-    /// The number of characters of its widest text.
+    /// The number of characters of the column's widest text.
     pub width: usize,
 }
 
@@ -25,7 +25,7 @@ pub fn axis_of(alloc: Global, leaves: &[Leaf], rows: &[Row]) -> Result<Vec<Cell>
     Ok(cells)
 }
 
-/// The generations with columns of their own, rising: where a row begins, ends or forks.
+/// Returns the generations at which a row begins, ends or forks, in rising order. Each of them has a column of its own.
 fn kept_of(alloc: Global, leaves: &[Leaf], rows: &[Row]) -> Result<Vec<u32>, AllocError> {
     let mut kept = Vec::new(alloc);
     for (leaf, row) in leaves.iter().zip(rows) {
@@ -40,7 +40,7 @@ fn kept_of(alloc: Global, leaves: &[Leaf], rows: &[Row]) -> Result<Vec<u32>, All
     Ok(kept)
 }
 
-/// The first generation of a row.
+/// Returns the first generation of a row.
 pub fn start_of(leaf: &Leaf, row: &Row) -> u32 {
     if row.hang == 0 || row.hang == u32::MAX {
         return leaf.oldest();
@@ -48,7 +48,7 @@ pub fn start_of(leaf: &Leaf, row: &Row) -> u32 {
     row.hang + 1
 }
 
-/// Builds a column for each kept generation, and one for the generations between two of them.
+/// Builds a column for each kept generation, and a column for the generations between two kept ones.
 fn cells_of(alloc: Global, kept: &[u32]) -> Result<Vec<Cell>, AllocError> {
     let mut cells = Vec::new(alloc);
     let mut next = kept.first().copied().unwrap_or(0);
@@ -70,7 +70,7 @@ fn cells_of(alloc: Global, kept: &[u32]) -> Result<Vec<Cell>, AllocError> {
     Ok(cells)
 }
 
-/// The number of characters of the widest text in a column.
+/// Returns the number of characters of the widest text in a column.
 fn width_of(leaves: &[Leaf], low: u32, high: u32) -> usize {
     let mut width = 0;
     for leaf in leaves {
@@ -85,12 +85,12 @@ fn width_of(leaves: &[Leaf], low: u32, high: u32) -> usize {
     width
 }
 
-/// The number of generations in a column.
+/// Returns the number of generations in a column.
 pub fn folded(low: u32, high: u32) -> u64 {
     u64::from(high).saturating_sub(u64::from(low)) + 1
 }
 
-/// The number of characters of the text of a shared column.
+/// Returns the number of characters of the text of a shared column.
 pub fn folded_len(count: u64) -> usize {
     digits(count) + 5
 }

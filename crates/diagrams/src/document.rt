@@ -7,18 +7,18 @@ use std::alloc::{AllocError, Global};
 
 /// A leaf with its known ancestry.
 ///
-/// The order of leaves is the order of drawing: first by the number of revisions shared with the winner, descending,
-/// then by the ancestors, the oldest first. So all leaves that share a revision are adjacent.
+/// Leaves are ordered as they are drawn. Leaves that share more revisions with the winner come first, and then the
+/// ancestors decide, the oldest first. In this order, all leaves that share a revision are adjacent.
 #[derive(Debug, PartialEq, Eq, PartialOrd, Ord, Drop)]
 pub struct Leaf {
-    /// A maximum minus the number of revisions shared with the winner; 0 for the winner.
+    /// A constant minus the number of revisions that the leaf shares with the winner, and 0 for the winner.
     pub apart: usize,
-    /// The known ancestors, the oldest first. Each generation is one above the previous one, and the leaf's is one
-    /// above the last.
+    /// The known ancestors, the oldest first. The generation of each ancestor is one above that of the ancestor before
+    /// it, and the leaf's generation is one above the last.
     pub before: Vec<Rev>,
     /// The revision.
     pub rev: Rev,
-    /// Whether it is the winner.
+    /// Whether the leaf is the winner.
     pub wins: bool,
     /// Whether it is live.
     pub live: bool,
@@ -30,7 +30,7 @@ impl Leaf {
         self.rev.generation()
     }
 
-    /// The generation of the oldest known ancestor, or of the leaf itself.
+    /// Returns the generation of the oldest known ancestor, or of the leaf if no ancestor is known.
     pub fn oldest(&self) -> u32 {
         match self.before.as_slice().first() {
             Some(rev) => rev.generation(),
@@ -38,7 +38,7 @@ impl Leaf {
         }
     }
 
-    /// The ancestor of a generation.
+    /// Returns the leaf's ancestor of a generation.
     pub fn ancestor(&self, generation: u32) -> Option<&Rev> {
         let oldest = self.oldest();
         if generation < oldest {
@@ -48,7 +48,7 @@ impl Leaf {
     }
 }
 
-/// The length of the common prefix of two lists.
+/// Returns the length of the common prefix of two lists.
 pub fn shared(a: &[Rev], b: &[Rev]) -> usize {
     for i in 0..a.len() {
         if i >= b.len() || a[i] != b[i] {
@@ -58,14 +58,14 @@ pub fn shared(a: &[Rev], b: &[Rev]) -> usize {
     a.len()
 }
 
-/// A document and those of its leaves that were read.
+/// A document, with the leaves that were read so far.
 #[derive(Drop)]
 pub struct Document {
     /// The id in JSON.
     pub id: String,
     /// The number of leaves.
     pub count: u64,
-    /// The leaves that were read: in the order of reading, the winner first, or sorted for drawing.
+    /// The leaves that were read, either in the order of reading with the winner first, or sorted for drawing.
     pub leaves: Vec<Leaf>,
 }
 
@@ -90,7 +90,7 @@ impl Document {
         self.leaves.len() as u64 >= self.count
     }
 
-    /// Adds a leaf. The first leaf is the winner.
+    /// Adds a leaf. Adds a leaf of the document. The first leaf is the winner.
     pub fn add(&mut self, leaf: Leaf) -> Result<(), AllocError>
         ensures holds { OnOk result (Holds self.new (string_bytes self.old.id) (with_leaf (states self.old) leaf.rev leaf.live)) }
         ensures count { OnOk result (self.new.count ≡ self.old.count) }
@@ -100,7 +100,7 @@ impl Document {
         Ok(())
     }
 
-    /// Computes a leaf's position relative to the others.
+    /// Computes the parts of a leaf that decide its position in the drawing.
     fn placed(&self, leaf: Leaf) -> Leaf
         ensures rev { result.rev ≡ leaf.rev }
         ensures live { result.live ≡ leaf.live }

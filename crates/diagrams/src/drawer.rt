@@ -23,9 +23,9 @@ use std::alloc::{AllocError, Global};
 struct Drawer<'a> {
     alloc: Global,
     form: Form,
-    /// The database of the output, if it was named.
+    /// The database whose documents are drawn, if the caller named it.
     db: Option<&'a str>,
-    /// The document whose leaves are being read.
+    /// The document whose `leaf` lines are being read.
     begun: Option<Document>,
     /// The size of the picture.
     extent: Extent,
@@ -53,7 +53,8 @@ impl Serve for Drawer<'_> {
 }
 
 impl Drawer<'_> {
-    /// Reads a line, and draws what it completes. If an allocation fails, the current document is dropped.
+    /// Reads a line, and draws the item that the line completes. If an allocation fails, the current document is
+    /// dropped.
     fn take_in(&mut self, line: &[u8], answer: &mut Vec<u8>) -> Result<(), AllocError>
         requires { answer.old.items ≡ [] }
         ensures ok { OnOk result (Takes (sketch_of self.old.form self.old.db self.old.begun) line.now
@@ -160,9 +161,9 @@ impl Drawer<'_> {
     }
 }
 
-/// Reads the output of a script, and draws the documents of `show` and `conflicts`, the lines of `compare`, the numbers
-/// of `info` and of sessions, and logs (docs/PROFILE.md, "Pictures"): as text, or as one SVG picture. If the database
-/// is named, the text includes the commands that resolve conflicts.
+/// Reads the output of a script, and draws it as text or as one SVG picture (docs/PROFILE.md, "Pictures"). Drawn are
+/// the documents of `show` and `conflicts`, the lines of `compare`, the numbers of `info` and of sessions, and logs. If
+/// the database is named, the text includes the commands that resolve conflicts.
 ///
 /// Returns whether memory was sufficient for every line.
 ///
@@ -171,8 +172,8 @@ impl Drawer<'_> {
 /// - `Read` or `Write`: that device failed in this call; `Read` also after 4,294,967,295 reads.
 /// - `Memory`: an allocation failed between lines, or for the end of the picture.
 ///
-/// A prefix of the picture was written. Unless a write failed, it ends after the drawing for a line. The contract also
-/// allows `Cut`, after which it ends within a drawing.
+/// After an error, a prefix of the picture was written. Unless a write failed, that prefix ends after the drawing for a
+/// line. The contract also allows `Cut`, after which the prefix ends within a drawing.
 pub fn draw_answers<R: ScriptRead, W: ScriptWrite>(
     alloc: Global,
     form: Form,
@@ -183,7 +184,8 @@ pub fn draw_answers<R: ScriptRead, W: ScriptWrite>(
     ensures pictured { PicturedBy result form (option_map (λ s. s.now) db.entry)
         (R.left reader.old) (W.held writer.old) (W.held writer.new) }
     ensures end { OnOk result (IsAtEnd (R.left reader.new)) }
-    // `pictured` holds also for the bytes that the reads returned. On success the reads returned everything.
+    // The clause `pictured` holds also for the bytes that the reads returned. On success the reads returned the
+    // complete input.
     ensures took { (input : List ℕ) × Appends (R.taken reader.old) (R.taken reader.new) input
         × PicturedBy result form (option_map (λ s. s.now) db.entry) (Some input) (W.held writer.old) (W.held writer.new) }
     ensures ended { OnOk result (R.ended reader.new) }
@@ -245,7 +247,7 @@ fn pass_on<W: ScriptWrite>(writer: &mut W) -> Result<(), ScriptFault>
     }
 }
 
-/// The start of a picture.
+/// Returns the start of a picture.
 fn head_of(form: Form) -> &'static str
     ensures { Draws [] result.now [] }
 {
@@ -255,7 +257,7 @@ fn head_of(form: Form) -> &'static str
     }
 }
 
-/// The end of a picture.
+/// Returns the end of a picture.
 fn tail_of(alloc: Global, form: Form, extent: Extent) -> Result<Vec<u8>, AllocError>
     ensures { IfOk result (λ tail. Draws [] tail.items []) }
 {

@@ -1,8 +1,8 @@
-//! The labels and shapes of leaves. No other part of a picture has them.
+//! The labels and shapes of leaves, which no other part of a picture has.
 ghost use Rattle.std.specs.Prelude.{◌≡◌};
 ghost use Rattle.diagrams.specs.Ink.{label_text, node_label, shape_text};
 
-/// The text label of a leaf.
+/// Returns the label of a leaf in a text picture.
 pub fn label_text(wins: bool, live: bool) -> &'static str
     ensures { result.now ≡ label_text wins live }
 {
@@ -14,7 +14,7 @@ pub fn label_text(wins: bool, live: bool) -> &'static str
     }
 }
 
-/// The SVG shape of a leaf, between its full and its short id.
+/// Returns the SVG markup of a leaf's shape, which stands between its full and its short id.
 pub fn shape_text(wins: bool, live: bool) -> &'static str
     ensures { result.now ≡ shape_text wins live }
 {
@@ -30,7 +30,7 @@ pub fn shape_text(wins: bool, live: bool) -> &'static str
     }
 }
 
-/// The SVG label of a leaf.
+/// Returns the label of a leaf in an SVG picture.
 pub fn node_label(wins: bool, live: bool) -> &'static str
     ensures { result.now ≡ node_label wins live }
 {

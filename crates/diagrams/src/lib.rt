@@ -1,4 +1,4 @@
-//! Draws the output of a script as text or SVG: revision trees, comparisons, numbers and logs.
+//! Draws revision trees, comparisons, numbers and logs from the output of a script, as text or SVG.
 //!
 //! docs/PROFILE.md, "Pictures", defines the input and the pictures.
 #![tactic(auto)]

@@ -1,4 +1,4 @@
-//! Drawing lines of `compare` and lines of numbers.
+//! Draws lines of `compare` and lines of numbers.
 
 ghost use Rattle.std.specs.Prelude.{◌≡◌, ◌≤◌, ◌++◌, ◌∷◌, [], OnOk, get_or, map, string_bytes};
 ghost use Rattle.diagrams.specs.declared.form.Form.TheVariants.{Svg, Text};
@@ -12,7 +12,7 @@ use output_parser::{Column, Finding, Found, Row, Table};
 use rev_core::Rev;
 use std::alloc::AllocError;
 
-/// Draws a line of `compare` about a document; in SVG, at a height.
+/// Draws a line of `compare` about a document. An SVG picture has the line at a given height.
 pub fn draw_found(
     out: &mut Vec<u8>,
     form: Form,
@@ -38,7 +38,7 @@ fn draw_listed(out: &mut Vec<u8>, revs: &[Rev]) -> Result<(), AllocError>
     Ok(())
 }
 
-/// Draws a line of numbers; in SVG, at a height.
+/// Draws a line of numbers. An SVG picture has the line at a given height.
 pub fn draw_numbers(out: &mut Vec<u8>, form: Form, height: u64, row: &Row) -> Result<(), AllocError>
     ensures { OnOk result (Draws out.old.items out.new.items
         (signs_of_row form row.now.table (string_bytes row.now.name) row.now.numbers.items)) }
@@ -85,7 +85,7 @@ fn draw_bar(out: &mut Vec<u8>, form: Form, table: Table, numbers: &[u64]) -> Res
     }
 }
 
-/// The number at an index, or 0.
+/// Returns the number at an index, or 0 if the list has no such index.
 fn number_at(numbers: &[u64], place: usize) -> u64
     ensures { result ≡ get_or numbers.now place 0 }
 {
@@ -98,7 +98,7 @@ fn number_at(numbers: &[u64], place: usize) -> u64
 
 // ---- positions
 
-/// The size of a line of `compare`.
+/// Returns the size of the drawing for a line of `compare`.
 pub fn extent_of_found(found: &Found) -> Extent {
     Extent {
         width: width_of(found.id.as_str()).saturating_add(
@@ -108,7 +108,7 @@ pub fn extent_of_found(found: &Found) -> Extent {
     }
 }
 
-/// The size of a line of numbers.
+/// Returns the size of the drawing for a line of numbers.
 pub fn extent_of_row(row: &Row) -> Extent {
     Extent {
         width: width_of(row.name.as_str()).max(900),
@@ -158,7 +158,7 @@ fn end(out: &mut Vec<u8>, form: Form) -> Result<(), AllocError>
     }
 }
 
-/// Draws the end of a line.
+/// Draws the end of a line of text.
 pub fn end_line(out: &mut Vec<u8>, form: Form) -> Result<(), AllocError>
     ensures { OnOk result (Draws out.old.items out.new.items []) }
 {
@@ -171,7 +171,7 @@ pub fn end_line(out: &mut Vec<u8>, form: Form) -> Result<(), AllocError>
 
 // ---- contents
 
-/// Draws a finding and a document id.
+/// Draws a finding of `compare` and the document id.
 fn put_found(out: &mut Vec<u8>, form: Form, finding: Finding, id: &str) -> Result<(), AllocError>
     ensures { OnOk result (Draws out.old.items out.new.items (found form finding id.now ∷ [])) }
 {
@@ -179,7 +179,7 @@ fn put_found(out: &mut Vec<u8>, form: Form, finding: Finding, id: &str) -> Resul
     put_text(out, form, id)
 }
 
-/// Draws a revision of a finding.
+/// Draws a revision that a finding of `compare` lists.
 fn put_listed(out: &mut Vec<u8>, rev: &Rev) -> Result<(), AllocError>
     ensures { OnOk result (Draws out.old.items out.new.items (listed rev.now ∷ [])) }
 {
@@ -200,7 +200,7 @@ pub fn put_heading(
     put_text(out, form, name)
 }
 
-/// The kind of a line of numbers.
+/// Returns the printed kind of a line of numbers.
 fn table_text(table: Table) -> &'static str
     ensures { result.now ≡ table_text table }
 {
@@ -221,7 +221,7 @@ pub fn put_count(out: &mut Vec<u8>, column: Column, number: u64) -> Result<(), A
     put_number(out, number)
 }
 
-/// The caption of a column.
+/// Returns the caption of a column of numbers.
 fn caption(column: Column) -> &'static str
     ensures { result.now ≡ caption column }
 {
@@ -249,7 +249,7 @@ fn caption(column: Column) -> &'static str
     }
 }
 
-/// Draws a bar for a part of a whole.
+/// Draws a progress bar for a part of a total.
 fn put_bar(out: &mut Vec<u8>, form: Form, part: u64, whole: u64) -> Result<(), AllocError>
     ensures { OnOk result (Draws out.old.items out.new.items (bar form part whole ∷ [])) }
 {
@@ -259,7 +259,7 @@ fn put_bar(out: &mut Vec<u8>, form: Form, part: u64, whole: u64) -> Result<(), A
     }
 }
 
-/// Draws a bar of 40 characters.
+/// Draws a progress bar of 40 characters.
 fn put_text_bar(out: &mut Vec<u8>, part: u64, whole: u64) -> Result<(), AllocError>
     ensures { OnOk result (Draws out.old.items out.new.items (bar Text part whole ∷ [])) }
 {
@@ -274,7 +274,7 @@ fn put_text_bar(out: &mut Vec<u8>, part: u64, whole: u64) -> Result<(), AllocErr
     out.extend_from_slice(b"\n")
 }
 
-/// Draws a bar that is 400 wide.
+/// Draws a progress bar with a width of 400.
 fn put_svg_bar(out: &mut Vec<u8>, part: u64, whole: u64) -> Result<(), AllocError>
     ensures { OnOk result (Draws out.old.items out.new.items (bar Svg part whole ∷ [])) }
 {
@@ -287,7 +287,7 @@ fn put_svg_bar(out: &mut Vec<u8>, part: u64, whole: u64) -> Result<(), AllocErro
     out.extend_from_slice(b"</text>\n")
 }
 
-/// Appends a part and its whole.
+/// Appends a part and its total.
 fn put_ratio(out: &mut Vec<u8>, part: u64, whole: u64) -> Result<(), AllocError>
     ensures { OnOk result (out.new.items ≡ out.old.items ++ ratio part whole) }
 {
@@ -296,7 +296,7 @@ fn put_ratio(out: &mut Vec<u8>, part: u64, whole: u64) -> Result<(), AllocError>
     put_number(out, whole)
 }
 
-/// The part of a whole, on a scale of 400.
+/// Returns a part of a total on a scale of 400.
 pub fn share(part: u64, whole: u64) -> u64
     ensures share { result ≡ share part whole }
     ensures most { result ≤ 400 }

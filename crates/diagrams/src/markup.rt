@@ -1,4 +1,4 @@
-//! The markup of pictures: everything except numbers and texts of the input.
+//! The markup of pictures, which is everything except numbers and texts of the input.
 ghost use Rattle.std.specs.Prelude.{◌≡◌};
 ghost use Rattle.diagrams.specs.Ink.{markup_text};
 
@@ -11,17 +11,17 @@ pub enum Markup {
     LineEnd,
     /// The indentation of a row of text.
     Indent,
-    /// An empty edge in text.
+    /// The space of an absent edge in a text picture.
     Blank,
-    /// An edge that passes a row.
+    /// An edge in a text picture that passes a row.
     Bar,
-    /// An edge to the next revision.
+    /// An edge in a text picture to the next revision.
     Step,
-    /// An edge to the next revision, with a branch below it.
+    /// An edge in a text picture to the next revision, with a branch below it.
     Fork,
-    /// An edge from above that continues below.
+    /// An edge in a text picture from above that continues below.
     Branch,
-    /// The last edge from above.
+    /// The last edge in a text picture from above.
     Corner,
     /// The text after the number of folded revisions.
     More,
@@ -31,26 +31,26 @@ pub enum Markup {
     TailWidth,
     TailHeight,
     Tail,
-    /// The start of a document, before its position.
+    /// The start of a document's markup, before its position.
     Group,
     /// The text before the document id.
     Title,
     /// The text after the document id.
     TitleEnd,
     GroupEnd,
-    /// An edge, its points, and its end.
+    /// The markup of an edge, before, between and after its points.
     Path,
     Comma,
     Curve,
     PathEnd,
-    /// A revision, before its position.
+    /// The markup of a revision, before its position.
     Node,
     /// The text before the full revision id.
     NodeTitle,
     /// The text between the full and the short id of an ancestor.
     Ancestor,
     Folded,
-    /// A position without a known revision.
+    /// The markup of a position without a known revision.
     NodeNone,
     /// The text after the short id.
     NodeEnd,
@@ -61,7 +61,7 @@ pub enum Markup {
 }
 
 impl Markup {
-    /// The text of the markup.
+    /// Returns the text of a kind of markup.
     pub fn text(self) -> &'static str
         ensures { result.now ≡ markup_text self }
     {

@@ -9,7 +9,7 @@ use output_parser::{Found, Log, Row, Told};
 use rev_core::Rev;
 use std::alloc::{AllocError, Global};
 
-/// A complete item, which is drawn.
+/// A complete item of the output, which is drawn.
 #[derive(Drop)]
 pub enum Whole {
     /// A document with all its leaves.
@@ -47,7 +47,7 @@ pub fn next(
     }
 }
 
-/// The same for a leaf of a document.
+/// Returns the current document after a `leaf` line, and the item that the line completes.
 fn read_leaf(
     mut document: Document,
     live: bool,
@@ -66,7 +66,7 @@ fn read_leaf(
     }
 }
 
-/// Builds a leaf from an ancestry, newest first; `None` if it is empty.
+/// Builds a leaf from an ancestry, newest first. Returns `None` if the ancestry is empty.
 fn leaf_of(live: bool, mut revs: Vec<Rev>) -> Option<Leaf>
     ensures some { IfSome result (λ l. (head_of revs.items ≡ Some l.rev) × (l.live ≡ live)) }
     ensures none { IfNone result (head_of revs.items ≡ None) }

@@ -1,20 +1,21 @@
-//! The layout of leaves: each has a row, and branches off an earlier row.
+//! Computes the layout of leaves, in which each leaf has a row that branches off an earlier row.
 
 ghost use Rattle.std.specs.Prelude.{◌≡◌, IfOk, length, vec_len};
 
 use crate::document::{Leaf, shared};
 use std::alloc::{AllocError, Global};
 
-/// The row of a leaf.
+/// The row of a leaf in a drawing.
 #[derive(Drop)]
 pub struct Row {
-    /// The generation of the revision from which it branches off; 0 if it does not branch off.
+    /// The generation of the revision from which the row branches off, or 0 if the row does not branch off.
     pub hang: u32,
-    /// The row in which that revision is drawn.
+    /// The row in which the revision is drawn from which this row branches off.
     pub parent: usize,
     /// The generation of the leaf's oldest known ancestor.
     pub first: u32,
-    /// The generations at which branches go below this row, rising; of this row or of earlier rows.
+    /// The generations at which branches go below this row, in rising order. They are branches of this row or of
+    /// earlier rows.
     pub below: Vec<u32>,
 }
 
@@ -59,7 +60,7 @@ pub fn rows_of(alloc: Global, leaves: &[Leaf]) -> Result<Vec<Row>, AllocError>
     Ok(rows)
 }
 
-/// The generation of the last revision that a leaf shares with the previous one, or 0.
+/// Returns the generation of the last revision that a leaf shares with the leaf before it, or 0 if they share none.
 fn hang_of(before: &Leaf, leaf: &Leaf) -> u32 {
     let count = shared(before.before.as_slice(), leaf.before.as_slice());
     if count == 0 {
@@ -71,8 +72,8 @@ fn hang_of(before: &Leaf, leaf: &Leaf) -> u32 {
         .map_or(0, |rev| rev.generation())
 }
 
-/// The last row in which a revision of this generation is drawn. Drops the rows after it: a later leaf that branches off
-/// one of them would branch off the row of this leaf instead.
+/// Returns the last row in which a revision of this generation is drawn. The call drops the rows after that row,
+/// because a later leaf that would branch off one of them branches off the row of this leaf instead.
 fn parent_of(branches: &mut Vec<Branch>, hang: u32) -> usize {
     for _ in 0..branches.len() {
         match branches.last() {

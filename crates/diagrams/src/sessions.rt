@@ -1,4 +1,4 @@
-//! Drawing logs as bar charts of their sessions.
+//! Draws logs as bar charts of their sessions.
 
 ghost use Rattle.std.specs.Prelude.{◌≡◌, ◌++◌, ◌∷◌, [], OnOk, string_bytes};
 ghost use Rattle.std.specs.List.{flat_map};
@@ -16,7 +16,7 @@ use std::alloc::AllocError;
 /// The height of a session's row, and of the row of the log's id.
 const ROW: u64 = 24;
 
-/// Draws a log; in SVG, at a height.
+/// Draws a log. An SVG picture has the log at a given height.
 pub fn draw_log(out: &mut Vec<u8>, form: Form, height: u64, log: &Log) -> Result<(), AllocError>
     ensures { OnOk result (Draws out.old.items out.new.items (signs_of_log form (string_bytes log.now.id) log.now.entries.items)) }
 {
@@ -44,7 +44,7 @@ fn draw_sessions(
     Ok(())
 }
 
-/// The largest number of documents that a session read, at least 1.
+/// Returns the largest number of documents that a session of the log read, at least 1.
 fn most_read(entries: &[Entry]) -> u64
     ensures { result ≡ most_from 1 entries.now }
 {
@@ -78,7 +78,7 @@ fn draw_session(
 
 // ---- positions
 
-/// The size of a log.
+/// Returns the size of the drawing of a log.
 pub fn extent_of(log: &Log) -> Extent {
     Extent {
         width: width_of(log.id.as_str()).max(1240),
@@ -86,7 +86,7 @@ pub fn extent_of(log: &Log) -> Extent {
     }
 }
 
-/// The height of the session at an index, in a log at a height.
+/// Returns the height at which the session with an index is drawn, in a log that is drawn at a height.
 fn height_of(height: u64, place: usize) -> u64 {
     height.saturating_add((place as u64).min(1 << 32) * ROW + ROW)
 }
@@ -144,7 +144,7 @@ fn put_chart(
     }
 }
 
-/// Draws a bar of 40 characters.
+/// Draws a session's bar of 40 characters.
 fn put_text_chart(out: &mut Vec<u8>, written: u64, read: u64, most: u64) -> Result<(), AllocError>
     ensures { OnOk result (Draws out.old.items out.new.items (chart Text written read most ∷ [])) }
 {
@@ -160,7 +160,7 @@ fn put_text_chart(out: &mut Vec<u8>, written: u64, read: u64, most: u64) -> Resu
     out.extend_from_slice(b"]")
 }
 
-/// Draws a bar that is 400 wide.
+/// Draws a session's bar with a width of 400.
 fn put_svg_chart(out: &mut Vec<u8>, written: u64, read: u64, most: u64) -> Result<(), AllocError>
     ensures { OnOk result (Draws out.old.items out.new.items (chart Svg written read most ∷ [])) }
 {

@@ -1,4 +1,4 @@
-//! The drawing operations for each kind of thing in a picture.
+//! The drawing operations for each kind of item in a picture.
 ghost use Rattle.std.specs.Prelude.{◌≡◌, ◌++◌, ◌∷◌, ◌<◌, [], OnOk, string_bytes, decimal, encode_utf8_all, chars, take};
 ghost use Rattle.std.specs.Char.{digit_char};
 ghost use Rattle.rev_core.specs.Text.{rev_text};
@@ -124,7 +124,7 @@ pub fn push_short(out: &mut Vec<u8>, rev: &Rev) -> Result<(), AllocError>
     push_rev(out, rev.generation(), short_sig(rev))
 }
 
-/// The start of a revision's signature.
+/// Returns the first characters of a revision's signature.
 fn short_sig(rev: &Rev) -> &[u8]
     ensures { result.now ≡ take 6 rev.now.sig }
 {
@@ -132,12 +132,12 @@ fn short_sig(rev: &Rev) -> &[u8]
     &sig[..sig.len().min(SHORT)]
 }
 
-/// The number of characters of a short id.
+/// Returns the number of characters of a revision's short id.
 pub fn short_len(rev: &Rev) -> usize {
     digits(u64::from(rev.generation())) + 1 + short_sig(rev).len()
 }
 
-/// The number of digits of a number.
+/// Returns the number of digits of a number.
 pub fn digits(mut number: u64) -> usize
     ensures { result < 21 }
 {

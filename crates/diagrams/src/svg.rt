@@ -1,4 +1,4 @@
-//! Drawing a document in SVG.
+//! Draws a document in SVG.
 
 ghost use Rattle.std.specs.Prelude.{◌≡◌, ◌∷◌, [], None, OnOk, length, map, string_bytes};
 ghost use Rattle.diagrams.specs.declared.form.Form.TheVariants.{Svg};
@@ -13,7 +13,7 @@ use crate::sheet::{leaf_node, mark, number, short_rev, title, whole_rev};
 use rev_core::Rev;
 use std::alloc::{AllocError, Global};
 
-/// The distances between columns, between rows, and to the first of each.
+/// The distances between columns and between rows, and the distances to the first column and the first row.
 const COLUMN: u64 = 110;
 
 const ROW: u64 = 44;
@@ -30,7 +30,7 @@ pub struct Extent {
 }
 
 impl Extent {
-    /// The combined size of two items, one below the other.
+    /// Returns the combined size of two items that are drawn one below the other.
     pub fn with_below(self, below: Extent) -> Extent {
         Extent {
             width: self.width.max(below.width),
@@ -39,17 +39,17 @@ impl Extent {
     }
 }
 
-/// The maximum width of a text.
+/// Returns the maximum width of a text.
 pub fn width_of(text: &str) -> u64 {
     (text.len() as u64).min(1 << 32) * 9
 }
 
-/// The center of a column.
+/// Returns the center of a column.
 fn x_of(place: usize) -> u64 {
     (place as u64).min(1 << 32) * COLUMN + LEFT
 }
 
-/// The center of a row.
+/// Returns the center of a row.
 fn y_of(place: usize) -> u64 {
     (place as u64).min(1 << 32) * ROW + TOP
 }
@@ -102,7 +102,7 @@ fn draw_rows(
     Ok(())
 }
 
-/// Draws a row: the columns before the leaf's, and the leaf.
+/// Draws a row, which has the columns before the leaf's column, and the leaf.
 fn draw_row(
     out: &mut Vec<u8>,
     cells: &[Cell],
@@ -116,7 +116,7 @@ fn draw_row(
     draw_leaf(out, leaf, column_of(cells, leaf), place)
 }
 
-/// The column of a leaf.
+/// Returns the column in which a leaf is drawn.
 fn column_of(cells: &[Cell], leaf: &Leaf) -> usize {
     for i in 0..cells.len() {
         if cells[i].high >= leaf.generation() {
@@ -126,7 +126,7 @@ fn column_of(cells: &[Cell], leaf: &Leaf) -> usize {
     cells.len()
 }
 
-/// Draws the columns of a row before the leaf's, and the edge to the leaf.
+/// Draws the columns of a row before the leaf's column, and the edge to the leaf.
 fn draw_cells(
     out: &mut Vec<u8>,
     cells: &[Cell],
@@ -142,7 +142,8 @@ fn draw_cells(
     Ok(())
 }
 
-/// Draws a column of a row, unless it is after the leaf: the edge to it, and its contents if it is before the leaf's.
+/// Draws a column of a row, unless the column is after the leaf. The drawing is the edge to the column, and the
+/// column's contents if it is before the leaf's column.
 fn draw_column(
     out: &mut Vec<u8>,
     cell: &Cell,
@@ -163,8 +164,8 @@ fn draw_column(
     Ok(())
 }
 
-/// Draws the edge to a column that begins with a generation. It starts at the previous column of the row, or of the row
-/// from which this one branches off.
+/// Draws the edge to a column that begins with a generation. The edge starts at the previous column of the row, or of
+/// the row from which the row branches off.
 fn draw_edge(
     out: &mut Vec<u8>,
     low: u32,
@@ -209,7 +210,7 @@ fn draw_point(out: &mut Vec<u8>, x: u64, y: u64) -> Result<(), AllocError>
     number(out, y)
 }
 
-/// Draws the contents of a column before the leaf's.
+/// Draws the contents of a column that is before the leaf's column.
 fn draw_cell(
     out: &mut Vec<u8>,
     cell: &Cell,

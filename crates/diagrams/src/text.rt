@@ -1,4 +1,4 @@
-//! Drawing a document as text.
+//! Draws a document as text.
 
 ghost use Rattle.std.specs.Prelude.{◌≡◌, ◌∷◌, [], OnOk, length, map, option_map, string_bytes};
 ghost use Rattle.std.specs.List.{flat_map};
@@ -76,7 +76,7 @@ fn draw_edits_of(out: &mut Vec<u8>, db: &str, id: &str, leaves: &[Leaf]) -> Resu
     Ok(())
 }
 
-/// Draws a row: the columns before the leaf's, and the leaf.
+/// Draws a row, which has the columns before the leaf's column, and the leaf.
 fn draw_row(out: &mut Vec<u8>, cells: &[Cell], leaf: &Leaf, row: &Row) -> Result<(), AllocError>
     ensures { OnOk result (Draws out.old.items out.new.items (leaf_sign Text leaf.now ∷ [])) }
 {
@@ -85,7 +85,7 @@ fn draw_row(out: &mut Vec<u8>, cells: &[Cell], leaf: &Leaf, row: &Row) -> Result
     draw_leaf(out, leaf)
 }
 
-/// Draws the columns before the leaf's, and the edge to the leaf.
+/// Draws the columns before the leaf's column, and the edge to the leaf.
 fn draw_cells(out: &mut Vec<u8>, cells: &[Cell], leaf: &Leaf, row: &Row) -> Result<(), AllocError>
     ensures { OnOk result (Draws out.old.items out.new.items []) }
 {
@@ -95,7 +95,8 @@ fn draw_cells(out: &mut Vec<u8>, cells: &[Cell], leaf: &Leaf, row: &Row) -> Resu
     Ok(())
 }
 
-/// Draws a column of a row, unless it is after the leaf: the edge to it, and its contents if it is before the leaf's.
+/// Draws a column of a row, unless the column is after the leaf. The drawing is the edge to the column, and the
+/// column's contents if it is before the leaf's column.
 fn draw_column(
     out: &mut Vec<u8>,
     cell: &Cell,
@@ -115,7 +116,7 @@ fn draw_column(
     Ok(())
 }
 
-/// Draws the edge to a column, unless it is the first one.
+/// Draws the edge to a column, unless the column is the first one.
 fn draw_edge(
     out: &mut Vec<u8>,
     cell: &Cell,
@@ -131,7 +132,7 @@ fn draw_edge(
     mark(out, edge_of(leaf, row, cell.low))
 }
 
-/// The edge to the column that begins with a generation.
+/// Returns the edge to the column that begins with a generation.
 fn edge_of(leaf: &Leaf, row: &Row, low: u32) -> Markup {
     let before = low.saturating_sub(1);
     let open = row.is_open(before);
@@ -144,7 +145,7 @@ fn edge_of(leaf: &Leaf, row: &Row, low: u32) -> Markup {
     if open { Markup::Bar } else { Markup::Blank }
 }
 
-/// Draws the contents of a column before the leaf's.
+/// Draws the contents of a column that is before the leaf's column.
 fn draw_cell(out: &mut Vec<u8>, cell: &Cell, leaf: &Leaf, row: &Row) -> Result<(), AllocError>
     ensures { OnOk result (Draws out.old.items out.new.items []) }
 {

@@ -1,4 +1,5 @@
-//! A custom write filter, and replication in both directions: an office, and a phone that refuses large documents.
+//! A custom write filter, and replication in both directions between an office and a phone that refuses large
+//! documents.
 use anyhow::{Result, bail};
 use doc_json::{Doc, DocId, read_body, write_doc};
 use repl_log::Moment;
@@ -27,7 +28,7 @@ impl WriteFilter for Small {
     }
 }
 
-/// Writes on both sides, replicates in both directions, and prints what is on each side.
+/// Writes on both sides, replicates in both directions, and prints the documents of each side.
 pub fn run(rt: &HostRuntime) -> Result<()> {
     let mut office = Peer::new(rt.alloc(), 1, Rules { deny: None });
     let mut phone = Peer::new(rt.alloc(), 2, Small { most: 40 });
@@ -54,7 +55,7 @@ fn edit<F: WriteFilter>(alloc: Global, peer: &mut Peer<F>, id: &str, json: &str)
     Ok(())
 }
 
-/// Replicates in both directions, and prints what each target wrote and refused.
+/// Replicates in both directions, and prints the numbers of documents that each target wrote and refused.
 fn meet(rt: &HostRuntime, office: &mut Peer<Rules>, phone: &mut Peer<Small>) -> Result<()> {
     let there = plan(1)?;
     let back = plan(2)?;

@@ -1,4 +1,5 @@
-//! Three laptops and a hub: four peers of one network, which write independently and synchronize through the hub twice.
+//! Three laptops and a hub are the peers of one network. The laptops write independently, and synchronize through the
+//! hub twice.
 use anyhow::Result;
 use doc_json::{DocId, read_body};
 use repl_log::Moment;
@@ -10,7 +11,7 @@ use serde_json::Value;
 use std::alloc::Global;
 use std::str::from_utf8;
 
-/// The peers, by place; the first is the hub.
+/// The peers of the network, of which the first is the hub.
 const NAMES: [&str; 4] = ["hub", "ann", "ben", "cleo"];
 
 /// Lets the laptops write and synchronize, twice, and audits every pair.
@@ -44,7 +45,7 @@ fn second_day(alloc: Global, net: &mut Net<Rules>, milk: Rev) -> Result<()> {
     Ok(())
 }
 
-/// Edits a document at a place: adds a revision as a child of `parent`, or the first one if there is no parent.
+/// Edits a document of a peer. The new revision is a child of `parent`, or the first revision if there is no parent.
 fn edit(
     alloc: Global,
     net: &mut Net<Rules>,

@@ -1,5 +1,6 @@
-//! A replication by threads with a progress display: a shop of a thousand orders and its copy as two peers, four
-//! fetchers and four writers, and a viewer that reads the progress meanwhile. The progress goes to standard error.
+//! A replication by threads with a progress display. A shop of a thousand orders and its copy are two peers, four
+//! fetchers and four writers copy the orders, and a viewer reads the progress meanwhile. The progress goes to standard
+//! error.
 ghost use Rattle.std.specs.Prelude.{◌≡◌, vec_len};
 ghost use Rattle.std.specs.List.{All};
 ghost use Rattle.progress_board.specs.Seats.{CameWith};
@@ -22,7 +23,7 @@ use std::thread::{Threads, yield_now};
 /// The number of orders.
 const ORDERS: u64 = 1_000;
 
-/// The number of fetcher threads, and of writer threads.
+/// The number of fetcher threads, which is also the number of writer threads.
 const WORKERS: usize = 4;
 
 /// The maximum number of times the viewer reads the board.
@@ -74,7 +75,7 @@ fn write_orders(alloc: Global, shop: &mut Peer<Rules>) -> Result<()> {
     Ok(())
 }
 
-/// Runs the pool with a viewer. Returns the result of the run, and what the viewer saw last.
+/// Runs the pool with a viewer. Returns the result of the run, and the totals that the viewer read last.
 fn run_watched<R: Threads + Wait + Eprint + Sync>(
     rt: &R,
     alloc: Global,
@@ -113,7 +114,8 @@ fn run_watched<R: Threads + Wait + Eprint + Sync>(
     )
 }
 
-/// Reads the board until the run has ended, and prints each new progress. The last reading is after the end.
+/// Reads the board until the run has ended, and prints each new progress. The viewer reads the board once more after
+/// the end of the run.
 fn watch<R: Eprint>(rt: &R, board: &Board, ended: &AtomicBool, viewer: BoardSeat) -> (u64, u64)
     requires { CameWith board.now viewer }
 {

@@ -1,7 +1,7 @@
-//! Tests of the script engine with servers of their own: the output of lines, when output is flushed, and devices that
-//! read and write little and fail at a chosen call.
+//! Tests of the script engine with servers for tests. They check the output of lines and when output is flushed, also
+//! with devices that read and write few bytes and fail at a chosen call.
 
-// The output of lines, and when it is flushed.
+// Tests of the output of lines, and of when the output is flushed.
 mod engine;
 
 // Failing devices.

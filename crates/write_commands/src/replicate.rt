@@ -109,7 +109,7 @@ impl<'v, 'a> Command<&'v Line<'a>> for Replicate<'v, 'a> {
         })
     }
 
-    /// Runs `replicate`. Blocks, unless the line asks for one thread.
+    /// Runs `replicate`. The call blocks, unless the line requests one thread.
     fn serve<H: Threads + Wait + Sync>(
         &self,
         rt: &H,
@@ -122,7 +122,7 @@ impl<'v, 'a> Command<&'v Line<'a>> for Replicate<'v, 'a> {
 }
 
 /// Runs a replication, and prints its result. A session id is generated, if needed, after both databases are found and
-/// before the ids of documents are parsed. Blocks, unless the line asks for one thread.
+/// before the ids of documents are parsed. The call blocks, unless the line requests one thread.
 #[inline(never)]
 pub fn serve_replication<H: Threads + Wait + Sync>(
     rt: &H,

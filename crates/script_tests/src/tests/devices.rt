@@ -1,4 +1,4 @@
-//! Devices that read and write little, and fail at a chosen call.
+//! Devices that read and write few bytes per call, and fail at a chosen call.
 
 use crate::tests::engine::{ANSWERS, LINES, Lengths};
 use script_engine::{OverRead, OverWrite, ScriptFault, ScriptRead, ScriptWrite, run_lines};
@@ -36,11 +36,11 @@ impl ScriptRead for NarrowReader<'_> {
     }
 }
 
-/// Lines of 16 bytes including the line end, which is what one call returns.
+/// Each line has 16 bytes including the line end, and one call of the reader returns 16 bytes.
 const SIXTEEN: &str = "a line of these\na line of these\na line of these\n";
 
-/// Lines, the number of successful reads, and the output until then: every complete line is handled before the next
-/// read.
+/// Each row has lines, the number of successful reads, and the output up to the failure. Every complete line is handled
+/// before the next read.
 static READS: &[(&str, u64, &str)] = &[
     (SIXTEEN, 0, ""),
     (SIXTEEN, 1, "0\n"),
@@ -104,7 +104,8 @@ impl ScriptWrite for NarrowWriter {
     }
 }
 
-/// Fails each write in turn: the written text is a prefix of the output, as long as the number of previous writes.
+/// Each write fails in turn. The written text is a prefix of the output, and its length is the number of earlier
+/// writes.
 #[test]
 fn stops_at_a_failed_write(rt: HostRuntime) -> Result<(), Fail> {
     let writes = ANSWERS.len() as u64;
@@ -162,8 +163,8 @@ impl ScriptWrite for GatheringWriter {
     }
 }
 
-/// The number of successful flushes, and the flushed text. The flushes are before the first read, before the read that
-/// finds the end, and after the last line, which has no line end.
+/// Each row has the number of successful flushes and the flushed text. The engine flushes before the first read, before
+/// the read that finds the end, and after the last line, which has no line end.
 static FLUSHES: &[(u64, &str)] = &[
     (0, ""),
     (1, ""),
@@ -195,7 +196,7 @@ fn answers_go_out_before_each_read(rt: HostRuntime) -> Result<(), Fail> {
     Ok(())
 }
 
-/// Reads 1,500 lines and one of 40,000 bytes, 16 bytes per call.
+/// Reads 1,500 lines and a line of 40,000 bytes, with 16 bytes per call.
 #[test]
 fn four_thousand_reads(rt: HostRuntime) -> Result<(), Fail> {
     let (mut input, mut wanted) = (Vec::new(rt.alloc()), Vec::from_slice(rt.alloc(), b"0\n")?);

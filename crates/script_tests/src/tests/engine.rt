@@ -1,4 +1,4 @@
-//! The engine with a server that prints lengths.
+//! Tests of the engine with a server that prints the lengths of lines.
 ghost use Rattle.std.specs.Prelude.{◌≡◌, ◌++◌, [], OnOk, codes, decimal};
 ghost use Rattle.script_tests.specs.Lengths.{TellsLength};
 
@@ -7,7 +7,7 @@ use script_engine::{NoRest, OverRead, OverWrite, Serve, run_lines};
 use std::alloc::AllocError;
 use std::test::Fail;
 
-/// Prints for each line the length of the previous one.
+/// A server that prints for each line the length of the line before it.
 #[derive(Drop)]
 pub(crate) struct Lengths {
     pub(crate) before: usize,
@@ -48,11 +48,11 @@ fn print(answer: &mut Vec<u8>, length: usize) -> Result<(), AllocError>
     answer.extend_from_slice(b"\n")
 }
 
-/// Blank lines, a failing line with its number, and a last line without a line end.
+/// A script with blank lines, a line that fails, and a last line without a line end.
 pub(crate) const LINES: &str =
     "one\n\n \t\r\nthree\nxxxxxxxxxxxxxxxxxxxxxxxxxxxxxxxxxxxxxxxxx\nfour";
 
-/// The output of these lines.
+/// The expected output of the script.
 pub(crate) const ANSWERS: &str = "0\n3\nrefused 5 Long\n5\n";
 
 #[test]

@@ -1,15 +1,15 @@
-//! Output in pieces: a server that prints a line, and then its line end.
+//! Tests of output in pieces, with a server that prints a line, and then the line end.
 ghost use Rattle.std.specs.Prelude.{◌≡◌, ◌++◌, Ok, OnOk, codes};
 
 use script_engine::{OverRead, OverWrite, ScriptFault, Serve, run_lines};
 use std::alloc::{AllocError, Global};
 use std::test::Fail;
 
-/// The rest of an output: the line end.
+/// The rest of an output, which is the line end.
 #[derive(Drop)]
 pub(crate) struct LineEnd;
 
-/// Prints each line after a `>`, and then its line end, for which an allocation may fail.
+/// A server that prints each line after a `>`, and then the line end, for which an allocation may fail.
 #[derive(Drop)]
 pub(crate) struct Echo {
     alloc: Global,
@@ -52,7 +52,7 @@ fn push_marked(answer: &mut Vec<u8>, line: &[u8]) -> Result<(), AllocError>
     answer.extend_from_slice(line)
 }
 
-/// The output with enough memory, and if the allocation after the first piece fails.
+/// The expected output with enough memory, and the expected output if the allocation after the first piece fails.
 static ROOMS: &[(usize, bool, &str)] = &[
     (1, true, ">one\n>two three\n"),
     (usize::MAX, false, ">one"),

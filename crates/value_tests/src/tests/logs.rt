@@ -17,7 +17,7 @@ enum Call<'a> {
     Put(usize, u128, u64),
     /// Store the entry of session 1 that read one document, with a timestamp.
     PutOne(usize, u64),
-    /// Store such an entry in the log of the replication from 1 into a database.
+    /// Store the entry of a session, which read nothing, in the log of the replication from 1 into a database.
     PutInto(u128, u128, u64),
     /// Copy the log of the replication from 1 into a database, from a copy of all logs, as the next log.
     CopyInto(u128),
@@ -35,10 +35,10 @@ enum Call<'a> {
     Moment(u64),
 }
 
-/// Calls, each with its expected result.
+/// The calls of a test, each with its expected result.
 type Rows = &'static [(Call<'static>, &'static str)];
 
-/// Logs, and those of the replications from 1.
+/// The logs of a test, and the logs of the replications from database 1.
 #[derive(Drop)]
 struct Bench {
     alloc: Global,
@@ -250,7 +250,8 @@ fn moment_text(alloc: Global, seconds: u64) -> Option<String> {
     }
 }
 
-/// Sessions A, B and C have the numbers 10, 11 and 12. The logs are those of the source, the target, and an empty one.
+/// Sessions A, B and C have the numbers 10, 11 and 12. The logs of the test are the source's log, the target's log, and
+/// an empty log.
 static COMMON_ROWS: Rows = &[
     (Call::Make, "made"),
     (Call::Put(0, 10, 9), "Ok(())"),

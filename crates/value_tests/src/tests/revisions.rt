@@ -9,7 +9,7 @@ use test_support::{rev, rev_text, revs_text, shown};
 /// A call on revisions given as strings.
 #[derive(Clone, Copy)]
 enum Call<'a> {
-    /// Parse a revision: its generation and its signature.
+    /// Parse a revision, and read its generation and its signature.
     Parse(&'a str),
     /// Parse a revision, and write it.
     Write(&'a str),
@@ -23,17 +23,17 @@ enum Call<'a> {
     Contains(Parts<'a>, &'a str),
     /// Read the parent of a revision in the copy of an ancestry.
     Parent(Parts<'a>, &'a str),
-    /// Store a compact revision, and read a copy: whether its signature is short, and its string.
+    /// Store a compact revision, and read from a copy whether its signature is short, and its string.
     Keep(&'a str),
     /// Compute the hexadecimal digits of the digest of a string.
     Digest(&'a str),
     /// Decode hexadecimal digits.
     Decode(&'a str),
-    /// Compute the revision of an edit: the parent (an empty string for none), whether it deletes, and the body.
+    /// Compute the revision of an edit from the parent (an empty string for none), the deleted flag, and the body.
     Edit(&'a str, bool, &'a str),
 }
 
-/// Calls, each with its expected result.
+/// The calls of a test, each with its expected result.
 type Rows = &'static [(Call<'static>, &'static str)];
 
 /// The newest generation of an ancestry, and its signatures.
@@ -304,7 +304,7 @@ fn makes_and_copies_an_ancestry(rt: HostRuntime) {
     run(&rt, rt.alloc(), ANCESTRY_ROWS);
 }
 
-/// A signature of 32 bytes, and one of 33.
+/// Rows for a signature of 32 bytes and a signature of 33 bytes.
 const DIGITS: &str = "2-0123456789abcdef0123456789abcdef";
 
 const DIGITS_AND_ONE: &str = "2-0123456789abcdef0123456789abcdef0";

@@ -1,4 +1,4 @@
-//! Signatures and ancestries from strings, and comparing results.
+//! Creates signatures and ancestries from strings, and compares results.
 use rev_core::{Ancestry, Sig};
 use std::alloc::Global;
 use std::process::Abort;

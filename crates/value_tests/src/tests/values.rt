@@ -11,16 +11,17 @@ use test_support::shown;
 enum Call<'a> {
     /// Bytes.
     Read(&'a [u8]),
-    /// Arrays nested to this depth.
+    /// A text of arrays that are nested to this depth.
     Nested(usize),
-    /// An object of this many names in falling order, each twice; the second occurrence has its number as value.
+    /// A text of an object with this number of names in falling order. Each name occurs twice, and its second value is
+    /// its number.
     Falling(usize),
 }
 
-/// What to read, each with the compact form of its value, or the error.
+/// The texts to read, each with the compact form of its value, or the error.
 type Rows = &'static [(Call<'static>, &'static str)];
 
-/// Reads everything with one reader, and asserts each result.
+/// Reads all texts with one reader, and asserts each result.
 fn run(rt: &impl Abort, alloc: Global, calls: &[(Call, &str)]) {
     let mut reader = ValueReader::new(alloc);
     for (i, (call, wanted)) in calls.iter().enumerate() {
@@ -179,7 +180,7 @@ fn rising(alloc: Global, count: usize) -> Option<String> {
     Some(text)
 }
 
-/// Short texts after long ones: no result depends on what is in the buffer.
+/// Short texts follow long texts in this test, because no result may depend on the old content of the buffer.
 static VALUES: Rows = &[
     (Call::Read(b"null"), "null"),
     (Call::Read(b" [ true , false ] "), "[true,false]"),
@@ -204,7 +205,7 @@ static VALUES: Rows = &[
     (Call::Read(b"{}"), "{}"),
 ];
 
-/// Integers of 64 bits are exact; other numbers are the nearest float.
+/// Integers of 64 bits are exact, and other numbers become the nearest float.
 static NUMBERS: Rows = &[
     (Call::Read(b"0"), "0"),
     (Call::Read(b"18446744073709551615"), "18446744073709551615"),
@@ -229,7 +230,7 @@ static NUMBERS: Rows = &[
     (Call::Read(b"1."), "NotJson"),
 ];
 
-/// Invalid texts, followed by a valid one.
+/// Rows with invalid texts, followed by a valid text.
 static REFUSED: Rows = &[
     (Call::Read(b""), "NotJson"),
     (Call::Read(b" \n"), "NotJson"),
