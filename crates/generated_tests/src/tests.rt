@@ -1,5 +1,5 @@
-//! Randomized tests of several crates. Each compares a crate with an independent reference, written from the
-//! definitions.
+//! Randomized tests of several crates. Each test compares a crate with an independent reference that was written from
+//! the definitions.
 
 // Assertions of all modules.
 mod checks;
@@ -15,7 +15,7 @@ mod plain;
 // Fronts.
 mod fronts;
 
-// Databases: pages, requests and fetches.
+// Tests of databases, with pages, requests and fetches.
 mod exchanges;
 mod feeds;
 
@@ -25,19 +25,19 @@ mod choices;
 // Comparisons of two databases.
 mod surveys;
 
-// Replicated pairs, and their plain model.
+// Tests of replicated pairs of peers against their plain model.
 mod pairs;
 mod plain_sides;
 
-// Pairs that are replicated in both directions.
+// Tests of pairs of peers that are replicated in both directions.
 mod syncs;
 
 // Networks of several peers.
 mod nets;
 
-// A peer and its plain model.
+// Comparisons of a peer with its plain model.
 mod sides;
 
-// Worlds, and their plain model.
+// Tests of worlds against their plain model.
 mod plain_worlds;
 mod worlds;

@@ -1,9 +1,9 @@
 //! Assertions of all modules.
 use std::process::Abort;
 
-/// Asserts a fact; the name is printed if it is false.
+/// Asserts a fact, and prints its name if the fact is false.
 ///
-/// An assertion with a message costs the prover some 30 steps, a call only ten.
+/// An assertion with a message costs the prover about 30 steps, and a call of this function ten.
 pub(crate) fn holds(rt: &impl Abort, fact: bool, name: &str) {
     assert!(rt; fact, "{name}");
 }

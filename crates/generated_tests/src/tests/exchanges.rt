@@ -1,4 +1,4 @@
-//! Requests of one database for another one's feed, and the fetched documents, compared with the reference.
+//! Compares requests of one database for another database's feed, and the fetched documents, with the reference.
 use crate::tests::checks::holds;
 use crate::tests::feeds::{number_of, put};
 use crate::tests::merges::{are, rev};
@@ -61,7 +61,7 @@ fn mask_of(rt: &impl Abort, revs: &[Rev]) -> u32 {
     mask
 }
 
-/// Asserts that a request for a document has exactly those leaves of a tree that another tree lacks, winner first.
+/// Asserts that a request for a document has exactly the leaves of one tree that another tree lacks, winner first.
 fn asks_of(
     rt: &impl Abort,
     alloc: Global,
@@ -80,7 +80,7 @@ fn asks_of(
     );
 }
 
-/// Asserts that a request has exactly what the target lacks, in the order of the source's feed.
+/// Asserts that a request has exactly the leaves that the target lacks, in the order of the source's feed.
 fn asks(rt: &impl Abort, alloc: Global, source: &PlainSide, target: &PlainSide, asked: &Asked) {
     let mut seq = 0u64;
     let mut at = 0usize;
@@ -138,7 +138,7 @@ fn brings_leaves(
     at
 }
 
-/// Asserts that the gone revisions from an index on are those that a tree lacks. Returns the index after them.
+/// Asserts that the gone revisions from an index on are those that a tree lacks. Returns the index after the compared items.
 fn loses(
     rt: &impl Abort,
     parcel: &Parcel,
@@ -162,7 +162,7 @@ fn loses(
     at
 }
 
-/// Asserts that a parcel is what the trees have for a request. Returns its number of documents.
+/// Asserts that a parcel has the documents that the trees have for a request. Returns the parcel's number of documents.
 fn brings(
     rt: &impl Abort,
     alloc: Global,
@@ -187,7 +187,7 @@ fn brings(
     docs
 }
 
-/// Asserts that a side returns what its trees have for a request. Returns the number of documents.
+/// Asserts that a side returns the documents that its trees have for a request. Returns the number of documents.
 fn answers(rt: &impl Abort, alloc: Global, side: &Side, asked: &Asked) -> usize {
     let parcel = side.db.open_revs(alloc, asked).expect(rt, "memory");
     brings(rt, alloc, &side.plain, asked, &parcel)
@@ -222,7 +222,8 @@ fn exchange(
     docs
 }
 
-/// Exchanges between a source and a target. A function of its own, because each value beside a side adds to the proof.
+/// Exchanges between a source and a target. This is a separate function, because each further value next to a side
+/// makes the proof longer.
 fn with_target(rt: &impl Abort, alloc: Global, seed: u64, source: &mut Side) -> usize {
     let mut rng = ChaCha8Rng::seed_from_u64(seed);
     let mut target = Side::new(alloc, 2);

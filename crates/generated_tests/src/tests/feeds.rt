@@ -72,7 +72,7 @@ pub(crate) fn is_answer(answer: Result<Put, BaseFault>, wanted: Answer, update_s
     }
 }
 
-/// Puts a random document into both.
+/// Puts a random document into the database and into the reference.
 pub(crate) fn put(
     rt: &impl Abort,
     alloc: Global,
@@ -92,7 +92,7 @@ fn row_has(rt: &impl Abort, alloc: Global, row: &Row, number: usize, tree: &Refe
     holds(rt, same && are(rt, row.leaves(), &leaves), "a row");
 }
 
-/// Asserts that a row is that of the next document above a sequence. Returns its sequence.
+/// Asserts that a row has the next document above a sequence. Returns its sequence.
 fn row_is(
     rt: &impl Abort,
     alloc: Global,

@@ -1,4 +1,5 @@
-//! Two representations of a tree after random merges: each call has the same result in both.
+//! Compares two representations of a tree after random merges. Each call must have the same result in both
+//! representations.
 
 use crate::tests::checks::holds;
 use crate::tests::merges::{ancestry, below, content, places, rev};
@@ -11,7 +12,7 @@ use rev_tree::{Merged, Origin, Revs, SessionId, Tree, TreeFault};
 use std::alloc::{AllocError, Global};
 use std::process::Abort;
 
-/// Converts the result of a merge to that of the plain form.
+/// Converts the result of a merge to the result type of the plain form.
 fn plain_answer(rt: &impl Abort, answer: Result<Merged, TreeFault>) -> PlainAnswer {
     let fault = match answer {
         Ok(merged) => return Ok(merged),
@@ -42,7 +43,7 @@ fn agree_on_content(rt: &impl Abort, tree: &Tree, plain: &PlainTree, one: Rev) {
     }
 }
 
-/// Asserts that revisions are those of the plain form.
+/// Asserts that a list of revisions equals that of the plain form.
 fn are_same(rt: &impl Abort, answer: Result<Revs, AllocError>, wanted: &[Rev]) {
     let revs = answer.expect(rt, "revisions");
     holds(rt, revs.as_slice() == wanted, "revisions");
@@ -66,7 +67,8 @@ fn is_walk(rt: &impl Abort, alloc: Global, plain: &PlainTree, one: Rev, walk: &[
     );
 }
 
-/// Whether a tree has a revision, as a leaf or not, and its origin, as the plain form does.
+/// Whether a tree agrees with the plain form about whether it has a revision, whether the revision is a leaf, and its
+/// origin.
 fn has_as(tree: &Tree, plain: &PlainTree, one: Rev) -> bool {
     let origin = plain.origin(one);
     let stands = tree.has(one) == origin.is_some();
@@ -101,7 +103,7 @@ fn agree_on_above(
     are_same(rt, tree.leaves_above(alloc, asked), &above);
 }
 
-/// Asserts that a tree and the plain form lack the same ones of some revisions.
+/// Asserts that a tree and the plain form lack the same revisions of a list.
 fn agree_on_missing(rt: &impl Abort, alloc: Global, tree: &Tree, plain: &PlainTree, asked: &[Rev]) {
     let missing = plain.missing(alloc, asked).expect(rt, "memory");
     are_same(rt, tree.missing(alloc, asked), &missing);
@@ -173,8 +175,8 @@ fn merge_and_read(
     agree(rt, alloc, tree, plain, asked.revs());
 }
 
-/// Performs fifty merges from one seed in both representations. After each, reads what was given and other revisions,
-/// half of the time in a copy; after the last one, reads every revision.
+/// Performs fifty merges from one seed in both representations. After each merge, reads the given and other revisions,
+/// half of the time in a copy. After the last merge, reads every revision.
 fn merges_alike(rt: &impl Abort, alloc: Global, seed: u64, tree: &mut Tree) {
     let mut rng = ChaCha8Rng::seed_from_u64(seed);
     let mut plain = PlainTree::new(alloc);

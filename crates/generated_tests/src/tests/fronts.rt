@@ -1,4 +1,4 @@
-//! Windows finished in random orders, compared after each with a list of Booleans.
+//! Finishes windows in random orders, and compares the front with a list of Booleans after each window.
 use crate::tests::checks::holds;
 use rand_chacha::ChaCha8Rng;
 use rand_core::{Rng, SeedableRng};
@@ -9,7 +9,7 @@ use std::process::Abort;
 /// The number of windows of a front.
 const WINDOWS: usize = 20;
 
-/// Returns the low water from a list of Booleans; window `i` is (start + 10 i, start + 10 i + 10].
+/// Returns the low water for a list of Booleans, in which window `i` is (start + 10 i, start + 10 i + 10].
 fn low_water(start: u64, marks: &[bool; WINDOWS]) -> u64 {
     let mut water = start;
     for mark in marks {
@@ -73,7 +73,7 @@ fn is_marked(front: &Front, start: u64, marks: &[bool; WINDOWS]) -> bool {
     front.low_water() == low_water(start, marks) && front.range_count() == range_count(marks)
 }
 
-/// Tries forty times to finish a random window: each succeeds the first time and fails afterwards.
+/// Tries forty times to finish a random window. The first try for a window succeeds, and later tries fail.
 fn finishes(rt: &impl Abort, front: &mut Front, seed: u64) {
     let mut rng = ChaCha8Rng::seed_from_u64(seed);
     let start = seed % 7;
@@ -121,7 +121,7 @@ fn finish_odd(rt: &impl Abort, front: &mut Front, pairs: u64) {
     }
 }
 
-/// Finishes the other windows, from the back.
+/// Finishes the first window of each pair, from the back.
 fn finish_even(rt: &impl Abort, front: &mut Front, pairs: u64) {
     for back in 0..pairs {
         let pair = pairs.saturating_sub(back).saturating_sub(1);

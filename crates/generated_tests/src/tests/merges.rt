@@ -1,4 +1,4 @@
-//! Random merges, compared after each with the reference: every read call, and every result.
+//! Performs random merges, and compares every result, and every read call after each merge, with the reference.
 ghost use Rattle.std.specs.Prelude.{◌≤◌};
 
 use crate::tests::checks::holds;
@@ -32,7 +32,7 @@ pub(crate) fn rev(rt: &impl Abort, place: usize) -> Rev {
     }
 }
 
-/// Whether the revisions are those at the indices.
+/// Whether a list of revisions has the revisions at these indices.
 pub(crate) fn are(rt: &impl Abort, revs: &[Rev], places: &[usize]) -> bool {
     let mut are = revs.len() == places.len();
     for (one, place) in revs.iter().zip(places) {
@@ -90,7 +90,7 @@ fn agree_on_content(rt: &impl Abort, tree: &Tree, reference: &Reference, one: Re
     }
 }
 
-/// Asserts that revisions are those at the indices.
+/// Asserts that a list of revisions has the revisions at these indices.
 fn assert_are(rt: &impl Abort, answer: Result<Revs, AllocError>, places: &[usize]) {
     let revs = answer.expect(rt, "revisions");
     holds(rt, are(rt, revs.as_slice(), places), "revisions");
@@ -121,7 +121,8 @@ fn is_walk(rt: &impl Abort, alloc: Global, reference: &Reference, place: usize, 
     );
 }
 
-/// Whether a tree has a revision, as a leaf or not, and its origin, as the reference does.
+/// Whether a tree agrees with the reference about whether it has a revision, whether the revision is a leaf, and its
+/// origin.
 fn has_as(tree: &Tree, reference: &Reference, one: Rev, place: usize) -> bool {
     let stands = tree.has(one) == reference.has(place);
     let is_leaf = tree.is_leaf(one) == reference.is_leaf(place);
@@ -140,7 +141,7 @@ fn agree_at(rt: &impl Abort, alloc: Global, tree: &Tree, reference: &Reference, 
     agree_on_walk(rt, alloc, tree, reference, one, place);
 }
 
-/// Asserts that the leaves, and the winner, are those at the indices.
+/// Asserts that the leaves and the winner of a tree are the revisions at these indices.
 fn agree_on_leaves(rt: &impl Abort, alloc: Global, tree: &Tree, places: &[usize]) {
     assert_are(rt, tree.leaves(alloc), places);
     holds(rt, tree.leaf_count() == places.len(), "the leaves");
@@ -169,7 +170,7 @@ fn revs(rt: &impl Abort, alloc: Global, places: &[usize]) -> Vec<Rev> {
     revs
 }
 
-/// Asserts that the tree and the reference lack the same ones of some revisions.
+/// Asserts that the tree and the reference lack the same revisions of a list.
 fn agree_on_missing(
     rt: &impl Abort,
     alloc: Global,
@@ -195,7 +196,7 @@ fn agree_on_above(
     assert_are(rt, tree.leaves_above(alloc, &revs), &above);
 }
 
-/// Asserts that the leaves above random revisions, and the missing ones of them, are those of the reference.
+/// Asserts that the leaves above random revisions, and the missing revisions among them, are those of the reference.
 fn agree_on_asked(
     rt: &impl Abort,
     alloc: Global,
@@ -208,7 +209,7 @@ fn agree_on_asked(
     agree_on_above(rt, alloc, tree, reference, &asked);
 }
 
-/// Asserts that the result is that of the reference.
+/// Asserts that the result of a merge is that of the reference.
 fn answers(rt: &impl Abort, answer: Result<Merged, TreeFault>, wanted: Answer) {
     match answer {
         Ok(Merged::Changed) => holds(rt, wanted == Answer::Changed, "a change"),
@@ -229,7 +230,7 @@ fn contradiction(fault: TreeFault) -> Option<(Rev, Rev, Rev)> {
     }
 }
 
-/// Asserts that the error is that of the reference.
+/// Asserts that the error of a merge is that of the reference.
 fn refused(rt: &impl Abort, fault: TreeFault, wanted: Answer) {
     let Some((child, known, given)) = contradiction(fault) else {
         rt.panic(format_args!("no contradiction"))
@@ -300,6 +301,6 @@ fn two_hundred_seeds_agree(rt: HostRuntime) {
         let mut tree = Tree::new(rt.alloc());
         refusals = refusals.saturating_add(merges(&rt, rt.alloc(), seed, &mut tree));
     }
-    // Both outcomes are frequent enough to be tested.
+    // Both successes and failures occur often enough to be tested.
     assert!(rt; 1_000 < refusals && refusals < 9_000, "{refusals} refusals");
 }

@@ -1,6 +1,6 @@
-//! Networks of randomly diverging peers. Through a hub, and twice around a ring, all peers end with the same documents,
-//! a second round changes nothing, and audits are clean. Along random hops, each peer that a chain reaches has
-//! everything from its beginning.
+//! Networks of randomly diverging peers. After a replication through a hub, or twice around a ring, all peers have the
+//! same documents, a second round changes nothing, and audits are clean. After random hops, each peer that a chain of
+//! hops reaches has all leaves of the chain's first peer.
 use crate::tests::checks::holds;
 use crate::tests::feeds::id;
 use crate::tests::merges::below;
@@ -36,7 +36,7 @@ fn edit(rt: &impl Abort, alloc: Global, rng: &mut ChaCha8Rng, net: &mut Net<Rule
     }
 }
 
-/// Returns the peer at a place.
+/// Returns the peer at an index of the network.
 fn at<'a>(rt: &impl Abort, net: &'a Net<Rules>, place: usize) -> &'a Peer<Rules> {
     net.peer(place).expect(rt, "a peer")
 }
@@ -78,7 +78,7 @@ fn plans(rt: &impl Abort, alloc: Global, rng: &mut ChaCha8Rng, sessions: &mut u1
     plans
 }
 
-/// Returns hops twice around a ring: chains lead from every place to every other.
+/// Returns hops twice around a ring, by which chains lead from every peer to every other peer.
 fn ring(rt: &impl Abort, alloc: Global, rng: &mut ChaCha8Rng, sessions: &mut u128) -> Vec<Hop> {
     let mut hops = Vec::new(alloc);
     for step in 0..2 * PEERS {
@@ -92,7 +92,7 @@ fn ring(rt: &impl Abort, alloc: Global, rng: &mut ChaCha8Rng, sessions: &mut u12
     hops
 }
 
-/// Returns random hops between places.
+/// Returns random hops between the peers.
 fn hops(rt: &impl Abort, alloc: Global, rng: &mut ChaCha8Rng, sessions: &mut u128) -> Vec<Hop> {
     let mut hops = Vec::new(alloc);
     for _ in 0..8 + below(rng, 32) {
@@ -106,7 +106,7 @@ fn hops(rt: &impl Abort, alloc: Global, rng: &mut ChaCha8Rng, sessions: &mut u12
     hops
 }
 
-/// Returns, for each place, the places that chains of hops reach from it, as bits.
+/// Returns, for each peer, the peers that chains of hops reach from it, as bits.
 ///
 /// The reference processes the hops once, without enumerating chains.
 fn reached(hops: &[Hop]) -> [u32; PEERS] {
@@ -122,7 +122,7 @@ fn reached(hops: &[Hop]) -> [u32; PEERS] {
     reached
 }
 
-/// Returns the leaves of all documents at all peers, each with its place and the number of its document.
+/// Returns the leaves of all documents at all peers, each with the index of its peer and the number of its document.
 fn leaves_of(rt: &impl Abort, alloc: Global, net: &Net<Rules>) -> Vec<(usize, usize, Rev)> {
     let mut all = Vec::new(alloc);
     for place in 0..PEERS {
@@ -145,7 +145,7 @@ fn has(rt: &impl Abort, alloc: Global, peer: &Peer<Rules>, number: usize, rev: R
     }
 }
 
-/// Asserts that each leaf is at all places reached from its own.
+/// Asserts that each leaf is at all peers that chains of hops reach from the leaf's peer.
 fn assert_led(
     rt: &impl Abort,
     alloc: Global,
@@ -163,7 +163,8 @@ fn assert_led(
     }
 }
 
-/// Replicates along random hops. Returns whether chains led everywhere; if so, all peers are the same.
+/// Replicates along random hops. Returns whether chains led from every peer to every other peer. If they did, all peers
+/// must have the same documents.
 fn along_chance(
     rt: &impl Abort,
     alloc: Global,
@@ -230,7 +231,8 @@ fn of_seed(rt: &impl Abort, alloc: Global, seed: u64) {
     }
 }
 
-/// Lets peers diverge and replicate along random hops, several times. Returns how often chains led everywhere.
+/// Lets peers diverge and replicate along random hops, several times. Returns how often chains led from every peer to
+/// every other peer.
 fn by_chance(rt: &impl Abort, alloc: Global, seed: u64) -> usize {
     let mut rng = ChaCha8Rng::seed_from_u64(seed);
     let mut sessions = 0;
@@ -258,6 +260,6 @@ fn thirty_nets_replicate_by_chance(rt: HostRuntime) {
     for seed in 0..30u64 {
         ends = ends.saturating_add(by_chance(&rt, rt.alloc(), seed));
     }
-    // Sometimes chains lead everywhere, and sometimes they do not.
+    // In some of the rounds chains lead from every peer to every other peer, and in others they do not.
     assert!(rt; 5 < ends && ends < 85, "both kinds of ends: {ends}");
 }

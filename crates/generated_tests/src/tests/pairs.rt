@@ -1,5 +1,5 @@
-//! Replications of random pairs, by one thread and by the pool, of all documents and of two random selections. Each is
-//! compared with the plain model: both sides' trees, coverage, the report, and the session's ledger.
+//! Replications of random pairs, by one thread and by the pool, of all documents and of two random selections. Each
+//! replication is compared with the plain model in both sides' trees, coverage, the report, and the session's ledger.
 use crate::tests::checks::holds;
 use crate::tests::choices::{chosen, some};
 use crate::tests::feeds::{document_by_chance, is_answer};
@@ -19,10 +19,10 @@ use std::process::Abort;
 use std::sync::Wait;
 use std::thread::Threads;
 
-/// The number of choices for the refused document; some are not a document's number.
+/// The number of choices for the refused document, of which some are not a document's number.
 const CHOICES: u32 = 8;
 
-/// The indices of what is replicated: all documents, and the two selections.
+/// The indices of all documents and of the two selections, of which one is replicated.
 const WHOLE: usize = 0;
 
 const FIRST: usize = 1;
@@ -41,12 +41,12 @@ enum Call {
     GrowTarget(usize),
     /// Load this many random documents into a source.
     Grow(usize, usize),
-    /// Replicate a source into the target: all documents, or those of a selection.
+    /// Replicate all documents of a source, or those of a selection, into the target.
     Replicate(usize, usize),
 }
 
-/// Another source is replicated into a target with its own documents; then the source, for one selection and
-/// completely; and after it has grown, for both selections and completely again.
+/// A second source is replicated into a target with documents of its own. Then the first source is replicated, for one
+/// selection and completely. After it has grown, it is replicated for both selections and completely again.
 static CALLS: &[Call] = &[
     Call::Grow(OTHER, 10),
     Call::GrowTarget(5),
@@ -60,7 +60,7 @@ static CALLS: &[Call] = &[
     Call::Replicate(SOURCE, WHOLE),
 ];
 
-/// A peer, its plain model, and the sequences up to which it was replicated into the target: completely, and for each
+/// A peer, its plain model, and the sequences up to which it was replicated into the target, completely and for each
 /// selection.
 #[derive(Drop)]
 struct Side {
@@ -70,7 +70,7 @@ struct Side {
 }
 
 impl Side {
-    /// Creates a side without documents. It refuses documents whose ids begin with a prefix.
+    /// Creates a side without documents. The side refuses documents whose ids begin with a prefix.
     fn new(alloc: Global, uuid: u128, deny: Option<String>) -> Side {
         Side {
             peer: Peer::new(alloc, uuid, Rules { deny }),
@@ -79,7 +79,7 @@ impl Side {
         }
     }
 
-    /// Loads a random document into both, and asserts the same result.
+    /// Loads a random document into the peer and into the model, and asserts the same result.
     fn load(&mut self, rt: &impl Abort, alloc: Global, rng: &mut ChaCha8Rng) {
         let (doc, wanted) = document_by_chance(rt, alloc, rng, &mut self.plain, IDS);
         let answer = self.peer.load(&doc);
@@ -96,7 +96,7 @@ impl Side {
 struct Bench {
     alloc: Global,
     rng: ChaCha8Rng,
-    /// The number of workers; 0 for one thread.
+    /// The number of workers, or 0 for one thread.
     workers: u64,
     deny: Option<usize>,
     /// All documents, and two selections.
@@ -112,7 +112,7 @@ impl Bench {
         let number = below(&mut rng, CHOICES);
         let deny = if number < IDS { Some(number) } else { None };
         let first = some(&mut rng);
-        // The other selection is a different one of the same 31.
+        // The second selection is chosen from the same 31 selections, and differs from the first.
         let second = first % 31 + 1;
         let mut bench = Bench {
             alloc,
@@ -174,7 +174,7 @@ impl Bench {
     }
 }
 
-/// What is replicated, and which document is refused.
+/// The documents that are replicated, and the document that is refused.
 #[derive(Clone, Copy)]
 struct How {
     choice: usize,
@@ -231,7 +231,7 @@ fn taken_back(
     outcome.ok()
 }
 
-/// Replicates one peer into another: by one thread if the plan has no workers, else by the pool.
+/// Replicates one peer into another, by one thread if the plan has no workers, and otherwise by the pool.
 fn carry_peers<R: Threads + Wait + Sync>(
     rt: &R,
     alloc: Global,
@@ -247,7 +247,7 @@ fn carry_peers<R: Threads + Wait + Sync>(
     taken_back(ran, source, target)
 }
 
-/// Replicates both, and asserts that the reports, the ledgers and the sides agree.
+/// Replicates the peers and the plain sides, and asserts that the reports, the ledgers and the sides agree.
 fn replicate<R: Abort + Threads + Wait + Sync>(
     rt: &R,
     alloc: Global,

@@ -1,13 +1,13 @@
-//! A tree in its plain form: the ancestries as they were given, and two lists of what is known about each revision.
+//! A tree in its plain form, which has the ancestries as they were given, and two lists with the data of each revision.
 //!
-//! It is slow and simple: each call scans the lists, the first entry counts, and nothing is indexed.
+//! The plain form is slow and simple. Each call scans the lists, the first entry counts, and nothing is indexed.
 
 use rev_core::{Ancestry, Rev};
 use rev_tree::{Merged, Origin};
 use std::alloc::{AllocError, Global};
 use std::cmp::Ordering;
 
-/// The result of a merge; an error is the child, the known parent and the given parent of a contradiction.
+/// The result of a merge. An error has the child, the known parent and the given parent of a contradiction.
 pub(crate) type PlainAnswer = Result<Merged, (Rev, Rev, Rev)>;
 
 /// The ancestries, the contents and the origins.
@@ -79,7 +79,7 @@ impl PlainTree {
         deleted(a).cmp(&deleted(b)).then(b.cmp(&a))
     }
 
-    /// Returns the leaves, winner first: each is inserted before the first one that it precedes.
+    /// Returns the leaves, winner first. Each leaf is inserted before the first leaf that it precedes.
     pub(crate) fn leaves(&self, alloc: Global) -> Result<Vec<Rev>, AllocError> {
         let mut leaves: Vec<Rev> = Vec::new(alloc);
         for entry in &self.origins {

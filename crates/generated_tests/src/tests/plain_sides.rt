@@ -1,4 +1,4 @@
-//! A database, and what its sessions refused, as plain data: trees are bit masks.
+//! A database and the revisions that its sessions refused, as plain data in which trees are bit masks.
 use crate::tests::reference::{Answer, PLACES, Reference, mask_of};
 use std::alloc::Global;
 use std::process::Abort;
@@ -9,7 +9,7 @@ pub(crate) const IDS: usize = 5;
 /// The sequence of each document's latest change, and its tree.
 pub(crate) type Documents = [Option<(u64, Reference)>; IDS];
 
-/// A bit for each selected document; all bits if all are selected.
+/// A bit for each selected document, with all bits set if all documents are selected.
 pub(crate) type Picked = u32;
 
 /// All documents.
@@ -37,11 +37,11 @@ pub(crate) fn next_above(documents: &Documents, seq: u64, goal: u64) -> Option<(
     best
 }
 
-/// For each document, a bit for each revision that is meant.
+/// For each document, a mask with a bit for each revision of a set.
 pub(crate) type Masks = [u32; IDS];
 
-/// A row of a ledger: the document, its newest revision, and the child, known parent and given parent of a
-/// contradiction; `PLACES` for each of these three if the filter refuses the document.
+/// A row of a ledger has the document, its newest revision, and the child, known parent and given parent of a
+/// contradiction. If the filter refuses the document, each of these three is `PLACES`.
 pub(crate) type Row = [usize; 5];
 
 /// The tree of each document with the sequence of its latest change, and the revisions of refused documents.
@@ -111,7 +111,7 @@ impl PlainSide {
     }
 }
 
-/// What a replication has read, and its ledger rows.
+/// The counts of a replication, and its ledger rows.
 #[derive(Drop)]
 pub(crate) struct Carried {
     pub(crate) checked: u64,
@@ -131,7 +131,7 @@ impl Carried {
         }
     }
 
-    /// Counts a fetched document; a row means that it was refused.
+    /// Counts a fetched document. A ledger row means that the document was refused.
     fn count(&mut self, rt: &impl Abort, row: Option<Row>) {
         self.found = self.found.saturating_add(1);
         match row {

@@ -8,10 +8,10 @@ use crate::tests::reference::mask_of;
 use std::alloc::Global;
 use std::process::Abort;
 
-/// The document that is edited and never loaded. Its revision of generation g has index 3 (g - 1).
+/// The document that is edited and never loaded. The edited document's revision of generation g has index 3 (g - 1).
 pub(crate) const EDITED: usize = 4;
 
-/// A window, or a request for one: the life of its source, its bounds, and the leaves of its rows.
+/// A window or a request for a window, with the life of its source, its bounds, and the leaves of its rows.
 #[derive(Clone, Copy)]
 pub(crate) struct Rows {
     life: u64,
@@ -20,7 +20,7 @@ pub(crate) struct Rows {
     leaves: Masks,
 }
 
-/// What was fetched: the request, and the source at that time.
+/// A fetched parcel, represented by the request and a copy of the source at that time.
 #[derive(Clone, Copy)]
 struct Fetched {
     asked: Rows,
@@ -34,7 +34,7 @@ pub(crate) struct Done {
     pub(crate) life: u64,
     pub(crate) start: u64,
     pub(crate) recorded: u64,
-    /// When the session began and when it last recorded, in seconds since 1970.
+    /// The times at which the session began and last recorded, in seconds since 1970.
     pub(crate) moments: (u64, u64),
     pub(crate) checked: u64,
     pub(crate) found: u64,
@@ -66,14 +66,14 @@ struct Copied {
     log: SourceLog,
 }
 
-/// How often a list of steps reached the situations that a restore creates.
+/// Counts of how often a list of steps reached each situation that a restore creates.
 #[derive(Clone, Copy, Debug)]
 pub(crate) struct Met {
     /// A backup was restored while windows, entries or logs were in transit.
     pub(crate) restores: u64,
     /// A session began in a life that had ended.
     pub(crate) begins: u64,
-    /// A window was from another life than the session that was to store it.
+    /// A window was from another life than the session that should store it.
     pub(crate) windows: u64,
     /// An entry was from another life than the source.
     pub(crate) entries: u64,
@@ -161,7 +161,7 @@ fn page(side: &PlainSide, life: u64, since: u64, goal: u64, limit: u64, picked: 
     }
 }
 
-/// Returns what a side lacks of rows.
+/// Returns the leaves of rows that a side lacks.
 fn missing(side: &PlainSide, rows: &Rows) -> Rows {
     let mut leaves = [0; IDS];
     for number in 0..IDS {
@@ -243,8 +243,8 @@ impl Sessions {
         low
     }
 
-    /// Returns the common checkpoint of a log of the source and the sessions: the lesser recorded sequence of the
-    /// newest session in both, or 0.
+    /// Returns the common checkpoint of a log of the source and the sessions, which is the lesser recorded sequence of
+    /// the newest common session, or 0.
     fn agreed(&self, entries: &[Done]) -> u64 {
         for held in self.begun.iter().rev() {
             if let Some(place) = place_in(entries, held.done.session) {
@@ -275,7 +275,7 @@ impl Sessions {
         }
     }
 
-    /// Stores a window, if it is from the session's life and is the next one.
+    /// Stores a window, if it is from the session's life and is the session's next window.
     fn append(&mut self, rt: &impl Abort, session: u128, rows: Rows) {
         let Some(held) = self.get(session) else {
             return;
@@ -301,7 +301,7 @@ impl Sessions {
         })
     }
 
-    /// Counts a document of a session; a row means that it was refused.
+    /// Counts a document of a session. A ledger row means that the document was refused.
     fn count(&mut self, rt: &impl Abort, session: u128, row: Option<Row>) {
         let place = self.place(session).unwrap_or(0);
         let held = self.begun.get_mut(place).expect(rt, "a session");
@@ -335,7 +335,8 @@ impl Sessions {
         held.done.found = held.done.found.saturating_add(count(&asked.leaves));
     }
 
-    /// Records a session; if it is to be concluded, only at its goal. Returns its log entry.
+    /// Records a session. If `concludes` is true, the session is recorded only if it has reached its goal. Returns its
+    /// log entry.
     fn record(&mut self, session: u128, concludes: bool, time: u64) -> Option<Done> {
         let low = self.low_water(self.get(session)?);
         let place = self.place(session)?;
@@ -349,7 +350,7 @@ impl Sessions {
     }
 }
 
-/// Settles what was fetched for a session of a target, if that has the window.
+/// Settles a fetched parcel for a session of a target, if the session has the parcel's window.
 fn settle(
     rt: &impl Abort,
     alloc: Global,
@@ -436,7 +437,7 @@ pub(crate) struct PlainWorld {
 }
 
 impl PlainWorld {
-    /// Creates a world without documents; the target refuses none, and all are replicated.
+    /// Creates a world without documents, in which the target refuses no document and all documents are replicated.
     pub(crate) fn new(alloc: Global) -> PlainWorld {
         PlainWorld {
             source: PlainSide::new(),
@@ -483,8 +484,8 @@ impl PlainWorld {
         }
     }
 
-    /// Returns the session to continue: the newest one, if it has not recorded its goal and is from the source's life
-    /// (or any life, if `any_life`); else the next number.
+    /// Returns the session to continue. This is the newest session, if it has not recorded its goal and is from the
+    /// source's life, or from any life if `any_life` is true. Otherwise it is the next number.
     pub(crate) fn carried(&self, any_life: bool) -> u128 {
         match self.sessions.begun.last() {
             Some(held)
@@ -524,7 +525,7 @@ impl PlainWorld {
 
     // ---- steps
 
-    /// Edits the document `EDITED`: a child of its one leaf, or a new document.
+    /// Edits the document `EDITED` by adding a child of its only leaf, or the first revision of a new document.
     pub(crate) fn edit(&mut self, at_source: bool, parent: Option<usize>) {
         let side = self.side(at_source);
         let leaves = side.tree(EDITED).leaf_mask();
@@ -583,7 +584,7 @@ impl PlainWorld {
         }
     }
 
-    /// Requests what the target lacks of a window.
+    /// Requests the leaves of a window that the target lacks.
     pub(crate) fn diff(&mut self, rt: &impl Abort, window: usize) {
         if let Some(rows) = self.windows.get(window) {
             let asked = missing(&self.target, rows);
@@ -602,7 +603,7 @@ impl PlainWorld {
         }
     }
 
-    /// Settles a parcel for a session, if that has its window.
+    /// Settles a parcel for a session, if the session has the parcel's window.
     pub(crate) fn settle(&mut self, rt: &impl Abort, alloc: Global, session: u128, parcel: usize) {
         if let Some(fetched) = self.parcels.get(parcel) {
             let (target, sessions) = (&mut self.target, &mut self.sessions);
@@ -638,7 +639,7 @@ impl PlainWorld {
         self.copies.push(copied).expect(rt, "memory");
     }
 
-    /// Restores the source from a backup, in a life above both.
+    /// Restores the source from a backup, in a life above those of source and backup.
     pub(crate) fn restore(&mut self, rt: &impl Abort, alloc: Global, copy: usize) {
         if let Some(copied) = self.copies.get(copy) {
             if self.windows.len() > 0 || self.entries.len() > 0 || self.logs.len() > 0 {
@@ -651,7 +652,7 @@ impl PlainWorld {
         }
     }
 
-    /// Loses all messages; backups stay.
+    /// Loses all messages, but keeps the backups.
     pub(crate) fn crash(&mut self) {
         self.windows.clear();
         self.asked.clear();

@@ -1,7 +1,8 @@
-//! A tree of eighteen revisions as bits: generations 1 to 6 with the signatures a, b and c.
+//! A tree of at most eighteen revisions as bits, for generations 1 to 6 with the signatures a, b and c.
 //!
 //! The revision at index `p` has generation `p / 3 + 1` and signature `p % 3`, so indices are ordered as revisions are.
-//! Written from docs/PROFILE.md, "Merging" and "Leaves and the winner": sets are masks, union is `|`.
+//! The reference is written from docs/PROFILE.md, "Merging" and "Leaves and the winner", with masks for sets and `|`
+//! for the union.
 
 use std::alloc::{AllocError, Global};
 use std::process::Abort;
@@ -161,7 +162,7 @@ impl Reference {
         self.leaf_mask() & bit(place) != 0
     }
 
-    /// Returns the leaves: live before deleted, then by falling index.
+    /// Returns the leaves, with live leaves before deleted leaves, and then by falling index.
     pub(crate) fn leaves(&self, alloc: Global) -> Result<Vec<usize>, AllocError> {
         let mut leaves = Vec::new(alloc);
         for deleted in [false, true] {

@@ -1,4 +1,4 @@
-//! A peer compared with its plain model: the trees, coverage, and refusals.
+//! Compares a peer with its plain model in trees, coverage, and refusals.
 use crate::tests::exchanges::place_of;
 use crate::tests::feeds::{id, number_of};
 use crate::tests::merges::{are, rev};
@@ -10,7 +10,8 @@ use rev_tree::{SessionId, Tree};
 use std::alloc::Global;
 use std::process::Abort;
 
-/// Whether a peer and its plain model agree about the first documents: the trees, and which revisions are covered.
+/// Whether a peer and its plain model agree about the trees of the first documents, and about which revisions are
+/// covered.
 pub(crate) fn agrees(
     rt: &impl Abort,
     alloc: Global,
@@ -47,7 +48,7 @@ fn agrees_on(
     same && covers
 }
 
-/// Whether a tree has the revisions of a plain one, its leaves with their ancestries, and their contents.
+/// Whether a tree has the revisions of a plain tree, and the plain tree's leaves with their ancestries and contents.
 fn is_tree(rt: &impl Abort, alloc: Global, tree: &Tree, wanted: &Reference) -> bool {
     let places = wanted.leaves(alloc).expect(rt, "memory");
     let leaves = tree.leaves(alloc).expect(rt, "memory");
@@ -58,7 +59,7 @@ fn is_tree(rt: &impl Abort, alloc: Global, tree: &Tree, wanted: &Reference) -> b
     same
 }
 
-/// Whether a leaf has the ancestry and the content of a plain one.
+/// Whether a leaf has the ancestry and the content of a leaf of the plain tree.
 fn is_leaf(rt: &impl Abort, alloc: Global, tree: &Tree, wanted: &Reference, place: usize) -> bool {
     let one = rev(rt, place);
     let walk = tree.ancestry(alloc, one).expect(rt, "a revision");
@@ -66,7 +67,7 @@ fn is_leaf(rt: &impl Abort, alloc: Global, tree: &Tree, wanted: &Reference, plac
     has_content(tree, one, wanted.content(place)) && are(rt, walk.revs(), &places)
 }
 
-/// Whether a revision has a content with the plain one's deleted flag and the body `{}`.
+/// Whether a revision has a content with the plain content's deleted flag and the body `{}`.
 fn has_content(tree: &Tree, one: Rev, wanted: Option<(bool, u8)>) -> bool {
     match (tree.content(one), wanted) {
         (Some(content), Some((deleted, _))) => {

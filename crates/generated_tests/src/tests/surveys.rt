@@ -1,5 +1,5 @@
-//! What a target lacks of a source, which documents are in conflict and how much a database contains, compared with the
-//! reference; and the documents of all leaves, put into an empty database.
+//! Compares the calls of `repl_inspect` with the reference, and puts the documents of all leaves into an empty
+//! database.
 use crate::tests::checks::holds;
 use crate::tests::exchanges::Side;
 use crate::tests::feeds::id;
@@ -169,7 +169,7 @@ fn has_leaves(rt: &impl Abort, alloc: Global, database: &Database, plain: &Plain
     }
 }
 
-/// Asserts that the documents of all leaves, put into an empty database, give what a side has.
+/// Asserts that the documents of all leaves, put into an empty database, give the trees of a side.
 fn comes_back(rt: &impl Abort, alloc: Global, side: &Side, again: &mut Database) {
     for number in 0..IDS {
         give(rt, alloc, &side.db, &id(rt, alloc, number), again);
@@ -187,7 +187,8 @@ fn survey(rt: &impl Abort, alloc: Global, source: &Side, target: &Side) -> [u64;
     [total.contradicting, total.differing, conflicts]
 }
 
-/// Tests a source and a target. A function of its own, because each value beside a side adds to the proof.
+/// Tests a source and a target. This is a separate function, because each further value next to a side makes the proof
+/// longer.
 fn with_target(rt: &impl Abort, alloc: Global, seed: u64, source: &mut Side) -> [u64; 3] {
     let mut rng = ChaCha8Rng::seed_from_u64(seed);
     let mut target = Side::new(alloc, 2);
@@ -206,7 +207,7 @@ fn two_hundred_pairs_agree(rt: HostRuntime) {
             found[at] = found[at].saturating_add(more[at]);
         }
     }
-    // Each case is frequent enough to be tested.
+    // Each case occurs often enough to be tested.
     assert!(rt;
         found[0] > 100 && found[1] > 50 && found[2] > 100,
         "{found:?}"

@@ -1,5 +1,5 @@
-//! Pairs that diverge at random and are replicated in both directions, by one thread and by the pool: both sides then
-//! have the same documents, and a second replication changes nothing.
+//! Pairs of peers diverge at random and are replicated in both directions, by one thread and by the pool. After that,
+//! both sides must have the same documents, and a second replication must change nothing.
 use crate::tests::checks::holds;
 use crate::tests::feeds::id;
 use crate::tests::merges::below;
