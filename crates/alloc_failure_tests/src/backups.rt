@@ -14,7 +14,7 @@ const REP: RepId = RepId {
     chosen: None,
 };
 
-/// What is observed of a peer: the life and the update sequence of its database, the number of local writes, and the
+/// The observations of a peer, which are its database's life and update sequence, its number of local writes, and its
 /// number of entries in the log of the replication.
 type Seen = (u64, u64, usize, usize);
 
@@ -84,7 +84,7 @@ fn fill(alloc: Global, peer: &mut Peer<Rules>) -> Option<()> {
     put_entry(peer, 2, at)
 }
 
-/// Changes what was backed up, and more.
+/// Changes the documents and the log of a peer that was backed up.
 fn go_on(alloc: Global, peer: &mut Peer<Rules>) -> Option<()> {
     load(
         alloc,
@@ -117,7 +117,7 @@ fn put_back(alloc: Global, peer: &mut Peer<Rules>) -> Option<(Seen, Seen)> {
     Some((before, look(alloc, peer)?))
 }
 
-/// The same for a new peer.
+/// Backs up a new peer, changes it, and restores it.
 fn of_one(alloc: Global) -> Option<(Seen, Seen)> {
     let mut peer = Peer::new(alloc, 1, Rules { deny: None });
     put_back(alloc, &mut peer)

@@ -16,7 +16,7 @@ fn id(alloc: Global, text: &str) -> Option<DocId> {
     }
 }
 
-/// Returns two ids, one of them twice.
+/// Returns a list of two ids, in which one id occurs twice.
 fn ids(alloc: Global) -> Option<Vec<DocId>> {
     let mut ids = Vec::new(alloc);
     for text in ["f", "d", "f"] {
@@ -35,7 +35,7 @@ fn ids(alloc: Global) -> Option<Vec<DocId>> {
     Some(ids)
 }
 
-/// Creates the selection of these ids; retries if an allocation fails.
+/// Creates the selection of these ids, and retries if an allocation fails.
 fn choose(alloc: Global) -> Option<Chosen> {
     match Chosen::new(ids(alloc)?) {
         Err(DocFault::Memory) => Chosen::new(ids(alloc)?).ok(),
@@ -111,7 +111,7 @@ fn carry(
     }
 }
 
-/// Replicates the selected documents; retries with another session if an allocation fails.
+/// Replicates the selected documents, and retries with another session if an allocation fails.
 fn replicate(
     alloc: Global,
     source: &mut Peer<Rules>,
@@ -143,8 +143,9 @@ fn fill(alloc: Global, source: &mut Peer<Rules>) -> Option<()> {
     Some(())
 }
 
-/// What is observed: the length of the replication id, the number of rows of the page, the recorded sequence, the
-/// target's sequence, and whether the target has only the selected documents.
+/// The observations of a replication of selected documents. They are the length of the replication id, the number of
+/// rows of the page, the recorded sequence, the target's sequence, and whether the target has only the selected
+/// documents.
 type Seen = (usize, usize, u64, u64, bool);
 
 /// Returns the observations of two peers after a replication of selected documents.
@@ -175,7 +176,7 @@ fn ended(alloc: Global, source: &mut Peer<Rules>, target: &mut Peer<Rules>) -> O
     ))
 }
 
-/// Replicates into a target. A function of its own, because each value beside a peer adds to the proof.
+/// Replicates into a target. This is a separate function, because each further value next to a peer makes the proof longer.
 fn into_target(alloc: Global, source: &mut Peer<Rules>) -> Option<Seen> {
     let mut target = Peer::new(alloc, 2, Rules { deny: None });
     ended(alloc, source, &mut target)

@@ -138,7 +138,7 @@ fn opened(alloc: Global, db: &Database, asked: &Asked) -> Result<Parcel> {
     }
 }
 
-/// Puts three documents, the first of them twice.
+/// Puts three documents, of which the first is put twice.
 fn put_all(alloc: Global, db: &mut Database) -> Result<()> {
     for text in [
         r#"{"_id":"a","_revisions":{"start":2,"ids":["b","a"]},"n":1}"#,
@@ -227,7 +227,7 @@ struct Counts {
     arrived: u64,
 }
 
-/// Requests a window for an empty database, fetches from both databases, and puts what was fetched.
+/// Requests a window for an empty database, fetches from both databases, and puts the fetched documents.
 fn counted(alloc: Global, db: &Database, empty: &Database, window: &Window) -> Result<Counts> {
     let asked = asked(alloc, empty, window)?;
     let (count, _) = fetched(alloc, db, &asked)?;
@@ -257,7 +257,7 @@ fn db_copied(alloc: Global, db: &Database) -> Result<Database> {
     }
 }
 
-/// Exchanges a copy of a database with another one.
+/// Exchanges a copy of a database with another database.
 fn copy_exchanged(alloc: Global, db: &Database, empty: &Database) -> Result<(u64, Counts)> {
     let copy = db_copied(alloc, db)?;
     let counts = exchanged(alloc, &copy, empty)?;
@@ -270,8 +270,8 @@ fn session(alloc: Global, db: &mut Database, empty: &Database) -> Result<(u64, C
     copy_exchanged(alloc, db, empty)
 }
 
-/// Runs the session of two databases. Few values are alive beside a database, because each adds to the proof of every
-/// step.
+/// Runs the session of two databases. Few values are alive next to a database, because each value makes the proof of
+/// every step longer.
 fn between(alloc: Global) -> Result<(u64, Counts)> {
     let mut db = Database::new(alloc, 7);
     let empty = Database::new(alloc, 8);

@@ -3,7 +3,7 @@ use anyhow::{Result, bail};
 use range_front::{Front, FrontFault};
 use std::alloc::{AllocError, Global};
 
-/// Appends a window; retries if an allocation fails.
+/// Appends a window, and retries if an allocation fails.
 fn appended(front: &mut Front, hi: u64) -> Result<(), FrontFault> {
     match front.append(hi) {
         Err(FrontFault::Memory) => front.append(hi),
@@ -11,7 +11,7 @@ fn appended(front: &mut Front, hi: u64) -> Result<(), FrontFault> {
     }
 }
 
-/// Reserves space; retries if an allocation fails.
+/// Reserves space, and retries if an allocation fails.
 fn reserved(front: &mut Front) -> Result<(), AllocError> {
     match front.reserve() {
         Err(AllocError) => front.reserve(),
@@ -31,7 +31,7 @@ fn grows(front: &mut Front) -> bool {
     grows
 }
 
-/// Whether a window could be finished. Space is reserved, so the first result counts.
+/// Whether a window could be finished. Space is reserved before this call, so the first result counts.
 fn finishes(front: &mut Front, lo: u64) -> bool {
     reserved(front).is_ok() && front.finish(lo, lo.saturating_add(2)).is_ok()
 }

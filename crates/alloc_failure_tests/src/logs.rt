@@ -1,4 +1,4 @@
-//! `Log::put`, `Log::copy`, the same of `Logs`, `rep_id` and `write_log`.
+//! `Log::put`, `Log::copy`, `Logs::put`, `Logs::copy`, `rep_id` and `write_log`.
 use anyhow::{Result, bail};
 use repl_log::{Entry, Log, LogFault, Logs, Moment, RepId, rep_id, write_log};
 use rev_tree::SessionId;
@@ -11,7 +11,7 @@ fn entry(recorded: u64) -> Result<Entry, LogFault> {
     Ok(bare_entry(SessionId(u128::from(recorded)), recorded, at))
 }
 
-/// Stores an entry; retries if an allocation fails. Returns whether a failure changed the log.
+/// Stores an entry, and retries if an allocation fails. Returns whether a failure changed the log.
 fn put(log: &mut Log, recorded: u64) -> Result<bool, LogFault> {
     let before = log.len();
     match log.put(entry(recorded)?) {
@@ -45,7 +45,7 @@ fn written(alloc: Global, id: &RepId, log: &Log) -> Result<Vec<u8>, LogFault> {
     }
 }
 
-/// Stores an entry in the log of a replication; retries if an allocation fails.
+/// Stores an entry in the log of a replication, and retries if an allocation fails.
 fn put_into(logs: &mut Logs, id: &RepId, recorded: u64) -> Result<(), LogFault> {
     match logs.put(id, entry(recorded)?) {
         Err(LogFault::Memory) => logs.put(id, entry(recorded)?),

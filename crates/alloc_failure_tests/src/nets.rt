@@ -1,5 +1,5 @@
-//! Calls on a network. After a failed allocation nothing was added or written, audits are clean, and the same hops with
-//! further sessions end as they would have.
+//! Calls on a network. After a failed allocation nothing was added or written, and audits are clean. The same hops with
+//! further sessions then have the result that they would have had.
 use crate::peers::{body, doc, doc_id};
 use crate::replications::{is_memory, is_nothing, plan};
 use anyhow::{Result, bail};
@@ -22,7 +22,7 @@ fn is_wanting(fault: NetFault) -> bool {
     }
 }
 
-/// Adds a peer; retries if an allocation fails.
+/// Adds a peer, and retries if an allocation fails.
 fn add(alloc: Global, net: &mut Net<Rules>, uuid: u128) -> Option<usize> {
     match net.add(alloc, uuid, Rules { deny: None }) {
         Ok(place) => Some(place),
@@ -35,7 +35,7 @@ fn add(alloc: Global, net: &mut Net<Rules>, uuid: u128) -> Option<usize> {
     }
 }
 
-/// Loads a document; retries if an allocation fails.
+/// Loads a document, and retries if an allocation fails.
 fn load(alloc: Global, net: &mut Net<Rules>, place: usize, text: &str) -> Option<()> {
     let Some(doc) = doc(alloc, text) else {
         return None;
@@ -51,7 +51,7 @@ fn load(alloc: Global, net: &mut Net<Rules>, place: usize, text: &str) -> Option
     Some(())
 }
 
-/// Edits a document; retries if an allocation fails.
+/// Edits a document, and retries if an allocation fails.
 fn edit(alloc: Global, net: &mut Net<Rules>, place: usize, id: &str) -> Option<()> {
     let Some(id) = doc_id(alloc, id) else {
         return None;
@@ -70,7 +70,7 @@ fn edit(alloc: Global, net: &mut Net<Rules>, place: usize, id: &str) -> Option<(
     Some(())
 }
 
-/// Whether an audit is clean; retries if an allocation fails.
+/// Whether an audit is clean, and retries if an allocation fails.
 fn is_clean(alloc: Global, net: &Net<Rules>, source: usize, target: usize) -> bool {
     let found = match net.audit(alloc, source, target, None) {
         Ok(found) => Some(found),
@@ -115,7 +115,7 @@ fn hops(alloc: Global, first: u128, at: Moment) -> Option<Vec<Hop>> {
     Some(hops)
 }
 
-/// As `hops`; retries if an allocation fails.
+/// Does the same as `hops`, and retries if an allocation fails.
 fn some_hops(alloc: Global, first: u128, at: Moment) -> Option<Vec<Hop>> {
     match hops(alloc, first, at) {
         Some(hops) => Some(hops),
@@ -123,7 +123,7 @@ fn some_hops(alloc: Global, first: u128, at: Moment) -> Option<Vec<Hop>> {
     }
 }
 
-/// Replicates along the chain; retries with further sessions if an allocation fails.
+/// Replicates along the chain, and retries with further sessions if an allocation fails.
 fn along(alloc: Global, net: &mut Net<Rules>, at: Moment) -> Option<()> {
     let Some(first) = some_hops(alloc, 1, at) else {
         return None;
@@ -154,7 +154,7 @@ fn plans(alloc: Global, first: u128, at: Moment) -> Option<Vec<Plan>> {
     Some(plans)
 }
 
-/// As `plans`; retries if an allocation fails.
+/// Does the same as `plans`, and retries if an allocation fails.
 fn some_plans(alloc: Global, first: u128, at: Moment) -> Option<Vec<Plan>> {
     match plans(alloc, first, at) {
         Some(plans) => Some(plans),
@@ -162,7 +162,7 @@ fn some_plans(alloc: Global, first: u128, at: Moment) -> Option<Vec<Plan>> {
     }
 }
 
-/// Replicates through the hub; retries with further sessions if an allocation fails.
+/// Replicates through the hub, and retries with further sessions if an allocation fails.
 fn by_hub(alloc: Global, net: &mut Net<Rules>, at: Moment) -> Option<()> {
     let Some(there) = some_plans(alloc, 5, at) else {
         return None;
@@ -228,7 +228,7 @@ fn ended(alloc: Global, net: &mut Net<Rules>) -> Option<(u64, bool)> {
     Some((sequences(net)?, clean))
 }
 
-/// As `ended`, for a new network. Nothing else is alive beside the network.
+/// Does the same as `ended`, for a new network. No other value is alive next to the network, because each value makes the proof longer.
 fn of_net(alloc: Global) -> Option<(u64, bool)> {
     let mut net = Net::new(alloc);
     ended(alloc, &mut net)

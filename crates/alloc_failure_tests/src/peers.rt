@@ -1,5 +1,4 @@
-//! `Peer`: its local writes, its sessions, and settling. A failed allocation leaves a peer as the contract of the call
-//! says.
+//! Local writes, sessions and settling of a `Peer`. A failed allocation leaves a peer as the contract of the call says.
 use anyhow::{Result, bail};
 use couch_base::{Asked, BaseFault, Parcel, Put, Window};
 use doc_json::{Body, Doc, DocFault, DocId, read_body, read_doc};
@@ -173,7 +172,7 @@ fn counted(peer: &Peer<Rules>) -> Option<(u64, u64)> {
     Some((entry.counts.read, entry.counts.checked))
 }
 
-/// Settles; retries if an allocation fails.
+/// Settles, and retries if an allocation fails.
 fn settle(
     alloc: Global,
     peer: &mut Peer<Rules>,
@@ -228,7 +227,7 @@ fn prefix(alloc: Global) -> Option<String> {
     }
 }
 
-/// Begins the session with the source's complete feed, and requests what the target lacks.
+/// Begins the session with the source's complete feed, and requests the leaves that the target lacks.
 fn ask(alloc: Global, source: &Peer<Rules>, target: &mut Peer<Rules>, at: Moment) -> Option<Asked> {
     let Some(window) = page(alloc, source) else {
         return None;
@@ -269,8 +268,8 @@ fn tell(rt: &impl Print, settled: Settled, report: Report, sequence: u64) -> Res
     Ok(())
 }
 
-/// Runs the peers' session. Returns what it settled, its report, and the target's sequence. The target has a tree that
-/// contradicts one of the source's.
+/// Runs the peers' session. Runs the session, and returns the settled numbers, the report, and the target's sequence.
+/// The target has a tree that contradicts a tree of the source.
 fn session(
     alloc: Global,
     source: &mut Peer<Rules>,

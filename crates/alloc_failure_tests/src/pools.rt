@@ -1,5 +1,6 @@
-//! `run` of the pool: by one worker on the caller's thread, and by two fetchers and two writers, each a thread. After a
-//! failed allocation both peers are returned, an audit is clean, and a further run ends at the goal.
+//! Calls `run` of the pool with one worker on the caller's thread, and with two fetchers and two writers, of which each
+//! is a thread. After a failed allocation both peers are returned, an audit is clean, and a further run ends at the
+//! goal.
 use crate::peers::load;
 use crate::replications::{is_clean, is_memory, plan};
 use anyhow::{Result, bail};
@@ -11,7 +12,7 @@ use std::mem;
 use std::sync::Wait;
 use std::thread::Threads;
 
-/// A gate that claims that it may block, although it never does: then each fetcher and each writer is a thread.
+/// A gate that claims that it may block, although it never does. Because of this, each fetcher and each writer is a thread.
 struct Separate;
 
 impl Gate for Separate {
@@ -22,7 +23,7 @@ impl Gate for Separate {
     }
 }
 
-/// A kind of run: its gate, and its number of workers.
+/// A kind of run, with its gate and its number of workers.
 struct Kind<'a, G: Gate> {
     gate: &'a G,
     workers: u64,
@@ -33,7 +34,7 @@ fn taken(alloc: Global, place: &mut Peer<Rules>) -> Peer<Rules> {
     mem::replace(place, Peer::new(alloc, 0, Rules { deny: None }))
 }
 
-/// Runs a session between two peers, and puts them back.
+/// Runs a session between two peers, and stores both peers again.
 fn once<G: Gate + Sync, R: Threads + Wait + Sync>(
     rt: &R,
     alloc: Global,
@@ -71,7 +72,7 @@ fn is_want(fault: PoolFault) -> bool {
     }
 }
 
-/// Runs; retries with another session if an allocation fails.
+/// Runs, and retries with another session if an allocation fails.
 fn replicate<G: Gate + Sync, R: Threads + Wait + Sync>(
     rt: &R,
     alloc: Global,
@@ -106,7 +107,7 @@ fn fill(alloc: Global, source: &mut Peer<Rules>) -> Option<()> {
     Some(())
 }
 
-/// Returns what the last run recorded, the target's sequence, and whether an audit is clean.
+/// Returns the recorded sequence of the last run, the target's update sequence, and whether an audit is clean.
 fn ended<G: Gate + Sync, R: Threads + Wait + Sync>(
     rt: &R,
     alloc: Global,
@@ -124,7 +125,7 @@ fn ended<G: Gate + Sync, R: Threads + Wait + Sync>(
     Some((report.recorded, target.db().update_seq(), clean))
 }
 
-/// Runs into a target. A function of its own, because each value beside a peer adds to the proof.
+/// Runs into a target. This is a separate function, because each further value next to a peer makes the proof longer.
 fn into_target<G: Gate + Sync, R: Threads + Wait + Sync>(
     rt: &R,
     alloc: Global,
@@ -145,7 +146,7 @@ fn between<G: Gate + Sync, R: Threads + Wait + Sync>(
     into_target(rt, alloc, kind, &mut source)
 }
 
-/// Returns the result of a run by one worker, and of one by two fetchers and two writers.
+/// Returns the result of a run with one worker, and the result of a run with two fetchers and two writers.
 fn both<R: Threads + Wait + Sync>(
     rt: &R,
     alloc: Global,

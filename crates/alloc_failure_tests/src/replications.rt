@@ -27,7 +27,7 @@ pub(crate) fn is_memory(fault: TargetFault) -> bool {
     }
 }
 
-/// Whether an audit is clean; retries if an allocation fails.
+/// Whether an audit is clean, and retries if an allocation fails.
 pub(crate) fn is_clean(alloc: Global, source: &Peer<Rules>, target: &Peer<Rules>) -> bool {
     let found = match audit(alloc, source, target, None).ok() {
         Some(found) => Some(found),
@@ -47,7 +47,7 @@ pub(crate) fn is_nothing(found: Audit) -> bool {
     }
 }
 
-/// Replicates; retries with another session if an allocation fails.
+/// Replicates, and retries with another session if an allocation fails.
 fn replicate(
     alloc: Global,
     source: &mut Peer<Rules>,
@@ -78,7 +78,7 @@ fn fill(alloc: Global, source: &mut Peer<Rules>) -> Option<()> {
     Some(())
 }
 
-/// Returns what the last replication recorded, the target's sequence, and whether an audit is clean.
+/// Returns the recorded sequence of the last replication, the target's update sequence, and whether an audit is clean.
 fn ended(
     alloc: Global,
     source: &mut Peer<Rules>,
@@ -97,7 +97,7 @@ fn ended(
     Some((report.recorded, target.db().update_seq(), clean))
 }
 
-/// Replicates into a target. A function of its own, because each value beside a peer adds to the proof.
+/// Replicates into a target. This is a separate function, because each further value next to a peer makes the proof longer.
 fn into_target(alloc: Global, source: &mut Peer<Rules>) -> Option<(u64, u64, bool)> {
     let mut target = Peer::new(alloc, 2, Rules { deny: None });
     ended(alloc, source, &mut target)

@@ -19,7 +19,7 @@ pub(crate) fn three(alloc: Global) -> Result<Ancestry, RevFault> {
     }
 }
 
-/// Creates the ancestry of three signatures; retries if an allocation fails.
+/// Creates the ancestry of three signatures, and retries if an allocation fails.
 fn of_sigs(alloc: Global, sigs: &[Sig]) -> Result<Ancestry, RevFault> {
     match Ancestry::from_parts(alloc, 3, sigs) {
         Err(RevFault::Memory) => Ancestry::from_parts(alloc, 3, sigs),
@@ -108,7 +108,7 @@ fn is_copied(alloc: Global, ancestry: &Ancestry) -> Option<bool> {
     Some(are_texts(alloc, copy.revs()))
 }
 
-/// As `is_copied`, for the ancestry of three revisions.
+/// Does the same as `is_copied`, for the ancestry of three revisions.
 fn three_copied(alloc: Global) -> Option<bool> {
     match three(alloc) {
         Ok(ancestry) => is_copied(alloc, &ancestry),

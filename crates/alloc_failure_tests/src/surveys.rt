@@ -1,4 +1,4 @@
-//! Questions about two peers. After a failed allocation, the same question gives its usual result.
+//! Questions about two peers. After a failed allocation, the same query has its usual result.
 use crate::peers::{doc_id, load};
 use anyhow::{Result, bail};
 use couch_base::Database;
@@ -10,7 +10,7 @@ use repl_target::{Peer, Rules};
 use rev_tree::Tree;
 use std::alloc::{AllocError, Global};
 
-/// Two leaves of one document, one of which the target has with another history.
+/// Two leaves of a document. The target has one of these leaves with another history.
 const SOURCE: [&str; 2] = [
     r#"{"_id":"d","_revisions":{"start":3,"ids":["d","b","a"]}}"#,
     r#"{"_id":"d","_revisions":{"start":2,"ids":["c","a"]}}"#,
@@ -21,7 +21,7 @@ const TARGET: [&str; 2] = [
     r#"{"_id":"d","_revisions":{"start":2,"ids":["c","a"]},"n":1}"#,
 ];
 
-/// Compares a document; retries if an allocation fails.
+/// Compares a document, and retries if an allocation fails.
 fn compared(alloc: Global, source: &Database, target: &Database, id: &DocId) -> Option<Comparison> {
     match compare(alloc, source, target, id) {
         Err(AllocError) => compare(alloc, source, target, id).ok(),
@@ -29,7 +29,7 @@ fn compared(alloc: Global, source: &Database, target: &Database, id: &DocId) -> 
     }
 }
 
-/// Returns a total; retries if an allocation fails.
+/// Returns a total, and retries if an allocation fails.
 fn total(alloc: Global, source: &Peer<Rules>, target: &Peer<Rules>) -> Option<Total> {
     match compare_feed(alloc, source, target, None) {
         Err(AllocError) => compare_feed(alloc, source, target, None).ok(),
@@ -37,7 +37,7 @@ fn total(alloc: Global, source: &Peer<Rules>, target: &Peer<Rules>) -> Option<To
     }
 }
 
-/// Counts the content of a database; retries if an allocation fails.
+/// Counts the content of a database, and retries if an allocation fails.
 fn census(alloc: Global, database: &Database) -> Option<Census> {
     match census_of(alloc, database) {
         Err(AllocError) => census_of(alloc, database).ok(),
@@ -45,7 +45,7 @@ fn census(alloc: Global, database: &Database) -> Option<Census> {
     }
 }
 
-/// Adds a tree; retries if an allocation fails, in which case nothing was added.
+/// Adds a tree, and retries if an allocation fails, in which case nothing was added.
 fn counted(alloc: Global, tree: &Tree) -> Option<Census> {
     let mut census = Census::none();
     if census.add(alloc, tree).is_err() {
@@ -59,7 +59,7 @@ fn counted(alloc: Global, tree: &Tree) -> Option<Census> {
     Some(census)
 }
 
-/// Returns the number of leaves in conflict; retries if an allocation fails.
+/// Returns the number of leaves in conflict, and retries if an allocation fails.
 fn in_conflict(alloc: Global, tree: &Tree) -> Option<usize> {
     match conflicting(alloc, tree) {
         Err(AllocError) => Some(conflicting(alloc, tree).ok()?.len()),
@@ -67,7 +67,7 @@ fn in_conflict(alloc: Global, tree: &Tree) -> Option<usize> {
     }
 }
 
-/// Returns the number of documents of all leaves; retries if an allocation fails.
+/// Returns the number of documents of all leaves, and retries if an allocation fails.
 fn documents(alloc: Global, database: &Database, id: &DocId) -> Option<usize> {
     match documents_of(alloc, database, id) {
         Err(AllocError) => Some(documents_of(alloc, database, id).ok()?.len()),
@@ -128,7 +128,7 @@ fn asked(alloc: Global, source: &Peer<Rules>, target: &Peer<Rules>) -> Option<bo
     Some(of_document == (2, 1, 1) && of_leaves == (2, 2) && totals && counts)
 }
 
-/// Loads the target's documents, and asks.
+/// Loads the target's documents, and makes the queries.
 fn with_target(alloc: Global, source: &Peer<Rules>) -> Option<bool> {
     let mut target = Peer::new(alloc, 2, Rules { deny: None });
     for text in TARGET {
@@ -139,7 +139,7 @@ fn with_target(alloc: Global, source: &Peer<Rules>) -> Option<bool> {
     asked(alloc, source, &target)
 }
 
-/// Loads the source's documents, and asks.
+/// Loads the source's documents, and makes the queries.
 fn of_peers(alloc: Global) -> Option<bool> {
     let mut source = Peer::new(alloc, 1, Rules { deny: None });
     for text in SOURCE {

@@ -20,7 +20,7 @@ fn reading(tree: &Tree) -> (usize, usize, Option<Rev>) {
     (tree.leaf_count(), tree.rev_count(), tree.winner())
 }
 
-/// Merges; retries if an allocation fails. Returns whether a failure changed the tree.
+/// Merges, and retries if an allocation fails. Returns whether a failure changed the tree.
 fn merged(
     alloc: Global,
     tree: &mut Tree,
@@ -66,7 +66,7 @@ fn missing(alloc: Global, tree: &Tree, revs: &[Rev]) -> Result<Revs, AllocError>
     }
 }
 
-/// Creates the ancestry of a generation and signatures; retries if an allocation fails.
+/// Creates the ancestry of a generation and signatures, and retries if an allocation fails.
 fn of_sigs(alloc: Global, start: u32, sigs: &[Sig]) -> Option<Ancestry> {
     match Ancestry::from_parts(alloc, start, sigs) {
         Ok(ancestry) => Some(ancestry),
@@ -82,7 +82,7 @@ fn other(alloc: Global) -> Option<Ancestry> {
     }
 }
 
-/// Returns the ancestry 12-l to 1-l; with it the tree has too many revisions to be scanned, and has an index.
+/// Returns the ancestry 12-l to 1-l, with which the tree has so many revisions that it has an index.
 fn long(alloc: Global) -> Option<Ancestry> {
     match Sig::parse(b"l") {
         Ok(sig) => of_sigs(alloc, 12, &[sig; 12]),
@@ -143,7 +143,7 @@ fn is_read(alloc: Global, tree: &Tree, leaf: Rev) -> bool {
     }
 }
 
-/// Whether this holds for each leaf.
+/// Whether each leaf is the only leaf above its ancestry, and the tree has the ancestry.
 fn are_read(alloc: Global, tree: &Tree) -> bool {
     let Ok(leaves) = leaves(alloc, tree) else {
         return false;

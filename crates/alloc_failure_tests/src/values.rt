@@ -1,10 +1,10 @@
-//! `ValueReader::read_line` with one reader, `read_line_body` and `read_line_doc`.
+//! Calls of `ValueReader::read_line` with one reader, of `read_line_body` and of `read_line_doc`.
 use anyhow::{Result, bail};
 use doc_json::{Doc, DocFault, read_line_body, read_line_doc, write_doc};
 use json_values::{ReadFault, ValueReader};
 use std::alloc::{AllocError, Global};
 
-/// Compact texts; the second one needs a larger buffer than the first.
+/// Compact JSON texts, of which the second needs a larger buffer than the first.
 static TEXTS: &[&[u8]] = &[
     b"{\"n\":[1,{\"m\":\"x\"}]}",
     b"{\"l\":[{\"a\":\"a text with a \\\" in it\",\"b\":-15},{\"a\":[],\"b\":{\"c\":true}},null]}",
@@ -48,7 +48,7 @@ fn is_written_as(alloc: Global, doc: &Doc, text: &[u8]) -> Result<bool, DocFault
     }
 }
 
-/// As `is_its_document`; retries if an allocation fails.
+/// Does the same as `is_its_document`, and retries if an allocation fails.
 fn is_written(reader: &mut ValueReader, alloc: Global, text: &[u8]) -> Result<bool, DocFault> {
     match is_its_document(reader, alloc, text) {
         Err(DocFault::Memory) => is_its_document(reader, alloc, text),
@@ -56,7 +56,7 @@ fn is_written(reader: &mut ValueReader, alloc: Global, text: &[u8]) -> Result<bo
     }
 }
 
-/// As `is_its_body`; retries if an allocation fails.
+/// Does the same as `is_its_body`, and retries if an allocation fails.
 fn is_body(reader: &mut ValueReader, alloc: Global, text: &[u8]) -> Result<bool, DocFault> {
     match is_its_body(reader, alloc, text) {
         Err(DocFault::Memory) => is_its_body(reader, alloc, text),

@@ -1,5 +1,5 @@
-//! `World::run`. After a failed allocation the world is that after the previous steps, or a settling is partial; the
-//! remaining steps then end as all of them would have.
+//! `World::run`. After a failed allocation the world is the one after the previous steps, or a settling is partial. The
+//! remaining steps then have the result that all steps would have had.
 use crate::peers::{body, doc, doc_id};
 use anyhow::{Result, bail};
 use repl_log::Moment;
@@ -12,11 +12,11 @@ use std::alloc::Global;
 /// The only session.
 const SESSION: SessionId = SessionId(1);
 
-/// What is observed of a session: the number of its windows, its low water, and its recorded sequence.
+/// The observations of a session, which are the number of its windows, its low water, and its recorded sequence.
 type Session = (usize, u64, u64);
 
-/// What is observed of a world: the life of the source, the update sequences of its peers, the session if it has begun,
-/// and the sizes of the bag.
+/// The observations of a world, which are the life of the source, the update sequences of its peers, the session if it
+/// has begun, and the sizes of the bag.
 #[derive(Clone, Copy, PartialEq, Eq)]
 struct Seen {
     life: u64,
@@ -26,8 +26,9 @@ struct Seen {
     sizes: (usize, usize, usize, usize, usize),
 }
 
-/// The observations before each step that may be the first remaining one, with the step's index. A partial settling is
-/// at its own index. The source's log and its backups are not observed: storing and backing up are repeated.
+/// The observations before each step that may be the first remaining one, with the step's index. The observations
+/// during a partial settling have an index of their own. The source's log and its backups are not observed, because
+/// storing and backing up are repeated.
 static BEFORE: &[(
     u64,
     u64,
@@ -199,7 +200,7 @@ fn left(seen: Seen) -> Option<usize> {
     None
 }
 
-/// Takes the steps; after a failed allocation, the remaining ones.
+/// Takes all steps of a list. After a failed allocation, takes the remaining steps.
 fn take(alloc: Global, world: &mut World<Rules>, steps: &[Step]) -> Option<()> {
     if world.run(alloc, steps).is_ok() {
         return Some(());
@@ -210,7 +211,7 @@ fn take(alloc: Global, world: &mut World<Rules>, steps: &[Step]) -> Option<()> {
     world.run(alloc, steps.get(place..)?).ok()
 }
 
-/// Whether an audit is clean; retries if an allocation fails.
+/// Whether an audit is clean, and retries if an allocation fails.
 fn is_clean(alloc: Global, world: &World<Rules>) -> bool {
     let found = match audit(alloc, world.source(), world.target(), None).ok() {
         Some(found) => Some(found),
@@ -222,7 +223,7 @@ fn is_clean(alloc: Global, world: &World<Rules>) -> bool {
     }
 }
 
-/// Returns what the session recorded, the final observations, and whether an audit is clean.
+/// Returns the session's recorded sequence, the final observations, and whether an audit is clean.
 fn ended(alloc: Global, world: &mut World<Rules>) -> Option<(u64, Seen, bool)> {
     let all = match steps(alloc) {
         Some(all) => Some(all),
@@ -241,7 +242,7 @@ fn ended(alloc: Global, world: &mut World<Rules>) -> Option<(u64, Seen, bool)> {
     Some((entry.recorded, look(world), clean))
 }
 
-/// As `ended`, for a world of two new peers. Nothing else is alive beside the world.
+/// Does the same as `ended`, for a world of two new peers. No other value is alive next to the world, because each value makes the proof longer.
 fn of_two(alloc: Global) -> Option<(u64, Seen, bool)> {
     let source = Peer::new(alloc, 1, Rules { deny: None });
     let target = Peer::new(alloc, 2, Rules { deny: None });

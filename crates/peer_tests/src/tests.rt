@@ -1,7 +1,7 @@
-//! Tests of databases and peers. Each is a table of calls with their expected results as strings.
+//! Tests of databases and peers. Each test is a table of calls with their expected results as strings.
 //!
-//! A bench holds the databases or peers, and what was read and fetched from them. A call is an enum value, so a proof
-//! covers each kind of call once, and a test is data without a proof of its own.
+//! A bench holds the databases or peers of a test, and the values that were read and fetched from them. A call is an
+//! enum value. A proof therefore covers each kind of call once, and a test is data without a proof of its own.
 
 // Calls on databases.
 mod database_rows;

@@ -1,15 +1,15 @@
-//! The rows of backups: a source that is restored, and data from its other lives. Each call with ample memory.
+//! The rows of backups: a source that is restored, and data from its other lives. Each call of these rows has ample memory.
 use crate::tests::peers::{Call, Lists, Rep, Rows, expect};
 use rev_tree::SessionId;
 
-/// The peers: the source, the target, and another one.
+/// The indices of the source, of the target, and of a third peer.
 const SOURCE: usize = 0;
 
 const TARGET: usize = 1;
 
 const OTHER: usize = 2;
 
-/// The first backup or window, and the next ones.
+/// The indices of the first, second and further backups or windows.
 const FIRST: usize = 0;
 
 const SECOND: usize = 1;
@@ -81,8 +81,8 @@ const AHEAD: Rows = &[
     ),
 ];
 
-/// The source is restored: documents, local writes and log are those of the backup. Another document gets the sequence
-/// that d4 had.
+/// The source is restored, after which its documents, local writes and log are those of the backup. Another document
+/// gets the sequence that d4 had.
 const PUT_BACK: Rows = &[
     (Call::Restore(SOURCE, FIRST), "restored"),
     (Call::Life(SOURCE), "1"),
@@ -107,11 +107,12 @@ fn other_life_refused(rt: HostRuntime) {
             Call::PutEntryOf(SOURCE, REP, TARGET, S2),
             "OtherLife { now: 1 }",
         ),
-        // `Older` would also apply, but is checked later.
+        // The error `Older` would also apply, but the call checks for it later.
         (Call::PutEntry(SOURCE, REP, S1, 1), "OtherLife { now: 1 }"),
         (Call::SourceLog(SOURCE, REP), "1 at 3;"),
         (Call::Page(SOURCE, 3, 4), "3 to 4: 4 e 1-a;"),
-        // That the windows of the second session end at 6 would be checked later, and so would the missing third one.
+        // The call would check later that the windows of the second session end at 6, and that the third session is
+        // missing.
         (Call::Append(TARGET, S2, SECOND), "OtherLife { now: 0 }"),
         (Call::Append(TARGET, S3, SECOND), "NoSuchSession"),
         (
@@ -122,7 +123,7 @@ fn other_life_refused(rt: HostRuntime) {
         (Call::SourceLog(SOURCE, REP), "3 at 4;1 at 3;"),
         (Call::Audit(SOURCE, TARGET), "clean"),
         (Call::Tree(TARGET, "d4"), "1-a of 1"),
-        // The third session is from this life.
+        // The third session is from the source's new life.
         (Call::PutEntryOf(SOURCE, REP, TARGET, S3), "put"),
     ];
     static LISTS: Lists = &[COPIED, AHEAD, PUT_BACK, ROWS];
@@ -133,7 +134,7 @@ fn other_life_refused(rt: HostRuntime) {
 fn copies_are_refused_by_name(rt: HostRuntime) {
     const ROWS: Rows = &[
         (Call::Backup(TARGET), "IsTarget"),
-        // `ForeignBackup` would also apply, but is checked later.
+        // The error `ForeignBackup` would also apply, but the call checks for it later.
         (Call::Restore(TARGET, FIRST), "IsTarget"),
         (Call::Peer(3, None), "made"),
         (Call::Restore(OTHER, FIRST), "ForeignBackup"),
@@ -150,7 +151,7 @@ fn copies_are_refused_by_name(rt: HostRuntime) {
 fn a_life_is_above_both(rt: HostRuntime) {
     const ROWS: Rows = &[
         (Call::Backup(SOURCE), "1 at 4"),
-        // The first backup again, and then the second one.
+        // The source is restored from the first backup again, and then from the second backup.
         (Call::Restore(SOURCE, FIRST), "restored"),
         (Call::Life(SOURCE), "2"),
         (Call::Numbers(SOURCE), "1 at 3"),
@@ -170,7 +171,7 @@ fn a_life_is_above_both(rt: HostRuntime) {
             Call::Verdict(OTHER, r#"{"_id":"d1","_rev":"1-a"}"#),
             "Refuse",
         ),
-        // A session begins at the common checkpoint of both logs, whichever lives they are from.
+        // A session begins at the common checkpoint of both logs, for logs of any lives.
         (Call::BeginPlan(S4, 10), "3"),
     ];
     static LISTS: Lists = &[COPIED, AHEAD, PUT_BACK, ROWS];

@@ -1,4 +1,4 @@
-//! What a peer has of a document, and refused documents.
+//! Reads a peer's leaves of a document, and its refused documents.
 use crate::tests::texts::{doc_text, joined};
 use couch_base::Database;
 use doc_json::DocId;

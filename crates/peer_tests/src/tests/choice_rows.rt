@@ -1,4 +1,4 @@
-//! The rows of selections: selections themselves, pages, replications, and their logs.
+//! The rows of selections, with pages and replications of selected documents, and their logs.
 use crate::tests::choices::{Call, Rows, expect};
 use rev_tree::SessionId;
 
@@ -120,7 +120,7 @@ fn pages_under_a_choice(rt: HostRuntime) {
     expect(&rt, rt.alloc(), LISTS);
 }
 
-/// The replications of the rows `chosen_copied`: two documents, all, and the two again.
+/// The replications of the rows `chosen_copied` copy two documents, then all documents, and then the two again.
 const COPIED: Rows = &[
     (Call::Choose(&["d4", "d2", "d2"]), "2 d2 d4"),
     (Call::Choose(&["d2", "d4"]), "2 d2 d4"),
@@ -201,7 +201,7 @@ fn holes_of_chosen_documents(rt: HostRuntime) {
         (Call::HoleAbove(0, Some(0)), "clean"),
         (Call::HoleAbove(0, Some(1)), "hole 1 d1 1-a"),
         (Call::HoleAbove(1, None), "hole 3 d3 1-a"),
-        // What another selection brought counts as covered for all documents.
+        // Documents that another selection replicated count as covered for the replication of all documents.
         (
             Call::LoadTarget(r#"{"_id":"d1","_rev":"1-a"}"#),
             "Changed { seq: 3 }",

@@ -1,4 +1,4 @@
-//! Selections, two peers that are replicated with them, and calls on these.
+//! Selections, two peers that are replicated with selections, and calls on selections and peers.
 use crate::tests::peers::{agreed, found_text, load, source_log, target_log};
 use crate::tests::plans::plan;
 use crate::tests::records::{fault_text, report_text};
@@ -24,7 +24,7 @@ pub(crate) enum Call<'a> {
     LoadTarget(&'a str),
     /// Select documents, as the next selection.
     Choose(&'a [&'a str]),
-    /// Select the documents with numbers from 1 on, the first one twice, as the next selection.
+    /// Select the documents with numbers from 1 on, with the first id given twice, as the next selection.
     ChooseMany(u32),
     /// Copy a selection, as the next one.
     Copy(usize),
@@ -34,9 +34,10 @@ pub(crate) enum Call<'a> {
     Has(Under, &'a str),
     /// Read the text of the id of the replication from the source into the target.
     Text(Under),
-    /// Read a page of the source: above a sequence, up to a goal, scanning this many rows.
+    /// Read a page of the source above a sequence and up to a goal, which scans this number of rows.
     Page(u64, u64, u64, Under),
-    /// Replicate the source into the target by one thread: a session, and how many rows a window scans.
+    /// Replicate the source into the target by one thread, given the session and the number of rows that a window
+    /// scans.
     Replicate(SessionId, u64, Under),
     /// Begin a session at the target.
     Begin(SessionId, Under),
@@ -54,7 +55,7 @@ pub(crate) enum Call<'a> {
     TargetLog(Under),
 }
 
-/// Calls, each with its expected result.
+/// The calls of a test, each with its expected result.
 pub(crate) type Rows = &'static [(Call<'static>, &'static str)];
 
 /// A source, a target, and selections.
@@ -96,7 +97,7 @@ impl Bench {
         }
     }
 
-    /// Performs a call that creates no selection.
+    /// Performs a call that does not create a selection.
     fn answer_under(&mut self, call: &Call) -> Option<String> {
         let (source, target) = (&mut self.source, &mut self.target);
         match *call {
@@ -265,7 +266,7 @@ fn number_id(alloc: Global, number: u32) -> Option<DocId> {
     DocId::parse(alloc, text.as_str()).ok()
 }
 
-/// Selects the documents with numbers from 1 on, the first one twice.
+/// Selects the documents with numbers from 1 on, with the first id given twice.
 fn choose_many(alloc: Global, choices: &mut Vec<Chosen>, count: u32) -> Option<String> {
     let mut ids = Vec::new(alloc);
     for number in 0..count {

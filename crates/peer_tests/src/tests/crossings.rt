@@ -14,7 +14,7 @@ const DOCUMENT: &str = r#"{"_id":"d","_revisions":{"start":2,"ids":["b","a"]},"v
 
 const LATER: &str = r#"{"_id":"d","_revisions":{"start":3,"ids":["c","b","a"]},"v":2}"#;
 
-/// Returns what an empty database lacks of one with the document.
+/// Returns the request of an empty database for the leaves of a database with the document.
 fn parcel(alloc: Global) -> Option<Parcel> {
     let mut source = Database::new(alloc, 1);
     let Some(document) = doc(alloc, DOCUMENT) else {
@@ -73,7 +73,7 @@ fn read_backup<R: Threads>(
     }
 }
 
-// The peer is restored from the backup that came back.
+// The peer is restored from the backup that came back from the thread.
 #[test]
 fn a_backup_goes_into_a_thread_and_back(rt: HostRuntime) {
     let mut peer = Peer::new(rt.alloc(), 1, Rules { deny: None });

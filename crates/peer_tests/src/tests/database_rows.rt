@@ -1,13 +1,13 @@
-//! The rows of databases: pages, puts, edits, requests and fetches. Each call with ample memory.
+//! The rows of databases: pages, puts, edits, requests and fetches. Each call of these rows has ample memory.
 use crate::tests::databases::{Bench, Call, Rows, expect};
 
 /// The first database of a bench, the source of fetches.
 const A: usize = 0;
 
-/// The second database, which requests what it lacks.
+/// The second database, which requests the leaves that it lacks.
 const B: usize = 1;
 
-/// The first thing that was read or fetched.
+/// The index of the first value that was read or fetched.
 const FIRST: usize = 0;
 
 /// Three documents at the sequences 1, 2 and 5.
@@ -83,7 +83,7 @@ fn a_changed_document_moves_in_the_feed(rt: HostRuntime) {
             Call::Page(A, 1, 6, 10),
             "1 to 6: 2 b 1-b; 5 c 1-e,1-d,1-c; 6 a 2-x;",
         ),
-        // Nothing changed between 2 and 4.
+        // No document of the database changed between the sequences 2 and 4.
         (Call::Page(A, 2, 4, 1), "2 to 4:"),
     ];
     expect(&rt, rt.alloc(), &[7], &[THREE, ROWS]);
@@ -178,7 +178,8 @@ fn edits_refused_by_name(rt: HostRuntime) {
     static ROWS: Rows = &[
         (Call::Edit(A, "d", "1-a", false, "{}", 0), "NoSuchDocument"),
         (Call::Put(A, TWO), "Changed { seq: 1 }"),
-        // A parent that is not a leaf, one that is not in the tree, and no parent although there is a live leaf.
+        // Edits that name a parent that is not a leaf, or a parent that is not in the tree, or no parent although there
+        // is a live leaf.
         (Call::Edit(A, "d", "1-a", false, "{}", 0), "Conflict"),
         (Call::Edit(A, "d", "2-x", false, "{}", 0), "Conflict"),
         (Call::Edit(A, "d", "", false, "{}", 0), "Conflict"),
@@ -228,7 +229,7 @@ fn at_the_last_sequences(rt: HostRuntime) {
         (Call::Numbers(B), "8 at 9007199254740991"),
         (Call::Tree(A, "d"), "no document"),
         (Call::Put(A, LAST), "Changed { seq: 9007199254740991 }"),
-        // What changes nothing takes no sequence; a contradiction is reported before a missing sequence.
+        // A put that changes nothing takes no sequence. A contradiction is reported before a missing sequence.
         (Call::Put(A, LAST), "Same"),
         (Call::Put(A, OTHER), "Contradiction 2-b,1-a,1-x"),
         (Call::Put(A, r#"{"_id":"e","_rev":"1-a"}"#), "SeqFull"),
@@ -262,7 +263,8 @@ fn a_fetched_document_has_its_ancestry_and_content(rt: HostRuntime) {
         (Call::Put(A, DELETED), "Changed { seq: 3 }"),
         (Call::Page(A, 0, 3, 10), "0 to 3: 3 d 2-a,3-c;"),
         (Call::Diff(B, FIRST), "0 to 3: d 2-a,3-c;"),
-        // The live leaf comes before the deleted one, whose known ancestry is longer than the given one.
+        // The live leaf comes before the deleted leaf. The known ancestry of the deleted leaf is longer than the given
+        // ancestry.
         (
             Call::Fetch(A, FIRST),
             r#"0 to 3: d 2-a,1-r live {"n":1}; d 3-c,2-b,1-r deleted {};"#,
@@ -336,7 +338,7 @@ fn pages_of_few_documents_with_high_sequences(rt: HostRuntime) {
 fn copies_of_a_database(rt: HostRuntime) {
     /// The greatest life.
     const LAST: u64 = 9_007_199_254_740_991;
-    // The second database is equal, and the third one is a copy in another life.
+    // The second database is an equal copy, and the third database is a copy in another life.
     const SAME: usize = 1;
     const OTHER: usize = 2;
     const LATEST: usize = 3;
@@ -354,7 +356,7 @@ fn copies_of_a_database(rt: HostRuntime) {
         (Call::WindowLife(0), "0"),
         (Call::WindowLife(1), "9"),
         (Call::Document(OTHER, "c", "1-d"), " c 1-d live {};"),
-        // What is written into a copy is in no other one; the life stays.
+        // A document that is written into a copy is in no other copy, and the life of the copy stays.
         (
             Call::Put(OTHER, r#"{"_id":"a","_rev":"1-b"}"#),
             "Changed { seq: 6 }",
@@ -363,7 +365,7 @@ fn copies_of_a_database(rt: HostRuntime) {
         (Call::Life(OTHER), "9"),
         (Call::Tree(A, "a"), "1-a of 1"),
         (Call::Tree(SAME, "a"), "1-a of 1"),
-        // A copy of a copy has its life.
+        // A copy of a copy has the life of the copied copy.
         (Call::Copy(OTHER, None), "made"),
         (Call::Life(LATEST), "9"),
         (Call::Numbers(LATEST), "7 at 6"),

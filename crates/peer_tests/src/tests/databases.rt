@@ -1,4 +1,4 @@
-//! Databases, what is read and fetched from them, and calls on these.
+//! Databases, the values that are read and fetched from them, and calls on databases.
 use crate::tests::texts::{
     asked_text, base_fault_text, body, doc, doc_text, expect_answer, node_text, numbers_text,
     parcel_text, tree_text, window_text,
@@ -14,14 +14,14 @@ use test_support::{rev, rev_text, shown};
 /// A call on a database, which is named by index, as windows, requests and parcels are.
 #[derive(Clone, Copy)]
 pub(crate) enum Call<'a> {
-    /// Create the next database: its UUID, and its sequence.
+    /// Create the next database with a UUID and a sequence.
     DatabaseAt(u128, u64),
     /// Put a document.
     Put(usize, &'a str),
-    /// Edit a document: its id, the parent (an empty string for none), whether it is deleted, the body, and the number
+    /// Edit a document, given its id, the parent (an empty string for none), the deleted flag, the body, and the number
     /// of the local write.
     Edit(usize, &'a str, &'a str, bool, &'a str, u64),
-    /// Copy a database, as the next one, optionally into a life.
+    /// Copy a database, as the next database, optionally into another life.
     Copy(usize, Option<u64>),
     /// Read the UUID and the update sequence.
     Numbers(usize),
@@ -35,18 +35,18 @@ pub(crate) enum Call<'a> {
     Node(usize, &'a str, &'a str),
     /// Read the document at a revision.
     Document(usize, &'a str, &'a str),
-    /// Read a page above a sequence, up to a goal, of at most this many rows, as the next window.
+    /// Read a page above a sequence and up to a goal, of at most this number of rows, as the next window.
     Page(usize, u64, u64, u64),
-    /// Request what a database lacks of a window, as the next request.
+    /// Request the leaves of a window that a database lacks, as the next request.
     Diff(usize, usize),
     /// Fetch the documents for a request from a database, as the next parcel.
     Fetch(usize, usize),
 }
 
-/// Calls, each with its expected result.
+/// The calls of a test, each with its expected result.
 pub(crate) type Rows = &'static [(Call<'static>, &'static str)];
 
-/// What was read and fetched.
+/// The windows, requests and parcels that were read and fetched.
 #[derive(Drop)]
 pub(crate) struct Held {
     pub(crate) windows: Vec<Window>,
@@ -65,7 +65,7 @@ impl Held {
     }
 }
 
-/// Databases, and what was read and fetched from them.
+/// Databases, with the values that were read and fetched from them.
 #[derive(Drop)]
 pub(crate) struct Bench {
     alloc: Global,
@@ -222,7 +222,7 @@ fn page(
     }
 }
 
-/// Requests what a database lacks of a window.
+/// Requests the leaves of a window that a database lacks.
 fn diff(alloc: Global, db: &Database, held: &mut Held, window: usize) -> Option<String> {
     let Some(window) = held.windows.get(window) else {
         return None;
@@ -230,7 +230,7 @@ fn diff(alloc: Global, db: &Database, held: &mut Held, window: usize) -> Option<
     keep_asked(alloc, &mut held.asked, missed(alloc, db, window))
 }
 
-/// Returns what a database lacks of a window.
+/// Returns the leaves of a window that a database lacks.
 fn missed(alloc: Global, db: &Database, window: &Window) -> Option<Asked> {
     db.revs_diff(alloc, window).ok()
 }
@@ -243,7 +243,7 @@ fn fetch(alloc: Global, db: &Database, held: &mut Held, asked: usize) -> Option<
     keep_parcel(alloc, &mut held.parcels, fetched(alloc, db, asked))
 }
 
-/// Returns what a database has for a request.
+/// Returns the documents that a database has for a request.
 fn fetched(alloc: Global, db: &Database, asked: &Asked) -> Option<Parcel> {
     db.open_revs(alloc, asked).ok()
 }
@@ -325,7 +325,7 @@ pub(crate) fn edit_text(alloc: Global, answer: Result<Rev, BaseFault>) -> Option
     }
 }
 
-/// Parses a parent: an empty string is `Some(None)`; `None` if it is not a revision.
+/// Parses a parent. An empty string gives `Some(None)`, and a string that is not a revision gives `None`.
 pub(crate) fn parent_of(text: &str) -> Option<Option<Rev>> {
     if text.is_empty() {
         return Some(None);

@@ -1,4 +1,5 @@
-//! Calls on peers with large values: no contract can exclude that a call returns `Memory` although memory is left.
+//! Calls on peers with large values. They are tested because no contract can exclude that a call returns `Memory`
+//! although memory is left.
 use crate::tests::databases::{edit_text, put_text};
 use crate::tests::plans::plan;
 use crate::tests::records::{fault_text, report_text};
@@ -10,7 +11,7 @@ use rev_tree::{SessionId, Tree};
 use std::alloc::Global;
 use test_support::rev_text;
 
-/// Returns the signature of a number: its digits.
+/// Returns the digits of a number as a signature.
 fn sig(alloc: Global, number: u32) -> Option<Sig> {
     let Ok(text) = number.to_string(alloc) else {
         return None;
@@ -68,7 +69,7 @@ fn load_leaf(alloc: Global, peer: &mut Peer<Rules>, number: u32) -> Option<Strin
     put_text(alloc, peer.load(&doc))
 }
 
-/// Loads this many leaves of d, all of generation 1, and returns the result of the last load.
+/// Loads this number of leaves of d, all of generation 1, and returns the result of the last load.
 pub(crate) fn load_wide(alloc: Global, peer: &mut Peer<Rules>, leaves: u32) -> Option<String> {
     let mut text = String::new(alloc);
     for number in 0..leaves {

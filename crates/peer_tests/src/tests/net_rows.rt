@@ -1,5 +1,5 @@
-//! The rows of networks: spreading through a hub; a broken chain, a refused document, an incomplete history; and
-//! errors.
+//! The rows of networks. They spread documents through a hub, have a broken chain, a refused document and an incomplete
+//! history, and provoke each error.
 use crate::tests::nets::{Call, Lists, Rows, expect, of_slice};
 
 /// Four peers.
@@ -104,13 +104,13 @@ fn a_refused_document_stays_away_and_others_go_on(rt: HostRuntime) {
             Call::Load(1, r#"{"_id":"d","_rev":"1-a"}"#),
             "Changed { seq: 2 }",
         ),
-        // A refusal is not an error, and d is everywhere.
+        // A refused document is not an error of the call, and all peers have d.
         (Call::Hub(2, 2), "done"),
         (Call::Tree(0, "x1"), "no document"),
         (Call::Tree(2, "x1"), "no document"),
         (Call::Tree(0, "d"), "1-a of 1"),
         (Call::Tree(2, "d"), "1-a of 1"),
-        // The same happens the next time.
+        // The next replication through the hub refuses the document again.
         (Call::Edit(2, "d", "1-a", r#"{"v":1}"#), SECOND),
         (Call::Edit(1, "x1", "1-a", r#"{"v":1}"#), SECOND),
         (Call::Hub(2, 2), "done"),
@@ -124,7 +124,7 @@ fn a_refused_document_stays_away_and_others_go_on(rt: HostRuntime) {
         ),
         (Call::Tree(2, "x1"), "no document"),
         (Call::Audit(1, 0), "clean"),
-        // It comes by another path.
+        // The document comes by another chain of hops.
         (Call::Along(&[(1, 2)]), "done"),
         (
             Call::Tree(2, "x1"),

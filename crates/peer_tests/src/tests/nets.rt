@@ -1,4 +1,4 @@
-//! Networks of peers, and calls on these.
+//! Networks of peers, and calls on networks.
 use crate::tests::carried::leaves;
 use crate::tests::databases::{parent_of, tree};
 use crate::tests::peers::found_text;
@@ -17,14 +17,14 @@ use test_support::{rev_text, shown};
 /// The source and the target of a hop.
 type Places = (usize, usize);
 
-/// A call on a network, whose peers are named by place. Each replication has the next session.
+/// A call on a network, whose peers are named by index. Each replication has the next session.
 #[derive(Clone, Copy)]
 pub(crate) enum Call<'a> {
-    /// Add a peer: its UUID, and the prefix that its filter refuses.
+    /// Add a peer with a UUID and the prefix that its filter refuses.
     Add(u128, Option<&'a str>),
     /// Load a document.
     Load(usize, &'a str),
-    /// Edit a document: its id, the parent (an empty string for none) and the body.
+    /// Edit a document, given its id, the parent (an empty string for none) and the body.
     Edit(usize, &'a str, &'a str, &'a str),
     /// Replicate along hops.
     Along(&'a [Places]),
@@ -32,7 +32,7 @@ pub(crate) enum Call<'a> {
     AlongTwoRows(&'a [Places]),
     /// Replicate through the hub, with these numbers of plans for the two directions.
     Hub(usize, usize),
-    /// Audit a target, the second one, against a source.
+    /// Audit the second peer, as a target, against the first peer, as its source.
     Audit(usize, usize),
     /// Read the tree of a document.
     Tree(usize, &'a str),
@@ -40,7 +40,7 @@ pub(crate) enum Call<'a> {
     Leaves(usize, &'a str),
 }
 
-/// Calls, each with its expected result.
+/// The calls of a test, each with its expected result.
 pub(crate) type Rows = &'static [(Call<'static>, &'static str)];
 
 /// Lists of calls that are performed in order.
@@ -80,7 +80,7 @@ impl Bench {
         }
     }
 
-    /// Adds a peer, and returns its place.
+    /// Adds a peer, and returns its index.
     fn add(&mut self, uuid: u128, deny: Option<&str>) -> Option<String> {
         let deny = match deny {
             Some(prefix) => {
@@ -261,7 +261,7 @@ fn write(alloc: Global, peers: &mut [Peer<Rules>]) -> Option<()> {
     Some(())
 }
 
-/// Creates the plans of a session and the next one.
+/// Creates the plans of two consecutive sessions.
 fn two_plans(session: u128) -> Option<[Plan; 2]> {
     let Some(one) = plan(SessionId(session), 500, 0) else {
         return None;
@@ -294,7 +294,7 @@ fn replicate(alloc: Global, peers: &mut [Peer<Rules>]) -> Option<()> {
     sync_by_hub(alloc, peers, &there, &back).ok()
 }
 
-/// Returns what each of three peers that wrote and replicated has of the two documents.
+/// Returns the trees of the two documents at each of three peers that wrote and replicated.
 fn replicated(alloc: Global) -> Option<String> {
     let Some(mut peers) = three(alloc) else {
         return None;

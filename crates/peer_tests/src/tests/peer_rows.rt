@@ -1,15 +1,16 @@
-//! The rows of peers: local writes, sessions, each error, logs and audits. Each call with ample memory.
+//! The rows of peers, with local writes, sessions, each error, logs and audits. Each call of these rows has ample
+//! memory.
 use crate::tests::peers::{Beginning, Call, Lists, Rep, Rows, expect};
 use rev_tree::SessionId;
 
-/// The peers of most rows: the source, the target, and another one.
+/// The indices of the source, of the target, and of a third peer in most rows.
 const SOURCE: usize = 0;
 
 const TARGET: usize = 1;
 
 const OTHER: usize = 2;
 
-/// The first things that were read or fetched.
+/// The indices of the first values that were read or fetched.
 const FIRST: usize = 0;
 
 const SECOND: usize = 1;
@@ -179,7 +180,8 @@ fn sequences_run_out(rt: HostRuntime) {
         (Call::Diff(TARGET, FIRST), "0 to 2: d 1-a; e 1-a;"),
         (Call::Fetch(SOURCE, FIRST), FETCHED),
     ];
-    // The first document takes the last sequence, and the second one gets none; the first is an arrival again.
+    // The first document takes the last sequence, and the second document gets none. The first document is an arrival
+    // again.
     const STOPPED: &str = "Stopped 1, rest e, SeqFull";
     const TWICE: &str =
         "session 1 from 0 to 0 checked 0 found 0 read 2 written 2 failed 0, 10 to 11";
@@ -313,7 +315,8 @@ fn a_session_from_beginning_to_end(rt: HostRuntime) {
             Call::Entry(TARGET, S1),
             "session 1 from 0 to 3 checked 3 found 3 read 3 written 1 failed 2, 10 to 20",
         ),
-        // The origin of an arrival is the session and its row's sequence; that of a local write is its number.
+        // The origin of an arrival is the session and the row's sequence, and the origin of a local write is its
+        // number.
         (
             Call::Node(TARGET, "x1", "1-a"),
             "no parent, Feed(SessionId(1), 1), live {}",
@@ -491,7 +494,8 @@ fn a_session_that_is_not_there_is_refused(rt: HostRuntime) {
 fn a_foreign_document_is_refused(rt: HostRuntime) {
     const E: &str = r#"{"_id":"e","_rev":"1-a"}"#;
     const ROWS: Rows = &[
-        // The other source's window has the same bounds, and its document has no row in the stored one.
+        // The other source's window has the same bounds, and the other source's document has no row in the stored
+        // window.
         (Call::Load(OTHER, E), "Changed { seq: 1 }"),
         (Call::Page(OTHER, 0, 1), "0 to 1: 1 e 1-a;"),
         (Call::Diff(TARGET, SECOND), "0 to 1: e 1-a;"),
@@ -544,7 +548,7 @@ fn the_leaves_of_a_done_window_are_let_go(rt: HostRuntime) {
     expect(&rt, rt.alloc(), LISTS);
 }
 
-// With the two above, the hostile parcels: one from another source, and one fetched before another client wrote.
+// Like the two rows before, this row has a hostile parcel. It was fetched before another client wrote.
 #[test]
 fn a_parcel_of_another_leaf_leaves_its_window_uncovered(rt: HostRuntime) {
     const ROWS: Rows = &[
@@ -715,7 +719,7 @@ fn an_audit_is_clean(rt: HostRuntime) {
             Call::Conclude(TARGET, S1, 11),
             "session 1 from 0 to 1 checked 1 found 1 read 1 written 1 failed 0",
         ),
-        // First there is no common session, then there is one.
+        // At first the logs have no common session, and later they have one.
         (Call::Audit(SOURCE, TARGET), "clean"),
         (Call::PutEntryOf(SOURCE, REP, TARGET, S1), "put"),
         (Call::Common(SOURCE, TARGET, REP), "1 at 1"),
@@ -732,7 +736,7 @@ fn an_audit_is_clean(rt: HostRuntime) {
 fn an_audit_finds_a_hole(rt: HostRuntime) {
     const E: &str = r#"{"_id":"e","_rev":"1-a"}"#;
     const ROWS: Rows = &[
-        // The session is fed by another source than its replication names.
+        // The session gets windows of another source than its replication names.
         (Call::Load(OTHER, E), "Changed { seq: 1 }"),
         (Call::Begin(TARGET, S1, TO_ONE, 10), "begun"),
         (Call::Page(OTHER, 0, 1), "0 to 1: 1 e 1-a;"),

@@ -1,4 +1,4 @@
-//! Peers, what is read and fetched from them, and calls on these.
+//! Peers, the values that are read and fetched from them, and calls on peers.
 use crate::tests::databases::{
     Held, edit_text, keep_asked, keep_parcel, keep_window, made_text, node, parent_of, put_text,
     tree,
@@ -37,7 +37,7 @@ impl Rep {
     }
 }
 
-/// The parameters of a session: its replication, base, start and goal.
+/// The parameters of a session, which are its replication, base, start and goal.
 #[derive(Clone, Copy)]
 pub(crate) struct Beginning {
     pub(crate) rep: Rep,
@@ -49,13 +49,13 @@ pub(crate) struct Beginning {
 /// A call on a peer, which is named by index, as windows, requests and parcels are.
 #[derive(Clone, Copy)]
 pub(crate) enum Call<'a> {
-    /// Create the next peer: its UUID, and the prefix that its filter refuses.
+    /// Create the next peer with a UUID and the prefix that its filter refuses.
     Peer(u128, Option<&'a str>),
     /// Create the next peer, with a database at a sequence.
     PeerAt(u128, Option<&'a str>, u64),
     /// Load a document.
     Load(usize, &'a str),
-    /// Edit a document: its id, the parent (an empty string for none), whether it is deleted, and the body.
+    /// Edit a document, given its id, the parent (an empty string for none), the deleted flag, and the body.
     Edit(usize, &'a str, &'a str, bool, &'a str),
     /// Read the UUID and the update sequence.
     Numbers(usize),
@@ -71,7 +71,7 @@ pub(crate) enum Call<'a> {
     Covered(usize, &'a str, &'a str),
     /// Read a page above a sequence, up to a goal, of at most 500 rows, as the next window.
     Page(usize, u64, u64),
-    /// Request what a peer lacks of a window, as the next request.
+    /// Request the leaves of a window that a peer lacks, as the next request.
     Diff(usize, usize),
     /// Fetch the documents for a request from a peer, as the next parcel.
     Fetch(usize, usize),
@@ -95,15 +95,15 @@ pub(crate) enum Call<'a> {
     SourceLog(usize, Rep),
     /// Store in the log of a replication from a peer the entry of a session that recorded up to a sequence.
     PutEntry(usize, Rep, SessionId, u64),
-    /// Store in the log of a replication from a peer the entry that another peer, the target, has of a session.
+    /// Store the target's entry of a session in the log of a replication from a peer.
     PutEntryOf(usize, Rep, usize, SessionId),
-    /// Back up a peer, as the next backup; the result is the database's UUID and update sequence.
+    /// Back up a peer, as the next backup. The result is the database's UUID and update sequence.
     Backup(usize),
     /// Restore a peer from a backup.
     Restore(usize, usize),
     /// Compare the logs of a replication at its source and its target.
     Common(usize, usize, Rep),
-    /// Audit a target, the second one, against a source.
+    /// Audit the second peer, as a target, against the first peer, as its source.
     Audit(usize, usize),
     /// Check a plan between two peers, with this maximum number of rows of a window.
     CheckPlan(usize, usize, u64),
@@ -111,11 +111,11 @@ pub(crate) enum Call<'a> {
     BeginPlan(SessionId, u64),
     /// Store the entry of a session of the second peer in the log of the first.
     RecordAtSource(SessionId),
-    /// Read the first hole of a target, the second one, above a sequence of its source.
+    /// Read the first hole of the second peer, as a target, above a sequence of the first peer, as its source.
     HoleAbove(usize, usize, u64),
-    /// Replicate the first peer into the second: a session, and the maximum number of rows of a window.
+    /// Replicate the first peer into the second, given the session and the maximum number of rows of a window.
     Replicate(SessionId, u64),
-    /// Load d with this many revisions in its ancestry.
+    /// Load d with this number of revisions in its ancestry.
     LoadLong(usize, u32),
     /// Load this many leaves of d.
     LoadWide(usize, u32),
@@ -125,15 +125,15 @@ pub(crate) enum Call<'a> {
     Sizes(usize),
 }
 
-/// Calls, each with its expected result.
+/// The calls of a test, each with its expected result.
 pub(crate) type Rows = &'static [(Call<'static>, &'static str)];
 
 /// Lists of calls that are performed in order.
 ///
-/// A test has its lists as one static, because a proof processes each list that a test names.
+/// A test has all its lists in one static, because a proof processes each list that a test names.
 pub(crate) type Lists = &'static [Rows];
 
-/// Peers, their backups, and what was read and fetched from them.
+/// Peers, their backups, and the values that were read and fetched from them.
 #[derive(Drop)]
 struct Bench {
     alloc: Global,
@@ -237,7 +237,7 @@ fn of_one(alloc: Global, peer: &mut Peer<Rules>, held: &mut Held, call: &Call) -
     }
 }
 
-/// Performs a call on one peer that uses nothing else.
+/// Performs a call on one peer that uses no other value of the bench.
 fn of_one_alone(alloc: Global, peer: &mut Peer<Rules>, call: &Call) -> Option<String> {
     match *call {
         Call::Load(_, text) => load(alloc, peer, text),
@@ -310,7 +310,7 @@ fn compare(
     }
 }
 
-/// Performs a call on the first peer, as the source, and the second one.
+/// Performs a call on the first peer, as the source, and the second peer, as the target.
 fn of_first_two(alloc: Global, peers: &mut Vec<Peer<Rules>>, call: &Call) -> Option<String> {
     let Some((source, others)) = peers.split_first_mut() else {
         return None;
@@ -370,7 +370,7 @@ fn page(
     }
 }
 
-/// Requests what a peer lacks of a window.
+/// Requests the leaves of a window that a peer lacks.
 fn diff(alloc: Global, peer: &Peer<Rules>, held: &mut Held, window: usize) -> Option<String> {
     let Some(window) = held.windows.get(window) else {
         return None;
@@ -378,7 +378,7 @@ fn diff(alloc: Global, peer: &Peer<Rules>, held: &mut Held, window: usize) -> Op
     keep_asked(alloc, &mut held.asked, missed(alloc, peer, window))
 }
 
-/// Returns what a peer lacks of a window.
+/// Returns the leaves of a window that a peer lacks.
 fn missed(alloc: Global, peer: &Peer<Rules>, window: &Window) -> Option<Asked> {
     peer.revs_diff(alloc, window).ok()
 }
@@ -391,7 +391,7 @@ fn fetch(alloc: Global, peer: &Peer<Rules>, held: &mut Held, asked: usize) -> Op
     keep_parcel(alloc, &mut held.parcels, fetched(alloc, peer, asked))
 }
 
-/// Returns what a peer has for a request.
+/// Returns the documents that a peer has for a request.
 fn fetched(alloc: Global, peer: &Peer<Rules>, asked: &Asked) -> Option<Parcel> {
     peer.open_revs(alloc, asked).ok()
 }

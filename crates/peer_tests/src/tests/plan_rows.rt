@@ -1,15 +1,15 @@
-//! The rows of plans: errors, the start of a session, its entry at the source, and the scan above a sequence.
+//! The rows of plans, with errors, the start of a session, its entry at the source, and the scan above a sequence.
 use crate::tests::peers::{Call, Lists, Rep, Rows, expect};
 use rev_tree::SessionId;
 
-/// The peers: the source, the target, and one that refuses d.
+/// The indices of the source, of the target, and of a peer that refuses d.
 const SOURCE: usize = 0;
 
 const TARGET: usize = 1;
 
 const REFUSING: usize = 2;
 
-/// The first value that was read or fetched, and the second.
+/// The indices of the first and the second value that were read or fetched.
 const FIRST: usize = 0;
 
 const SECOND: usize = 1;
@@ -19,7 +19,7 @@ const S1: SessionId = SessionId(1);
 
 const S2: SessionId = SessionId(2);
 
-/// The replication from the source into the target, and the one into the peer that refuses d.
+/// The replication from the source into the target, and that into the peer that refuses d.
 const REP: Rep = Rep {
     source: 1,
     target: 2,
@@ -47,7 +47,7 @@ fn plans_refused(rt: HostRuntime) {
         (Call::CheckPlan(SOURCE, TARGET, 10_001), "BadBatch"),
         (Call::CheckPlan(SOURCE, TARGET, 1), "can begin"),
         (Call::CheckPlan(SOURCE, TARGET, 10_000), "can begin"),
-        // The batch is checked first.
+        // The call checks the batch before the UUIDs.
         (Call::CheckPlan(SOURCE, SOURCE, 0), "BadBatch"),
         (Call::CheckPlan(SOURCE, SOURCE, 500), "SamePeer"),
     ];
@@ -83,7 +83,7 @@ fn a_plan_begins_where_the_logs_agree(rt: HostRuntime) {
             Call::Entry(TARGET, S2),
             "session 2 from 1 to 1 checked 0 found 0 read 0 written 0 failed 0, 13 to 13",
         ),
-        // Its goal is the source's update sequence.
+        // The goal of the session is the source's update sequence.
         (
             Call::Conclude(TARGET, S2, 14),
             "Unfinished { low_water: 1 }",

@@ -1,4 +1,4 @@
-//! The steps of a replication that all implementations share, as calls on the peers of a bench.
+//! The steps that all implementations of a replication share, as calls on the peers of a bench.
 use crate::tests::records::fault_text;
 use repl_log::Moment;
 use repl_target::{Peer, Plan, Rules, begin_plan, check_plan, record_at_source};

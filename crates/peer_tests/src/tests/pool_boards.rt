@@ -1,4 +1,4 @@
-//! Runs of the pool that show their progress on a board, which others read meanwhile.
+//! Runs of the pool that show their progress on a board, which viewers read meanwhile.
 ghost use Rattle.std.specs.Prelude.{◌≡◌, ◌≤◌, IfSome, IfOk, vec_len};
 ghost use Rattle.std.specs.List.{All};
 ghost use Rattle.progress_board.specs.Seats.{AreNew, CameWith};
@@ -16,7 +16,7 @@ use std::sync::atomic::{AtomicBool, Ordering};
 use std::thread;
 use std::thread::{Threads, yield_now};
 
-/// The source and the target.
+/// The indices of the source and of the target.
 const A: usize = 0;
 
 const B: usize = 1;
@@ -110,7 +110,8 @@ fn read_while_held(board: &Board, gate: &HoldsSettled, viewer: BoardSeat) -> (u6
     seen
 }
 
-/// Performs a run on a board while a viewer reads during the block. Returns how it ended, and what was read.
+/// Performs a run on a board while a viewer reads during the block. Returns how the run ended, and the totals that were
+/// read.
 fn run_held<R: Abort + Threads + Wait + Sync>(
     rt: &R,
     bench: &mut Bench,
@@ -194,7 +195,7 @@ fn board_for_four(alloc: Global, workers: usize) -> Option<(Board, Vec<BoardSeat
     Some((board, seats, (a, b, c, d)))
 }
 
-/// Reads the board repeatedly. Returns whether no number fell, and settled never exceeded read.
+/// Reads the board repeatedly. Returns whether no total fell, and the settled total never exceeded the read total.
 fn sees_no_fall(board: &Board, viewer: BoardSeat) -> bool
     requires { CameWith board.now viewer }
 {
@@ -211,8 +212,8 @@ fn sees_no_fall(board: &Board, viewer: BoardSeat) -> bool
     true
 }
 
-/// Performs a run on a board while four viewers read in loops. Returns how it ended, and for how many viewers no number
-/// fell.
+/// Performs a run on a board while four viewers read in loops. Returns how the run ended, and the number of viewers for
+/// which no total fell.
 fn run_watched<R: Abort + Threads + Wait + Sync>(
     rt: &R,
     bench: &mut Bench,
@@ -285,7 +286,7 @@ fn progress_shown(rt: HostRuntime) {
     assert_eq!(rt; board.read(&mut viewer), (2, 2));
 }
 
-// A board that is raised only at the end of a run would show nothing at that time.
+// A board that is updated only at the end of a run would show nothing during the block.
 #[test]
 fn progress_seen_beside_a_held_writer(rt: HostRuntime) {
     let Some((board, seats, viewer)) = board_for(rt.alloc(), 2) else {

@@ -11,12 +11,12 @@ use std::sync::Wait;
 use std::sync::atomic::{AtomicBool, AtomicU64, Ordering};
 use std::thread::{Threads, yield_now};
 
-/// The source and the target.
+/// The indices of the source and of the target.
 const A: usize = 0;
 
 const B: usize = 1;
 
-/// The replication from one into the other.
+/// The replication from the source into the target.
 const REP: Rep = Rep {
     source: 1,
     target: 2,
@@ -48,7 +48,7 @@ static FOUR: Rows = &[
     (Call::Fill(A, 4), "Changed { seq: 4 }"),
 ];
 
-/// The result of a successful run of it.
+/// The result of a successful run of the replication.
 const WELL: &str = "session 1 from 0 to 4 checked 4 found 4 read 4 written 4 failed 0, fetched 4";
 
 /// Polls until a flag is set, at most `TURNS` times.
@@ -101,12 +101,13 @@ impl Gate for HoldsFetched {
     }
 }
 
-/// A gate that stops once, at a kind of place of a window: took, asked, fetched, settled or recorded, numbered from 0.
+/// A gate that stops once, at a kind of place of a window. The kinds are took, asked, fetched, settled and recorded,
+/// numbered from 0.
 #[derive(Drop)]
 struct StopsOnce {
     kind: u64,
     window: u64,
-    /// Whether it claims that it may block, although it never does: then each worker is a thread of its own, even if
+    /// Whether the gate claims that it may block, although it never does. If so, each worker is a thread of its own, even if
     /// they are few.
     may_block: bool,
     stopped: AtomicBool,
@@ -153,8 +154,8 @@ impl Gate for StopsOnce {
     }
 }
 
-/// A gate that counts the recordings of windows of one row, and notes whether one has another low water than the end of
-/// its window.
+/// A gate that counts the recordings of windows of one row, and notes whether a recording has another low water than
+/// the end of its window.
 #[derive(Drop)]
 struct CountsRecordings {
     count: AtomicU64,
@@ -275,8 +276,8 @@ pub(crate) fn go_on<R: Abort + Threads + Wait + Sync>(rt: &R, alloc: Global, ben
     bench.run(rt, AT_GOAL);
 }
 
-/// Performs a run with this many workers, whom the gate may block or not, that stops, and a further one that completes
-/// the copy.
+/// Performs a run with this number of workers that stops, and a further run that completes the copy. The gate may block
+/// the workers or not.
 fn stop_and_go_on<R: Abort + Threads + Wait + Sync>(
     rt: &R,
     alloc: Global,
@@ -294,7 +295,8 @@ fn stop_and_go_on<R: Abort + Threads + Wait + Sync>(
     bench.run(rt, CARRIED);
 }
 
-// With two fetchers and two writers, with two pairs, and with a single worker, which works on the caller's thread.
+// The test makes runs with two fetchers and two writers, with two pairs, and with a single worker on the caller's
+// thread.
 #[test]
 fn a_stop_at_each_place(rt: HostRuntime) {
     for kind in 0..5u64 {
@@ -313,8 +315,8 @@ static FULL: Rows = &[
     (Call::Fill(A, 20), "Changed { seq: 20 }"),
 ];
 
-// Both channels together hold eight windows. A writer that left after an error would block the
-// fetchers for ever; it would satisfy its contract.
+// Both channels together hold eight windows. A writer that left after an error would block the fetchers for ever,
+// although it would satisfy its contract.
 #[test]
 fn more_windows_than_channels_hold(rt: HostRuntime) {
     const ONE_BY_ONE: How = How {

@@ -1,4 +1,4 @@
-//! Runs of the pool whose gate counts, or blocks a worker at its place until another has reached a later one.
+//! Runs of the pool whose gate counts, or blocks a worker at a place until another worker has reached a later place.
 use crate::tests::pool_gates::kind_of;
 use crate::tests::pools::{Bench, Call, How, Rows};
 use crate::tests::texts::expect_answer;
@@ -10,7 +10,7 @@ use std::sync::Wait;
 use std::sync::atomic::{AtomicBool, AtomicU64, Ordering};
 use std::thread::{Threads, yield_now};
 
-/// The source and the target.
+/// The indices of the source and of the target.
 const A: usize = 0;
 
 const B: usize = 1;
@@ -25,13 +25,13 @@ const fn in_windows_of(batch: u64) -> How {
     }
 }
 
-/// For each window, the number of places at which the gate was asked in order; and the number of times it was asked out
+/// For each window, the number of places at which the gate was asked in order, and the number of times it was asked out
 /// of order.
 #[derive(Drop)]
 struct Counts {
     places: Vec<AtomicU64>,
     strays: AtomicU64,
-    /// Whether it claims that it may block, although it never does: then workers are threads of their own, even if they
+    /// Whether the gate claims that it may block, although it never does. If so, workers are threads of their own, even if they
     /// are few.
     may_block: bool,
 }
@@ -111,8 +111,8 @@ fn expect_in_order<R: Abort + Threads + Wait + Sync>(
     assert_eq!(rt; bench.fetchers() as u64, workers);
 }
 
-// A window's count reaches a kind of place only if the gate was asked exactly once at each one before. With two groups
-// of threads, with pairs, and with a single worker on the caller's thread.
+// A window's count reaches a kind of place only if the gate was asked exactly once at each earlier kind. The test makes
+// runs with two groups of threads, with pairs, and with a single worker on the caller's thread.
 #[test]
 fn each_place_once_and_in_order(rt: HostRuntime) {
     expect_in_order(&rt, rt.alloc(), 4, true);
@@ -189,7 +189,7 @@ fn run_held<R: Abort + Threads + Wait + Sync>(rt: &R, alloc: Global, holds: Hold
         (Call::Peer(1, None), "made"),
         (Call::Peer(2, None), "made"),
         (Call::Fill(A, 8), "Changed { seq: 8 }"),
-        // A target without documents would be asked without its lock.
+        // For a target without documents, the pool would make requests without the target's lock.
         (
             Call::Load(B, r#"{"_id":"own","_rev":"1-a"}"#),
             "Changed { seq: 1 }",
@@ -218,28 +218,29 @@ const SETTLED: u64 = 3;
 
 const RECORDED: u64 = 4;
 
-// Asking, settling and recording each take the lock, which is therefore free while the other worker is blocked.
+// Requesting, settling and recording each take the lock, which is therefore free while the other worker is blocked.
 #[test]
 fn no_lock_is_held_at_any_place(rt: HostRuntime) {
     static HOLDS: Holds = &[
-        // The second window is asked for while a writer is at `Settled`.
+        // The second window is requested while a writer is at `Settled`.
         ((TOOK, 1), (SETTLED, 0)),
         ((SETTLED, 0), (ASKED, 1)),
-        // The first one is recorded while a fetcher is at `Asked`.
+        // The first window is recorded while a fetcher is at `Asked`.
         ((ASKED, 1), (RECORDED, 0)),
-        // The second one is settled while a fetcher is at `Took`; its writer is blocked until the fetcher has come.
+        // The second window is settled while a fetcher is at `Took`, because its writer is blocked until the fetcher
+        // has come.
         ((RECORDED, 0), (TOOK, 2)),
         ((TOOK, 2), (SETTLED, 1)),
-        // The same one is recorded while a fetcher is at `Fetched`.
+        // The second window is recorded while a fetcher is at `Fetched`.
         ((SETTLED, 1), (FETCHED, 2)),
         ((FETCHED, 2), (RECORDED, 1)),
-        // The last one is asked for while a writer is at `Recorded`.
+        // The last window is requested while a writer is at `Recorded`.
         ((RECORDED, 1), (ASKED, 3)),
     ];
     run_held(&rt, rt.alloc(), HOLDS);
 }
 
-// No worker waits for another whose work it does not need.
+// No worker waits for another worker whose work it does not need.
 #[test]
 fn fetching_goes_on_beside_a_held_writer(rt: HostRuntime) {
     static HOLDS: Holds = &[((SETTLED, 0), (FETCHED, 2))];

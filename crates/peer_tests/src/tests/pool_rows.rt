@@ -3,12 +3,12 @@ use crate::tests::peers::Rep;
 use crate::tests::pools::{Call, Rows};
 use rev_tree::SessionId;
 
-/// The source and the target.
+/// The indices of the source and of the target.
 const A: usize = 0;
 
 const B: usize = 1;
 
-/// The replication from one into the other.
+/// The replication from the source into the target.
 const REP: Rep = Rep {
     source: 1,
     target: 2,
@@ -16,7 +16,7 @@ const REP: Rep = Rep {
 
 const S1: SessionId = SessionId(1);
 
-/// A source, and a target that refuses nothing.
+/// A source, and a target that refuses no document.
 pub(crate) static OPEN_PEERS: Rows = &[
     (Call::Peer(1, None), "made"),
     (Call::Peer(2, None), "made"),
@@ -28,7 +28,7 @@ pub(crate) static CHOOSY_PEERS: Rows = &[
     (Call::Peer(2, Some("x")), "made"),
 ];
 
-/// Six documents with ten leaves. In feed order, two in each of three windows: b and x2, a and c, x1 and d.
+/// Six documents with ten leaves. In feed order, the three windows have b and x2, then a and c, then x1 and d.
 pub(crate) static DOCUMENTS: Rows = &[
     (
         Call::Load(A, r#"{"_id":"a","_rev":"1-a","v":1}"#),
@@ -103,8 +103,8 @@ const LEAVES_X1: &str = r#" x1 1-q live {"v":10}; x1 1-p live {"v":4};"#;
 
 const LEAVES_X2: &str = r#" x2 1-a live {"v":6};"#;
 
-/// The result at a target that refuses nothing: at both peers each document has the same leaves, ancestries and
-/// contents.
+/// The result at a target that refuses no document. Each document has the same leaves, ancestries and contents at both
+/// peers.
 pub(crate) static CARRIED: Rows = &[
     (Call::Audit(A, B), "clean"),
     (Call::Leaves(A, "a"), LEAVES_A),

@@ -1,4 +1,4 @@
-//! Runs of the pool in random orders: the gate blocks every worker, and lets one run at a time.
+//! Runs of the pool in random orders. The gate blocks every worker, and lets one worker run at a time.
 use crate::tests::peers::Rep;
 use crate::tests::pool_gates::{expect_stop, go_on, kind_of};
 use crate::tests::pool_orders::bit_of;
@@ -14,7 +14,7 @@ use std::sync::{Mutex, Wait};
 use std::thread::Threads;
 use std::time::Duration;
 
-/// The source and the target.
+/// The indices of the source and of the target.
 const A: usize = 0;
 
 const B: usize = 1;
@@ -27,15 +27,15 @@ const TWO_ROWS: How = How {
     stop_after: None,
 };
 
-/// The number of windows of a run, and of workers in each group.
+/// The number of windows of a run, and the number of workers in each group.
 const WINDOWS: u64 = 3;
 
 const WORKERS: u64 = 2;
 
-/// The number of places of a run: five for each window.
+/// The number of places of a run, which has five places for each window.
 const PLACES: u64 = 15;
 
-/// The bits of the places `Fetched`, and of the places `Recorded`.
+/// The bits of the places `Fetched`, and the bits of the places `Recorded`.
 const FETCHED: u64 = 0b001_0000_1000_0100;
 
 const RECORDED: u64 = 0b100_0010_0001_0000;
@@ -72,26 +72,26 @@ fn nth_held(held: u64, nth: u64) -> u64 {
     0
 }
 
-/// Which workers are blocked and which places they have left, one bit per place, and whose turn it is.
+/// The blocked workers and the places that workers have left, one bit per place, and the worker whose turn it is.
 #[derive(Clone, Copy)]
 struct Turns {
     /// The state of the random choice.
     chance: u64,
     held: u64,
     left: u64,
-    /// The place whose worker runs; 0 if none was chosen.
+    /// The place whose worker runs, or 0 if no worker was chosen.
     chosen: u64,
     /// The number of naps of blocked workers since one came or was released.
     naps: u32,
-    /// The place at which a worker is stopped; 0 for none.
+    /// The place at which a worker is stopped, or 0 for none.
     stop_at: u64,
-    /// The places in the order in which they were left; each has four bits, with its number plus 1.
+    /// The places in the order in which workers left them. Each place has four bits, with its number plus 1.
     order: u64,
     ran_out: bool,
 }
 
 impl Turns {
-    /// Returns how many workers are certain to come to a place, and how many may.
+    /// Returns the number of workers that will certainly come to a place, and the number of workers that may come.
     ///
     /// A fetcher has a window until it has passed `Fetched`, and a writer a parcel until it has passed `Recorded`. The
     /// fetcher that finds no further window sends the end to a writer, before or after the other's last parcel; so once
@@ -112,7 +112,7 @@ impl Turns {
         (may, may)
     }
 
-    /// Chooses one of the blocked workers, once all expected ones have come. Returns whether it did.
+    /// Chooses one of the blocked workers after all expected workers have come. Returns whether it did.
     fn choose(&mut self) -> bool {
         let held = bits(self.held);
         if held == 0 {
@@ -134,7 +134,7 @@ impl Turns {
         true
     }
 
-    /// Returns whether the worker at a place may run now, and whether one was chosen.
+    /// Returns whether the worker at a place may run now, and whether a worker was chosen.
     fn look(&mut self, here: u64) -> (bool, bool) {
         let goes = self.chosen == here;
         if goes {
@@ -159,7 +159,7 @@ impl Turns {
     }
 }
 
-/// A gate that lets one worker run at a time, drawn from a seed, and stops the one at a place.
+/// A gate that lets one worker run at a time, which it draws from a seed, and stops the worker at a given place.
 #[derive(Drop)]
 struct Drawn {
     stop_at: u64,

@@ -57,11 +57,11 @@ pub(crate) enum Call<'a> {
     TargetLog(usize, Rep),
     /// Compare the logs of a replication at its source and its target.
     Common(usize, usize, Rep),
-    /// Audit a target, the second one, against a source.
+    /// Audit the second peer, as a target, against the first peer, as its source.
     Audit(usize, usize),
 }
 
-/// Calls, each with its expected result.
+/// The calls of a test, each with its expected result.
 pub(crate) type Rows = &'static [(Call<'static>, &'static str)];
 
 /// Peers, and the number of workers of a run.

@@ -46,7 +46,7 @@ pub(crate) enum Call<'a> {
     Tree(&'a str),
 }
 
-/// Calls, each with its expected result.
+/// The calls of a test, each with its expected result.
 pub(crate) type Rows = &'static [(Call<'static>, &'static str)];
 
 /// The source, and the target, which refuses documents whose ids begin with x.
