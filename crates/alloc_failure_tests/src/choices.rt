@@ -176,7 +176,8 @@ fn ended(alloc: Global, source: &mut Peer<Rules>, target: &mut Peer<Rules>) -> O
     ))
 }
 
-/// Replicates into a target. This is a separate function, because each further value next to a peer makes the proof longer.
+/// Replicates into a target. This is a separate function, because each further value next to a peer lengthens the
+/// proof.
 fn into_target(alloc: Global, source: &mut Peer<Rules>) -> Option<Seen> {
     let mut target = Peer::new(alloc, 2, Rules { deny: None });
     ended(alloc, source, &mut target)

@@ -228,7 +228,8 @@ fn ended(alloc: Global, net: &mut Net<Rules>) -> Option<(u64, bool)> {
     Some((sequences(net)?, clean))
 }
 
-/// Does the same as `ended`, for a new network. No other value is alive next to the network, because each value makes the proof longer.
+/// Does the same as `ended`, for a new network. No other value is alive next to the network, because each value
+/// lengthens the proof.
 fn of_net(alloc: Global) -> Option<(u64, bool)> {
     let mut net = Net::new(alloc);
     ended(alloc, &mut net)

@@ -12,7 +12,8 @@ use std::mem;
 use std::sync::Wait;
 use std::thread::Threads;
 
-/// A gate that claims that it may block, although it never does. Because of this, each fetcher and each writer is a thread.
+/// A gate that claims that it may block, although it never does. Each fetcher and each writer of a run with this gate
+/// is a thread.
 struct Separate;
 
 impl Gate for Separate {

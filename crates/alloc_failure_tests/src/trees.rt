@@ -82,7 +82,7 @@ fn other(alloc: Global) -> Option<Ancestry> {
     }
 }
 
-/// Returns the ancestry 12-l to 1-l, with which the tree has so many revisions that it has an index.
+/// Returns the ancestry 12-l to 1-l, with which the tree has enough revisions for an index.
 fn long(alloc: Global) -> Option<Ancestry> {
     match Sig::parse(b"l") {
         Ok(sig) => of_sigs(alloc, 12, &[sig; 12]),

@@ -242,7 +242,8 @@ fn ended(alloc: Global, world: &mut World<Rules>) -> Option<(u64, Seen, bool)> {
     Some((entry.recorded, look(world), clean))
 }
 
-/// Does the same as `ended`, for a world of two new peers. No other value is alive next to the world, because each value makes the proof longer.
+/// Does the same as `ended`, for a world of two new peers. No other value is alive next to the world, because each
+/// value lengthens the proof.
 fn of_two(alloc: Global) -> Option<(u64, Seen, bool)> {
     let source = Peer::new(alloc, 1, Rules { deny: None });
     let target = Peer::new(alloc, 2, Rules { deny: None });

@@ -1,4 +1,5 @@
-//! The rows of backups: a source that is restored, and data from its other lives. Each call of these rows has ample memory.
+//! The rows of backups, with a source that is restored, and data from its other lives. Each call of these rows has
+//! ample memory.
 use crate::tests::peers::{Call, Lists, Rep, Rows, expect};
 use rev_tree::SessionId;
 

@@ -107,8 +107,8 @@ impl Gate for HoldsFetched {
 struct StopsOnce {
     kind: u64,
     window: u64,
-    /// Whether the gate claims that it may block, although it never does. If so, each worker is a thread of its own, even if
-    /// they are few.
+    /// Whether the gate claims that it may block, although it never does. If so, each worker is a thread of its own,
+    /// even if they are few.
     may_block: bool,
     stopped: AtomicBool,
 }

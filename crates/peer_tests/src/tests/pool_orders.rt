@@ -31,8 +31,8 @@ const fn in_windows_of(batch: u64) -> How {
 struct Counts {
     places: Vec<AtomicU64>,
     strays: AtomicU64,
-    /// Whether the gate claims that it may block, although it never does. If so, workers are threads of their own, even if they
-    /// are few.
+    /// Whether the gate claims that it may block, although it never does. If so, workers are threads of their own, even
+    /// if they are few.
     may_block: bool,
 }
 

@@ -275,11 +275,12 @@ fn different(sorted: &[u64]) -> u64 {
     found
 }
 
-/// The number of seeds of one test: each test has a minute, and a machine may give this process little of its processors.
+/// The number of seeds of one test. Each test has a minute, and a busy machine may give this process little processor
+/// time.
 const SEEDS: u64 = 250;
 
-/// Performs runs in the orders of `SEEDS` seeds. More than half of these orders must be different.
-// The target's own sequences depend on the order of the run; everything else that is read at the end is the same.
+/// Performs runs in the orders of `SEEDS` seeds. More than half of the orders must be different.
+// The target's own sequences depend on the order of the run. All other values that are read at the end are the same.
 fn run_orders<R: Abort + Threads + Wait + Sync>(rt: &R, alloc: Global, first: u64) {
     let mut orders = Vec::new(alloc);
     for number in 0..SEEDS {
@@ -325,7 +326,7 @@ fn stop_drawn<R: Abort + Threads + Wait + Sync>(rt: &R, alloc: Global, seed: u64
     assert!(rt; !ran_out, "out of turns at {seed}");
 }
 
-/// Stops one run of each of 150 seeds: ten at each place.
+/// Stops a run for each of 150 seeds, of which ten runs stop at each place.
 fn stop_orders<R: Abort + Threads + Wait + Sync>(rt: &R, alloc: Global, first: u64) {
     for number in 0..150u64 {
         stop_drawn(rt, alloc, first.saturating_add(number));

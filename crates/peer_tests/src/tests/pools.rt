@@ -1,4 +1,4 @@
-//! Peers that are replicated by the pool, and calls on these.
+//! Peers that are replicated by the pool, and calls on these peers.
 ghost use Rattle.std.specs.Prelude.{◌≡◌, vec_len};
 ghost use Rattle.std.specs.List.{All};
 ghost use Rattle.pool_workers.specs.Boards.{WorksAt};
@@ -37,7 +37,7 @@ pub(crate) enum Call<'a> {
     Peer(u128, Option<&'a str>),
     /// Create the next peer, with its UUID, and its database at a sequence.
     PeerAt(u128, u64),
-    /// Load this many documents d0, d1 and so on.
+    /// Load this number of documents d0, d1 and so on.
     Fill(usize, u64),
     /// Load a document.
     Load(usize, &'a str),
@@ -49,7 +49,7 @@ pub(crate) enum Call<'a> {
     Entry(usize, SessionId),
     /// Read the documents at the leaves of a document, winner first.
     Leaves(usize, &'a str),
-    /// Read which leaves of a document a session refused, and why.
+    /// Read the leaves of a document that a session refused, with the reasons.
     Refused(usize, SessionId, &'a str),
     /// Read the log of a replication from a peer.
     SourceLog(usize, Rep),
@@ -160,7 +160,7 @@ impl Bench {
         *self.peers.get_mut(at).expect(rt, "a place") = peer;
     }
 
-    /// Replicates one peer into another with a gate. Returns how that ended, and the number of fetched documents.
+    /// Replicates one peer into another with a gate. Returns how the run ended, and the number of fetched documents.
     pub(crate) fn replicate<G: Gate + Sync, R: Abort + Threads + Wait + Sync>(
         &mut self,
         rt: &R,
@@ -202,7 +202,7 @@ impl Bench {
         self.take_back(rt, 0, 1, ran)
     }
 
-    /// Puts both peers back, and returns how a run ended.
+    /// Stores both peers of a run again, and returns how the run ended.
     fn take_back(
         &mut self,
         rt: &impl Abort,
@@ -260,7 +260,7 @@ fn compare(
     }
 }
 
-/// Runs the pool. A function of its own, because each value beside the peers adds to the proof.
+/// Runs the pool. This is a separate function, because each further value next to the peers lengthens the proof.
 fn ran<G: Gate + Sync, R: Threads + Wait + Sync>(
     rt: &R,
     alloc: Global,
@@ -359,7 +359,7 @@ fn agreed(
     recorded_text(alloc, common(&outgoing, &incoming))
 }
 
-/// Returns what the common session has recorded, or 0 if there is none.
+/// Returns the recorded sequence of the common session, or 0 if there is no common session.
 fn recorded_text(alloc: Global, found: Option<(SessionId, u64)>) -> Option<String> {
     match found {
         Some((_, recorded)) => shown(alloc, &recorded),

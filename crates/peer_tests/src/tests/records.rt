@@ -1,4 +1,4 @@
-//! Strings of session results and errors.
+//! Formats the results and the errors of sessions as strings.
 use crate::tests::texts::{joined, place_text};
 use doc_json::Doc;
 use repl_log::{Entry, Log, common};
@@ -41,7 +41,7 @@ fn written_text(alloc: Global, report: Report) -> Option<String> {
     format!(in alloc; " written {written} failed {failures}").ok()
 }
 
-/// Returns an entry: its report, and its timestamps.
+/// Returns the text of an entry, with its report and its timestamps.
 pub(crate) fn entry_text(alloc: Global, entry: Entry) -> Option<String> {
     let report = Report {
         session: entry.session,
@@ -96,7 +96,7 @@ pub(crate) fn fault_text(alloc: Global, fault: TargetFault) -> Option<String> {
     }
 }
 
-/// Returns the result of a partial settling: the number of settled documents, the others, and the cause.
+/// Returns the result of a partial settling, with the number of settled documents, the other documents, and the cause.
 fn stopped_text(alloc: Global, settled: u64, rest: &[Doc], cause: Cause) -> Option<String> {
     let Some(rest) = ids_text(alloc, rest) else {
         return None;

@@ -1,4 +1,4 @@
-//! The rows of `repl_inspect`: missing, contradicting and differing leaves; conflicts, refusals and counts; and a
+//! The rows of `repl_inspect`, with missing, contradicting and differing leaves, conflicts, ledgers, counts, and a
 //! document of 1,000 leaves.
 use crate::tests::surveys::{Call, Rows, expect};
 
@@ -17,7 +17,7 @@ fn what_a_target_misses(rt: HostRuntime) {
             Call::Source(r#"{"_id":"e","_rev":"1-a","_deleted":true}"#),
             "Changed { seq: 3 }",
         ),
-        // The target has neither document.
+        // The target has neither of the source's two documents.
         (Call::Compare("d"), "2 missing 3-d 2-c differing"),
         (Call::Compare("e"), "1 missing 1-a differing"),
         // Neither peer has this document.
@@ -129,7 +129,7 @@ fn what_is_in_conflict_and_how_much_there_is(rt: HostRuntime) {
             "Changed { seq: 2 }",
         ),
         (Call::Conflict("d"), " 2-c 2-b"),
-        // A deleted leaf is not in conflict, whatever its generation.
+        // A deleted leaf of any generation is not in conflict.
         (
             Call::Source(
                 r#"{"_id":"d","_revisions":{"start":3,"ids":["d","c","a"]},"_deleted":true}"#,

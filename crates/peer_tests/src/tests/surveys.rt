@@ -1,4 +1,4 @@
-//! Questions about two peers: a source, and a target into which it is replicated.
+//! Queries about two peers, which are a source and a target into which it is replicated.
 use crate::tests::databases::tree;
 use crate::tests::large::load_wide;
 use crate::tests::peers::load;
@@ -30,7 +30,7 @@ pub(crate) enum Call<'a> {
     Wide(u32),
     /// Replicate the source into the target.
     Replicate,
-    /// Compare a document of the source with the target's.
+    /// Compare a document of the source with the target's document.
     Compare(&'a str),
     /// Read the total of the source's feed, or of one selected document.
     Total(Option<&'a str>),
@@ -49,7 +49,7 @@ pub(crate) enum Call<'a> {
 /// The calls of a test, each with its expected result.
 pub(crate) type Rows = &'static [(Call<'static>, &'static str)];
 
-/// The source, and the target, which refuses documents whose ids begin with x.
+/// The source, and the target, whose filter denies ids that begin with x.
 #[derive(Drop)]
 struct Bench {
     alloc: Global,

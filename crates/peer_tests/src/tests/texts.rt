@@ -1,4 +1,4 @@
-//! Strings of results, and parsing the arguments of calls.
+//! Formats results as strings, and parses the arguments of calls.
 use couch_base::{Asked, BaseFault, Database, Parcel, Row, Wanted, Window};
 use doc_json::{Body, Doc, DocId, read_body, read_doc};
 use repl_target::StoredWindow;
@@ -35,7 +35,7 @@ pub(crate) fn body(alloc: Global, text: &str) -> Option<Body> {
     read_body(alloc, &value).ok()
 }
 
-/// Concatenates two strings, if both exist. Callers that join many check only at the end.
+/// Concatenates two strings, if both exist. Callers that join many strings check for a missing string only at the end.
 pub(crate) fn joined(all: Option<String>, text: Option<String>) -> Option<String> {
     let (Some(mut all), Some(text)) = (all, text) else {
         return None;
@@ -133,7 +133,7 @@ pub(crate) fn numbers_text(alloc: Global, db: &Database) -> Option<String> {
     format!(in alloc; "{} at {}", db.uuid(), db.update_seq()).ok()
 }
 
-/// Returns a fetched document: its id, its ancestry, whether it is deleted, and its body.
+/// Returns the text of a fetched document, with its id, its ancestry, whether it is deleted, and its body.
 pub(crate) fn doc_text(alloc: Global, doc: &Doc) -> Option<String> {
     let Ok(body) = std::str::from_utf8(doc.body().text()) else {
         return None;
@@ -156,7 +156,7 @@ pub(crate) fn tree_text(alloc: Global, tree: &Tree) -> Option<String> {
     format!(in alloc; "{text} of {}", tree.rev_count()).ok()
 }
 
-/// Returns a revision of a tree: its parent, its origin and its content.
+/// Returns the text of a revision of a tree, with its parent, its origin and its content.
 pub(crate) fn node_text(alloc: Global, tree: &Tree, rev: Rev) -> Option<String> {
     let all = parent_text(alloc, tree, rev);
     let all = joined(all, origin_text(alloc, tree.origin(rev)));
