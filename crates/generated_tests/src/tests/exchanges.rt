@@ -138,7 +138,8 @@ fn brings_leaves(
     at
 }
 
-/// Asserts that the gone revisions from an index on are those that a tree lacks. Returns the index after the compared items.
+/// Asserts that the gone revisions from an index on are those that a tree lacks. Returns the index after the compared
+/// items.
 fn loses(
     rt: &impl Abort,
     parcel: &Parcel,
