@@ -55,7 +55,8 @@ fn choose(ids: Vec<DocId>) -> Result<Option<Chosen>, Refusal>
 ///
 /// # Errors
 ///
-/// Checked in this order: `NoId` or `ReservedId` for the first invalid id, `NoneChosen`, `TooManyChosen`.
+/// The call returns the first of these errors, which are `NoId` or `ReservedId` for the first invalid id, `NoneChosen`,
+/// `TooManyChosen`.
 pub fn read_choice(
     alloc: Global,
     ids: Option<&Vec<LineValue<'_>>>,

@@ -65,7 +65,7 @@ impl Chosen {
     ///
     /// # Errors
     ///
-    /// - `NoneChosen`: `ids` is empty.
+    /// - `NoneChosen`: the list `ids` is empty.
     /// - `TooManyChosen`: there are more than 1,000 distinct ids.
     /// - `Memory`: an allocation failed. The call returns `Memory` only if it would otherwise succeed.
     pub fn new(ids: Vec<DocId>) -> Result<Chosen, DocFault>

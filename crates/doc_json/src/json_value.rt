@@ -12,9 +12,9 @@ use json_values::PlainTexts;
 use serde_json::Number;
 use std::alloc::AllocError;
 
-/// A JSON value that a document is read from: `serde_json`'s, or one inside a line.
+/// A JSON value from which a document is read, which is a value of `serde_json` or a value inside a line.
 ///
-/// A clause sees it as its data (`seen`). For some types the caller knows whether an object's members are in byte order
+/// Clauses see a JSON value as its data (`seen`). For some types the caller knows whether an object's members are in byte order
 /// of their names (`in_order`), and for other types the type says so.
 pub(crate) trait JsonValue<'v>: Sized + 'v {
     /// The members of an object.

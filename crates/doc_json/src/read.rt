@@ -27,13 +27,13 @@ use std::alloc::Global;
 /// Checked in this order:
 ///
 /// - `NotObject`: the value is not an object.
-/// - `NoId`: `_id` is missing, not a string, or empty.
-/// - `ReservedId`: `_id` begins with `_` and is not the id of a design document.
+/// - `NoId`: the member `_id` is missing, not a string, or empty.
+/// - `ReservedId`: the member `_id` begins with `_` and is not the id of a design document.
 /// - `Attachments`: there is a member `_attachments`.
 /// - `SpecialMember`: another member that begins with `_` is unknown, or `_deleted` is not a Boolean.
-/// - `NoRev`: `_rev` is not a revision id, or both `_rev` and `_revisions` are missing.
-/// - `BadRevisions`: `_revisions` is not an ancestry.
-/// - `RevMismatch`: `_rev` is not the newest revision of `_revisions`.
+/// - `NoRev`: the member `_rev` is not a revision id, or both `_rev` and `_revisions` are missing.
+/// - `BadRevisions`: the member `_revisions` is not an ancestry.
+/// - `RevMismatch`: the member `_rev` is not the newest revision of `_revisions`.
 /// - `Fraction`: a member without a leading `_` contains, at any depth, a number that is neither an i64 nor a u64.
 /// - `Memory`: an allocation failed. The call returns `Memory` only if it would otherwise succeed.
 pub fn read_doc(alloc: Global, value: &Value) -> Result<Doc, DocFault>

@@ -69,7 +69,7 @@ impl<S: SourceBrand> Paged<S> {
         self.ready.window()
     }
 
-    /// Builds the shorter form that a target keeps when the window is done: `ReadyWindow::prepare`.
+    /// Builds the shorter form that a target keeps when the window is done (`ReadyWindow::prepare`).
     pub fn prepare(&mut self, alloc: Global)
         ensures { self.new ≡ self.old }
     {

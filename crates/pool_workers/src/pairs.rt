@@ -112,7 +112,7 @@ impl<
         }
     }
 
-    /// Splits off passes and a part of the ledger, takes the last seat, and starts a pair with them: `start_pair`.
+    /// Splits off passes and a part of the ledger, takes the last seat, and starts a pair with them (`start_pair`).
     /// `others` is the number of other pairs. Returns `None` if a thread cannot be created, and returns the seat to the
     /// list.
     fn spawn_pair<'s, E>(

@@ -98,7 +98,7 @@ impl<F: WriteFilter, S: SourceBrand, T: TargetBrand<F>, L: Ledger> RunTarget<F, 
         }
     }
 
-    /// Stores a page of the source in the run's session: `Peer::append_prepared`. Returns `None`, and stores nothing,
+    /// Stores a page of the source in the run's session (`Peer::append_prepared`). Returns `None`, and stores nothing,
     /// exactly if the plan allows no further window.
     pub fn append(&mut self, page: Paged<S>) -> Option<Result<(), TargetFault>>
         ensures filter { self.new.0 ≡ self.old.0 }
@@ -132,7 +132,7 @@ impl<F: WriteFilter, S: SourceBrand, T: TargetBrand<F>, L: Ledger> RunTarget<F, 
         self.target.revs_diff(alloc, page.window())
     }
 
-    /// Settles a parcel that the source has sent: `Peer::settle_into`. The call adds the consumed documents to the
+    /// Settles a parcel that the source has sent (`Peer::settle_into`). The call adds the consumed documents to the
     /// worker's share.
     pub fn settle_counted(
         &mut self,

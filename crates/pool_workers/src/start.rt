@@ -110,7 +110,7 @@ impl<
         started
     }
 
-    /// Splits off a pass and a part of the ledger, takes the last seat, and starts a writer with them: `start_writer`.
+    /// Splits off a pass and a part of the ledger, takes the last seat, and starts a writer with them (`start_writer`).
     /// `others` is the number of other writers. Returns `None` if a thread cannot be created, and returns the seat to
     /// the list.
     fn spawn_writer<'s, E>(

@@ -156,7 +156,7 @@ impl<
         (Some(ended), seats)
     }
 
-    /// Runs the workers in their own scope: `in_scope`. If the gate never blocks, the workers are pairs
+    /// Runs the workers in a scope of threads (`in_scope`). If the gate never blocks, the workers are pairs
     /// (`pairs_in_scope`), and a single pair runs on the caller's thread (`in_turn`).
     pub fn with_workers(
         &'e self,

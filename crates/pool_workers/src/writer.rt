@@ -144,7 +144,7 @@ impl<F: WriteFilter, S: SourceBrand, T: TargetBrand<F>, L: Ledger, G: Gate, R: W
     }
 
     /// Reads a parcel at the source, prepares its documents before the lock is taken (if several writers settle),
-    /// settles it and records: `settle_and_record`.
+    /// settles it and records (`settle_and_record`).
     fn read_and_settle(
         &self,
         share: &mut Share<L>,

@@ -1,2 +1,2 @@
-//! The words of the standard library that proofs cite, passed on from one place: `proofs/Lib.antt`. There is no code.
+//! Re-exports the names of the standard library that proofs cite, in `proofs/Lib.antt`. The crate has no code.
 #![tactic(auto)]

@@ -92,7 +92,7 @@ impl Front {
     ///
     /// Each error is returned exactly if its condition holds, the first in this order, and changes nothing:
     ///
-    /// - `NotRising`: `hi` is not above the end.
+    /// - `NotRising`: the bound `hi` is not above the end.
     /// - `Memory`: an allocation failed.
     pub fn append(&mut self, hi: u64) -> Result<(), FrontFault>
         ensures answer { GivesUnlessMemory result (append_answer self.old.front hi) }

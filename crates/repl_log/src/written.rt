@@ -55,7 +55,7 @@ fn whole_log(alloc: Global, id: &RepId, newest: Entry, log: &Log) -> Result<Vec<
     Ok(out)
 }
 
-/// Returns the `_id` of a log: `_local/` and the replication id.
+/// Returns the `_id` of a log, which is `_local/` and the replication id.
 fn log_name(alloc: Global, id: &RepId) -> Result<String, AllocError>
     ensures { IfOk result (λ name. string_bytes name ≡ codes "_local/" ++ rep_text id.now) }
 {

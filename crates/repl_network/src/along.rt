@@ -50,7 +50,7 @@ pub fn replicate_along<F: WriteFilter>(
     Ok(())
 }
 
-/// Stores a user's document at one peer of a network: `Peer::load`.
+/// Stores a user's document at one peer of a network (`Peer::load`).
 ///
 /// Consistent peers stay consistent, also if the call fails. If the trees of the document agreed and had complete
 /// histories, they still do, provided that the new document gives no revision another parent or content than a peer
@@ -79,7 +79,7 @@ pub fn load_at<F: WriteFilter>(
     }
 }
 
-/// Edits a document at one peer of a network: `Peer::edit`.
+/// Edits a document at one peer of a network (`Peer::edit`).
 ///
 /// Consistent peers stay consistent, also if the call fails. If the trees of the document agreed and had complete
 /// histories, they still do, provided that no peer has the new revision with another parent or content; this holds

@@ -103,7 +103,7 @@ impl<F: WriteFilter> Net<F> {
         let _ = &self.peers;
     }
 
-    /// Stores a user's document at one peer: `load_at`.
+    /// Stores a user's document at one peer (`load_at`).
     pub fn load(&mut self, place: usize, doc: &Doc) -> Result<Put, NetFault>
         ensures answer { AnswersAt (peers_of self.old) place (λ p r. PutGives r (put_answer p.db doc.now)) result }
         ensures filters { filters_of self.new ≡ filters_of self.old }
@@ -116,7 +116,7 @@ impl<F: WriteFilter> Net<F> {
         load_at(&mut self.peers, place, doc)
     }
 
-    /// Edits a document at one peer: `edit_at`.
+    /// Edits a document at one peer (`edit_at`).
     pub fn edit(
         &mut self,
         place: usize,
@@ -138,7 +138,7 @@ impl<F: WriteFilter> Net<F> {
         edit_at(&mut self.peers, place, id, parent, deleted, body)
     }
 
-    /// Replicates along hops: `replicate_along`.
+    /// Replicates along hops (`replicate_along`).
     pub fn replicate_along(&mut self, alloc: Global, hops: &[Hop]) -> Result<(), NetFault>
         ensures taken { TakesHops F.refuses 0 self.old hops.now result self.new }
         ensures filters { filters_of self.new ≡ filters_of self.old }
@@ -148,7 +148,7 @@ impl<F: WriteFilter> Net<F> {
         replicate_along(alloc, &mut self.peers, hops)
     }
 
-    /// Replicates every peer into the first peer, and the first peer into every other peer: `sync_by_hub`.
+    /// Replicates every peer into the first peer, and the first peer into every other peer (`sync_by_hub`).
     pub fn sync_by_hub(
         &mut self,
         alloc: Global,

@@ -187,7 +187,7 @@ impl<F: WriteFilter> Peer<F> {
 
     // ---- calls of the database
 
-    /// Returns a page of the changes feed: `Database::page`.
+    /// Returns a page of the changes feed (`Database::page`).
     pub fn page(
         &self,
         alloc: Global,
@@ -202,7 +202,7 @@ impl<F: WriteFilter> Peer<F> {
         self.db.page(alloc, since, goal, limit, chosen)
     }
 
-    /// Returns a page of the changes feed, for arguments for which there is one: `Database::page_due`.
+    /// Returns a page of the changes feed, for arguments that have a page (`Database::page_due`).
     pub fn page_due(
         &self,
         alloc: Global,
@@ -219,14 +219,14 @@ impl<F: WriteFilter> Peer<F> {
         self.db.page_due(alloc, since, goal, limit, chosen)
     }
 
-    /// Returns the leaves of another database's window that are missing here: `Database::revs_diff`.
+    /// Returns the leaves of another database's window that are missing here (`Database::revs_diff`).
     pub fn revs_diff(&self, alloc: Global, window: &Window) -> Result<Asked, AllocError>
         ensures asked { IfOk result (λ a. a ≡ revs_diff self.now.1.db window.now) }
     {
         self.db.revs_diff(alloc, window)
     }
 
-    /// Returns the documents for a request: `Database::open_revs`.
+    /// Returns the documents for a request (`Database::open_revs`).
     pub fn open_revs(&self, alloc: Global, asked: &Asked) -> Result<Parcel, AllocError>
         ensures parcel { IfOk result (λ p. p ≡ open_revs self.now.1.db asked.now) }
     {

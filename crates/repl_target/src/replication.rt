@@ -84,7 +84,7 @@ impl Plan {
 /// - `BadBatch`: the batch is not 1 to 10,000.
 /// - `SamePeer`: the two databases have the same UUID.
 /// - The error of a step. The steps before the failed step, and the failed step itself, keep their effects.
-/// - `Unfinished`: `stop_after` windows were read, and they end below the goal. Both sides are recorded.
+/// - `Unfinished`: the plan's number `stop_after` of windows were read, and they end below the goal. Both sides are recorded.
 ///
 /// An entry that is older than the stored entry of the source's log is skipped without an error.
 pub fn replicate_alone<F: WriteFilter, G: WriteFilter>(
@@ -146,7 +146,7 @@ fn carry_all<F: WriteFilter, G: WriteFilter>(
     close(source, target, plan)
 }
 
-/// Checks whether a plan is valid for two peers: `check_plan` for their databases.
+/// Checks whether a plan is valid for two peers, as `check_plan` does for their databases.
 pub fn check_peers<F: WriteFilter, G: WriteFilter>(
     source: &Peer<F>,
     target: &Peer<G>,

@@ -39,8 +39,8 @@ impl Ancestry {
     ///
     /// # Errors
     ///
-    /// - `NoIds`: `ids` is empty.
-    /// - `StartTooSmall`: `ids` has more than `start` signatures.
+    /// - `NoIds`: the list `ids` is empty.
+    /// - `StartTooSmall`: the list `ids` has more than `start` signatures.
     /// - `Memory`: an allocation failed.
     pub fn from_parts(alloc: Global, start: u32, ids: &[Sig]) -> Result<Ancestry, RevFault>
         ensures { GivesUnlessMemory result (ancestry_read start ids.now) }

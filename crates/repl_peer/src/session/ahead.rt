@@ -134,7 +134,7 @@ fn put_next(
     put_prepared_at(db, docs, i, made, origin) || db.put(&docs[i], origin).is_ok()
 }
 
-/// Stores the document at an index from its prepared tree, if possible: `Database::put_prepared`.
+/// Stores the document at an index from its prepared tree, if possible (`Database::put_prepared`).
 pub(crate) fn put_prepared_at(
     db: &mut Database,
     docs: &[Doc],
