@@ -14,8 +14,8 @@ use std::alloc::AllocError;
 
 /// A JSON value from which a document is read, which is a value of `serde_json` or a value inside a line.
 ///
-/// Clauses see a JSON value as its data (`seen`). For some types the caller knows whether an object's members are in byte order
-/// of their names (`in_order`), and for other types the type says so.
+/// Clauses see a JSON value as its data (`seen`). For some types the caller knows whether an object's members are in
+/// byte order of their names (`in_order`), and for other types the type says so.
 pub(crate) trait JsonValue<'v>: Sized + 'v {
     /// The members of an object.
     type Object;

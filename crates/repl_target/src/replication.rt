@@ -84,7 +84,7 @@ impl Plan {
 /// - `BadBatch`: the batch is not 1 to 10,000.
 /// - `SamePeer`: the two databases have the same UUID.
 /// - The error of a step. The steps before the failed step, and the failed step itself, keep their effects.
-/// - `Unfinished`: the plan's number `stop_after` of windows were read, and they end below the goal. Both sides are recorded.
+/// - `Unfinished`: the plan's `stop_after` windows were read, and they end below the goal. Both sides are recorded.
 ///
 /// An entry that is older than the stored entry of the source's log is skipped without an error.
 pub fn replicate_alone<F: WriteFilter, G: WriteFilter>(

@@ -252,8 +252,8 @@ impl Databases {
     ///
     /// # Errors
     ///
-    /// The call returns the first error whose condition holds. These are `NoDatabase` if the name is unknown, `NoBackup`
-    /// if the database has no backup of this name, `IsTarget` if the database has been a replication target, and
+    /// The call returns the first error whose condition holds. These are `NoDatabase` if the name is unknown,
+    /// `NoBackup` if the database has no backup of this name, `IsTarget` if the database has been a replication target, and
     /// `LifeFull` if the database has no unused life.
     pub fn put_back(&mut self, db: &str, name: &str) -> Result<PutBack, Refusal>
         ensures answer { GivesOrMemory result
