@@ -1,4 +1,4 @@
-//! Sets of leaves, and of ids.
+//! Sets of leaf revisions, and of document ids.
 ghost use Rattle.std.specs.Prelude.{◌≡◌, ◌||◌, IfOk, OnOk};
 ghost use Rattle.relay_core.specs.Messages.{Text};
 ghost use Rattle.relay_core.specs.Views.{doc_view, docs_view};
@@ -9,17 +9,17 @@ use crate::messages::DocLeaves;
 use indexmap::IndexSet;
 use std::alloc::{AllocError, Global};
 
-/// The leaves of documents, each after the id of its document.
+/// A set of leaves of documents, each as a pair of the document's id and the leaf revision.
 pub(crate) type LeafSet<'a> = IndexSet<(&'a str, &'a str)>;
 
-/// Whether a set has a leaf of an id.
+/// Whether a set of leaves has a given leaf of the document with the given id.
 pub(crate) fn has_leaf(leaves: &LeafSet<'_>, id: &str, leaf: &str) -> bool
     ensures { result ≡ has_leaf leaves.now.keys id.now leaf.now }
 {
     leaves.contains(&(id, leaf))
 }
 
-/// Adds the leaves of a document.
+/// Adds the leaves of a document to a set of leaves.
 fn add_leaves<'a>(leaves: &mut LeafSet<'a>, doc: &'a DocLeaves) -> Result<(), AllocError>
     ensures { OnOk result ((id leaf : Text)
         → has_leaf leaves.new.keys id leaf ≡ (has_leaf leaves.old.keys id leaf || is_leaf_of (doc_view doc.now) id leaf)) }
@@ -30,7 +30,7 @@ fn add_leaves<'a>(leaves: &mut LeafSet<'a>, doc: &'a DocLeaves) -> Result<(), Al
     Ok(())
 }
 
-/// Returns the leaves of documents.
+/// Returns the set of the leaves of the given documents.
 pub(crate) fn leaf_set<'a>(alloc: Global, docs: &'a [DocLeaves]) -> Result<LeafSet<'a>, AllocError>
     ensures { IfOk result (λ s. (id leaf : Text) → has_leaf s.keys id leaf ≡ names (docs_view docs.now) id leaf) }
 {
@@ -41,7 +41,7 @@ pub(crate) fn leaf_set<'a>(alloc: Global, docs: &'a [DocLeaves]) -> Result<LeafS
     Ok(leaves)
 }
 
-/// Whether no two documents have one id.
+/// Whether the given documents have distinct ids.
 pub(crate) fn are_distinct(alloc: Global, docs: &[DocLeaves]) -> Result<bool, AllocError>
     ensures { IfOk result (λ b. b ≡ are_distinct (docs_view docs.now)) }
 {

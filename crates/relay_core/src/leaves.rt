@@ -1,4 +1,4 @@
-//! The leaves of documents.
+//! Functions over lists of documents with their leaf revisions.
 ghost use Rattle.std.specs.Prelude.{◌≡◌, ◌++◌, IfOk, OnOk, filter};
 ghost use Rattle.relay_core.specs.Views.{texts_of, docs_view};
 ghost use Rattle.std.specs.List.{list_all};
@@ -9,7 +9,7 @@ use crate::leaf_set::{LeafSet, has_leaf, leaf_set};
 use crate::messages::DocLeaves;
 use std::alloc::{AllocError, Global};
 
-/// Whether each document has a leaf.
+/// Whether each of the given documents has at least one leaf.
 pub(crate) fn have_leaves(docs: &[DocLeaves]) -> bool
     ensures { result ≡ have_leaves (docs_view docs.now) }
 {
@@ -21,7 +21,7 @@ pub(crate) fn have_leaves(docs: &[DocLeaves]) -> bool
     true
 }
 
-/// Whether a set has each of these leaves of an id.
+/// Whether a set of leaves has each of the given leaves of one document id.
 fn has_each(leaves: &LeafSet<'_>, id: &str, revs: &Vec<String>) -> bool
     ensures { result ≡ list_all (λ r. has_leaf leaves.now.keys id.now r) (texts_of revs.now.items) }
 {
@@ -33,7 +33,7 @@ fn has_each(leaves: &LeafSet<'_>, id: &str, revs: &Vec<String>) -> bool
     true
 }
 
-/// Whether a set has each leaf of documents.
+/// Whether a set of leaves has each leaf of the given documents.
 fn has_all(leaves: &LeafSet<'_>, docs: &[DocLeaves]) -> bool
     ensures { result ≡ all_leaves (has_leaf leaves.now.keys) (docs_view docs.now) }
 {
@@ -45,7 +45,7 @@ fn has_all(leaves: &LeafSet<'_>, docs: &[DocLeaves]) -> bool
     true
 }
 
-/// Whether the first documents name each leaf of the second.
+/// Whether the documents `docs` list each leaf that the documents `named` list.
 pub fn name_all(alloc: Global, docs: &[DocLeaves], named: &[DocLeaves]) -> Result<bool, AllocError>
     ensures { IfOk result (λ b. b ≡ name_all (docs_view docs.now) (docs_view named.now)) }
 {
@@ -53,7 +53,7 @@ pub fn name_all(alloc: Global, docs: &[DocLeaves], named: &[DocLeaves]) -> Resul
     Ok(has_all(&leaves, named))
 }
 
-/// Returns those of an id's leaves that a set has.
+/// Returns those of the given leaves of one document id that a set of leaves has.
 fn revs_in(
     alloc: Global,
     leaves: &LeafSet<'_>,
@@ -71,7 +71,7 @@ fn revs_in(
     Ok(kept)
 }
 
-/// Appends the document of these leaves of an id, if there are any.
+/// Appends a document with the given leaves, unless there are no leaves.
 fn push_doc(
     alloc: Global,
     docs: &mut Vec<DocLeaves>,
@@ -88,7 +88,7 @@ fn push_doc(
     Ok(())
 }
 
-/// Returns those of the documents' leaves that a set has.
+/// Returns the given documents with only those leaves that a set of leaves has.
 fn leaves_in(
     alloc: Global,
     docs: &[DocLeaves],
@@ -104,7 +104,7 @@ fn leaves_in(
     Ok(kept)
 }
 
-/// Returns those of the documents' leaves that a response names as missing.
+/// Returns the given documents with only those leaves that a response names as missing.
 pub fn missing_of(
     alloc: Global,
     docs: &[DocLeaves],
@@ -116,7 +116,7 @@ pub fn missing_of(
     leaves_in(alloc, docs, &leaves)
 }
 
-/// Returns the number of leaves.
+/// Returns the number of leaves of the given documents.
 pub(crate) fn leaf_count(docs: &[DocLeaves]) -> u64 {
     let mut count: u64 = 0;
     for doc in docs {

@@ -1,4 +1,4 @@
-//! Decides what a replication asks of two servers, and when it may record a checkpoint.
+//! Decides what a replication requests of two servers, and when the replication may record a checkpoint.
 #![tactic(auto)]
 
 mod leaf_set;

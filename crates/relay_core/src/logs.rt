@@ -1,4 +1,4 @@
-//! The steps of the replication logs.
+//! The steps of a run that read and write the replication logs.
 ghost use Rattle.std.specs.Prelude.{ℕ, ◌≡◌, ◌∷◌, List, true, IfOk, option_map, string_bytes};
 ghost use Rattle.relay_core.specs.declared.messages.Side.TheVariants.{Source, Target};
 ghost use Rattle.relay_core.specs.Messages.{Text, Exchange, exchange_of, get_log, stored_response};
@@ -14,10 +14,10 @@ use crate::phase::{Phase, Recorded, Run, Stage, Start, failed, quiet, seq_of};
 use crate::settings::Settings;
 use std::alloc::{AllocError, Global};
 
-/// The maximum number of restarts of a run before the end of the feed is recorded.
+/// The maximum number of restarts of a run before the run has recorded the end of the feed.
 const RESTARTS: u64 = 5;
 
-/// Returns the fault of a response, or the given fault if the response has none.
+/// Returns the fault that a response reports, or the given fault if the response reports none.
 pub(crate) fn fault_of(response: Response, otherwise: Fault) -> Fault {
     match response {
         Response::Fault(fault) => fault,
@@ -25,7 +25,7 @@ pub(crate) fn fault_of(response: Response, otherwise: Fault) -> Fault {
     }
 }
 
-/// Whether one of the entries has this session and this sequence.
+/// Whether a log entry in the list has the given session id and the given recorded sequence.
 fn has_pair(entries: &Vec<LogEntry>, session: &str, seq: &str) -> bool
     ensures { result ≡ has_pair (entries_view entries.now.items) session.now seq.now }
 {
@@ -37,7 +37,7 @@ fn has_pair(entries: &Vec<LogEntry>, session: &str, seq: &str) -> bool
     false
 }
 
-/// Returns the pair of the first of the target's entries that is in the source's log too.
+/// Returns the session and the sequence of the target's newest log entry that the source's log has, too.
 fn newest_common(
     alloc: Global,
     target: &ReplicationLog,
@@ -60,7 +60,7 @@ fn newest_common(
     Ok(None)
 }
 
-/// Whether two pairs are the same.
+/// Whether two optional pairs of a session and a sequence are the same.
 fn is_same(a: &Option<Recorded>, b: &Option<Recorded>) -> bool
     ensures { result ≡ true → option_map pair_view a.now ≡ option_map pair_view b.now }
 {
@@ -72,7 +72,7 @@ fn is_same(a: &Option<Recorded>, b: &Option<Recorded>) -> bool
     }
 }
 
-/// Returns the checkpoint that a new entry records.
+/// Returns the checkpoint that a run records in a new log entry.
 fn checkpoint_of(alloc: Global, run: &Run) -> Result<Checkpoint, AllocError>
     ensures seq { IfOk result (λ c. string_bytes c.seq ≡ string_bytes run.now.since) }
     ensures counts { IfOk result (λ c. c.counts ≡ run.now.counts) }
@@ -90,7 +90,7 @@ fn checkpoint_of(alloc: Global, run: &Run) -> Result<Checkpoint, AllocError>
     })
 }
 
-/// Returns the previous start of a run, or a start now at a sequence if the run has not started.
+/// Returns the start of a run if the run has started, or else a start at the given date and sequence.
 fn start_of(
     alloc: Global,
     start: Option<Start>,
@@ -106,8 +106,8 @@ fn start_of(
     }
 }
 
-/// Begins a window at the newest common pair. Without such a pair the window is open, because both logs record sequence
-/// 0 first.
+/// Begins a window at the newest pair of a session and a sequence that both logs have. Without such a pair, the window
+/// begins at sequence 0, and both logs record sequence 0 first.
 fn begin_window(
     alloc: Global,
     run: Run,
@@ -136,7 +136,7 @@ fn begin_window(
     })
 }
 
-/// Returns the notice that a run restarts, if it does.
+/// Returns the notice that a run restarts, or no notice if the run does not restart.
 fn restart_notices(alloc: Global, is_anew: bool) -> Result<Vec<Notice>, AllocError> {
     let mut notices = Vec::new(alloc);
     if is_anew {
@@ -145,7 +145,7 @@ fn restart_notices(alloc: Global, is_anew: bool) -> Result<Vec<Notice>, AllocErr
     Ok(notices)
 }
 
-/// Requests that the target store its log, and then the source.
+/// Requests that the target store its log. The source stores its log after the target.
 fn put_target(
     alloc: Global,
     run: Run,
@@ -166,7 +166,7 @@ fn put_target(
     })
 }
 
-/// Begins a window at the newest common pair of both logs, or ends the run with `LogChanged` after too many restarts.
+/// Begins a window at the newest entry that both logs have, or ends the run with `LogChanged` after too many restarts.
 fn anew(
     alloc: Global,
     run: Run,
@@ -196,7 +196,7 @@ fn anew(
     })
 }
 
-/// Continues after the response with the target's log.
+/// Continues a run after the response with the target's log.
 pub(crate) fn after_target_log(alloc: Global, run: Run, response: Response) -> Phase
     ensures { (h : List Exchange) → IsReached h run → Knows (exchange_of (get_log Target) (response_view response) ∷ h) result }
 {
@@ -206,8 +206,8 @@ pub(crate) fn after_target_log(alloc: Global, run: Run, response: Response) -> P
     }
 }
 
-/// Continues after both logs were read. Requests that they be stored if their newest common pair is still the beginning
-/// of the window; otherwise begins a new window.
+/// Continues a run after both logs were read. If the newest entry that both logs have is still the beginning of the
+/// window, both logs are stored; otherwise a new window begins.
 pub(crate) fn after_source_log(
     alloc: Global,
     run: Run,
@@ -239,8 +239,8 @@ fn after_conflict(alloc: Global, mut run: Run) -> Phase
     quiet(alloc, run, Stage::TargetLog)
 }
 
-/// Continues after the target's response about its log. If the target stored its log, requests that the source store
-/// its own.
+/// Continues a run after the target's response to a request to store its log. If the target stored its log, the next
+/// request is that the source store its log.
 pub(crate) fn after_target_put(
     alloc: Global,
     run: Run,
@@ -282,7 +282,8 @@ fn next_window(alloc: Global, settings: &Settings, mut run: Run) -> Result<Run, 
     Ok(run)
 }
 
-/// Continues after the source's response about its log. If the source stored its log, both logs have recorded.
+/// Continues a run after the source's response to a request to store its log. If the source stored its log, both logs
+/// have recorded the same sequence.
 pub(crate) fn after_source_put(
     alloc: Global,
     settings: &Settings,

@@ -1,6 +1,6 @@
-//! The messages between the relay and the two servers, and the notices that the relay gives its user.
+//! The messages between the relay and the two servers, and the notices that the relay prints for its user.
 
-/// One of the two servers.
+/// The server at one side of a replication.
 #[derive(Clone, Copy, Debug, PartialEq, Eq)]
 pub enum Side {
     Source,
@@ -17,7 +17,7 @@ pub enum Operation {
     WriteLog,
 }
 
-/// The id of a document, and leaf revisions of that document.
+/// A document id, with leaf revisions of this document.
 #[derive(Drop)]
 pub struct DocLeaves {
     pub id: String,
@@ -31,11 +31,11 @@ pub struct ChangesPage {
     pub last_seq: String,
     /// Whether the feed ends with this page.
     pub is_last: bool,
-    /// The number of documents after this page, as the server wrote it.
+    /// The number of documents after this page, as the server's response gives it.
     pub pending: Option<String>,
 }
 
-/// A row of a `_bulk_docs` response that reports an error. The row may name a revision.
+/// A row of a `_bulk_docs` response that reports an error for a document. The row of an error may name a revision.
 #[derive(Drop)]
 pub struct RowError {
     pub id: String,
@@ -44,7 +44,7 @@ pub struct RowError {
     pub reason: String,
 }
 
-/// An entry of the history of a replication log. `json` is the entry as the server wrote it.
+/// An entry in the history of a replication log. The member `json` is the entry's JSON text, as the server wrote it.
 #[derive(Drop)]
 pub struct LogEntry {
     pub session_id: String,
@@ -52,74 +52,77 @@ pub struct LogEntry {
     pub json: String,
 }
 
-/// A replication log of one server. `rev` is `None` if the server has no such document.
+/// A replication log as one server stores it. The member `rev` is `None` if the server has no such log.
 #[derive(Drop)]
 pub struct ReplicationLog {
     pub rev: Option<String>,
     pub history: Vec<LogEntry>,
 }
 
-/// Why a run ends without success.
+/// The reason why a run ends without success.
 #[derive(Drop)]
 pub enum Fault {
     /// A server gave no complete response.
     Unanswered(Side, Operation),
-    /// A response has a status that the run cannot use. The text is the server's error and reason.
+    /// A response has a status that the run cannot use. The string is the error and the reason in the server's
+    /// response.
     Status(Side, Operation, u16, String),
-    /// A response is not one JSON value.
+    /// A response is not exactly one JSON value.
     NotJson(Operation),
-    /// A response to `_changes` is not a page.
+    /// A response to `_changes` is not a page of a changes feed.
     BadFeed,
     /// A response to `_revs_diff` is not an object of missing revisions, or names a leaf that was not requested.
     BadDiff,
-    /// A response does not have the form that the request calls for.
+    /// A response does not have the form that a request of this kind calls for.
     BadAnswer(Operation),
     /// The replication log of a server has no `_rev`, or its history is not a list.
     BadLog(Side),
-    /// The carry of one document alone was rejected: its id, who rejected it, the status, and the server's error and reason.
+    /// A server rejected the transfer of a single document. The parts are the document's id, the server, the status,
+    /// and the server's error and reason.
     Refused(String, Side, u16, String),
-    /// A leaf is still missing and was not refused after the last try.
+    /// A leaf is still missing after the last try, and the target has not refused the leaf.
     Unaccounted(Unaccounted),
-    /// Another replication changed the logs too often.
+    /// Another replication changed the logs too often during this run.
     LogChanged,
 }
 
-/// The first leaf of a page that is missing and was not refused.
+/// The first leaf of a page that the target lacks and has not refused.
 #[derive(Drop)]
 pub struct Unaccounted {
     pub id: String,
     pub rev: String,
-    /// The error and the reason of the first row that names the document.
+    /// The error and the reason of the first `_bulk_docs` row that names the document.
     pub error: Option<(String, String)>,
-    /// The number of leaves that are missing and were not refused.
+    /// The number of leaves of the page that the target lacks and has not refused.
     pub count: u64,
 }
 
-/// A response of a server, as it was read.
+/// A server's response in parsed form.
 #[derive(Drop)]
 pub enum Response {
-    /// The replication log that was requested. A server without that document has a log without revision and entries.
+    /// The replication log that the run requested. If the server has no such log, the log is without revision and
+    /// entries.
     Log(ReplicationLog),
-    /// A page of changes.
+    /// A page of the source's changes feed.
     Page(ChangesPage),
-    /// The leaves that the target lacks, as the target named them.
+    /// The leaves that the target lacks, as the target's response names them.
     Missing(Vec<DocLeaves>),
-    /// The rows with an error, after a carry.
+    /// The rows of a `_bulk_docs` response that report errors.
     RowErrors(Vec<RowError>),
-    /// The response to a carry has this status of 4xx, but not 401, 403, 404, 408 or 429. The text is the server's
-    /// error and reason.
+    /// A server rejected a transfer of documents with the given status, a 4xx other than 401, 403, 404, 408 and 429.
+    /// The string is the error and the reason in the server's response.
     CarryRejected(Side, u16, String),
-    /// A replication log was stored.
+    /// A server stored its replication log.
     Stored,
-    /// A replication log was not stored, because the revision has changed.
+    /// A server did not store its replication log, because the log's revision has changed.
     Conflict,
-    /// A notice was printed.
+    /// The caller printed a notice.
     Noted,
-    /// A response that ends the run.
+    /// A response that ends the run with a fault.
     Fault(Fault),
 }
 
-/// The counts of a run.
+/// The counts that a run records in the logs.
 #[derive(Clone, Copy, Debug, PartialEq, Eq)]
 pub struct Counts {
     pub missing_checked: u64,
@@ -129,7 +132,7 @@ pub struct Counts {
     pub doc_write_failures: u64,
 }
 
-/// What a new entry of both logs records.
+/// The data that a run records in a new entry of both logs.
 #[derive(Drop)]
 pub struct Checkpoint {
     pub start_time: String,
@@ -139,7 +142,7 @@ pub struct Checkpoint {
     pub counts: Counts,
 }
 
-/// A leaf that the target refused.
+/// A leaf that the target refused, with the target's error and reason.
 #[derive(Drop)]
 pub struct RefusedLeaf {
     pub id: String,
@@ -148,32 +151,34 @@ pub struct RefusedLeaf {
     pub reason: String,
 }
 
-/// A line for the user.
+/// A message that the relay prints for its user.
 #[derive(Drop)]
 pub enum Notice {
-    /// The target refused a leaf.
+    /// The target refused this leaf.
     Refused(RefusedLeaf),
-    /// The logs have changed, so the run begins anew where both logs agree.
+    /// The logs have changed, so the run restarts at the newest entry that both logs have.
     Restarted,
-    /// A page is accounted for: the counts, and the number of documents to come.
+    /// The target has or has refused each leaf of a page. The parts are the counts and the number of documents after
+    /// the page.
     Progress(Counts, Option<String>),
 }
 
-/// The next request of a run.
+/// The next request of a run to a server or to the caller.
 #[derive(Clone, Copy)]
 pub enum Request<'a> {
-    /// The replication log of a server.
+    /// A request for the replication log of a server.
     GetLog(Side),
-    /// The source's changes after this sequence; a longpoll request if there is a timeout in milliseconds.
+    /// A request for the source's changes after this sequence. If there is a timeout in milliseconds, it is a longpoll
+    /// request.
     GetChanges(&'a str, Option<u32>),
-    /// Which of these leaves the target lacks.
+    /// A request for those of these leaves that the target lacks.
     RevsDiff(&'a [DocLeaves]),
-    /// The copy of these leaves from the source to the target.
+    /// A request to copy these leaves from the source to the target, called a carry.
     Carry(&'a [DocLeaves]),
-    /// The replication log that a server must store, with a new entry.
+    /// A request that a server store its replication log with a new entry.
     PutLog(Side, &'a ReplicationLog, &'a Checkpoint),
-    /// A notice to print.
+    /// A request that the caller print a notice.
     Tell(&'a Notice),
-    /// The end of the run: the fault, the counts, and the last sequence that both servers recorded.
+    /// The end of the run, with a fault if there is one, the counts, and the last sequence that both servers recorded.
     Done(Option<&'a Fault>, &'a Counts, &'a str),
 }

@@ -1,4 +1,4 @@
-//! The steps of a page of changes.
+//! The steps of a run that handle a page of changes.
 ghost use Rattle.std.specs.Prelude.{◌≡◌, ◌+◌, ◌-◌, ◌^◌, [], ◌∷◌, List, IfOk, min, length, string_bytes};
 ghost use Rattle.relay_core.specs.Messages.{Exchange, exchange_of, get_changes, revs_diff, carry_docs, rejected_response};
 ghost use Rattle.relay_core.specs.Views.{docs_view, response_view};
@@ -16,10 +16,10 @@ use crate::refusals::{cover, push_too_large, refused_leaves, sort_rows, unaccoun
 use crate::settings::Settings;
 use std::alloc::{AllocError, Global};
 
-/// The maximum number of requests for one page.
+/// The maximum number of tries for one page.
 const TRIES: u64 = 5;
 
-/// Continues after a checkpoint, or if no checkpoint is due.
+/// Continues a run after a checkpoint, or when no checkpoint is due.
 pub(crate) fn behind(settings: &Settings, mut run: Run, notices: Vec<Notice>) -> Phase
     ensures { (h : List Exchange) → IsReached h run → Knows h result }
 {
@@ -40,7 +40,7 @@ pub(crate) fn behind(settings: &Settings, mut run: Run, notices: Vec<Notice>) ->
     }
 }
 
-/// Continues after a page whose leaves the target has or refused.
+/// Continues a run after a page of which the target has or has refused each leaf.
 fn onward(settings: &Settings, run: Run, notices: Vec<Notice>) -> Phase
     ensures { (h : List Exchange) → IsReached h run → Knows h result }
 {
@@ -55,7 +55,7 @@ fn onward(settings: &Settings, run: Run, notices: Vec<Notice>) -> Phase
     behind(settings, run, notices)
 }
 
-/// Adds a page to the counts.
+/// Adds a page's numbers of leaves to the counts of a run.
 fn counted(counts: Counts, checked: u64, found: u64, failures: u64) -> Counts
     ensures { result.doc_write_failures ≡ min (counts.doc_write_failures + failures) (2 ^ 64 - 1) }
 {
@@ -70,7 +70,7 @@ fn counted(counts: Counts, checked: u64, found: u64, failures: u64) -> Counts
     }
 }
 
-/// Returns the notices of a page: each refused leaf, and the progress if the options request it.
+/// Returns the notices of a page, one for each refused leaf, and one for the progress if the settings request it.
 fn notices_of(
     alloc: Global,
     refused: Vec<RefusedLeaf>,
@@ -88,7 +88,7 @@ fn notices_of(
     Ok(notices)
 }
 
-/// Continues after a page of which the target has or refused each leaf.
+/// Counts a page of which the target has or has refused each leaf, and continues the run.
 fn accounted(
     alloc: Global,
     settings: &Settings,
@@ -119,7 +119,7 @@ fn accounted(
     Ok(onward(settings, run, notices))
 }
 
-/// Requests the carry of the next documents, or asks the target again if all were carried.
+/// Requests the transfer of the next documents, or asks the target again if all documents were transferred.
 fn ask_carry(alloc: Global, run: Run, mut transfer: Transfer) -> Phase
     ensures { (h : List Exchange) → IsOpenAt h run transfer → Knows h result }
 {
@@ -131,7 +131,7 @@ fn ask_carry(alloc: Global, run: Run, mut transfer: Transfer) -> Phase
     quiet(alloc, run, Stage::Carry(transfer))
 }
 
-/// Continues after a carry, with twice as many documents.
+/// Continues a run after a successful transfer, with up to twice as many documents in the next transfer.
 fn advance(alloc: Global, settings: &Settings, mut run: Run, mut transfer: Transfer) -> Phase
     ensures { (h : List Exchange) → IsOpenAt h run transfer → Knows h result }
 {
@@ -143,7 +143,7 @@ fn advance(alloc: Global, settings: &Settings, mut run: Run, mut transfer: Trans
     ask_carry(alloc, run, transfer)
 }
 
-/// Continues after a page.
+/// Continues a run after the response to a request for a page of changes.
 pub(crate) fn after_changes(
     alloc: Global,
     settings: &Settings,
@@ -173,7 +173,7 @@ pub(crate) fn after_changes(
     accounted(alloc, settings, run, end, 0, Vec::new(alloc))
 }
 
-/// Returns what ends a page with rows, and drops the rows.
+/// Returns the end of a page, and drops the page's rows.
 fn end_of(page: ChangesPage) -> PageEnd
     ensures { result.last_seq ≡ page.last_seq }
 {
@@ -186,7 +186,7 @@ fn end_of(page: ChangesPage) -> PageEnd
     }
 }
 
-/// Continues after the leaves of a page that the target lacks.
+/// Continues a run after the target's response to `_revs_diff` for a page.
 pub(crate) fn after_diff(
     alloc: Global,
     settings: &Settings,
@@ -220,7 +220,7 @@ pub(crate) fn after_diff(
     Ok(ask_carry(alloc, run, transfer))
 }
 
-/// Requests a carry of half as many documents.
+/// Requests a transfer of half as many documents.
 fn halve(alloc: Global, mut run: Run, transfer: Transfer) -> Phase
     ensures { (h : List Exchange) → IsOpenAt h run transfer → Knows h result }
 {
@@ -228,7 +228,7 @@ fn halve(alloc: Global, mut run: Run, transfer: Transfer) -> Phase
     ask_carry(alloc, run, transfer)
 }
 
-/// Ends a run because the carry of one document alone was rejected.
+/// Ends a run because a server rejected the transfer of a single document.
 fn refuse(
     alloc: Global,
     run: Run,
@@ -243,7 +243,7 @@ fn refuse(
     Ok(failed(alloc, run, Fault::Refused(id, side, status, words)))
 }
 
-/// Whether the target refused a request as too large.
+/// Whether the target rejected a request as too large (status 413).
 fn is_too_large(side: Side, status: u16) -> bool
     ensures { result ≡ is_too_large side status }
 {
@@ -253,7 +253,7 @@ fn is_too_large(side: Side, status: u16) -> bool
     }
 }
 
-/// Continues after a carry that was rejected.
+/// Continues a run after a server rejected a transfer of documents.
 fn after_rejection(
     alloc: Global,
     settings: &Settings,
@@ -279,7 +279,7 @@ fn after_rejection(
     Ok(advance(alloc, settings, run, transfer))
 }
 
-/// Continues after a carry.
+/// Continues a run after the response to a transfer of documents.
 pub(crate) fn after_carry(
     alloc: Global,
     settings: &Settings,
@@ -306,7 +306,7 @@ pub(crate) fn after_carry(
     }
 }
 
-/// Requests a page again, or ends the run with `Unaccounted` because of a leaf that the target neither has nor refused.
+/// Requests a page again, or ends the run with `Unaccounted` because the target neither has nor has refused a leaf.
 fn retry(
     alloc: Global,
     mut run: Run,
@@ -329,7 +329,7 @@ fn retry(
     Ok(quiet(alloc, run, Stage::Changes))
 }
 
-/// Continues after the leaves that the target still lacks.
+/// Continues a run after the target's response about the leaves of a page that it still lacks.
 pub(crate) fn after_again(
     alloc: Global,
     settings: &Settings,

@@ -1,4 +1,4 @@
-//! The state of a run.
+//! The state of a run between two requests.
 ghost use Rattle.std.specs.Prelude.{◌≡◌, [], List, Some, IfOk, option_map};
 ghost use Rattle.relay_core.specs.declared.phase.Stage.{Stage};
 ghost use Rattle.relay_core.specs.Messages.{Exchange};
@@ -13,48 +13,48 @@ use crate::messages::{
 use crate::settings::Settings;
 use std::alloc::{AllocError, Global};
 
-/// A session, and a sequence up to which it has recorded.
+/// A session id, with a sequence that the session has recorded.
 #[derive(Drop)]
 pub struct Recorded {
     pub session_id: String,
     pub seq: String,
 }
 
-/// The sequence at which a session began, and the time.
+/// The sequence and the time at which a run started.
 #[derive(Drop)]
 pub struct Start {
     pub time: String,
     pub seq: String,
 }
 
-/// What a run keeps from one request to the next.
+/// The data that a run keeps from one request to the next.
 #[derive(Drop)]
 pub struct Run {
-    /// The newest pair that both logs had when the window began.
+    /// The newest pair of a session and a sequence that both logs had when the window began.
     pub begin: Option<Recorded>,
-    /// The sequence up to which the target has or refused each leaf.
+    /// The sequence up to which the target has or has refused each leaf.
     pub since: String,
-    /// Whether there is anything to record.
+    /// Whether the window is open, which means that the run has something to record.
     pub is_open: bool,
-    /// The number of pages with rows in the window.
+    /// The number of pages with rows in the current window.
     pub pages: u64,
     /// Whether the last page was the end of the feed.
     pub has_ended: bool,
-    /// Whether the next page is requested by longpoll.
+    /// Whether the run requests the next page by longpoll.
     pub waits: bool,
-    /// The number of documents of the next carry.
+    /// The number of documents of the next transfer.
     pub carry: usize,
-    /// The number of repeated requests for the page.
+    /// The number of repeated requests for the current page.
     pub tries: u64,
-    /// The number of restarts since the end of the feed was recorded.
+    /// The number of restarts since the run last recorded the end of the feed.
     pub restarts: u64,
     pub counts: Counts,
     pub start: Option<Start>,
-    /// The date of the last response that had one.
+    /// The date of the last response that had a date.
     pub date: String,
 }
 
-/// Where a page ends.
+/// The data about a page that the run keeps without the page's rows.
 #[derive(Drop)]
 pub struct PageEnd {
     pub last_seq: String,
@@ -66,57 +66,58 @@ pub struct PageEnd {
     pub checked: u64,
 }
 
-/// A page of which leaves are carried.
+/// The transfer of a page's missing leaves to the target, in parts.
 #[derive(Drop)]
 pub struct Transfer {
     pub end: PageEnd,
-    /// The leaves that the target lacked.
+    /// The leaves of the page that the target lacked.
     pub missing: Vec<DocLeaves>,
-    /// The number of documents that were carried.
+    /// The number of documents that were transferred.
     pub carried: usize,
-    /// The number of documents in the current carry.
+    /// The number of documents in the current part of the transfer.
     pub size: usize,
-    /// The rows so far that refuse a leaf.
+    /// The `_bulk_docs` rows so far that refuse a leaf.
     pub refused: Vec<RowError>,
-    /// The other rows so far.
+    /// The `_bulk_docs` rows so far that report other errors.
     pub others: Vec<RowError>,
 }
 
-/// The response that a run waits for.
+/// The stage of a run, given by the response that the run waits for.
 #[derive(Drop)]
 pub enum Stage {
-    /// The target's log.
+    /// The run waits for the target's log.
     TargetLog,
-    /// The source's log, after the target's.
+    /// The run has the target's log and waits for the source's log.
     SourceLog(ReplicationLog),
-    /// A page of changes.
+    /// The run waits for a page of changes.
     Changes,
-    /// The leaves of a page that the target lacks.
+    /// The run waits for the leaves of a page that the target lacks.
     Diff(ChangesPage),
-    /// The rows of a carry.
+    /// The run waits for the rows of a transfer.
     Carry(Transfer),
-    /// The leaves that the target still lacks.
+    /// After a transfer, the run waits for the leaves that the target still lacks.
     Again(Transfer),
-    /// The target's response about its log. The source's log is stored after it.
+    /// The run waits for the target's response to a request to store its log. The source's log is stored after the
+    /// target's log.
     TargetPut(ReplicationLog, ReplicationLog, Checkpoint),
-    /// The source's response about its log.
+    /// The run waits for the source's response to a request to store its log.
     SourcePut(ReplicationLog, Checkpoint),
-    /// No response: the run is over.
+    /// The run is over and waits for no response.
     Done(Option<Fault>),
 }
 
-/// The state of a run: its next request, and what it knows.
+/// The state of a run, with its next request.
 #[derive(Drop)]
 pub struct Phase {
     pub run: Run,
-    /// Notices for the user, printed before the stage's request.
+    /// The notices that the caller prints before it sends the stage's request.
     pub notices: Vec<Notice>,
-    /// The number of notices that were printed.
+    /// The number of notices that the caller has printed.
     pub told: usize,
     pub stage: Stage,
 }
 
-/// Returns the sequence of a pair, or that of the beginning.
+/// Returns the sequence of a pair of a session and a sequence, or `0` if there is no pair.
 pub(crate) fn seq_of(pair: &Option<Recorded>) -> &str
     ensures { result.now ≡ seq_of (option_map pair_view pair.now) }
 {
@@ -127,7 +128,7 @@ pub(crate) fn seq_of(pair: &Option<Recorded>) -> &str
 }
 
 impl Phase {
-    /// Returns the state before the first request.
+    /// Returns the phase of a run before its first request.
     pub fn start(alloc: Global, settings: &Settings) -> Result<Phase, AllocError>
         ensures { (h : List Exchange) → IfOk result (λ p. Knows h p) }
     {
@@ -158,7 +159,7 @@ impl Phase {
         ))
     }
 
-    /// Returns the next request of the run.
+    /// Returns the next request of the run, which is a notice as long as one is left.
     pub fn request(&self) -> Request<'_>
         ensures { request_view result ≡ asked_of self.now }
     {
@@ -169,7 +170,7 @@ impl Phase {
     }
 }
 
-/// Returns the phase of a stage, without notices.
+/// Returns the phase with the given run and stage, without notices.
 pub(crate) fn quiet(alloc: Global, run: Run, stage: Stage) -> Phase
     ensures run { result.run ≡ run }
     ensures stage { result.stage ≡ stage }
@@ -183,7 +184,7 @@ pub(crate) fn quiet(alloc: Global, run: Run, stage: Stage) -> Phase
     }
 }
 
-/// Ends a run with a fault.
+/// Returns the phase of a run that ends with a fault.
 pub(crate) fn failed(alloc: Global, run: Run, fault: Fault) -> Phase
     ensures known { (h : List Exchange) → Knows h result }
     ensures stage { result.stage ≡ Stage.Done (Some fault) }
@@ -192,7 +193,7 @@ pub(crate) fn failed(alloc: Global, run: Run, fault: Fault) -> Phase
     quiet(alloc, run, Stage::Done(Some(fault)))
 }
 
-/// Returns the timeout of the next page, if it is requested by longpoll.
+/// Returns the timeout for the request of the next page, if it is a longpoll request.
 fn wait_of(run: &Run) -> Option<u32>
     ensures { result ≡ wait_of run.now }
 {
@@ -202,7 +203,7 @@ fn wait_of(run: &Run) -> Option<u32>
     Some(if run.is_open { 5000 } else { 60000 })
 }
 
-/// Returns the documents of the current carry.
+/// Returns the documents in the current part of a transfer.
 pub(crate) fn part_of(transfer: &Transfer) -> &[DocLeaves]
     ensures { docs_view result.now ≡ part_of transfer.now }
 {
@@ -212,7 +213,7 @@ pub(crate) fn part_of(transfer: &Transfer) -> &[DocLeaves]
     &rest[..transfer.size.min(rest.len())]
 }
 
-/// Returns the request of a stage.
+/// Returns the request of a run in the given stage.
 fn stage_request<'a>(run: &'a Run, stage: &'a Stage) -> Request<'a>
     ensures { request_view result ≡ asked_by run.now stage.now }
 {

@@ -1,4 +1,4 @@
-//! The rows of a carry's responses, and the leaves that they refuse.
+//! The error rows of a transfer's responses, and the leaves that these rows refuse.
 ghost use Rattle.std.specs.Prelude.{◌≡◌, ◌+◌, ◌++◌, IfOk, OnOk, option_map, length, string_bytes};
 ghost use Rattle.relay_core.specs.Views.{texts_of, docs_view, row_error_view, row_errors_view};
 ghost use Rattle.relay_core.specs.Leaves.{is_refusal, is_about, are_about, refusals_in, are_all_about, cover, too_large_row, too_large_rows, leaf_count};
@@ -6,14 +6,14 @@ ghost use Rattle.relay_core.specs.Leaves.{is_refusal, is_about, are_about, refus
 use crate::messages::{DocLeaves, RefusedLeaf, RowError, Unaccounted};
 use std::alloc::{AllocError, Global};
 
-/// Whether a row refuses its document.
+/// Whether an error row says that the target refuses the document.
 fn is_refusal(row: &RowError) -> bool
     ensures { result ≡ is_refusal (row_error_view row.now) }
 {
     row.error.as_str() == "forbidden" || row.error.as_str() == "unauthorized"
 }
 
-/// Puts the rows of a response behind the refusals and the other rows so far.
+/// Appends the rows of a response that refuse a document to `refused`, and the rest of its rows to `others`.
 pub(crate) fn sort_rows(
     rows: Vec<RowError>,
     refused: &mut Vec<RowError>,
@@ -31,7 +31,7 @@ pub(crate) fn sort_rows(
     Ok(())
 }
 
-/// Returns the row of a leaf whose document is too large for the target.
+/// Returns the error row for a leaf whose document is too large for the target.
 fn too_large_row(alloc: Global, id: &str, leaf: &str) -> Result<RowError, AllocError>
     ensures { IfOk result (λ r. row_error_view r ≡ too_large_row id.now leaf.now) }
 {
@@ -43,7 +43,7 @@ fn too_large_row(alloc: Global, id: &str, leaf: &str) -> Result<RowError, AllocE
     })
 }
 
-/// Appends the rows of a document that is too large for the target.
+/// Appends an error row for each leaf of a document that is too large for the target.
 pub(crate) fn push_too_large(
     alloc: Global,
     refused: &mut Vec<RowError>,
@@ -57,7 +57,8 @@ pub(crate) fn push_too_large(
     Ok(())
 }
 
-/// Whether a row that names this revision, or none, is about a leaf.
+/// Whether an error row with the revision `rev` concerns a leaf. A row without a revision concerns every leaf of its
+/// document.
 fn is_about(rev: &Option<String>, leaf: &str) -> bool
     ensures { result ≡ is_about (option_map string_bytes rev.now) leaf.now }
 {
@@ -67,7 +68,7 @@ fn is_about(rev: &Option<String>, leaf: &str) -> bool
     }
 }
 
-/// Whether one of the rows is about a leaf of an id.
+/// Whether an error row in the list concerns the given leaf of a document id.
 fn are_about(rows: &[RowError], id: &str, leaf: &str) -> bool
     ensures { result ≡ are_about (row_errors_view rows.now) id.now leaf.now }
 {
@@ -79,7 +80,7 @@ fn are_about(rows: &[RowError], id: &str, leaf: &str) -> bool
     false
 }
 
-/// Whether the rows are about each of these leaves of an id.
+/// Whether each of the given leaves of a document id has an error row in the list.
 fn are_all_about(rows: &[RowError], id: &str, revs: &Vec<String>) -> bool
     ensures { result ≡ are_all_about (row_errors_view rows.now) id.now (texts_of revs.now.items) }
 {
@@ -91,7 +92,7 @@ fn are_all_about(rows: &[RowError], id: &str, revs: &Vec<String>) -> bool
     true
 }
 
-/// Whether the rows are about each leaf.
+/// Whether each leaf of the given documents has an error row in the list.
 pub(crate) fn cover(rows: &[RowError], docs: &[DocLeaves]) -> bool
     ensures { result ≡ cover (row_errors_view rows.now) (docs_view docs.now) }
 {
@@ -103,7 +104,8 @@ pub(crate) fn cover(rows: &[RowError], docs: &[DocLeaves]) -> bool
     true
 }
 
-/// Returns the first row about a leaf of an id that names the leaf, or else the first that names no revision.
+/// Returns the first error row of a document id that names the given leaf, or else the first row that names no
+/// revision.
 fn row_about<'a>(rows: &'a [RowError], id: &str, leaf: &str) -> Option<&'a RowError> {
     let mut general = None;
     for row in rows {
@@ -125,7 +127,7 @@ fn row_about<'a>(rows: &'a [RowError], id: &str, leaf: &str) -> Option<&'a RowEr
     general
 }
 
-/// Returns a refused leaf, with the error and the reason of the row about it.
+/// Returns a refused leaf, with the error and the reason of the row that concerns it.
 fn refused_leaf(
     alloc: Global,
     rows: &[RowError],
@@ -144,7 +146,7 @@ fn refused_leaf(
     })
 }
 
-/// Appends a document's leaves, as refused.
+/// Appends each leaf of a document to the list of refused leaves.
 fn push_refused(
     alloc: Global,
     leaves: &mut Vec<RefusedLeaf>,
@@ -159,7 +161,7 @@ fn push_refused(
     Ok(())
 }
 
-/// Returns the documents' leaves, as refused.
+/// Returns each leaf of the given documents as a refused leaf.
 pub(crate) fn refused_leaves(
     alloc: Global,
     rows: &[RowError],
@@ -174,7 +176,7 @@ pub(crate) fn refused_leaves(
     Ok(leaves)
 }
 
-/// Returns the number of these leaves of an id that no row is about, and the first of them.
+/// Returns the number of a document's leaves that no error row concerns, and the first of these leaves.
 fn first_open<'a>(rows: &[RowError], doc: &'a DocLeaves) -> (u64, Option<&'a str>) {
     let mut count: u64 = 0;
     let mut first = None;
@@ -189,7 +191,7 @@ fn first_open<'a>(rows: &[RowError], doc: &'a DocLeaves) -> (u64, Option<&'a str
     (count, first)
 }
 
-/// Returns the error and the reason of the first row of an id.
+/// Returns the error and the reason of the first error row of a document id.
 fn error_of(
     alloc: Global,
     others: &[RowError],
@@ -205,7 +207,7 @@ fn error_of(
     Ok(None)
 }
 
-/// Returns the first leaf that is missing and that no refusal is about, and the number of such leaves.
+/// Returns the first missing leaf that no refusing row concerns, and the number of such leaves.
 pub(crate) fn unaccounted(
     alloc: Global,
     refused: &[RowError],

@@ -1,4 +1,4 @@
-//! A step of a run.
+//! One step of a run, from a response to the next phase.
 ghost use Rattle.std.specs.Prelude.{◌≡◌, ◌∷◌, List, IfOk, is_some, slice_get};
 ghost use Rattle.relay_core.specs.Messages.{Exchange, exchange_of};
 ghost use Rattle.relay_core.specs.Views.{response_view};
@@ -11,7 +11,7 @@ use crate::phase::{Phase, Run, Stage, quiet};
 use crate::settings::Settings;
 use std::alloc::{AllocError, Global};
 
-/// Goes on after a response to what a stage asks for.
+/// Continues a run after the response to the request of the given stage.
 fn stage_step(
     alloc: Global,
     settings: &Settings,
@@ -36,7 +36,7 @@ fn stage_step(
     }
 }
 
-/// Notes the date of a response, if it has one.
+/// Stores the date of a response in the run, unless the date is empty.
 fn dated(alloc: Global, mut run: Run, date: &str) -> Result<Run, AllocError>
     ensures { IfOk result (λ r. r ≡ record run { date = r.date }) }
 {
@@ -47,16 +47,17 @@ fn dated(alloc: Global, mut run: Run, date: &str) -> Result<Run, AllocError>
     Ok(run)
 }
 
-/// Whether a notice is left to print.
+/// Whether a notice is left that the caller has not printed.
 fn is_telling(notices: &Vec<Notice>, told: usize) -> bool
     ensures { result ≡ is_some (slice_get notices.now.items told) }
 {
     notices.get(told).is_some()
 }
 
-/// Goes on after a response to what the phase asks for. The date is that of the response, or empty.
+/// Continues a run after the response to the phase's request. The date is that of the response, or empty if the
+/// response has none.
 ///
-/// Whatever the response is: what the phase knows of the exchanges before it, the next phase knows of them and this one.
+/// For any response, the new phase knows what the old phase knew of the earlier exchanges, and this exchange.
 pub fn step(
     alloc: Global,
     settings: &Settings,

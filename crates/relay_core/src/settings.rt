@@ -1,11 +1,11 @@
 //! The settings of a run.
 
-/// How a run is made.
+/// The settings of a replication run.
 #[derive(Drop)]
 pub struct Settings {
-    /// The id of this session, unique to it.
+    /// The id of this replication session, which no other session has.
     pub session_id: String,
-    /// The largest number of documents in one carry.
+    /// The largest number of documents in one transfer.
     pub carry: u64,
     /// The number of pages between two checkpoints.
     pub every: u64,
@@ -13,6 +13,6 @@ pub struct Settings {
     pub continuous: bool,
     /// Whether the run reports its progress.
     pub progress: bool,
-    /// Whether the feed leaves documents out.
+    /// Whether a filter of the feed leaves documents out.
     pub filtered: bool,
 }
