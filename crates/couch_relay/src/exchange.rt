@@ -1,4 +1,4 @@
-//! A request and the response to it, over any reader and writer.
+//! Sends a request and receives the response to it, over any reader and writer.
 ghost use Rattle.std.specs.Prelude.{◌≡◌, ◌++◌, ℕ, List, IfOk, OnOk, OnErr};
 ghost use Rattle.std.specs.Io.KnownBytes.{Appends, Keeps};
 ghost use Rattle.relay_core.specs.Views.{request_view};
@@ -14,18 +14,18 @@ use relay_responses::read_response;
 use script_engine::{ScriptFault, ScriptRead, ScriptWrite, write_all};
 use std::alloc::Global;
 
-/// A response, and the date that its head has.
+/// A response, with the date in the response's head.
 #[derive(Drop)]
 pub(crate) struct Dated {
     pub(crate) response: Response,
     pub(crate) date: String,
 }
 
-/// Passes on all bytes that a writer has accepted.
+/// Flushes a writer, which passes on all bytes that it has accepted.
 ///
 /// # Errors
 ///
-/// `Write`: the writer failed.
+/// Returns `Write` if the writer failed.
 fn pass_on<W: ScriptWrite>(writer: &mut W) -> Result<(), ScriptFault>
     ensures bytes { Keeps (W.held writer.old) (W.held writer.new) }
     ensures sent { OnOk result (Keeps (W.held writer.new) (W.sent writer.new)) }
@@ -36,11 +36,12 @@ fn pass_on<W: ScriptWrite>(writer: &mut W) -> Result<(), ScriptFault>
     }
 }
 
-/// Writes a request, and passes it on.
+/// Writes a request and flushes the writer.
 ///
 /// # Errors
 ///
-/// `Memory`: the output is unchanged. `Write`: a prefix of the request was written.
+/// Returns `Memory` if an allocation failed, and then the output is unchanged. Returns `Write` if the writer failed,
+/// and then a prefix of the request was written.
 pub(crate) fn send<W: ScriptWrite>(
     alloc: Global,
     options: &RequestOptions,
@@ -58,7 +59,7 @@ pub(crate) fn send<W: ScriptWrite>(
     pass_on(writer)
 }
 
-/// Reads the response to a request. Returns `None` if the input has no response.
+/// Reads the response to a request from the reader. Returns `None` if the input has no further response.
 pub(crate) fn receive<R: ScriptRead>(
     alloc: Global,
     request: &Request<'_>,

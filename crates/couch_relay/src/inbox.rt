@@ -1,4 +1,4 @@
-//! The responses on standard input.
+//! Reads the responses on standard input.
 ghost use Rattle.std.specs.Prelude.{ℕ, ◌≡◌, ◌≤◌, ◌<◌, [], length, position, take, drop, true, false, IfOk, OnOk, OnErr, MatchOption};
 ghost use Rattle.std.specs.List.{position_or_len};
 ghost use Rattle.script_engine.specs.Lines.{is_line_end, has_line_end};
@@ -10,7 +10,7 @@ use script_engine::{ScriptFault, ScriptRead};
 use std::alloc::{AllocError, Global};
 use std::str;
 
-/// The bytes that were read, and the index of the first unused byte.
+/// The input bytes that were read, and the index of the first unused byte.
 #[derive(Drop)]
 pub(crate) struct Inbox {
     buffer: Vec<u8>,
@@ -18,7 +18,7 @@ pub(crate) struct Inbox {
     at: usize,
 }
 
-/// The head of a response.
+/// The parsed first line of a response.
 #[derive(Drop)]
 pub(crate) struct Head {
     pub(crate) status: u16,
@@ -27,7 +27,7 @@ pub(crate) struct Head {
     pub(crate) date: String,
 }
 
-/// Returns the server of that name.
+/// Returns the server that is named `source` or `target`.
 fn side_of(name: &str) -> Option<Side>
     ensures { result ≡ side_in name.now }
 {
@@ -40,7 +40,7 @@ fn side_of(name: &str) -> Option<Side>
     None
 }
 
-/// Returns the text before the first space, and the text after that space.
+/// Returns a text's part before the first space, and its part after that space.
 fn split_word(text: &str) -> (&str, &str)
     ensures word { result.0.now ≡ word_in text.now }
     ensures rest { result.1.now ≡ rest_in text.now }
@@ -51,7 +51,7 @@ fn split_word(text: &str) -> (&str, &str)
     }
 }
 
-/// Parses a status.
+/// Parses the HTTP status in a response's first line.
 fn status_of(text: &str) -> Option<u16>
     ensures { MatchOption result ((n : ℕ) → ¬ IsNumber 16 text.now n) (λ n. IsNumber 16 text.now n) }
 {
@@ -61,7 +61,7 @@ fn status_of(text: &str) -> Option<u16>
     }
 }
 
-/// Parses a size.
+/// Parses the number of bytes in a response's first line.
 fn size_of(text: &str) -> Option<usize>
     ensures { MatchOption result ((n : ℕ) → ¬ IsNumber 64 text.now n) (λ n. IsNumber 64 text.now n) }
 {
@@ -71,7 +71,7 @@ fn size_of(text: &str) -> Option<usize>
     }
 }
 
-/// Parses a head: `STATUS BYTES WHO DATE`.
+/// Parses a response's first line, `STATUS BYTES WHO DATE`.
 fn head_of(alloc: Global, line: &[u8]) -> Result<Option<Head>, AllocError>
     ensures { IfOk result (λ o. MatchOption o ((head : HeadView) → ¬ IsHead line.now head) (λ h. IsHead line.now (head_view h))) }
 {
@@ -96,14 +96,14 @@ fn head_of(alloc: Global, line: &[u8]) -> Result<Option<Head>, AllocError>
     }))
 }
 
-/// Returns the index of the first line feed.
+/// Returns the index of the first line feed in the given bytes.
 fn line_end(bytes: &[u8]) -> Option<usize>
     ensures { result ≡ position is_line_end bytes.now }
 {
     bytes.iter().position(|b| *b == 10)
 }
 
-/// Returns the length of the first line, without its line feed, or of all bytes if no line feed is among them.
+/// Returns the length of the first line without its line feed, or of all bytes if they have no line feed.
 fn line_len(bytes: &[u8]) -> usize
     ensures { result ≡ position_or_len is_line_end bytes.now }
 {
@@ -113,11 +113,11 @@ fn line_len(bytes: &[u8]) -> usize
     }
 }
 
-/// The maximum number of bytes of a read.
+/// The maximum number of bytes in one read call.
 const CHUNK: usize = 65536;
 
 impl Inbox {
-    /// Creates an inbox without bytes.
+    /// Creates an inbox that has read nothing.
     pub(crate) fn new(alloc: Global) -> Result<Inbox, AllocError>
         ensures inbox { IfOk result IsInbox }
         ensures pending { IfOk result (λ inbox. pending inbox ≡ []) }
@@ -130,7 +130,7 @@ impl Inbox {
         })
     }
 
-    /// Reads more bytes, and returns whether there were any.
+    /// Reads more bytes from the reader, and returns whether there were any.
     fn fill<R: ScriptRead>(&mut self, reader: &mut R) -> Result<bool, ScriptFault>
         requires { IsInbox self.old }
         ensures inbox { OnOk result (IsInbox self.new) }
@@ -146,7 +146,7 @@ impl Inbox {
         Ok(count > 0)
     }
 
-    /// Returns the length of the next line, or `None` at the end of input.
+    /// Returns the length of the next input line, or `None` at the end of the input.
     fn line<R: ScriptRead>(&mut self, reader: &mut R) -> Result<Option<usize>, ScriptFault>
         requires { IsInbox self.old }
         ensures inbox { OnOk result (IsInbox self.new) }
@@ -167,8 +167,8 @@ impl Inbox {
         Err(ScriptFault::Read)
     }
 
-    /// Removes the head of the next response and returns it. Returns `None` if the input ends or the next line is not a
-    /// head.
+    /// Removes the first line of the next response from the input, and returns it parsed. Returns `None` if the input
+    /// ends or the next line is not the first line of a response.
     pub(crate) fn head<R: ScriptRead>(
         &mut self,
         alloc: Global,
@@ -189,7 +189,7 @@ impl Inbox {
         Ok(head)
     }
 
-    /// Reads until `size` bytes are stored, and returns whether the input had that many.
+    /// Reads until `size` input bytes are available, and returns whether the input had them.
     pub(crate) fn has<R: ScriptRead>(
         &mut self,
         reader: &mut R,
@@ -213,7 +213,7 @@ impl Inbox {
         Err(ScriptFault::Read)
     }
 
-    /// Returns the next bytes.
+    /// Returns the next `size` input bytes without removing them.
     pub(crate) fn body(&self, size: usize) -> &[u8]
         requires inbox { IsInbox self.now }
         requires held { size ≤ length (pending self.now) }
@@ -222,7 +222,7 @@ impl Inbox {
         &self.held.as_slice()[self.at..self.at + size]
     }
 
-    /// Removes the next bytes.
+    /// Removes the next `size` input bytes.
     pub(crate) fn take(&mut self, size: usize)
         requires inbox { IsInbox self.old }
         requires held { size ≤ length (pending self.old) }

@@ -1,6 +1,6 @@
 //! Decides which requests a replication sends to two CouchDB servers, and when it may record a checkpoint.
 //!
-//! The program reads responses on standard input, and writes requests on standard output: docs/PROFILE.md, "Relay".
+//! The program reads responses on standard input, and writes requests to standard output (docs/PROFILE.md, "Relay").
 #![tactic(auto)]
 
 mod exchange;

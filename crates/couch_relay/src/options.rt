@@ -1,14 +1,14 @@
-//! The command line: docs/PROFILE.md, "Options of `couch_relay`".
+//! Parses the command line: docs/PROFILE.md, "Options of `couch_relay`".
 
 use clap::{Arg, ArgAction, ArgMatches, Command, Error, value_parser};
 use cli_common::{flag, program};
 use std::alloc::{AllocError, Global};
 
-/// The description of the program, for `--help`.
+/// The description of the program in the output of `--help`.
 const ABOUT: &str =
     "Decides what is asked of two CouchDB servers in a replication, and when a checkpoint may be recorded.";
 
-/// The protocol, for `--help`.
+/// The description of the protocol in the output of `--help`.
 const PROTOCOL: &str =
     "The program has no network. It writes a request to standard output, reads the response from
 standard input, and repeats this until it writes `done`. Another program carries them.
@@ -26,7 +26,7 @@ WHO of a request is `source` or `target`, or one of
 
 Exit status: 0 success; 1 if the target refused a document; 3 usage error or failure.";
 
-/// The options of a command line.
+/// The arguments and options of a command line.
 #[derive(Drop)]
 pub(crate) struct Options<'a> {
     pub(crate) source: &'a str,
@@ -44,7 +44,7 @@ pub(crate) struct Options<'a> {
     pub(crate) choice: bool,
 }
 
-/// Returns an argument that must be given.
+/// Returns the definition of a required positional argument.
 fn required<'a>(alloc: Global, name: &'a str, help: &'a str) -> Arg<'a> {
     Arg::new(alloc, name)
         .required(true)
@@ -52,7 +52,7 @@ fn required<'a>(alloc: Global, name: &'a str, help: &'a str) -> Arg<'a> {
         .help(help)
 }
 
-/// Returns an option with a number.
+/// Returns the definition of an option that takes a number.
 fn number<'a>(alloc: Global, name: &'a str, help: &'a str) -> Arg<'a> {
     Arg::new(alloc, name)
         .long(name)
@@ -62,7 +62,7 @@ fn number<'a>(alloc: Global, name: &'a str, help: &'a str) -> Arg<'a> {
         .help(help)
 }
 
-/// Returns an option with a text.
+/// Returns the definition of an option that takes a string.
 fn text<'a>(alloc: Global, name: &'a str, value: &'a str, help: &'a str) -> Arg<'a> {
     Arg::new(alloc, name)
         .long(name)
@@ -71,7 +71,7 @@ fn text<'a>(alloc: Global, name: &'a str, value: &'a str, help: &'a str) -> Arg<
         .help(help)
 }
 
-/// Returns the command line with its arguments.
+/// Adds the positional arguments to the definition of the command line.
 fn with_arguments<'a>(alloc: Global, command: Command<'a>) -> Result<Command<'a>, AllocError> {
     command
         .arg(required(
@@ -91,7 +91,7 @@ fn with_arguments<'a>(alloc: Global, command: Command<'a>) -> Result<Command<'a>
         ))
 }
 
-/// Returns the command line with its numbers.
+/// Adds the options with numbers to the definition of the command line.
 fn with_numbers<'a>(alloc: Global, command: Command<'a>) -> Result<Command<'a>, AllocError> {
     command
         .arg(number(
@@ -111,7 +111,7 @@ fn with_numbers<'a>(alloc: Global, command: Command<'a>) -> Result<Command<'a>, 
         ))
 }
 
-/// Returns the command line with its other options.
+/// Adds the options without numbers to the definition of the command line.
 fn with_options<'a>(alloc: Global, command: Command<'a>) -> Result<Command<'a>, AllocError> {
     command
         .arg(flag(
@@ -145,7 +145,7 @@ fn with_options<'a>(alloc: Global, command: Command<'a>) -> Result<Command<'a>, 
         ))
 }
 
-/// Returns the command line.
+/// Returns the definition of the program's command line.
 fn command<'a>(alloc: Global) -> Result<Command<'a>, AllocError> {
     let command = program(alloc, "couch_relay", ABOUT, PROTOCOL);
     let command = with_arguments(alloc, command)?;
@@ -153,13 +153,13 @@ fn command<'a>(alloc: Global) -> Result<Command<'a>, AllocError> {
     with_options(alloc, command)
 }
 
-/// Parses the arguments, the program's name first.
+/// Parses the arguments, of which the first is the program's name.
 pub(crate) fn matches_of<'a>(alloc: Global, words: &'a [String]) -> Result<ArgMatches<'a>, Error> {
     let command = command(alloc)?;
     command.try_get_matches_from(words)
 }
 
-/// Returns a text, which is empty if it is not given.
+/// Returns the string of an option, or an empty string if the option is absent.
 fn text_of<'m, 'a>(matches: &'m ArgMatches<'a>, name: &str) -> &'m str {
     match matches.get_str(name) {
         Some(text) => text,
@@ -167,7 +167,7 @@ fn text_of<'m, 'a>(matches: &'m ArgMatches<'a>, name: &str) -> &'m str {
     }
 }
 
-/// Returns a number, or its default if it is not given.
+/// Returns the number of an option, or the given default if the option is absent.
 fn number_of(matches: &ArgMatches<'_>, name: &str, default: u64) -> u64 {
     match matches.try_get_one::<u64>(name) {
         Ok(Some(number)) => number,
@@ -175,7 +175,7 @@ fn number_of(matches: &ArgMatches<'_>, name: &str, default: u64) -> u64 {
     }
 }
 
-/// Returns the options that were given.
+/// Returns the options that the command line gives, with defaults for absent ones.
 pub(crate) fn options_of<'m, 'a>(matches: &'m ArgMatches<'a>) -> Options<'m> {
     Options {
         source: text_of(matches, "SOURCE"),

@@ -1,4 +1,4 @@
-//! The program: its command line, its standard input and output, and its exit status.
+//! The program's command line, standard input and output, and exit status.
 ghost use Rattle.std.specs.Prelude.{◌≡◌, ◌≤◌, ℕ, List, Some, IfOk, if◌then◌else◌, ◌==◌};
 ghost use Rattle.couch_relay.specs.Runs.{RunsStandard, exit_status};
 
@@ -18,14 +18,14 @@ pub(crate) fn run_program<H: AllocGlobal + Env + Input + Print + Eprint>(rt: &H)
     }
 }
 
-/// Returns the exit status of a command line for which nothing is run: 3, unless help was requested.
+/// Returns the exit status of a command line that runs nothing, which is 0 for help and otherwise 3.
 fn usage_status(status: u8) -> u8
     ensures { result ≡ (if status == 0 then 0 else 3) }
 {
     if status == 0 { 0 } else { 3 }
 }
 
-/// Runs the program for a command line.
+/// Runs the relay with the options of a command line.
 fn run_words<H: AllocGlobal + Input + Print + Eprint>(rt: &H, words: &[String]) -> u8 {
     match matches_of(rt.alloc(), words) {
         Ok(matches) => match run_standard(rt, &options_of(&matches)) {
@@ -41,7 +41,7 @@ fn run_words<H: AllocGlobal + Input + Print + Eprint>(rt: &H, words: &[String]) 
 ///
 /// # Errors
 ///
-/// `OutOfMemory`: the output buffer cannot be allocated. Neither stream was used.
+/// Returns `OutOfMemory` if the output buffer cannot be allocated. In this case neither stream was used.
 fn run_standard<'a, H>(
     rt: &'a H,
     options: &Options<'_>,
@@ -65,7 +65,7 @@ where
     Ok((ended, reader, writer.into_inner()))
 }
 
-/// Reports the fault of a run, if there is one, and returns the exit status.
+/// Reports the fault of a run on standard error, if there is one, and returns the exit status.
 fn report_end(rt: &impl Eprint, ended: &Result<u8, ScriptFault>) -> u8
     ensures { result ≡ exit_status ended.now }
 {

@@ -1,4 +1,4 @@
-//! A run over any reader and writer.
+//! Runs a relay over any reader and writer.
 ghost use Rattle.std.specs.Prelude.{◌≡◌, ◌++◌, ℕ, List, [], ◌==◌, not, length, IfOk, OnOk, OnErr, MatchOption, option_map, string_bytes};
 ghost use Rattle.std.specs.Str.{IsUtf8};
 ghost use Rattle.std.specs.Io.KnownBytes.{Appends, Keeps};
@@ -16,14 +16,14 @@ use script_engine::{ScriptFault, ScriptRead, ScriptWrite};
 use std::alloc::{AllocError, Global};
 use std::str;
 
-/// Returns a byte of a text on one line.
+/// Returns a space for a line feed or carriage return, and any other byte unchanged.
 fn on_line(byte: u8) -> u8
     ensures { result ≡ on_line byte }
 {
     if byte == 10 || byte == 13 { 32 } else { byte }
 }
 
-/// Returns a text on one line: line ends become spaces, and white space at both ends is removed.
+/// Returns a text on one line. Line ends become spaces, and white space at the start and end is removed.
 fn on_one_line(alloc: Global, text: &str) -> Result<String, AllocError>
     ensures { IfOk result (λ s. string_bytes s ≡ on_one_line text.now) }
 {
@@ -37,7 +37,7 @@ fn on_one_line(alloc: Global, text: &str) -> Result<String, AllocError>
     }
 }
 
-/// Returns the selection of documents in a body, if the body is UTF-8.
+/// Returns the selection of documents in a body, or `None` if the body is not UTF-8.
 fn choice_in(alloc: Global, body: &[u8]) -> Result<Option<String>, AllocError>
     ensures { IfOk result (λ o. MatchOption (option_map string_bytes o) (¬ IsUtf8 body.now)
         (λ s. IsUtf8 body.now × (s ≡ on_one_line body.now))) }
@@ -51,7 +51,8 @@ fn choice_in(alloc: Global, body: &[u8]) -> Result<Option<String>, AllocError>
     }
 }
 
-/// Reads the selection of documents. Returns `None` if the input has no selection.
+/// Reads the selection of documents, which is the first response on the input. Returns `None` if the input has no
+/// selection of documents.
 fn read_choice<R: ScriptRead>(
     alloc: Global,
     inbox: &mut Inbox,
@@ -74,7 +75,7 @@ fn read_choice<R: ScriptRead>(
     Ok(choice)
 }
 
-/// Returns the settings of a run.
+/// Returns the settings of a run with the given options.
 fn settings_of(alloc: Global, options: &Options<'_>) -> Result<Settings, AllocError>
     ensures session_id { IfOk result (λ s. string_bytes s.session_id ≡ options.now.session_id.now) }
     ensures carry { IfOk result (λ s. s.carry ≡ options.now.carry) }
@@ -94,7 +95,7 @@ fn settings_of(alloc: Global, options: &Options<'_>) -> Result<Settings, AllocEr
     })
 }
 
-/// Returns the options of all requests.
+/// Returns the options that the requests of a run depend on.
 fn request_options(
     alloc: Global,
     options: &Options<'_>,
@@ -124,7 +125,7 @@ fn request_options(
     })
 }
 
-/// Returns the exit status if a request is the last.
+/// Returns the exit status after a request, if the request is the last of its run.
 fn status_of(request: &Request<'_>) -> Option<u8>
     ensures { result ≡ status_after (request_view request.now) }
 {
@@ -135,11 +136,13 @@ fn status_of(request: &Request<'_>) -> Option<u8>
     }
 }
 
-/// Makes requests until the run is over, and returns its exit status: 3 if no response to the last request can be read.
+/// Makes requests until the run is over, and returns its exit status. The status is 3 if no response to the last
+/// request can be read.
 ///
 /// # Errors
 ///
-/// `Read`: the reader failed, or 2^64 - 1 requests were made. `Write`: the writer failed. `Memory`: an allocation failed.
+/// Returns `Read` if the reader failed, or after 2^64 - 1 requests. Returns `Write` if the writer failed. Returns
+/// `Memory` if an allocation failed.
 fn make_requests<R: ScriptRead, W: ScriptWrite>(
     alloc: Global,
     settings: &Settings,
@@ -173,7 +176,8 @@ fn make_requests<R: ScriptRead, W: ScriptWrite>(
     Err(ScriptFault::Read)
 }
 
-/// Reads the selection of documents if there is an option for it. Returns `None` if the input has no selection.
+/// Reads the selection of documents if the options say that there is one. Returns `None` if the input lacks the
+/// selection.
 fn choice_of<R: ScriptRead>(
     alloc: Global,
     options: &Options<'_>,
@@ -197,8 +201,9 @@ fn choice_of<R: ScriptRead>(
 ///
 /// # Errors
 ///
-/// `Read`: the reader failed, or 2^64 - 1 requests were made. `Write`: the writer failed. `Memory`: an allocation failed.
-/// At most a prefix of a request was written after the exchanges.
+/// Returns `Read` if the reader failed, or after 2^64 - 1 requests. Returns `Write` if the writer failed. Returns
+/// `Memory` if an allocation failed. After an error, at most a prefix of one more request was written after the
+/// complete exchanges.
 pub(crate) fn run<R: ScriptRead, W: ScriptWrite>(
     alloc: Global,
     options: &Options<'_>,

@@ -1,4 +1,4 @@
-//! Confirms the blocks of a journal.
+//! Confirms the blocks of a journal by their checksums.
 ghost use Rattle.std.specs.Prelude.{◌≡◌, IfOk, OnOk, length, option_map, string_bytes, true, ◌&&◌, nat_eq};
 ghost use Rattle.line_reader.specs.Lines.{joined};
 ghost use Rattle.journal_core.specs.Places.{Place, IsAt, TookAs, end_in, ended, held_more, is_confirmed, next, seq_of, start};
@@ -7,18 +7,18 @@ use crate::sums::{added, hash_of, is_same, is_sum, seq_in, sum_head, sum_line};
 use std::alloc::{AllocError, Global};
 use std::mem;
 
-/// The effect of a line on a journal.
+/// The effect of a line on a journal that is read line by line.
 #[derive(Drop)]
 pub enum Took {
-    /// A line of the current block.
+    /// The line belongs to the current block.
     Held,
-    /// The end of a block, which is confirmed; the bytes of the block's lines.
+    /// The line ends a block, which is now confirmed. The bytes are those of the block's lines.
     Closed(Vec<u8>),
-    /// The wrong end of a block, or a line after one.
+    /// The line is the wrong end of a block, or follows one.
     Damaged,
 }
 
-/// The confirmed part of a journal, and the current block.
+/// The confirmed part of a journal, and the current block, whose last line is not read.
 #[derive(Drop)]
 pub struct Blocks {
     alloc: Global,
@@ -32,7 +32,7 @@ pub struct Blocks {
 }
 
 impl Blocks {
-    /// Returns the start of a journal.
+    /// Returns the state at the start of a journal.
     pub fn new(alloc: Global) -> Result<Blocks, AllocError>
         ensures { IfOk result (λ blocks. IsAt blocks start) }
     {
@@ -50,35 +50,35 @@ impl Blocks {
         })
     }
 
-    /// Returns the hash of the last confirmed block, or `start`.
+    /// Returns the hash of the last confirmed block, or `start` if no block is confirmed.
     pub fn chain(&self) -> &[u8]
         ensures { (place : Place) → IsAt self.now place → result.now ≡ place.chain }
     {
         self.chain.as_slice()
     }
 
-    /// Returns the sequence of the last confirmed block, or `0`.
+    /// Returns the sequence of the last confirmed block, or `0` if no block is confirmed.
     pub fn seq(&self) -> &[u8]
         ensures { (place : Place) → IsAt self.now place → result.now ≡ place.seq }
     {
         self.seq.as_slice()
     }
 
-    /// Returns the number of confirmed bytes.
+    /// Returns the number of confirmed bytes of the journal.
     pub fn bytes(&self) -> u64
         ensures { (place : Place) → IsAt self.now place → result ≡ length (joined place.confirmed) }
     {
         self.bytes
     }
 
-    /// Returns the number of confirmed lines.
+    /// Returns the number of confirmed lines of the journal.
     pub fn lines(&self) -> u64
         ensures { (place : Place) → IsAt self.now place → result ≡ length place.confirmed }
     {
         self.lines
     }
 
-    /// Whether all lines so far are confirmed.
+    /// Whether all lines that were read are confirmed.
     pub fn is_confirmed(&self) -> bool
         ensures place { (place : Place) → IsAt self.now place → result ≡ is_confirmed place }
         ensures stored { result ≡ (self.now.whole && nat_eq (length self.now.body.items) 0) }
@@ -86,11 +86,11 @@ impl Blocks {
         self.whole && self.body.is_empty()
     }
 
-    /// Reads a line.
+    /// Reads the next line of a journal.
     ///
     /// # Errors
     ///
-    /// An allocation failed, or a count is at its maximum.
+    /// Returns an error if an allocation failed, or if a count is at its maximum.
     pub fn take(&mut self, line: &[u8]) -> Result<Took, AllocError>
         ensures { IfOk result (λ took. (place : Place) → IsAt self.old place
             → IsAt self.new (next place line.now) × TookAs place (next place line.now) line.now took) }
@@ -106,7 +106,7 @@ impl Blocks {
         }
     }
 
-    /// Adds a line to the current block.
+    /// Adds a line to the current block of a journal.
     fn hold(&mut self, line: &[u8]) -> Result<(), AllocError>
         ensures { OnOk result ((place : Place) → IsAt self.old place → IsAt self.new (held_more place line.now)) }
     {
@@ -126,7 +126,7 @@ impl Blocks {
         Ok(seq)
     }
 
-    /// Returns the hash of the current block, if a line is its right end.
+    /// Returns the hash of the current block, or `None` if the line is not the block's right last line.
     fn hash_in(&self, line: &[u8], seq: &[u8]) -> Result<Option<String>, AllocError>
         requires { seq.now ≡ seq_of self.now.count line.now }
         ensures { IfOk result (λ hash. (place : Place) → IsAt self.now place
@@ -141,7 +141,7 @@ impl Blocks {
         }
     }
 
-    /// Ends the current block.
+    /// Ends the current block of a journal with its last line.
     fn close(&mut self, line: &[u8]) -> Result<Took, AllocError>
         ensures { IfOk result (λ took. (place : Place) → IsAt self.old place → place.whole ≡ true
             → IsAt self.new (ended place line.now) × TookAs place (ended place line.now) line.now took) }

@@ -1,4 +1,4 @@
-//! The checksums of a journal: seals blocks of lines, and confirms a journal block by block.
+//! Seals blocks of journal lines with checksums, and confirms a journal block by block.
 #![tactic(auto)]
 
 mod blocks;

@@ -1,4 +1,4 @@
-//! Seals a block.
+//! Seals a block of a journal with a checksum.
 ghost use Rattle.std.specs.Prelude.{◌≡◌, IfOk, [], None};
 ghost use Rattle.journal_core.specs.Sealing.{EndsSeal, IsSealing, Seals, SealsBlock, wrong_after};
 
@@ -9,7 +9,7 @@ use sha2::{Digest, Sha256};
 use std::alloc::{AllocError, Global};
 use std::mem;
 
-/// Returns the number of lines before the first wrong line, after a line that is wrong or not.
+/// Returns the number of lines before the first wrong line, if an earlier line or the next line is wrong.
 fn wrong_after(before: Option<u64>, wrong: bool, count: u64) -> Option<u64>
     ensures { result ≡ wrong_after before wrong count }
 {
@@ -20,7 +20,7 @@ fn wrong_after(before: Option<u64>, wrong: bool, count: u64) -> Option<u64>
     }
 }
 
-/// Computes the line that ends a block, from the block's lines.
+/// A task that computes the line that ends a block from the block's lines.
 #[derive(Drop)]
 pub struct Seal {
     alloc: Global,
@@ -46,8 +46,8 @@ impl Seal {
         })
     }
 
-    /// Returns the number of lines before the first line that a block cannot contain, if there is one. That is a line that
-    /// ends a block, or a last line without a line end.
+    /// Returns the number of lines before the first line that a block cannot contain, if there is one. A block can
+    /// contain neither a line that ends a block, nor a last line without a line end.
     pub fn wrong(&self) -> Option<u64>
         ensures { result ≡ self.now.wrong }
     {
@@ -82,15 +82,16 @@ impl LineTask for Seal {
     }
 }
 
-/// Seals the block of lines that a reader has: writes the line that ends the block. `chain` is the hash of the block before
-/// it. Returns `None`, or the number of lines before the first line that a block cannot contain: a line that ends a block,
-/// or a last line without a line end. In that case there is no output.
+/// Seals the block of lines that a reader has by writing the line that ends the block. The argument `chain` is the hash
+/// of the previous block. Returns `None`, or the number of lines before the first line that a block cannot contain. A
+/// block can contain neither a line that ends a block, nor a last line without a line end. If a block cannot contain a
+/// line, there is no output.
 ///
 /// # Errors
 ///
-/// - `Read`: the reader failed in this call, or 4,294,967,295 reads of at most 65,536 bytes were made.
-/// - `Write`: the writer failed in this call.
-/// - `Memory`: an allocation failed, or a count is at its maximum.
+/// - Returns `Read` if the reader failed in this call, or after 4,294,967,295 reads of at most 65,536 bytes.
+/// - Returns `Write` if the writer failed in this call.
+/// - Returns `Memory` if an allocation failed, or if a count is at its maximum.
 pub fn seal_block<R: ScriptRead, W: ScriptWrite>(
     alloc: Global,
     chain: &[u8],

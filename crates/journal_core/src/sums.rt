@@ -1,4 +1,4 @@
-//! The line that ends a block.
+//! The line that ends a block, with the block's checksum.
 ghost use Rattle.std.specs.Prelude.{◌≡◌, ◌+◌, ◌++◌, ℕ, List, IfOk, bytes_eq, codes, drop, string_bytes};
 ghost use Rattle.sha2.specs.Sha256.{sha256};
 ghost use Rattle.hex.specs.Hex.{encode_lower};
@@ -11,10 +11,10 @@ use std::alloc::{AllocError, Global};
 /// The start of each line that ends a block.
 const SUM: &[u8; 4] = b"sum ";
 
-/// The number of hexadecimal digits of a hash.
+/// The number of hexadecimal digits of a block's hash.
 const HASH: usize = 64;
 
-/// Whether a line ends a block.
+/// Whether a line of a journal ends a block.
 pub(crate) fn is_sum(line: &[u8]) -> bool
     ensures { result ≡ is_sum line.now }
 {
@@ -25,7 +25,7 @@ pub(crate) fn is_sum(line: &[u8]) -> bool
 ///
 /// # Errors
 ///
-/// The sum does not fit.
+/// Returns an error if the sum exceeds the maximum of a `u64`.
 pub fn added(count: u64, more: u64) -> Result<u64, AllocError>
     ensures { IfOk result (λ sum. sum ≡ count + more) }
 {
@@ -42,7 +42,7 @@ pub(crate) fn is_same(line: &[u8], other: &[u8]) -> bool
     line == other
 }
 
-/// Returns the hash of a block: of the hash before it, its sequence, and its lines.
+/// Returns the hash of a block, over the previous block's hash, the block's sequence, and its lines.
 pub(crate) fn hash_of(
     alloc: Global,
     chain: &[u8],
@@ -56,7 +56,7 @@ pub(crate) fn hash_of(
     hex_of(alloc, hasher)
 }
 
-/// Returns a hasher of the hash before a block and of the block's sequence.
+/// Returns a hasher that has read the previous block's hash and the block's sequence.
 pub(crate) fn hasher_of(chain: &[u8], seq: &[u8]) -> Sha256
     ensures { ⟦<Sha256 as Digest>⟧.holds result (chain.now ++ codes " " ++ seq.now ++ codes "\n") }
 {
@@ -103,7 +103,7 @@ pub(crate) fn sum_line(
     Ok(line)
 }
 
-/// Returns the part of a line after a head of this length and a hash.
+/// Returns the part of a line after a head of the given length and a hash.
 pub(crate) fn seq_in(head: usize, line: &[u8]) -> &[u8]
     ensures { result.now ≡ drop (head + 65) line.now }
 {

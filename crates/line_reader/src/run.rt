@@ -11,16 +11,16 @@ use memchr::memchr;
 use script_engine::{Chunks, ScriptFault, ScriptRead, ScriptWrite, write_all};
 use std::alloc::{AllocError, Global};
 
-/// The state of a run between two bytes of its input.
+/// The state of a task's run between two bytes of the input.
 #[derive(Drop)]
 struct Progress {
-    /// The bytes of the current line so far, without a line end.
+    /// The bytes of the current line so far, without the line's end.
     begun: Vec<u8>,
-    /// The buffer for text.
+    /// The buffer for the text that the task appends.
     text: Vec<u8>,
 }
 
-/// Runs the current line at its line end, and writes its text.
+/// Passes the current line to the task when the line ends, and writes the task's text.
 fn end_line<T: LineTask, W: ScriptWrite>(
     task: &mut T,
     progress: &mut Progress,
@@ -49,7 +49,7 @@ fn take_in(progress: &mut Progress, bytes: &[u8]) -> Result<(), AllocError>
     progress.begun.extend_from_slice(bytes)
 }
 
-/// Runs the lines that end in these bytes.
+/// Passes each line that ends in the given bytes to the task, and writes the task's text.
 fn feed<T: LineTask, W: ScriptWrite>(
     task: &mut T,
     progress: &mut Progress,
@@ -75,7 +75,7 @@ fn feed<T: LineTask, W: ScriptWrite>(
     Ok(())
 }
 
-/// Runs the end of the input, and writes its text.
+/// Passes the end of the input to the task, and writes the task's text.
 fn finish<T: LineTask, W: ScriptWrite>(
     task: &mut T,
     progress: &mut Progress,
@@ -95,16 +95,16 @@ fn finish<T: LineTask, W: ScriptWrite>(
     }
 }
 
-/// Runs a task over all lines of a reader, and writes its text. Only the current line and the task's state are held in
-/// memory.
+/// Passes all lines of a reader to a task, and writes the task's text. Only the current line and the task's state are
+/// held in memory.
 ///
 /// # Errors
 ///
-/// - `Read`: the reader failed in this call, or 4,294,967,295 reads of at most 65,536 bytes were made.
-/// - `Write`: the writer failed in this call.
-/// - `Memory`: an allocation failed, or a count of the task is at its maximum.
+/// - Returns `Read` if the reader failed in this call, or after 4,294,967,295 reads of at most 65,536 bytes.
+/// - Returns `Write` if the writer failed in this call.
+/// - Returns `Memory` if an allocation failed, or if a count of the task is at its maximum.
 ///
-/// After an error, the text of the lines before it is written, or a prefix of that text.
+/// After an error, the task's text for the earlier lines is written completely or as a prefix.
 pub fn run_task<T: LineTask, R: ScriptRead, W: ScriptWrite>(
     alloc: Global,
     task: &mut T,

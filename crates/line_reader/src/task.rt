@@ -1,32 +1,32 @@
-//! Tasks that read lines.
+//! Tasks that read an input line by line.
 ghost use Rattle.std.specs.Prelude.{◌≡◌, ℕ, List, [], OnOk};
 
 use std::alloc::AllocError;
 
-/// A task that reads lines in order, and writes text.
+/// A task that reads the lines of an input in order, and appends text.
 pub trait LineTask {
-    // What a line does: the state before it, the line without its line end, the text that is written, and the state
-    // after it.
+    // The effect of a line, as a relation of the state before the line, the line without its end, the appended text,
+    // and the state after the line.
     ghost steps: { Self → List ℕ → List ℕ → Self → Type 0 };
 
-    // What the end of the input does: the state before it, the bytes after the last line end, the text that is written,
-    // and the state after it.
+    // The effect of the end of the input, as a relation of the state before the end, the bytes after the last line end,
+    // the appended text, and the state after the end.
     ghost ends: { Self → List ℕ → List ℕ → Self → Type 0 };
 
-    /// Reads a line, which has no line end, and appends text.
+    /// Reads a line, given without its line end, and appends text.
     ///
     /// # Errors
     ///
-    /// An allocation failed, or a count is at its maximum.
+    /// Returns an error if an allocation failed, or if a count is at its maximum.
     fn line(&mut self, line: &[u8], text: &mut Vec<u8>) -> Result<(), AllocError>
         requires empty { text.old.items ≡ [] }
         ensures { OnOk result (steps self.old line.now text.new.items self.new) };
 
-    /// Reads the bytes after the last line end, and appends text. No bytes follow.
+    /// Reads the bytes after the last line end of the input, and appends text. No input follows these bytes.
     ///
     /// # Errors
     ///
-    /// An allocation failed, or a count is at its maximum.
+    /// Returns an error if an allocation failed, or if a count is at its maximum.
     fn end(&mut self, rest: &[u8], text: &mut Vec<u8>) -> Result<(), AllocError>
         requires empty { text.old.items ≡ [] }
         ensures { OnOk result (ends self.old rest.now text.new.items self.new) };

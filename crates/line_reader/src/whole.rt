@@ -1,4 +1,4 @@
-//! Reads a complete input.
+//! Reads a complete input into memory.
 ghost use Rattle.std.specs.Prelude.{◌≡◌, IfOk, IfErr, OnOk};
 ghost use Rattle.std.specs.Io.KnownBytes.{IsAtEnd};
 ghost use Rattle.script_engine.specs.Device.{Gives};
@@ -7,12 +7,12 @@ ghost use Rattle.script_engine.specs.Faults.{IsFaultOf};
 use script_engine::{Chunks, ScriptFault, ScriptRead};
 use std::alloc::Global;
 
-/// Reads a reader to its end, and returns all bytes.
+/// Reads a reader to its end, and returns all its bytes.
 ///
 /// # Errors
 ///
-/// - `Read`: the reader failed in this call, or 4,294,967,295 reads of at most 65,536 bytes were made.
-/// - `Memory`: an allocation failed.
+/// - Returns `Read` if the reader failed in this call, or after 4,294,967,295 reads of at most 65,536 bytes.
+/// - Returns `Memory` if an allocation failed.
 pub fn read_all<R: ScriptRead>(alloc: Global, reader: &mut R) -> Result<Vec<u8>, ScriptFault>
     ensures ok { IfOk result (λ bytes. Gives (R.left reader.old) bytes.items) }
     ensures end { OnOk result (IsAtEnd (R.left reader.new)) }

@@ -1,4 +1,4 @@
-//! The bodies of requests for leaves.
+//! The bodies of the requests that name leaves of documents.
 ghost use Rattle.std.specs.Prelude.{◌≡◌, ◌++◌, IfOk, OnOk};
 ghost use Rattle.json.specs.Print.{print};
 ghost use Rattle.relay_core.specs.Views.{docs_view, doc_view, texts_of};
@@ -8,7 +8,7 @@ use json::Writer;
 use relay_core::DocLeaves;
 use std::alloc::{AllocError, Global};
 
-/// Writes strings.
+/// Writes strings to a JSON writer.
 fn put_strings(writer: &mut Writer, texts: &[String]) -> Result<(), AllocError>
     ensures before { OnOk result (writer.new.before ≡ writer.old.before) }
     ensures tokens { OnOk result (writer.new.tokens ≡ writer.old.tokens ++ strings (texts_of texts.now)) }
@@ -19,7 +19,7 @@ fn put_strings(writer: &mut Writer, texts: &[String]) -> Result<(), AllocError>
     Ok(())
 }
 
-/// Writes a document's id and the list of its leaves.
+/// Writes a document's id as a member name, and the list of the document's leaves as the value.
 fn put_doc(writer: &mut Writer, doc: &DocLeaves) -> Result<(), AllocError>
     ensures before { OnOk result (writer.new.before ≡ writer.old.before) }
     ensures tokens { OnOk result (writer.new.tokens ≡ writer.old.tokens ++ doc_tokens (doc_view doc.now)) }
@@ -31,7 +31,7 @@ fn put_doc(writer: &mut Writer, doc: &DocLeaves) -> Result<(), AllocError>
     Ok(())
 }
 
-/// Writes the leaves of documents.
+/// Writes documents with their leaves, each as a member with a list.
 fn put_docs(writer: &mut Writer, docs: &[DocLeaves]) -> Result<(), AllocError>
     ensures before { OnOk result (writer.new.before ≡ writer.old.before) }
     ensures tokens { OnOk result (writer.new.tokens ≡ writer.old.tokens ++ docs_tokens (docs_view docs.now)) }
@@ -42,7 +42,7 @@ fn put_docs(writer: &mut Writer, docs: &[DocLeaves]) -> Result<(), AllocError>
     Ok(())
 }
 
-/// Returns the body that asks which of these leaves are missing.
+/// Returns the body of a `_revs_diff` request for the given leaves.
 pub(crate) fn diff_body(alloc: Global, docs: &[DocLeaves]) -> Result<Vec<u8>, AllocError>
     ensures { IfOk result (λ text. text.items ≡ print (diff_tokens (docs_view docs.now))) }
 {
@@ -53,7 +53,7 @@ pub(crate) fn diff_body(alloc: Global, docs: &[DocLeaves]) -> Result<Vec<u8>, Al
     Ok(writer.into_inner())
 }
 
-/// Writes a leaf as an object with an id and a revision.
+/// Writes a leaf as an object with a document id and a revision.
 fn put_leaf(writer: &mut Writer, id: &str, rev: &str) -> Result<(), AllocError>
     ensures before { OnOk result (writer.new.before ≡ writer.old.before) }
     ensures tokens { OnOk result (writer.new.tokens ≡ writer.old.tokens ++ leaf_tokens id.now rev.now) }
@@ -67,7 +67,7 @@ fn put_leaf(writer: &mut Writer, id: &str, rev: &str) -> Result<(), AllocError>
     Ok(())
 }
 
-/// Writes the leaves of a document, each as an object with an id and a revision.
+/// Writes each leaf of a document as an object with the document's id and a revision.
 fn put_leaves(writer: &mut Writer, id: &str, revs: &[String]) -> Result<(), AllocError>
     ensures before { OnOk result (writer.new.before ≡ writer.old.before) }
     ensures tokens { OnOk result (writer.new.tokens ≡ writer.old.tokens ++ leaves_tokens id.now (texts_of revs.now)) }
@@ -78,7 +78,7 @@ fn put_leaves(writer: &mut Writer, id: &str, revs: &[String]) -> Result<(), Allo
     Ok(())
 }
 
-/// Writes the leaves of documents, each as an object with an id and a revision.
+/// Writes each leaf of the given documents as an object with a document id and a revision.
 fn put_all_leaves(writer: &mut Writer, docs: &[DocLeaves]) -> Result<(), AllocError>
     ensures before { OnOk result (writer.new.before ≡ writer.old.before) }
     ensures tokens { OnOk result (writer.new.tokens ≡ writer.old.tokens ++ all_leaves_tokens (docs_view docs.now)) }
@@ -89,7 +89,7 @@ fn put_all_leaves(writer: &mut Writer, docs: &[DocLeaves]) -> Result<(), AllocEr
     Ok(())
 }
 
-/// Returns the body that requests these leaves.
+/// Returns the body of the request that copies the given leaves from the source to the target.
 pub(crate) fn carry_body(alloc: Global, docs: &[DocLeaves]) -> Result<Vec<u8>, AllocError>
     ensures { IfOk result (λ text. text.items ≡ print (carry_tokens (docs_view docs.now))) }
 {

@@ -1,4 +1,4 @@
-//! The names and the texts of faults.
+//! The names and the descriptions of faults.
 ghost use Rattle.std.specs.Prelude.{◌≡◌, IfOk, option_map, string_bytes};
 ghost use Rattle.relay_core.specs.Views.{fault_view};
 ghost use Rattle.relay_requests.specs.Words.{fault_name, fault_text, missing_text, row_error_text};
@@ -7,7 +7,7 @@ use crate::words::{expected_text, operation_text, quoted, side_text};
 use relay_core::{Fault, Unaccounted};
 use std::alloc::{AllocError, Global};
 
-/// Returns the name of a fault.
+/// Returns the name of a fault, as the relay prints it.
 pub(crate) fn fault_name(fault: &Fault) -> &'static str
     ensures { result.now ≡ fault_name (fault_view fault.now) }
 {
@@ -25,7 +25,7 @@ pub(crate) fn fault_name(fault: &Fault) -> &'static str
     }
 }
 
-/// Returns the error of a row, if there is one.
+/// Returns the description of the error of a `_bulk_docs` row, or of a missing row.
 fn row_error_text(alloc: Global, error: &Option<(String, String)>) -> Result<String, AllocError>
     ensures { IfOk result (λ s. string_bytes s
         ≡ row_error_text (option_map (λ e. (string_bytes e.0, string_bytes e.1)) error.now)) }
@@ -40,7 +40,7 @@ fn row_error_text(alloc: Global, error: &Option<(String, String)>) -> Result<Str
     }
 }
 
-/// Returns the sentence that a leaf is missing on the target.
+/// Returns the sentence that says which leaf is missing on the target, and how many leaves are missing.
 fn missing_text(
     alloc: Global,
     id: &str,
@@ -55,7 +55,7 @@ fn missing_text(
     )
 }
 
-/// Returns the description of the leaves that are missing on the target.
+/// Returns the description of the fault that leaves are missing on the target.
 fn unaccounted_text(alloc: Global, leaf: &Unaccounted) -> Result<String, AllocError>
     ensures { IfOk result (λ s. string_bytes s ≡ fault_text (fault_view (Fault.Unaccounted leaf.now))) }
 {
@@ -70,7 +70,7 @@ fn unaccounted_text(alloc: Global, leaf: &Unaccounted) -> Result<String, AllocEr
     )
 }
 
-/// Returns the description of a fault.
+/// Returns the description of a fault for the user.
 pub(crate) fn fault_text(alloc: Global, fault: &Fault) -> Result<String, AllocError>
     ensures { IfOk result (λ s. string_bytes s ≡ fault_text (fault_view fault.now)) }
 {

@@ -1,4 +1,4 @@
-//! The text of a replication log.
+//! The JSON text of a replication log.
 ghost use Rattle.std.specs.Prelude.{List, length, nat_lt, ◌≡◌, ◌++◌, ◌∷◌, [], IfOk, OnOk, count_by, decimal, option_map, string_bytes};
 ghost use Rattle.std.specs.List.{list_any};
 ghost use Rattle.json.specs.Token.{key, string, number};
@@ -12,7 +12,7 @@ use json::Writer;
 use relay_core::{Checkpoint, Counts, LogEntry, ReplicationLog};
 use std::alloc::{AllocError, Global};
 
-/// Writes a member that is a number.
+/// Writes an object's member whose value is a number.
 fn put_count(writer: &mut Writer, name: &str, count: u64) -> Result<(), AllocError>
     ensures before { OnOk result (writer.new.before ≡ writer.old.before) }
     ensures tokens { OnOk result (writer.new.tokens ≡ writer.old.tokens ++ key name.now ∷ number (decimal count) ∷ []) }
@@ -22,7 +22,7 @@ fn put_count(writer: &mut Writer, name: &str, count: u64) -> Result<(), AllocErr
     Ok(())
 }
 
-/// Writes the counts of a run.
+/// Writes the counts of a run as members of an object.
 pub(crate) fn put_counts(writer: &mut Writer, counts: &Counts) -> Result<(), AllocError>
     ensures before { OnOk result (writer.new.before ≡ writer.old.before) }
     ensures tokens { OnOk result (writer.new.tokens ≡ writer.old.tokens ++ counts_tokens counts.now) }
@@ -35,7 +35,7 @@ pub(crate) fn put_counts(writer: &mut Writer, counts: &Counts) -> Result<(), All
     Ok(())
 }
 
-/// Writes a member that is a string.
+/// Writes an object's member whose value is a string.
 fn put_member(writer: &mut Writer, name: &str, text: &str) -> Result<(), AllocError>
     ensures before { OnOk result (writer.new.before ≡ writer.old.before) }
     ensures tokens { OnOk result (writer.new.tokens ≡ writer.old.tokens ++ key name.now ∷ string text.now ∷ []) }
@@ -45,7 +45,7 @@ fn put_member(writer: &mut Writer, name: &str, text: &str) -> Result<(), AllocEr
     Ok(())
 }
 
-/// Writes the entry of a session that records a checkpoint.
+/// Writes the log entry in which a session records a checkpoint.
 fn put_entry(
     writer: &mut Writer,
     session_id: &str,
@@ -67,7 +67,7 @@ fn put_entry(
     Ok(())
 }
 
-/// Writes the revision of a log, if it has one.
+/// Writes the member `_rev` of a log, if the log has a revision.
 fn put_rev(writer: &mut Writer, rev: &Option<String>) -> Result<(), AllocError>
     ensures before { OnOk result (writer.new.before ≡ writer.old.before) }
     ensures tokens { OnOk result (writer.new.tokens
@@ -79,7 +79,7 @@ fn put_rev(writer: &mut Writer, rev: &Option<String>) -> Result<(), AllocError>
     }
 }
 
-/// Writes a session, a sequence, and the version of the log's format.
+/// Writes the members for a session, its recorded sequence, and the version of the log's format.
 pub(crate) fn put_position(
     writer: &mut Writer,
     session_id: &str,
@@ -94,7 +94,7 @@ pub(crate) fn put_position(
     Ok(())
 }
 
-/// Writes the text of a log before the first entry of its history.
+/// Writes the start of a log, which ends before the first entry of the log's history.
 fn put_head(
     writer: &mut Writer,
     rev: &Option<String>,
@@ -113,7 +113,7 @@ fn put_head(
     Ok(())
 }
 
-/// Returns the text of a log before the first entry of its history.
+/// Returns the JSON text of a log up to the first entry of its history.
 fn log_head(
     alloc: Global,
     rev: &Option<String>,
@@ -128,21 +128,21 @@ fn log_head(
     Ok(writer.into_inner())
 }
 
-/// A session, and a sequence that the session has recorded.
+/// A session id, with a sequence that the session has recorded.
 #[derive(Clone, Copy, Drop)]
 pub(crate) struct Recorded<'a> {
     pub(crate) session_id: &'a str,
     pub(crate) seq: &'a str,
 }
 
-/// Returns the number of entries of a session.
+/// Returns the number of kept entries that belong to a session.
 fn count_of_session(kept: &[Recorded<'_>], session_id: &str) -> usize
     ensures { result ≡ count_by (is_of_session session_id.now) (kept_view kept.now) }
 {
     kept.iter().filter(|r| r.session_id == session_id).count()
 }
 
-/// Returns whether one of the entries has this session and this sequence.
+/// Whether the kept entries include one with the given session and recorded sequence.
 fn has_entry(kept: &[Recorded<'_>], session_id: &str, seq: &str) -> bool
     ensures { result ≡ list_any (λ r. is_recorded session_id.now seq.now (recorded_view r)) kept.now }
 {
@@ -150,28 +150,28 @@ fn has_entry(kept: &[Recorded<'_>], session_id: &str, seq: &str) -> bool
         .any(|r| r.session_id == session_id && r.seq == seq)
 }
 
-/// Returns whether a session has recorded a sequence.
+/// Whether the kept entries say that a session has recorded a sequence.
 fn is_recorded(kept: &[Recorded<'_>], session_id: &str, seq: &str) -> bool
     ensures { result ≡ list_any (is_recorded session_id.now seq.now) (kept_view kept.now) }
 {
     has_entry(kept, session_id, seq)
 }
 
-/// Returns whether there is space for an entry.
+/// Whether a log that keeps the given entries may keep one more (the maximum is 50).
 fn has_space(kept: &[Recorded<'_>]) -> bool
     ensures { result ≡ nat_lt (length (kept_view kept.now)) 50 }
 {
     kept.len() < 50
 }
 
-/// Returns whether there is space for an entry of a session.
+/// Whether a log that keeps the given entries may keep one more of a session (the maximum is 2).
 fn has_space_for(kept: &[Recorded<'_>], session_id: &str) -> bool
     ensures { result ≡ nat_lt (count_by (is_of_session session_id.now) (kept_view kept.now)) 2 }
 {
     count_of_session(kept, session_id) < 2
 }
 
-/// Returns whether an entry is kept if these are kept already.
+/// Whether a log keeps an older entry if it already keeps the given ones.
 fn may_keep(kept: &[Recorded<'_>], entry: &LogEntry) -> bool
     ensures { result ≡ may_keep (kept_view kept.now) (entry_view entry.now) }
 {
@@ -181,7 +181,7 @@ fn may_keep(kept: &[Recorded<'_>], entry: &LogEntry) -> bool
         && !is_recorded(kept, session_id, entry.recorded_seq.as_str())
 }
 
-/// Writes an older entry after a comma, if it is kept.
+/// Writes a comma and an older entry, if the log keeps the entry.
 fn put_if_kept<'a>(
     out: &mut Vec<u8>,
     kept: &mut Vec<Recorded<'a>>,
@@ -203,7 +203,7 @@ fn put_if_kept<'a>(
     Ok(())
 }
 
-/// Writes the older entries that are kept, each after a comma.
+/// Writes those older entries that the log keeps, each after a comma.
 fn put_older(
     alloc: Global,
     out: &mut Vec<u8>,
@@ -222,7 +222,7 @@ fn put_older(
     Ok(())
 }
 
-/// Returns the text of the log that a server last returned, with a new entry before its history.
+/// Returns the JSON text of the log that a server last returned, with a new entry before its history.
 pub(crate) fn log_body(
     alloc: Global,
     session_id: &str,

@@ -1,4 +1,4 @@
-//! The notices and the end of a run.
+//! The notices of a run, and the report at its end.
 ghost use Rattle.std.specs.Prelude.{◌≡◌, ◌++◌, IfOk, OnOk, option_map, string_bytes};
 ghost use Rattle.json.specs.Print.{print};
 ghost use Rattle.relay_core.specs.Views.{fault_view, notice_view};
@@ -13,7 +13,7 @@ use json::Writer;
 use relay_core::{Counts, Fault, Notice, RefusedLeaf};
 use std::alloc::{AllocError, Global};
 
-/// Returns the kind of a notice.
+/// Returns the kind of a notice, as the relay prints it.
 pub(crate) fn notice_kind(notice: &Notice) -> &'static str
     ensures { result.now ≡ notice_kind (notice_view notice.now) }
 {
@@ -24,7 +24,7 @@ pub(crate) fn notice_kind(notice: &Notice) -> &'static str
     }
 }
 
-/// Returns the number of documents to come, if it is known.
+/// Returns the part of a progress line that gives the number of remaining documents, if the number is known.
 fn pending_text(alloc: Global, pending: &Option<String>) -> Result<String, AllocError>
     ensures { IfOk result (λ s. string_bytes s ≡ pending_text (option_map string_bytes pending.now)) }
 {
@@ -37,7 +37,7 @@ fn pending_text(alloc: Global, pending: &Option<String>) -> Result<String, Alloc
     }
 }
 
-/// Returns the line that names a refused leaf.
+/// Returns the line of the notice about a refused leaf.
 fn refused_text(alloc: Global, leaf: &RefusedLeaf) -> Result<String, AllocError>
     ensures { IfOk result (λ s. string_bytes s ≡ notice_text (notice_view (Notice.Refused leaf.now))) }
 {
@@ -48,7 +48,7 @@ fn refused_text(alloc: Global, leaf: &RefusedLeaf) -> Result<String, AllocError>
     format!(in alloc; "refused {id} {rev} {error} {reason}")
 }
 
-/// Returns the line that reports the counts so far.
+/// Returns the line of the notice that reports the counts so far.
 fn progress_text(
     alloc: Global,
     counts: &Counts,
@@ -64,7 +64,7 @@ fn progress_text(
     format!(in alloc; "{seen} leaves seen, {written} written, {refused} refused{pending}")
 }
 
-/// Returns the line of a notice.
+/// Returns the line that the relay prints for a notice.
 pub(crate) fn notice_text(alloc: Global, notice: &Notice) -> Result<String, AllocError>
     ensures { IfOk result (λ s. string_bytes s ≡ notice_text (notice_view notice.now)) }
 {
@@ -78,7 +78,7 @@ pub(crate) fn notice_text(alloc: Global, notice: &Notice) -> Result<String, Allo
     }
 }
 
-/// Returns the exit status of a run.
+/// Returns the exit status of a run, as a string.
 pub(crate) fn exit_status(fault: Option<&Fault>, counts: &Counts) -> &'static str
     ensures { result.now ≡ exit_status (option_map (λ f. fault_view f.now) fault.entry) counts.now }
 {
@@ -91,7 +91,7 @@ pub(crate) fn exit_status(fault: Option<&Fault>, counts: &Counts) -> &'static st
     }
 }
 
-/// Writes whether a run succeeded.
+/// Writes the member `ok` of a run's report, and the members for the fault if there is one.
 fn put_ok(alloc: Global, writer: &mut Writer, fault: Option<&Fault>) -> Result<(), AllocError>
     ensures before { OnOk result (writer.new.before ≡ writer.old.before) }
     ensures tokens { OnOk result (writer.new.tokens
@@ -115,7 +115,7 @@ fn put_ok(alloc: Global, writer: &mut Writer, fault: Option<&Fault>) -> Result<(
     }
 }
 
-/// Writes the report at the end of a run.
+/// Writes the members of the report at the end of a run.
 fn put_done(
     alloc: Global,
     writer: &mut Writer,
@@ -136,7 +136,7 @@ fn put_done(
     Ok(())
 }
 
-/// Returns the report at the end of a run.
+/// Returns the JSON text of the report at the end of a run.
 pub(crate) fn done_body(
     alloc: Global,
     session_id: &str,

@@ -1,27 +1,27 @@
-//! The options of all requests of a run.
+//! The options that the requests of a run depend on.
 ghost use Rattle.std.specs.Prelude.{◌≡◌, IfOk, string_bytes};
 ghost use Rattle.relay_requests.specs.Logs.{log_path as log_path_of};
 
 use md5::{Digest, Md5};
 use std::alloc::{AllocError, Global};
 
-/// The options of all requests of a run. An empty text means that the option is absent.
+/// The options that the requests of a run depend on. An empty string means that the option is absent.
 #[derive(Drop)]
 pub struct RequestOptions {
     /// The path of both replication logs.
     pub log_path: String,
     pub session_id: String,
-    /// The largest number of changes in a page.
+    /// The largest number of changes in a page of the feed.
     pub batch: u64,
-    /// The name of a filter.
+    /// The name of a filter for the changes feed.
     pub filter: String,
-    /// Further parameters of the feed, already encoded.
+    /// Further parameters of the request for changes, percent-encoded by the caller.
     pub query: String,
-    /// The body of the request for changes, on one line: a selection of documents.
+    /// The body of the request for changes, a selection of documents on one line.
     pub choice: String,
 }
 
-/// Returns the path of both replication logs.
+/// Returns the path of both replication logs, which depends on source, target and selection.
 pub fn log_path(
     alloc: Global,
     source: &str,

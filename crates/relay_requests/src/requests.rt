@@ -1,4 +1,4 @@
-//! Requests.
+//! The text of each kind of request.
 ghost use Rattle.std.specs.Prelude.{◌≡◌, ◌++◌, IfOk, codes, string_bytes};
 ghost use Rattle.relay_core.specs.Views.{request_view};
 ghost use Rattle.relay_core.specs.Messages.{get_changes};
@@ -14,7 +14,7 @@ use percent_encoding::{AsciiSet, NON_ALPHANUMERIC, ascii_set, percent_encode};
 use relay_core::{Counts, Fault, Request, Side};
 use std::alloc::{AllocError, Global};
 
-/// The ASCII characters that are percent-encoded.
+/// The ASCII characters that a parameter has percent-encoded.
 pub(crate) const RESERVED: AsciiSet = ascii_set!(
     NON_ALPHANUMERIC
         .remove(b'-')
@@ -23,7 +23,7 @@ pub(crate) const RESERVED: AsciiSet = ascii_set!(
         .remove(b'~')
 );
 
-/// Returns the percent-encoded text.
+/// Returns the percent-encoded form of a string.
 fn encoded(alloc: Global, text: &str) -> Result<String, AllocError>
     ensures { IfOk result (λ s. string_bytes s ≡ encoded text.now) }
 {
@@ -32,7 +32,7 @@ fn encoded(alloc: Global, text: &str) -> Result<String, AllocError>
     Ok(out)
 }
 
-/// Returns the parameters of a longpoll request.
+/// Returns the parameters of a longpoll request, or nothing without a timeout.
 fn wait_text(alloc: Global, wait: Option<u32>) -> Result<String, AllocError>
     ensures { IfOk result (λ s. string_bytes s ≡ wait_text wait) }
 {
@@ -42,7 +42,7 @@ fn wait_text(alloc: Global, wait: Option<u32>) -> Result<String, AllocError>
     }
 }
 
-/// Returns the parameter that names a filter.
+/// Returns the parameter that names the filter of a changes feed.
 fn filter_text(alloc: Global, filter: &str) -> Result<String, AllocError>
     ensures { IfOk result (λ s. string_bytes s ≡ filter_text filter.now) }
 {
@@ -53,7 +53,7 @@ fn filter_text(alloc: Global, filter: &str) -> Result<String, AllocError>
     format!(in alloc; "&filter={filter}")
 }
 
-/// Returns further parameters.
+/// Returns the part of a path for the further parameters of the request for changes.
 fn query_text(alloc: Global, query: &str) -> Result<String, AllocError>
     ensures { IfOk result (λ s. string_bytes s ≡ query_text query.now) }
 {
@@ -63,14 +63,14 @@ fn query_text(alloc: Global, query: &str) -> Result<String, AllocError>
     format!(in alloc; "&{query}")
 }
 
-/// Returns the method of the request for changes.
+/// Returns the HTTP method of the request for changes.
 fn changes_method(choice: &str) -> &'static str
     ensures { result.now ≡ changes_method choice.now }
 {
     if choice.is_empty() { "GET" } else { "POST" }
 }
 
-/// Returns a path with these parameters.
+/// Returns the path of `_changes` with the given parameters.
 fn path_with(
     alloc: Global,
     batch: u64,
@@ -109,7 +109,7 @@ fn changes_path(
     )
 }
 
-/// Returns a head and a body, each with a line feed.
+/// Returns a head and a body, each followed by a line feed.
 fn two_lines(mut head: Vec<u8>, body: &[u8]) -> Result<Vec<u8>, AllocError>
     ensures { IfOk result (λ text. text.items ≡ two_lines head.items body.now) }
 {
@@ -119,7 +119,7 @@ fn two_lines(mut head: Vec<u8>, body: &[u8]) -> Result<Vec<u8>, AllocError>
     Ok(head)
 }
 
-/// Returns the head of a request to a server for its replication log.
+/// Returns the head of a request that reads or stores a server's replication log.
 fn log_head(alloc: Global, path: &str, side: Side, method: &str) -> Result<String, AllocError>
     ensures { IfOk result (λ s. string_bytes s ≡ side_text side ++ codes " " ++ method.now ++ codes " " ++ path.now) }
 {
@@ -127,7 +127,7 @@ fn log_head(alloc: Global, path: &str, side: Side, method: &str) -> Result<Strin
     format!(in alloc; "{side} {method} {path}")
 }
 
-/// Returns a request to a server for its replication log.
+/// Returns a request that reads or stores a server's replication log.
 fn log_request(
     alloc: Global,
     options: &RequestOptions,
@@ -142,7 +142,7 @@ fn log_request(
     two_lines(head.into_bytes(), body)
 }
 
-/// Returns the request for changes.
+/// Returns the text of the request for changes.
 fn changes_request(
     alloc: Global,
     options: &RequestOptions,
@@ -157,7 +157,7 @@ fn changes_request(
     two_lines(head.into_bytes(), options.choice.as_bytes())
 }
 
-/// Returns the text of a request.
+/// Returns the text of a request, which is a head line and a body line.
 pub fn write_request(
     alloc: Global,
     options: &RequestOptions,

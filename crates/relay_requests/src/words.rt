@@ -1,4 +1,4 @@
-//! The words of requests.
+//! The names that requests and descriptions of faults use.
 ghost use Rattle.std.specs.Prelude.{◌≡◌, IfOk, string_bytes};
 ghost use Rattle.relay_requests.specs.Words.{side_text, operation_text, expected_text, quoted};
 
@@ -16,7 +16,7 @@ pub(crate) fn side_text(side: Side) -> &'static str
     }
 }
 
-/// Returns the name of a kind of request.
+/// Returns the name of a kind of request, as descriptions of faults print it.
 pub(crate) fn operation_text(operation: Operation) -> &'static str
     ensures { result.now ≡ operation_text operation }
 {
@@ -29,7 +29,7 @@ pub(crate) fn operation_text(operation: Operation) -> &'static str
     }
 }
 
-/// Returns the form that a response must have.
+/// Returns the name of the form that a response to a kind of request must have.
 pub(crate) fn expected_text(operation: Operation) -> &'static str
     ensures { result.now ≡ expected_text operation }
 {
@@ -42,7 +42,7 @@ pub(crate) fn expected_text(operation: Operation) -> &'static str
     }
 }
 
-/// Returns a text as a JSON string.
+/// Returns the JSON string of a text, in quotation marks.
 pub(crate) fn quoted(alloc: Global, text: &str) -> Result<String, AllocError>
     ensures { IfOk result (λ s. string_bytes s ≡ quoted text.now) }
 {

@@ -13,10 +13,10 @@ use json::Value;
 use relay_core::{DocLeaves, missing_of, name_all};
 use std::alloc::{AllocError, Global};
 
-/// The members of an object, by name.
+/// The values of an object's members, by member name.
 type Members<'v, 'a> = IndexMap<&'a str, &'v Value<'a>>;
 
-/// Returns the members of an object, each name once: its last member counts.
+/// Returns the members of an object, each name once, with the value of the last member of that name.
 fn last_members<'v, 'a>(
     alloc: Global,
     members: &'v Vec<(&'a str, Value<'a>)>,
@@ -30,7 +30,7 @@ fn last_members<'v, 'a>(
     Ok(found)
 }
 
-/// Returns the strings of a list, if each item is a string.
+/// Returns the strings of a list, or `None` if an item is not a string.
 fn strings_of(alloc: Global, items: &Vec<Value<'_>>) -> Result<Option<Vec<String>>, AllocError>
     ensures { IfOk result (λ o. option_map (λ v. texts_of v.items) o ≡ each_item as_str (items_view items.now.items)) }
 {
@@ -44,7 +44,7 @@ fn strings_of(alloc: Global, items: &Vec<Value<'_>>) -> Result<Option<Vec<String
     Ok(Some(strings))
 }
 
-/// Returns the missing leaves of a document, if the value names them.
+/// Returns the missing leaves of a document, or `None` if the value does not list leaves.
 fn missing_at(alloc: Global, id: &str, value: &Value<'_>) -> Result<Option<DocLeaves>, AllocError>
     ensures { IfOk result (λ o. option_map doc_view o ≡ missing_at (id.now, value_view value.now)) }
 {
@@ -58,7 +58,7 @@ fn missing_at(alloc: Global, id: &str, value: &Value<'_>) -> Result<Option<DocLe
     Ok(Some(DocLeaves { id, revs }))
 }
 
-/// Returns the missing leaves that members name, if each of them names leaves.
+/// Returns the missing leaves that the members name, or `None` if a member does not list leaves.
 fn each_missing(
     alloc: Global,
     members: &Members<'_, '_>,
@@ -78,7 +78,7 @@ fn each_missing(
     Ok(Some(docs))
 }
 
-/// Returns the requested leaves that a response names as missing, if the response names no other leaf.
+/// Returns the requested leaves that a response names as missing, or `None` if the response names any other leaf.
 fn only_named(
     alloc: Global,
     docs: &[DocLeaves],
@@ -93,8 +93,8 @@ fn only_named(
     Ok(Some(missing))
 }
 
-/// Returns the missing leaves that a value names, in the order of the request. Returns `None` if the value names a leaf
-/// that was not requested.
+/// Returns the leaves that a response to `_revs_diff` names as missing, in the order of the request. Returns `None` if
+/// the response names a leaf that was not requested.
 pub(crate) fn diff_of(
     alloc: Global,
     docs: &[DocLeaves],

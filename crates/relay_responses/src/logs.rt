@@ -1,4 +1,4 @@
-//! Replication logs.
+//! Parses the replication logs in responses.
 ghost use Rattle.std.specs.Prelude.{◌≡◌, IfOk, codes, option_map, string_bytes};
 ghost use Rattle.json.specs.Find.{get};
 ghost use Rattle.json.specs.Print.{print};
@@ -13,7 +13,7 @@ use json::{Value, to_vec};
 use relay_core::{LogEntry, ReplicationLog};
 use std::alloc::{AllocError, Global};
 
-/// Returns the JSON text of a value.
+/// Returns the compact JSON text of a value.
 fn json_of(alloc: Global, value: &Value<'_>) -> Result<String, AllocError>
     requires { HasNumbers (value_view value.now) }
     ensures { IfOk result (λ s. string_bytes s ≡ print (json_tokens (value_view value.now))) }
@@ -24,7 +24,7 @@ fn json_of(alloc: Global, value: &Value<'_>) -> Result<String, AllocError>
     }
 }
 
-/// Returns an entry of a history, if it has a session and a sequence.
+/// Returns an entry of a log's history, or `None` if the value lacks a session id or a recorded sequence.
 fn entry_of(alloc: Global, value: &Value<'_>) -> Result<Option<LogEntry>, AllocError>
     requires { HasNumbers (value_view value.now) }
     ensures { IfOk result (λ o. option_map entry_view o ≡ entry_in (value_view value.now)) }
@@ -45,7 +45,7 @@ fn entry_of(alloc: Global, value: &Value<'_>) -> Result<Option<LogEntry>, AllocE
     }))
 }
 
-/// Returns the entries of a list.
+/// Returns the log entries in a JSON list.
 fn entries_of(alloc: Global, items: &[Value<'_>]) -> Result<Vec<LogEntry>, AllocError>
     requires { ItemsHaveNumbers (items_view items.now) }
     ensures { IfOk result (λ v. entries_view v.items ≡ some_items entry_in (items_view items.now)) }
@@ -59,7 +59,7 @@ fn entries_of(alloc: Global, items: &[Value<'_>]) -> Result<Vec<LogEntry>, Alloc
     Ok(entries)
 }
 
-/// Returns the entries of a history, if the value is a list.
+/// Returns the log entries of a history, or `None` if the value is not a list.
 fn history_in(alloc: Global, value: &Value<'_>) -> Result<Option<Vec<LogEntry>>, AllocError>
     requires { HasNumbers (value_view value.now) }
     ensures { IfOk result (λ o. option_map (λ v. entries_view v.items) o ≡ history_of (Some (value_view value.now))) }
@@ -73,7 +73,7 @@ fn history_in(alloc: Global, value: &Value<'_>) -> Result<Option<Vec<LogEntry>>,
     }
 }
 
-/// Returns the history of a log, which is empty if the member is missing.
+/// Returns the history of a log, which is empty if the log lacks the member `history`.
 fn history_of(alloc: Global, value: &Value<'_>) -> Result<Option<Vec<LogEntry>>, AllocError>
     requires { HasNumbers (value_view value.now) }
     ensures { IfOk result (λ o. option_map (λ v. entries_view v.items) o
@@ -85,7 +85,7 @@ fn history_of(alloc: Global, value: &Value<'_>) -> Result<Option<Vec<LogEntry>>,
     }
 }
 
-/// Returns the log of a JSON value.
+/// Returns the replication log that a JSON value describes.
 pub(crate) fn log_of(alloc: Global, value: &Value<'_>) -> Result<Option<ReplicationLog>, AllocError>
     requires { HasNumbers (value_view value.now) }
     ensures { IfOk result (λ o. option_map log_view o ≡ log_in (value_view value.now)) }
@@ -103,7 +103,7 @@ pub(crate) fn log_of(alloc: Global, value: &Value<'_>) -> Result<Option<Replicat
     }))
 }
 
-/// Returns whether a server says that a log is stored.
+/// Whether a response says that the server stored a log.
 pub(crate) fn is_stored(value: &Value<'_>) -> bool
     ensures { result ≡ is_stored (value_view value.now) }
 {

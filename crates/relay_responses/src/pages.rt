@@ -1,4 +1,4 @@
-//! Pages of changes.
+//! Parses the pages of changes in responses.
 ghost use Rattle.std.specs.Prelude.{◌≡◌, IfOk, OnOk, codes, map, option_map, string_bytes, filter};
 ghost use Rattle.json.specs.Value.{value_view, items_view};
 ghost use Rattle.json.specs.Find.{get};
@@ -14,17 +14,18 @@ use json::Value;
 use relay_core::{ChangesPage, DocLeaves};
 use std::alloc::{AllocError, Global};
 
-/// The leaves of documents, by id.
+/// The leaf revisions of documents, by document id.
 type Docs<'a> = IndexMap<&'a str, IndexSet<&'a str>>;
 
-/// Returns whether no byte is a control character of ASCII.
+/// Whether no byte is an ASCII control character.
 fn are_plain(bytes: &[u8]) -> bool
     ensures { result ≡ list_all is_plain_byte bytes.now }
 {
     bytes.iter().all(|b| *b >= 32 && *b != 127)
 }
 
-/// Returns a text if it has no control character. A line that contains such a text is one line.
+/// Returns a string, or `None` if it has an ASCII control character. A string without control characters does not break
+/// the line that contains it.
 fn plain<'a>(text: &'a str) -> Option<&'a str>
     ensures { option_map (λ s. s.now) result ≡ plain text.now }
 {
@@ -35,7 +36,7 @@ fn plain<'a>(text: &'a str) -> Option<&'a str>
     }
 }
 
-/// Returns the revision of a change.
+/// Returns the revision of an item in a row's list of changes.
 fn rev_of<'v, 'a>(change: &'v Value<'a>) -> Option<&'a str>
     ensures { option_map (λ s. s.now) result ≡ rev_in (value_view change.now) }
 {
@@ -45,7 +46,7 @@ fn rev_of<'v, 'a>(change: &'v Value<'a>) -> Option<&'a str>
     }
 }
 
-/// Returns the revisions of a list of changes.
+/// Returns the revisions of a row's list of changes.
 fn revs_of(alloc: Global, changes: &Vec<Value<'_>>) -> Result<Option<Vec<String>>, AllocError>
     ensures { IfOk result (λ o. option_map (λ v. texts_of v.items) o
         ≡ each_item rev_in (items_view changes.now.items)) }
@@ -60,7 +61,7 @@ fn revs_of(alloc: Global, changes: &Vec<Value<'_>>) -> Result<Option<Vec<String>
     Ok(Some(revs))
 }
 
-/// Returns a row of changes.
+/// Returns the document id and the leaf revisions of a row of changes.
 fn row_of(alloc: Global, row: &Value<'_>) -> Result<Option<DocLeaves>, AllocError>
     ensures { IfOk result (λ o. option_map doc_view o ≡ row_in (value_view row.now)) }
 {
@@ -80,7 +81,7 @@ fn row_of(alloc: Global, row: &Value<'_>) -> Result<Option<DocLeaves>, AllocErro
     Ok(Some(DocLeaves { id, revs }))
 }
 
-/// Returns the rows of a page.
+/// Returns the rows of a page of changes.
 fn rows_of(alloc: Global, items: &Vec<Value<'_>>) -> Result<Option<Vec<DocLeaves>>, AllocError>
     ensures { IfOk result (λ o. option_map (λ v. docs_view v.items) o ≡ each_item row_in (items_view items.now.items)) }
 {
@@ -94,7 +95,7 @@ fn rows_of(alloc: Global, items: &Vec<Value<'_>>) -> Result<Option<Vec<DocLeaves
     Ok(Some(rows))
 }
 
-/// Adds the revisions that are new.
+/// Adds to a set those revisions that it does not have.
 fn add_revs<'a>(known: &mut IndexSet<&'a str>, revs: &'a [String]) -> Result<(), AllocError>
     ensures { OnOk result (texts_in known.new.keys ≡ add_revs (texts_in known.old.keys) (texts_of revs.now)) }
 {
@@ -104,7 +105,7 @@ fn add_revs<'a>(known: &mut IndexSet<&'a str>, revs: &'a [String]) -> Result<(),
     Ok(())
 }
 
-/// Returns a set, or an empty set if there is none.
+/// Returns the given set, or an empty set if no set is given.
 fn known_or_empty<'a>(alloc: Global, known: Option<IndexSet<&'a str>>) -> IndexSet<&'a str>
     ensures { texts_in result.keys ≡ texts_or_none known.entry }
 {
@@ -114,7 +115,7 @@ fn known_or_empty<'a>(alloc: Global, known: Option<IndexSet<&'a str>>) -> IndexS
     }
 }
 
-/// Adds the leaves of a row.
+/// Adds the leaves of a row to those of its document.
 fn add_row<'a>(alloc: Global, docs: &mut Docs<'a>, row: &'a DocLeaves) -> Result<(), AllocError>
     ensures { OnOk result (docs_in docs.new.entries ≡ add_row (docs_in docs.old.entries) (doc_view row.now)) }
 {
@@ -125,7 +126,7 @@ fn add_row<'a>(alloc: Global, docs: &mut Docs<'a>, row: &'a DocLeaves) -> Result
     Ok(())
 }
 
-/// Returns copies of revisions.
+/// Returns copies of the given revisions.
 fn copied_revs(alloc: Global, revs: &[&str]) -> Result<Vec<String>, AllocError>
     ensures { IfOk result (λ v. texts_of v.items ≡ texts_in revs.now) }
 {
@@ -136,7 +137,7 @@ fn copied_revs(alloc: Global, revs: &[&str]) -> Result<Vec<String>, AllocError>
     Ok(copies)
 }
 
-/// Returns a document with its leaves.
+/// Returns a copy of a document id with its leaf revisions.
 fn copied_doc(alloc: Global, id: &str, revs: &IndexSet<&str>) -> Result<DocLeaves, AllocError>
     ensures { IfOk result (λ d. doc_view d ≡ (id.now, texts_in revs.now.keys)) }
 {
@@ -145,7 +146,7 @@ fn copied_doc(alloc: Global, id: &str, revs: &IndexSet<&str>) -> Result<DocLeave
     Ok(DocLeaves { id, revs })
 }
 
-/// Returns documents with their leaves.
+/// Returns copies of document ids with their leaf revisions.
 fn copied_docs(alloc: Global, docs: &Docs<'_>) -> Result<Vec<DocLeaves>, AllocError>
     ensures { IfOk result (λ v. docs_view v.items ≡ docs_in docs.now.entries) }
 {
@@ -159,7 +160,7 @@ fn copied_docs(alloc: Global, docs: &Docs<'_>) -> Result<Vec<DocLeaves>, AllocEr
     Ok(copies)
 }
 
-/// Returns each document once, with the leaves of all its rows.
+/// Returns each document of the rows once, with the leaves of all its rows.
 fn merged(alloc: Global, rows: &[DocLeaves]) -> Result<Vec<DocLeaves>, AllocError>
     ensures { IfOk result (λ v. docs_view v.items ≡ merged (docs_view rows.now)) }
 {
@@ -170,7 +171,7 @@ fn merged(alloc: Global, rows: &[DocLeaves]) -> Result<Vec<DocLeaves>, AllocErro
     copied_docs(alloc, &docs)
 }
 
-/// Returns the number of documents after a page, if it is given.
+/// Returns the number of documents after a page, if the response gives the number.
 fn pending_of(alloc: Global, value: &Value<'_>) -> Result<Option<Option<String>>, AllocError>
     ensures { IfOk result (λ o. option_map (option_map string_bytes) o
         ≡ pending_of (get (codes "pending") (value_view value.now))) }
@@ -185,7 +186,7 @@ fn pending_of(alloc: Global, value: &Value<'_>) -> Result<Option<Option<String>>
     }
 }
 
-/// Returns whether a number is zero.
+/// Whether a page's number of remaining documents is given and zero.
 fn is_zero(pending: &Option<String>) -> bool
     ensures { result ≡ is_zero (option_map string_bytes pending.now) }
 {
@@ -195,7 +196,7 @@ fn is_zero(pending: &Option<String>) -> bool
     }
 }
 
-/// Returns the page of a JSON value.
+/// Returns the page of changes that a JSON value describes, or `None` if it is not a page.
 pub(crate) fn page_of(alloc: Global, value: &Value<'_>) -> Result<Option<ChangesPage>, AllocError>
     ensures { IfOk result (λ o. option_map page_view o ≡ page_in (value_view value.now)) }
 {

@@ -1,4 +1,4 @@
-//! The JSON of a response.
+//! Parses the JSON text of a response.
 ghost use Rattle.std.specs.Prelude.{◌≡◌, IfOk, IfSome, string_bytes, option_map};
 ghost use Rattle.json.specs.Json.{Json};
 ghost use Rattle.json.specs.Tree.{HasNumbers};
@@ -14,14 +14,14 @@ use relay_core::{Fault, Operation, Side};
 use std::alloc::{AllocError, Global};
 use std::str;
 
-/// The result of parsing a response.
+/// The result of parsing the body of a response.
 #[derive(Drop)]
 pub(crate) enum Parsed<'a> {
     Json(Value<'a>),
     Fault(Fault),
 }
 
-/// Returns the JSON value of a body.
+/// Returns the JSON value of a response's body, or `None` if the body is not exactly one JSON value.
 fn value_of<'a>(
     alloc: Global,
     scratch: &'a mut Scratch,
@@ -40,7 +40,7 @@ fn value_of<'a>(
     }
 }
 
-/// Returns the error and the reason that a server gives.
+/// Returns the error and the reason that a server's response gives, as one string.
 pub(crate) fn words_of(
     alloc: Global,
     scratch: &mut Scratch,
@@ -57,7 +57,7 @@ pub(crate) fn words_of(
     }
 }
 
-/// Returns the JSON of a response of any status.
+/// Returns the JSON value of a response with any status.
 pub(crate) fn parsed_json<'a>(
     alloc: Global,
     scratch: &'a mut Scratch,
@@ -73,14 +73,14 @@ pub(crate) fn parsed_json<'a>(
     }
 }
 
-/// Returns whether a status is one of success.
+/// Whether an HTTP status is 200, 201 or 202.
 fn is_success(status: u16) -> bool
     ensures { result ≡ is_success status }
 {
     status == 200 || status == 201 || status == 202
 }
 
-/// Returns the JSON of a response that succeeded.
+/// Returns the JSON value of a response that has a status of success.
 pub(crate) fn parsed_if_success<'a>(
     alloc: Global,
     scratch: &'a mut Scratch,

@@ -1,4 +1,4 @@
-//! The meaning of responses, which depends on their requests.
+//! Interprets responses by the kinds of their requests.
 ghost use Rattle.std.specs.Prelude.{◌≡◌, IfOk};
 ghost use Rattle.relay_core.specs.declared.messages.Operation.TheVariants.{ReadLog};
 ghost use Rattle.relay_core.specs.Messages.{log_response};
@@ -15,7 +15,7 @@ use json::Scratch;
 use relay_core::{DocLeaves, Fault, Operation, ReplicationLog, Request, Response, Side};
 use std::alloc::{AllocError, Global};
 
-/// Returns the response to a request for a log that does not exist.
+/// Returns the response to a request for a replication log that does not exist.
 fn no_log_response(
     alloc: Global,
     scratch: &mut Scratch,
@@ -32,7 +32,7 @@ fn no_log_response(
     }
 }
 
-/// Returns the response to a request for a log.
+/// Returns the response to a request for a replication log.
 fn log_response(
     alloc: Global,
     scratch: &mut Scratch,
@@ -74,7 +74,7 @@ fn page_response(
     }
 }
 
-/// Returns the response to a request for missing leaves.
+/// Returns the response to a `_revs_diff` request for missing leaves.
 fn diff_response(
     alloc: Global,
     scratch: &mut Scratch,
@@ -94,7 +94,7 @@ fn diff_response(
     }
 }
 
-/// Returns whether a carry of fewer documents may have another status.
+/// Whether a transfer that failed with this status may succeed with fewer documents.
 fn is_rejection(status: u16) -> bool
     ensures { result ≡ is_rejection status }
 {
@@ -103,7 +103,7 @@ fn is_rejection(status: u16) -> bool
         && !(status == 401 || status == 403 || status == 404 || status == 408 || status == 429)
 }
 
-/// Returns the response to a carry.
+/// Returns the response to a transfer of documents.
 fn carry_response(
     alloc: Global,
     scratch: &mut Scratch,
@@ -126,7 +126,7 @@ fn carry_response(
     }
 }
 
-/// Returns the response to a request to store a log.
+/// Returns the response to a request to store a replication log.
 fn put_response(
     alloc: Global,
     scratch: &mut Scratch,
@@ -151,7 +151,7 @@ fn put_response(
     }
 }
 
-/// Returns the server that is named, or the one that was asked.
+/// Returns the server that the response names, or else the server of the request.
 fn side_or(who: Option<Side>, side: Side) -> Side
     ensures { result ≡ side_or who side }
 {
@@ -161,7 +161,7 @@ fn side_or(who: Option<Side>, side: Side) -> Side
     }
 }
 
-/// Returns the response to a request.
+/// Returns the response to a request, as the request's kind interprets the body.
 pub fn read_response(
     alloc: Global,
     scratch: &mut Scratch,

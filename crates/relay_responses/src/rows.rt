@@ -1,4 +1,4 @@
-//! Rows with errors.
+//! Parses the rows of a `_bulk_docs` response that report errors.
 ghost use Rattle.std.specs.Prelude.{◌≡◌, IfOk, codes, option_map, string_bytes};
 ghost use Rattle.json.specs.Value.{value_view, items_view};
 ghost use Rattle.relay_core.specs.Views.{row_error_view, row_errors_view};
@@ -10,7 +10,7 @@ use json::Value;
 use relay_core::RowError;
 use std::alloc::{AllocError, Global};
 
-/// Returns the reason of an error, which may be missing.
+/// Returns the reason of an error, which is empty if the response gives none.
 fn reason_of(alloc: Global, value: &Value<'_>) -> Result<String, AllocError>
     ensures { IfOk result (λ s. string_bytes s ≡ text_or_empty (text_at (codes "reason") (value_view value.now))) }
 {
@@ -20,7 +20,7 @@ fn reason_of(alloc: Global, value: &Value<'_>) -> Result<String, AllocError>
     }
 }
 
-/// Returns the error of a row, if it has one.
+/// Returns the error that a row reports, or `None` if the row reports none.
 fn row_error_of(alloc: Global, value: &Value<'_>) -> Result<Option<RowError>, AllocError>
     ensures { IfOk result (λ o. option_map row_error_view o ≡ row_error_in (value_view value.now)) }
 {
@@ -42,7 +42,7 @@ fn row_error_of(alloc: Global, value: &Value<'_>) -> Result<Option<RowError>, Al
     }))
 }
 
-/// Returns the errors of a list of rows.
+/// Returns the errors that the rows of a list report.
 fn errors_of(alloc: Global, items: &Vec<Value<'_>>) -> Result<Vec<RowError>, AllocError>
     ensures { IfOk result (λ v. row_errors_view v.items ≡ some_items row_error_in (items_view items.now.items)) }
 {
@@ -55,7 +55,7 @@ fn errors_of(alloc: Global, items: &Vec<Value<'_>>) -> Result<Vec<RowError>, All
     Ok(errors)
 }
 
-/// Returns the rows with errors in a JSON list.
+/// Returns the rows that report errors, or `None` if the JSON value is not a list.
 pub(crate) fn row_errors_of(
     alloc: Global,
     value: &Value<'_>,

@@ -1,4 +1,4 @@
-//! The parts of a JSON value.
+//! Finds the parts of a JSON value.
 ghost use Rattle.std.specs.Prelude.{◌≡◌, IfOk, option_map, string_bytes};
 ghost use Rattle.json.specs.Find.{as_array};
 ghost use Rattle.json.specs.Value.{value_view, items_view};
@@ -9,7 +9,7 @@ ghost use Rattle.relay_responses.specs.Read.{text_at, items_at, digits_in, seque
 use json::Value;
 use std::alloc::{AllocError, Global};
 
-/// Returns a member that is a string.
+/// Returns an object's member with the given name, if it is a string.
 pub(crate) fn text_at<'v, 'a>(value: &'v Value<'a>, name: &str) -> Option<&'a str>
     ensures { option_map (λ s. s.now) result ≡ text_at name.now (value_view value.now) }
 {
@@ -19,7 +19,7 @@ pub(crate) fn text_at<'v, 'a>(value: &'v Value<'a>, name: &str) -> Option<&'a st
     }
 }
 
-/// Returns the items of a list.
+/// Returns the items of a JSON value, if it is a list.
 pub(crate) fn items_of<'v, 'a>(value: &'v Value<'a>) -> Option<&'v Vec<Value<'a>>>
     ensures { option_map (λ v. items_view v.now.items) result ≡ as_array (value_view value.now) }
 {
@@ -29,7 +29,7 @@ pub(crate) fn items_of<'v, 'a>(value: &'v Value<'a>) -> Option<&'v Vec<Value<'a>
     }
 }
 
-/// Returns a member that is a list.
+/// Returns an object's member with the given name, if it is a list.
 pub(crate) fn items_at<'v, 'a>(value: &'v Value<'a>, name: &str) -> Option<&'v Vec<Value<'a>>>
     ensures { option_map (λ v. items_view v.now.items) result ≡ items_at name.now (value_view value.now) }
 {
@@ -39,14 +39,14 @@ pub(crate) fn items_at<'v, 'a>(value: &'v Value<'a>, name: &str) -> Option<&'v V
     }
 }
 
-/// Returns whether all bytes are ASCII digits.
+/// Whether all given bytes are ASCII digits.
 fn are_digits(bytes: &[u8]) -> bool
     ensures { result ≡ list_all is_ascii_digit bytes.now }
 {
     bytes.iter().all(|b| b.is_ascii_digit())
 }
 
-/// Returns the text of a number that has no sign, no point and no exponent.
+/// Returns a number's text if it consists of digits, without sign, point and exponent.
 fn digits_of<'a>(text: &'a str) -> Option<&'a str>
     ensures { option_map (λ s. s.now) result ≡ digits_in text.now }
 {
@@ -57,7 +57,7 @@ fn digits_of<'a>(text: &'a str) -> Option<&'a str>
     }
 }
 
-/// Returns the sequence in a value: the content of a string, or the digits of a non-negative integer.
+/// Returns the sequence in a JSON value, which is the content of a string or the digits of a non-negative integer.
 fn sequence_of<'v, 'a>(value: &'v Value<'a>) -> Option<&'a str>
     ensures { option_map (λ s. s.now) result ≡ sequence_in (value_view value.now) }
 {
@@ -68,7 +68,7 @@ fn sequence_of<'v, 'a>(value: &'v Value<'a>) -> Option<&'a str>
     }
 }
 
-/// Returns a member that is a sequence.
+/// Returns an object's member with the given name, if it is a sequence.
 pub(crate) fn sequence_at<'v, 'a>(value: &'v Value<'a>, name: &str) -> Option<&'a str>
     ensures { option_map (λ s. s.now) result ≡ sequence_at name.now (value_view value.now) }
 {
@@ -78,7 +78,7 @@ pub(crate) fn sequence_at<'v, 'a>(value: &'v Value<'a>, name: &str) -> Option<&'
     }
 }
 
-/// Returns a copy of a text that may be missing.
+/// Returns a copy of a string that may be absent.
 pub(crate) fn copied(alloc: Global, text: Option<&str>) -> Result<Option<String>, AllocError>
     ensures { IfOk result (λ o. option_map string_bytes o ≡ option_map (λ s. s.now) text.entry) }
 {
