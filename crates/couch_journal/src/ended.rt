@@ -1,4 +1,4 @@
-//! How a run ended.
+//! The outcome of a run of the program.
 ghost use Rattle.std.specs.Prelude.{◌≡◌};
 ghost use Rattle.script_engine.specs.declared.fault.ScriptFault.TheVariants.{Memory};
 ghost use Rattle.couch_journal.specs.declared.ended.Ended.TheVariants.{Fault};
@@ -7,14 +7,14 @@ use journal_responses::Said;
 use script_engine::ScriptFault;
 use std::alloc::AllocError;
 
-/// How a run ended.
+/// The outcome of a run of the program.
 #[derive(Drop)]
 pub(crate) enum Ended {
-    /// Everything was found.
+    /// The run found everything that its task needs.
     Done,
     /// Something is missing, refused or not found.
     Missing,
-    /// The line of this number, from 1, has another form.
+    /// The input line of this number, from 1, does not have the form that the task reads.
     Wrong(u64),
     /// The journal is damaged after this number of lines.
     Damaged(u64),
@@ -22,9 +22,9 @@ pub(crate) enum Ended {
     NoSums,
     /// The second copy of the journal differs from the first.
     Differs,
-    /// The response is not the requested one.
+    /// The response does not have the form that the task reads.
     Said(Said),
-    /// A device or an allocation failed.
+    /// A device or an allocation failed during the run.
     Fault(ScriptFault),
 }
 
@@ -44,7 +44,7 @@ impl From<AllocError> for Ended {
     }
 }
 
-/// Returns how a run ended by its first wrong line, or `otherwise` if no line is wrong.
+/// Returns the outcome `Wrong` for the first wrong line, or `otherwise` if no line is wrong.
 pub(crate) fn ended_by(wrong: Option<u64>, otherwise: Ended) -> Ended {
     match wrong {
         Some(line) => Ended::Wrong(line),
@@ -52,7 +52,7 @@ pub(crate) fn ended_by(wrong: Option<u64>, otherwise: Ended) -> Ended {
     }
 }
 
-/// Returns how a run ended, by whether something is missing.
+/// Returns the outcome `Missing` if something is missing, otherwise `Done`.
 pub(crate) fn ended_missing(missing: bool) -> Ended {
     if missing { Ended::Missing } else { Ended::Done }
 }

@@ -1,7 +1,7 @@
 //! A program that reads and checks the journals of the jobs, and the responses of CouchDB that the jobs need.
 //!
-//! `journal_core` has the checksums, `journal_lines` the lines,
-//! `journal_tasks` and `journal_responses` the tasks. This crate has the command line, the standard streams and the exit
+//! The crate `journal_core` has the checksums of journals, `journal_lines` their lines, and `journal_tasks` and
+//! `journal_responses` the tasks. The crate `couch_journal` has the command line, the standard streams and the exit
 //! status.
 #![tactic(auto)]
 

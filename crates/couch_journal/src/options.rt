@@ -1,13 +1,13 @@
-//! The command line.
+//! Parses the program's command line.
 use clap::{Arg, ArgAction, ArgMatches, Command, Error};
 use cli_common::{flag, hidden_word, program};
 use std::alloc::{AllocError, Global};
 
-/// The description of the program.
+/// The description of the program in the output of `--help`.
 const ABOUT: &str =
     "Reads and checks journals, and reads the responses of CouchDB that the jobs need.";
 
-/// The description of the tasks for `--help`.
+/// The description of the tasks in the output of `--help`.
 const TASKS_HELP: &str = "Reads standard input and writes standard output.
 
   couch_journal page [--several]
@@ -56,7 +56,7 @@ const TASKS_HELP: &str = "Reads standard input and writes standard output.
 Exit status: 0 success; 1 as above; 2 usage error; 3 the input is damaged or has another form,
 or reading, writing or an allocation failed.";
 
-/// The arguments of a command line.
+/// The arguments and options of a command line.
 #[derive(Drop)]
 pub(crate) struct Options<'a> {
     pub(crate) task: &'a str,
@@ -70,7 +70,7 @@ pub(crate) struct Options<'a> {
     pub(crate) unverified: bool,
 }
 
-/// Returns an option with a text.
+/// Returns the definition of an option that takes a string.
 fn text<'a>(alloc: Global, name: &'a str, value: &'a str, help: &'a str) -> Arg<'a> {
     Arg::new(alloc, name)
         .long(name)
@@ -79,7 +79,7 @@ fn text<'a>(alloc: Global, name: &'a str, value: &'a str, help: &'a str) -> Arg<
         .help(help)
 }
 
-/// Returns the argument that names the task.
+/// Returns the definition of the argument that names the task.
 fn task_word<'a>(alloc: Global) -> Arg<'a> {
     Arg::new(alloc, "task")
         .value_name("TASK")
@@ -88,7 +88,7 @@ fn task_word<'a>(alloc: Global) -> Arg<'a> {
         .help("The task: see below")
 }
 
-/// Returns the command line with its arguments.
+/// Adds the positional arguments to the definition of the command line.
 fn with_arguments<'a>(alloc: Global, command: Command<'a>) -> Result<Command<'a>, AllocError> {
     command
         .arg(task_word(alloc))?
@@ -96,7 +96,7 @@ fn with_arguments<'a>(alloc: Global, command: Command<'a>) -> Result<Command<'a>
         .arg(hidden_word(alloc, "second"))
 }
 
-/// Returns the command line with its options.
+/// Adds the options to the definition of the command line.
 fn with_options<'a>(alloc: Global, command: Command<'a>) -> Result<Command<'a>, AllocError> {
     command
         .arg(text(alloc, "at", "SEQ", "End at this sequence (confirm)"))?
@@ -115,20 +115,20 @@ fn with_options<'a>(alloc: Global, command: Command<'a>) -> Result<Command<'a>, 
         .arg(flag(alloc, "unverified", "Ignore the checksums (states, select)"))
 }
 
-/// Returns the command line.
+/// Returns the definition of the program's command line.
 fn command<'a>(alloc: Global) -> Result<Command<'a>, AllocError> {
     let command = program(alloc, "couch_journal", ABOUT, TASKS_HELP);
     let command = with_arguments(alloc, command)?;
     with_options(alloc, command)
 }
 
-/// Parses the arguments, the program's name first.
+/// Parses the arguments, of which the first is the program's name.
 pub(crate) fn matches_of<'a>(alloc: Global, words: &'a [String]) -> Result<ArgMatches<'a>, Error> {
     let command = command(alloc)?;
     command.try_get_matches_from(words)
 }
 
-/// Returns the arguments that were given.
+/// Returns the arguments and options that a command line gives.
 pub(crate) fn options_of<'m, 'a>(matches: &'m ArgMatches<'a>) -> Options<'m> {
     let task = match matches.get_str("task") {
         Some(task) => task,

@@ -1,4 +1,4 @@
-//! The program: its arguments, standard input and output, and exit status.
+//! The program's arguments, standard input and output, and exit status.
 ghost use Rattle.std.specs.Prelude.{◌≤◌};
 
 use crate::ended::Ended;
@@ -14,8 +14,9 @@ use std::env::Env;
 use std::io;
 use std::io::{Eprint, Input, Print};
 
-/// Runs the program, and returns the exit status. It is 0, or 1 if something is missing, or 2 for a usage error. It is 3 if
-/// the input is damaged or has another form, or if reading, writing or an allocation failed.
+/// Runs the program, and returns its exit status. The exit status is 0 on success, 1 if something is missing, and 2 for
+/// a usage error. The exit status is 3 if the input is damaged or has another form, or if reading, writing or an
+/// allocation failed.
 pub(crate) fn run_program<H: AllocGlobal + Env + Input + Print + Eprint>(rt: &H) -> u8
     ensures { result ≤ 3 }
 {
@@ -25,7 +26,7 @@ pub(crate) fn run_program<H: AllocGlobal + Env + Input + Print + Eprint>(rt: &H)
     }
 }
 
-/// Runs the task of the arguments.
+/// Runs the task that the command line's arguments name.
 fn run_words<H: AllocGlobal + Input + Print + Eprint>(rt: &H, words: &[String]) -> u8
     ensures { result ≤ 3 }
 {
@@ -35,7 +36,7 @@ fn run_words<H: AllocGlobal + Input + Print + Eprint>(rt: &H, words: &[String]) 
     }
 }
 
-/// Runs the task of the options on standard input and output. Output is buffered, and flushed at the end.
+/// Runs the task of a parsed command line on standard input and output. The output is buffered, and flushed at the end.
 fn run_options<H: AllocGlobal + Input + Print + Eprint>(rt: &H, options: &Options<'_>) -> u8
     ensures { result ≤ 3 }
 {
@@ -57,7 +58,8 @@ fn run_options<H: AllocGlobal + Input + Print + Eprint>(rt: &H, options: &Option
     }
 }
 
-/// Returns how a run ended whose last output could not be flushed. An earlier failure stays.
+/// Returns the outcome of a run whose last output could not be flushed. A failure that occurred earlier stays the
+/// outcome.
 fn unflushed(ended: Ended) -> Ended {
     match ended {
         Ended::Done | Ended::Missing => Ended::Fault(ScriptFault::Write),
@@ -65,7 +67,7 @@ fn unflushed(ended: Ended) -> Ended {
     }
 }
 
-/// Reports how a run ended, unless it succeeded, and returns the exit status.
+/// Reports the outcome of a run on standard error, unless the run succeeded, and returns the exit status.
 fn tell(rt: &impl Eprint, ended: &Ended) -> u8
     ensures { result ≤ 3 }
 {
@@ -96,7 +98,7 @@ fn tell(rt: &impl Eprint, ended: &Ended) -> u8
     }
 }
 
-/// Reports why a response is not the requested one, and returns the exit status.
+/// Reports why a response does not have the requested form, and returns the exit status.
 fn tell_said(rt: &impl Eprint, said: &Said) -> u8
     ensures { result ≤ 3 }
 {

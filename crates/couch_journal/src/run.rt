@@ -1,4 +1,4 @@
-//! A run of the program over any reader and writer.
+//! Runs the program's tasks over any reader and writer.
 use crate::ended::{Ended, ended_by, ended_missing};
 use crate::options::Options;
 use crate::tasks::Task;
@@ -13,7 +13,7 @@ use line_reader::{read_all, run_task};
 use script_engine::{ScriptRead, ScriptWrite, write_all};
 use std::alloc::{AllocError, Global};
 
-/// A response that is read completely.
+/// The kind of a response that a task reads completely.
 #[derive(Clone, Copy)]
 enum Response {
     Page(bool),
@@ -21,7 +21,7 @@ enum Response {
     Info,
 }
 
-/// Appends the output for a response. Returns whether the response refuses a document.
+/// Appends the output for a response to `text`. Returns whether the response says that a document was refused.
 fn read_response(
     alloc: Global,
     response: Response,
@@ -43,7 +43,7 @@ fn read_response(
     }
 }
 
-/// Reads a response, and writes what it says.
+/// Reads a response, and writes its contents as lines.
 fn run_response<R: ScriptRead, W: ScriptWrite>(
     alloc: Global,
     response: Response,
@@ -61,7 +61,7 @@ fn run_response<R: ScriptRead, W: ScriptWrite>(
     }
 }
 
-/// Seals a block.
+/// Seals a block of a journal.
 fn run_seal<R: ScriptRead, W: ScriptWrite>(
     alloc: Global,
     chain: &str,
@@ -76,7 +76,7 @@ fn run_seal<R: ScriptRead, W: ScriptWrite>(
     }
 }
 
-/// Confirms a journal.
+/// Confirms a journal by its checksums.
 fn run_confirm<R: ScriptRead, W: ScriptWrite>(
     alloc: Global,
     at: Option<&str>,
@@ -99,7 +99,7 @@ fn run_confirm<R: ScriptRead, W: ScriptWrite>(
     }
 }
 
-/// Prints the states of a journal.
+/// Prints the last state of each document of a journal.
 fn run_states<R: ScriptRead, W: ScriptWrite>(
     alloc: Global,
     unverified: bool,
@@ -114,7 +114,7 @@ fn run_states<R: ScriptRead, W: ScriptWrite>(
     Ok(ended_by(task.wrong(), Ended::Done))
 }
 
-/// Returns the filter of a selection.
+/// Returns the filter that the options of the task `select` give.
 fn filter_of(alloc: Global, options: &Options<'_>) -> Result<Filter, AllocError> {
     let id = match options.doc {
         Some(id) => Some(String::from_str(alloc, id)?),
@@ -127,7 +127,7 @@ fn filter_of(alloc: Global, options: &Options<'_>) -> Result<Filter, AllocError>
     })
 }
 
-/// Selects documents of a journal.
+/// Prints the selected documents of a journal.
 fn run_select<R: ScriptRead, W: ScriptWrite>(
     alloc: Global,
     size: u64,
@@ -147,7 +147,7 @@ fn run_select<R: ScriptRead, W: ScriptWrite>(
     Ok(ended_by(task.wrong(), ended_missing(task.lacks())))
 }
 
-/// Reads what was received.
+/// Reads requested leaves and received documents, and prints what was received.
 fn run_received<R: ScriptRead, W: ScriptWrite>(
     alloc: Global,
     only_lacks: bool,
@@ -159,7 +159,7 @@ fn run_received<R: ScriptRead, W: ScriptWrite>(
     Ok(ended_by(task.wrong(), ended_missing(task.lacks())))
 }
 
-/// Reads a list and the response of `_revs_diff`.
+/// Reads a list and the response of `_revs_diff`, and prints the missing leaves.
 fn run_lacking<R: ScriptRead, W: ScriptWrite>(
     alloc: Global,
     reader: &mut R,
@@ -175,7 +175,7 @@ fn run_lacking<R: ScriptRead, W: ScriptWrite>(
     Ok(ended_by(task.wrong(), ended))
 }
 
-/// Runs a task on a list.
+/// Runs a task that reads a list of leaves or documents.
 fn run_list<R: ScriptRead, W: ScriptWrite>(
     alloc: Global,
     task: &Task<'_>,
@@ -216,7 +216,7 @@ fn run_list<R: ScriptRead, W: ScriptWrite>(
     }
 }
 
-/// Runs a task.
+/// Runs a task with its arguments and options, and returns the outcome.
 pub(crate) fn run<R: ScriptRead, W: ScriptWrite>(
     alloc: Global,
     task: &Task<'_>,

@@ -1,42 +1,43 @@
-//! The tasks.
+//! The tasks of the program, and their arguments.
 use crate::options::Options;
 
 /// A task with its arguments.
 #[derive(Drop)]
 pub(crate) enum Task<'a> {
-    /// Prints the rows of a page; with `true`, only those with several leaves.
+    /// Prints the rows of a page of changes, or with `true` only the rows with several leaves.
     Page(bool),
-    /// Prints a `_bulk_get` request.
+    /// Prints a `_bulk_get` request for the leaves of a list.
     Ask,
-    /// Prints a `_revs_diff` request.
+    /// Prints a `_revs_diff` request for the leaves of a list.
     Diff,
-    /// Prints the missing leaves of a list.
+    /// Prints those leaves of a list that a response of `_revs_diff` names as missing.
     Lacking,
-    /// Prints what was received; with `true`, only what was not.
+    /// Prints the received documents and what is missing of the request, or with `true` only what is missing.
     Received(bool),
-    /// Cuts lines into parts with a maximum of bytes and lines.
+    /// Cuts lines into parts with a maximum number of bytes and of lines.
     Parts(u64, u64),
-    /// Prints the refused documents.
+    /// Prints the documents that a server refused to store.
     Refused,
-    /// Prints the line with the checksum of a block, after this hash and with this sequence.
+    /// Prints the line with the checksum of a block, for the given hash of the previous block and the given sequence.
     Seal(&'a str, &'a str),
-    /// Prints the confirmed part of a journal, up to this sequence.
+    /// Prints how much of a journal its checksums confirm, with a sequence only up to this sequence.
     Confirm(Option<&'a str>),
-    /// Prints the last states of a journal; with `true`, without its checksums.
+    /// Prints the last state of each document of a journal, with `true` without verifying its checksums.
     States(bool),
     /// Prints the documents of the last states of a journal of this size.
     Select(u64),
-    /// Prints the documents in conflict.
+    /// Prints the documents that have two or more live leaves.
     Conflicts,
-    /// Prints a line for each leaf; this text begins it.
+    /// Prints a line for each leaf, which begins with the given word.
     Name(&'a str),
-    /// Prints the leaves that another list lacks; with `true`, those of documents that it lacks.
+    /// Prints the leaves of a list that another list lacks, or with `true` those of documents that the other list
+    /// lacks.
     Compare(bool),
-    /// Prints the identity of a server or a database.
+    /// Prints the identity of a server or of a database.
     Info,
 }
 
-/// The name of a task.
+/// The name of a task on the command line.
 #[derive(Clone, Copy, Debug, PartialEq, Eq)]
 enum Named {
     Page,
@@ -56,7 +57,7 @@ enum Named {
     Info,
 }
 
-/// Returns the task on responses or on lists that has a name.
+/// Returns the task with the given name, if it is a task on responses or on lists.
 fn first_named(word: &str) -> Option<Named> {
     if word == "page" {
         Some(Named::Page)
@@ -77,7 +78,7 @@ fn first_named(word: &str) -> Option<Named> {
     }
 }
 
-/// Returns the task that has a name.
+/// Returns the task with the given name.
 fn named_by(word: &str) -> Option<Named> {
     if word == "seal" {
         Some(Named::Seal)
@@ -111,7 +112,7 @@ fn has_other_option(named: Named, options: &Options<'_>) -> bool {
         || options.unverified && named != Named::States && !select
 }
 
-/// Returns the number of arguments of a task.
+/// Returns the number of arguments that a task takes.
 fn arguments_of(named: Named) -> u8 {
     match named {
         Named::Parts | Named::Seal => 2,
@@ -120,7 +121,7 @@ fn arguments_of(named: Named) -> u8 {
     }
 }
 
-/// Returns the number of arguments that were given.
+/// Returns the number of arguments that the command line gives.
 fn arguments_given(options: &Options<'_>) -> u8 {
     if options.second.is_some() {
         2
@@ -131,7 +132,7 @@ fn arguments_given(options: &Options<'_>) -> u8 {
     }
 }
 
-/// Returns the task of a command line, if it names one with its arguments and options.
+/// Returns the task of a command line, or `None` if the name, the arguments or the options are wrong.
 pub(crate) fn task_of<'a>(options: &Options<'a>) -> Option<Task<'a>> {
     let Some(named) = named_by(options.task) else {
         return None;
@@ -148,7 +149,7 @@ pub(crate) fn task_of<'a>(options: &Options<'a>) -> Option<Task<'a>> {
     }
 }
 
-/// Returns the task `parts`, if its arguments are numbers.
+/// Returns the task `parts`, if both of its arguments are numbers.
 fn parts_of<'a>(options: &Options<'a>) -> Option<Task<'a>> {
     let Some(bytes) = number_of(options.first) else {
         return None;
@@ -159,7 +160,7 @@ fn parts_of<'a>(options: &Options<'a>) -> Option<Task<'a>> {
     Some(Task::Parts(bytes, lines))
 }
 
-/// Returns the task `seal`.
+/// Returns the task `seal`, if both of its arguments are given.
 fn seal_of<'a>(options: &Options<'a>) -> Option<Task<'a>> {
     match (options.first, options.second) {
         (Some(chain), Some(seq)) => Some(Task::Seal(chain, seq)),
@@ -175,7 +176,7 @@ fn select_of<'a>(options: &Options<'a>) -> Option<Task<'a>> {
     }
 }
 
-/// Returns the task `name`.
+/// Returns the task `name`, if its argument is given.
 fn name_of<'a>(options: &Options<'a>) -> Option<Task<'a>> {
     match options.first {
         Some(word) => Some(Task::Name(word)),
@@ -183,7 +184,7 @@ fn name_of<'a>(options: &Options<'a>) -> Option<Task<'a>> {
     }
 }
 
-/// Returns a task without arguments.
+/// Returns a task that takes no arguments, with its options.
 fn plain_task<'a>(named: Named, options: &Options<'a>) -> Task<'a> {
     match named {
         Named::Page => Task::Page(options.several),
@@ -200,7 +201,7 @@ fn plain_task<'a>(named: Named, options: &Options<'a>) -> Task<'a> {
     }
 }
 
-/// Returns the number that an argument is.
+/// Returns the number that an argument gives, or `None` if it is not a number.
 fn number_of(word: Option<&str>) -> Option<u64> {
     let Some(word) = word else {
         return None;

@@ -1,14 +1,14 @@
-//! Revisions by document.
+//! A table of revisions by document.
 ghost use Rattle.std.specs.Prelude.{◌≡◌, OnOk};
 ghost use Rattle.journal_lines.specs.Docs.{add_pair, docs_view, keys_or_none};
 
 use indexmap::{IndexMap, IndexSet};
 use std::alloc::{AllocError, Global};
 
-/// The revisions of documents, in the order of their first appearance.
+/// The revisions of documents, in the order in which documents and revisions first occur.
 pub type Docs = IndexMap<String, IndexSet<String>>;
 
-/// Returns a set of revisions; without one, an empty set.
+/// Returns the given set of revisions, or an empty set if no set is given.
 fn or_empty(alloc: Global, revs: Option<IndexSet<String>>) -> IndexSet<String>
     ensures { result.keys ≡ keys_or_none revs }
 {
@@ -18,7 +18,7 @@ fn or_empty(alloc: Global, revs: Option<IndexSet<String>>) -> IndexSet<String>
     }
 }
 
-/// Adds a revision to a document.
+/// Adds a revision to those of a document, unless the document has the revision already.
 pub fn add_pair(alloc: Global, docs: &mut Docs, id: &str, rev: &str) -> Result<(), AllocError>
     ensures { OnOk result (docs_view docs.new ≡ add_pair (docs_view docs.old) id.now rev.now) }
 {

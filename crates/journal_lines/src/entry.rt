@@ -1,4 +1,4 @@
-//! A line of a journal.
+//! Parses a line of a journal.
 ghost use Rattle.std.specs.Prelude.{◌≡◌, IfOk};
 ghost use Rattle.journal_lines.specs.Lists.{leaves_in};
 ghost use Rattle.journal_lines.specs.Entries.{entry_in, entry_view, lacks_or_wrong, state_or_wrong};
@@ -9,16 +9,16 @@ use crate::text::after;
 use json::Scratch;
 use std::alloc::{AllocError, Global};
 
-/// A line of a journal.
+/// The parsed form of a line of a journal.
 #[derive(Drop)]
 pub enum Entry {
-    /// The leaves of a document at a sequence.
+    /// A state line, which lists the leaves of a document at a sequence.
     State(Leaves),
-    /// The leaves that were requested of a document, of which the source did not return all.
+    /// A lacks line, which lists the requested leaves of a document if the source did not return all of them.
     Lacks(Leaves),
-    /// A document.
+    /// A line with a document.
     Leaf(Leaf),
-    /// Another line.
+    /// A line of any other form.
     Wrong,
 }
 
@@ -38,7 +38,7 @@ pub fn entry_of(alloc: Global, scratch: &mut Scratch, line: &[u8]) -> Result<Ent
     }
 }
 
-/// Returns the state that a line names after its first word.
+/// Returns the state line whose text after `state` is given.
 fn state_of(alloc: Global, scratch: &mut Scratch, rest: &[u8]) -> Result<Entry, AllocError>
     ensures { IfOk result (λ entry. entry_view entry ≡ state_or_wrong (leaves_in rest.now)) }
 {
@@ -48,7 +48,7 @@ fn state_of(alloc: Global, scratch: &mut Scratch, rest: &[u8]) -> Result<Entry, 
     }
 }
 
-/// Returns the missing leaves that a line names after its first word.
+/// Returns the lacks line whose text after `lacks` is given.
 fn lacks_of(alloc: Global, scratch: &mut Scratch, rest: &[u8]) -> Result<Entry, AllocError>
     ensures { IfOk result (λ entry. entry_view entry ≡ lacks_or_wrong (leaves_in rest.now)) }
 {

@@ -1,4 +1,4 @@
-//! Lines that have a document.
+//! Parses the lines that have a document.
 ghost use Rattle.std.specs.Prelude.{◌≡◌, IfOk, codes, option_and_then, option_map, string_bytes};
 ghost use Rattle.json.specs.Find.{get};
 ghost use Rattle.json.specs.Value.{value_view};
@@ -12,22 +12,22 @@ use itoa::Buffer;
 use json::{Scratch, Value};
 use std::alloc::{AllocError, Global};
 
-/// The head of a document: its revision and the revision's ancestry.
+/// The head of a document, which is its id, its revision, the revision's ancestry, and whether it is deleted.
 #[derive(Drop)]
 pub struct Leaf {
     /// The id of the document.
     pub id: String,
-    /// The revision.
+    /// The revision of the document.
     pub rev: String,
     /// The generation of the revision.
     pub start: u64,
-    /// The names of the revision and of its ancestors, without generations.
+    /// The names of the revision and of its ancestors, newest first, without generations.
     pub names: Vec<String>,
-    /// Whether the revision is deleted.
+    /// Whether the document's revision is deleted.
     pub deleted: bool,
 }
 
-/// Returns a revision: its generation and its name.
+/// Returns the revision with the given generation and name.
 pub fn rev_of(alloc: Global, generation: u64, name: &str) -> Result<String, AllocError>
     ensures { IfOk result (λ rev. string_bytes rev ≡ rev_at generation name.now) }
 {
@@ -38,7 +38,7 @@ pub fn rev_of(alloc: Global, generation: u64, name: &str) -> Result<String, Allo
     Ok(rev)
 }
 
-/// Whether a revision is one of these names, whose generations go down from `start`.
+/// Whether a revision has one of the given names, whose generations go down from `start`.
 fn is_in(alloc: Global, rev: &str, start: u64, names: &[String]) -> Result<bool, AllocError>
     ensures { IfOk result (λ is_in. is_in ≡ knows_at rev.now start (texts_of names.now)) }
 {
@@ -54,12 +54,12 @@ fn is_in(alloc: Global, rev: &str, start: u64, names: &[String]) -> Result<bool,
 }
 
 impl Leaf {
-    /// Returns the generation of the ancestor at an index.
+    /// Returns the generation of the ancestor at the given index.
     pub fn generation(&self, index: usize) -> u64 {
         self.start.saturating_sub(index as u64)
     }
 
-    /// Whether a revision is the leaf or one of its ancestors.
+    /// Whether the given revision is the leaf or one of its ancestors.
     pub fn knows(&self, alloc: Global, rev: &str) -> Result<bool, AllocError>
         ensures { IfOk result (λ knows. knows ≡ knows_rev (leaf_view self.now) rev.now) }
     {
@@ -70,7 +70,7 @@ impl Leaf {
     }
 }
 
-/// Returns the generation and the names of the value of `_revisions`.
+/// Returns the generation and the names that a value of `_revisions` gives.
 fn ancestry_in(
     alloc: Global,
     revisions: &Value<'_>,
@@ -89,7 +89,7 @@ fn ancestry_in(
     }
 }
 
-/// Returns the generation and the names of `_revisions`; without that member, the list is empty.
+/// Returns the generation and the names of a document's `_revisions`, or no names if the document lacks this member.
 fn ancestry_of(alloc: Global, doc: &Value<'_>) -> Result<Option<(u64, Vec<String>)>, AllocError>
     ensures { IfOk result (λ o. option_map ancestry_view o ≡ ancestry_by (get (codes "_revisions") (value_view doc.now))) }
 {
@@ -99,7 +99,7 @@ fn ancestry_of(alloc: Global, doc: &Value<'_>) -> Result<Option<(u64, Vec<String
     }
 }
 
-/// Whether a document is deleted.
+/// Whether a document has the member `_deleted` with the value `true`.
 fn is_deleted(doc: &Value<'_>) -> bool
     ensures { result ≡ is_deleted (value_view doc.now) }
 {
@@ -109,7 +109,7 @@ fn is_deleted(doc: &Value<'_>) -> bool
     }
 }
 
-/// Returns the head of a document.
+/// Returns the head of a document, or `None` if the value is not a document.
 fn head_of(alloc: Global, doc: &Value<'_>) -> Result<Option<Leaf>, AllocError>
     ensures { IfOk result (λ o. option_map head_view o ≡ head_in (value_view doc.now)) }
 {
@@ -133,7 +133,7 @@ fn head_of(alloc: Global, doc: &Value<'_>) -> Result<Option<Leaf>, AllocError>
     }))
 }
 
-/// Returns the head of the document of a JSON value, if it has one.
+/// Returns the head of the document in the member `doc`, if a JSON value has such a document.
 fn head_at(alloc: Global, value: &Value<'_>) -> Result<Option<Leaf>, AllocError>
     ensures { IfOk result (λ o. option_map head_view o ≡ option_and_then head_in (get (codes "doc") (value_view value.now))) }
 {
@@ -143,7 +143,7 @@ fn head_at(alloc: Global, value: &Value<'_>) -> Result<Option<Leaf>, AllocError>
     }
 }
 
-/// Returns the head of the document of a line, which is a JSON object.
+/// Returns the head of the document that a line has, if the line is a JSON object with a document.
 pub(crate) fn leaf_of(
     alloc: Global,
     scratch: &mut Scratch,

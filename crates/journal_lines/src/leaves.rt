@@ -1,4 +1,4 @@
-//! Lines that list the leaves of a document.
+//! Reads and writes the lines that list the leaves of a document.
 ghost use Rattle.std.specs.Prelude.{◌≡◌, ◌++◌, IfOk, OnOk, codes, option_and_then, option_map};
 ghost use Rattle.std.specs.List.{list_all};
 ghost use Rattle.json.specs.Json.{document};
@@ -10,32 +10,33 @@ use crate::text::{cut_at_blank, push_json, text_of};
 use json::{Error, Scratch, Value};
 use std::alloc::{AllocError, Global};
 
-/// The leaves of a document at a sequence.
+/// The leaves of a document, with the sequence at which the document has them.
 #[derive(Drop)]
 pub struct Leaves {
-    /// The sequence, or `-`.
+    /// The sequence, or `-` if none is known.
     pub seq: String,
     /// The id of the document.
     pub id: String,
-    /// The revisions of the leaves.
+    /// The leaf revisions of the document.
     pub revs: Vec<String>,
 }
 
-/// Whether a byte is allowed in a sequence.
+/// Whether a sequence may contain the given byte.
 fn is_token_byte(byte: u8) -> bool
     ensures { result ≡ is_token_byte byte }
 {
     byte >= 33 && byte <= 126 && byte != b'"' && byte != b'\\'
 }
 
-/// Whether all bytes are allowed in a sequence.
+/// Whether a sequence may contain all the given bytes.
 fn are_token_bytes(bytes: &[u8]) -> bool
     ensures { result ≡ list_all is_token_byte bytes.now }
 {
     bytes.iter().all(|b| is_token_byte(*b))
 }
 
-/// Whether a string is a sequence: 1 or more printable ASCII characters without blanks, quotation marks and backslashes.
+/// Whether a string is a sequence, which is 1 or more printable ASCII characters without blanks, quotation marks and
+/// backslashes.
 pub fn is_token(text: &str) -> bool
     ensures { result ≡ is_token text.now }
 {
@@ -46,7 +47,7 @@ pub fn is_token(text: &str) -> bool
     are_token_bytes(bytes)
 }
 
-/// Returns the strings of a list after its first item, if all are strings.
+/// Returns the strings of a list, or `None` if an item is not a string.
 pub(crate) fn revs_of(alloc: Global, items: &[Value<'_>]) -> Result<Option<Vec<String>>, AllocError>
     ensures { IfOk result (λ o. option_map (λ v. texts_of v.items) o ≡ revs_json (items_view items.now)) }
 {
@@ -60,7 +61,7 @@ pub(crate) fn revs_of(alloc: Global, items: &[Value<'_>]) -> Result<Option<Vec<S
     Ok(Some(revs))
 }
 
-/// Returns the id and the revisions that a JSON list names.
+/// Returns the document id and the revisions that a JSON list names.
 fn named_of(alloc: Global, seq: &str, value: &Value<'_>) -> Result<Option<Leaves>, AllocError>
     ensures { IfOk result (λ o. option_map leaves_view o ≡ named_in seq.now (value_view value.now)) }
 {
@@ -81,7 +82,7 @@ fn named_of(alloc: Global, seq: &str, value: &Value<'_>) -> Result<Option<Leaves
     Ok(Some(Leaves { seq, id, revs }))
 }
 
-/// Returns the JSON value of a text, if it is one.
+/// Returns the JSON value of a text, or `None` if the text is not JSON.
 pub fn value_of<'a>(
     alloc: Global,
     scratch: &'a mut Scratch,
@@ -96,7 +97,7 @@ pub fn value_of<'a>(
     }
 }
 
-/// Returns the leaves at a sequence that a JSON list names.
+/// Returns the leaves of a document at a sequence, as a JSON list names them.
 fn list_of(
     alloc: Global,
     scratch: &mut Scratch,
@@ -112,7 +113,7 @@ fn list_of(
     Ok(leaves)
 }
 
-/// Returns a sequence, if bytes are one.
+/// Returns the given bytes as a sequence, or `None` if they are not a sequence.
 fn seq_of(bytes: &[u8]) -> Option<&str>
     ensures { option_map (λ s. s.now) result ≡ option_and_then token (text_in bytes.now) }
 {
@@ -122,7 +123,7 @@ fn seq_of(bytes: &[u8]) -> Option<&str>
     }
 }
 
-/// Returns the leaves that a line names after its first word: a sequence, a blank and a JSON list.
+/// Returns the leaves that a line lists after its first word. The text consists of a sequence, a blank and a JSON list.
 pub(crate) fn leaves_of(
     alloc: Global,
     scratch: &mut Scratch,
@@ -142,7 +143,7 @@ pub(crate) fn leaves_of(
     list_of(alloc, scratch, seq, list)
 }
 
-/// Appends revisions, each after a comma.
+/// Appends revisions as JSON strings, each after a comma.
 fn push_revs(alloc: Global, out: &mut Vec<u8>, revs: &[String]) -> Result<(), AllocError>
     ensures { OnOk result (out.new.items ≡ out.old.items ++ revs_text (texts_of revs.now)) }
 {
@@ -153,7 +154,8 @@ fn push_revs(alloc: Global, out: &mut Vec<u8>, revs: &[String]) -> Result<(), Al
     Ok(())
 }
 
-/// Appends a line that lists the leaves of a document: a word, the sequence, and a JSON list of the id and the revisions.
+/// Appends a line that lists the leaves of a document. The line consists of a kind, the sequence, and a JSON list of
+/// the id and the revisions.
 pub fn push_leaves(
     alloc: Global,
     out: &mut Vec<u8>,

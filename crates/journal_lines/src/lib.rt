@@ -1,4 +1,4 @@
-//! The lines of a journal: reads and writes lists of leaves, and reads documents.
+//! Reads and writes the lines of a journal, which are lists of leaves and documents.
 #![tactic(auto)]
 
 mod docs;

@@ -1,4 +1,4 @@
-//! The members of a JSON value.
+//! Finds the members of a JSON object.
 ghost use Rattle.std.specs.Prelude.{◌≡◌, option_map};
 ghost use Rattle.json.specs.Find.{as_array};
 ghost use Rattle.json.specs.Value.{value_view, items_view};
@@ -6,7 +6,7 @@ ghost use Rattle.journal_lines.specs.Members.{text_at, items_at, number_at, numb
 
 use json::Value;
 
-/// Returns a member that is a string.
+/// Returns an object's member with the given name, if it is a string.
 pub fn text_at<'v, 'a>(value: &'v Value<'a>, name: &str) -> Option<&'a str>
     ensures { option_map (λ s. s.now) result ≡ text_at name.now (value_view value.now) }
 {
@@ -16,7 +16,7 @@ pub fn text_at<'v, 'a>(value: &'v Value<'a>, name: &str) -> Option<&'a str>
     }
 }
 
-/// Returns the items of a list.
+/// Returns the items of a JSON value, if it is a list.
 pub fn items_of<'v, 'a>(value: &'v Value<'a>) -> Option<&'v Vec<Value<'a>>>
     ensures { option_map (λ v. items_view v.now.items) result ≡ as_array (value_view value.now) }
 {
@@ -26,7 +26,7 @@ pub fn items_of<'v, 'a>(value: &'v Value<'a>) -> Option<&'v Vec<Value<'a>>>
     }
 }
 
-/// Returns a member that is a list.
+/// Returns an object's member with the given name, if it is a list.
 pub fn items_at<'v, 'a>(value: &'v Value<'a>, name: &str) -> Option<&'v Vec<Value<'a>>>
     ensures { option_map (λ v. items_view v.now.items) result ≡ items_at name.now (value_view value.now) }
 {
@@ -36,14 +36,14 @@ pub fn items_at<'v, 'a>(value: &'v Value<'a>, name: &str) -> Option<&'v Vec<Valu
     }
 }
 
-/// Returns a number without sign, point and exponent.
+/// Returns the number of a JSON value, if it has no sign, point and exponent.
 fn number_of(value: &Value<'_>) -> Option<u64>
     ensures { result ≡ number_in (value_view value.now) }
 {
     value.as_u64()
 }
 
-/// Returns a member that is a number without sign, point and exponent.
+/// Returns an object's member with the given name, if it is a number without sign, point and exponent.
 pub(crate) fn number_at(value: &Value<'_>, name: &str) -> Option<u64>
     ensures { result ≡ number_at name.now (value_view value.now) }
 {

@@ -1,4 +1,4 @@
-//! The text of strings in lines.
+//! Reads and writes the strings in journal lines.
 ghost use Rattle.std.specs.Prelude.{◌≡◌, ◌++◌, OnOk, option_map};
 ghost use Rattle.std.specs.List.{list_all, position};
 ghost use Rattle.json.specs.Print.{quoted};
@@ -8,7 +8,7 @@ use json::Writer;
 use std::alloc::{AllocError, Global};
 use std::str;
 
-/// Returns bytes as text, if they are UTF-8.
+/// Returns the given bytes as text, or `None` if they are not UTF-8.
 pub fn text_of(bytes: &[u8]) -> Option<&str>
     ensures { option_map (λ s. s.now) result ≡ text_in bytes.now }
 {
@@ -18,21 +18,21 @@ pub fn text_of(bytes: &[u8]) -> Option<&str>
     }
 }
 
-/// Returns the bytes after a prefix, if they begin with it.
+/// Returns the bytes after a prefix, or `None` if the bytes do not begin with the prefix.
 pub(crate) fn after<'a>(prefix: &[u8], bytes: &'a [u8]) -> Option<&'a [u8]>
     ensures { option_map (λ s. s.now) result ≡ after prefix.now bytes.now }
 {
     bytes.strip_prefix(prefix)
 }
 
-/// Returns the index of the first blank.
+/// Returns the index of the first blank in the given bytes.
 fn first_blank(bytes: &[u8]) -> Option<usize>
     ensures { result ≡ position is_blank bytes.now }
 {
     bytes.iter().position(|b| *b == b' ')
 }
 
-/// Returns the bytes before and after the first blank.
+/// Returns the bytes before and the bytes after the first blank, if there is a blank.
 pub(crate) fn cut_at_blank(bytes: &[u8]) -> Option<(&[u8], &[u8])>
     ensures { option_map (λ p. (p.0.now, p.1.now)) result ≡ cut_at_blank bytes.now }
 {
@@ -42,7 +42,7 @@ pub(crate) fn cut_at_blank(bytes: &[u8]) -> Option<(&[u8], &[u8])>
     Some((&bytes[..end], &bytes[end + 1..]))
 }
 
-/// Appends a string as JSON.
+/// Appends a string as JSON, in quotation marks.
 pub fn push_json(alloc: Global, out: &mut Vec<u8>, text: &str) -> Result<(), AllocError>
     ensures { OnOk result (out.new.items ≡ out.old.items ++ quoted text.now) }
 {
@@ -53,7 +53,7 @@ pub fn push_json(alloc: Global, out: &mut Vec<u8>, text: &str) -> Result<(), All
     Ok(())
 }
 
-/// Whether a byte of a revision is written without escaping.
+/// Whether a byte may occur in a revision that is written without quotation marks.
 fn is_plain_byte(byte: u8) -> bool
     ensures { result ≡ is_plain_byte byte }
 {
@@ -65,14 +65,15 @@ fn is_plain_byte(byte: u8) -> bool
         || byte == b'.'
 }
 
-/// Whether all bytes of a revision are written without escaping.
+/// Whether a revision that consists of the given bytes may be written without quotation marks.
 fn is_plain(bytes: &[u8]) -> bool
     ensures { result ≡ list_all is_plain_byte bytes.now }
 {
     bytes.iter().all(|b| is_plain_byte(*b))
 }
 
-/// Appends a revision: unchanged if it consists of letters, digits, `-`, `_` and `.`, otherwise as a JSON string.
+/// Appends a revision. A revision of letters, digits, `-`, `_` and `.` is appended unchanged, and any other as a JSON
+/// string.
 pub fn push_rev(alloc: Global, out: &mut Vec<u8>, rev: &str) -> Result<(), AllocError>
     ensures { OnOk result (out.new.items ≡ out.old.items ++ rev_text rev.now) }
 {

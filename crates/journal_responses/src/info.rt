@@ -1,4 +1,4 @@
-//! The identity of a server and of a database.
+//! Prints the identity of a server or of a database.
 ghost use Rattle.std.specs.Prelude.{◌≡◌, ◌++◌, IfErr, OnOk, codes, false, true};
 ghost use Rattle.json.specs.Value.{value_view};
 ghost use Rattle.journal_responses.specs.Infos.{info_text, instance_by, is_info, is_object, word_or_none};
@@ -9,7 +9,7 @@ use crate::said::{Said, said_of};
 use json::Value;
 use std::alloc::{AllocError, Global};
 
-/// Returns a member that is a sequence: `-` if it is missing.
+/// Returns an object's member that is a sequence, or `-` if the member is missing or is not a sequence.
 fn word_at<'v, 'a>(value: &'v Value<'a>, name: &str) -> &'a str
     ensures { result.now ≡ word_or_none name.now (value_view value.now) }
 {
@@ -19,7 +19,7 @@ fn word_at<'v, 'a>(value: &'v Value<'a>, name: &str) -> &'a str
     }
 }
 
-/// Returns the time at which a database was made: `-` if it is missing or `0`.
+/// Returns the time at which a database was created, or `-` if the time is missing or `0`.
 fn instance_of<'v, 'a>(value: &'v Value<'a>) -> &'a str
     ensures { result.now ≡ instance_by (word_or_none (codes "instance_start_time") (value_view value.now)) }
 {
@@ -27,7 +27,7 @@ fn instance_of<'v, 'a>(value: &'v Value<'a>) -> &'a str
     if word == "0" { "-" } else { word }
 }
 
-/// Appends a line with the identity of the server, that of the database, and the update sequence.
+/// Appends a line with the server's identity, the database's identity, and the update sequence.
 fn push_info(text: &mut Vec<u8>, value: &Value<'_>) -> Result<(), AllocError>
     ensures { OnOk result (text.new.items ≡ text.old.items ++ info_text (value_view value.now)) }
 {
@@ -41,25 +41,26 @@ fn push_info(text: &mut Vec<u8>, value: &Value<'_>) -> Result<(), AllocError>
     Ok(())
 }
 
-/// Whether a value is an object.
+/// Whether a JSON value is an object.
 fn is_object(value: &Value<'_>) -> bool
     ensures { result ≡ is_object (value_view value.now) }
 {
     matches!(value, Value::Object(_))
 }
 
-/// Whether a value describes a server or a database.
+/// Whether a JSON value describes a server or a database.
 fn is_info(value: &Value<'_>) -> bool
     ensures { result ≡ is_info (value_view value.now) }
 {
     is_object(value) && value.get("error").is_none()
 }
 
-/// Appends the description of a server or a database from a response.
+/// Appends a line with the identity of the server or the database that a response describes.
 ///
 /// # Errors
 ///
-/// `Error` or `Other` if the value is no object or an error; `Memory`.
+/// Returns `Error` or `Other` if the value is not an object or is an error of CouchDB. Returns `Memory` if an
+/// allocation failed.
 pub fn info_of(alloc: Global, text: &mut Vec<u8>, value: &Value<'_>) -> Result<(), Said>
     ensures ok { OnOk result ((text.new.items ≡ text.old.items ++ info_text (value_view value.now))
         × (is_info (value_view value.now) ≡ true)) }

@@ -1,4 +1,4 @@
-//! The members of a JSON value.
+//! Finds the members of a JSON object in a response.
 ghost use Rattle.std.specs.Prelude.{◌≡◌, option_map};
 ghost use Rattle.std.specs.Char.{is_ascii_digit};
 ghost use Rattle.std.specs.List.{list_all};
@@ -9,14 +9,14 @@ ghost use Rattle.journal_responses.specs.Members.{seq_in, seq_at};
 use journal_lines::is_token;
 use json::Value;
 
-/// Returns a string if it is a sequence.
+/// Returns the given string if it is a sequence.
 fn token_of<'a>(text: &'a str) -> Option<&'a str>
     ensures { option_map (λ s. s.now) result ≡ token text.now }
 {
     if is_token(text) { Some(text) } else { None }
 }
 
-/// Returns the sequence in a value: the content of a string, or the text of a number.
+/// Returns the sequence in a JSON value, which is the content of a string or the text of a number.
 pub(crate) fn seq_of<'v, 'a>(value: &'v Value<'a>) -> Option<&'a str>
     ensures { option_map (λ s. s.now) result ≡ seq_in (value_view value.now) }
 {
@@ -27,7 +27,7 @@ pub(crate) fn seq_of<'v, 'a>(value: &'v Value<'a>) -> Option<&'a str>
     }
 }
 
-/// Returns a member that is a sequence.
+/// Returns an object's member with the given name, if it is a sequence.
 pub(crate) fn seq_at<'v, 'a>(value: &'v Value<'a>, name: &str) -> Option<&'a str>
     ensures { option_map (λ s. s.now) result ≡ seq_at name.now (value_view value.now) }
 {
@@ -37,7 +37,7 @@ pub(crate) fn seq_at<'v, 'a>(value: &'v Value<'a>, name: &str) -> Option<&'a str
     }
 }
 
-/// Whether all bytes are ASCII digits.
+/// Whether all given bytes are ASCII digits.
 pub(crate) fn are_digits(bytes: &[u8]) -> bool
     ensures { result ≡ list_all is_ascii_digit bytes.now }
 {

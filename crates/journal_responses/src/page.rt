@@ -1,4 +1,4 @@
-//! Pages of changes.
+//! Prints the pages of changes that CouchDB returns.
 ghost use Rattle.std.specs.Prelude.{◌≡◌, ◌++◌, Bool, None, IfErr, IfOk, IsSomeAnd, OnOk, bytes_eq, codes, map, option_map};
 ghost use Rattle.std.specs.List.{list_any};
 ghost use Rattle.json.specs.Find.{get};
@@ -16,14 +16,14 @@ use journal_lines::{Leaves, items_at, push_leaves, text_at};
 use json::Value;
 use std::alloc::{AllocError, Global};
 
-/// Whether a revision has no control character.
+/// Whether a revision has no ASCII control character.
 fn is_plain(text: &str) -> bool
     ensures { result ≡ is_plain text.now }
 {
     text.as_bytes().iter().all(|b| *b >= 32 && *b != 127)
 }
 
-/// Returns the revision of a change.
+/// Returns the revision of an item in a row's list of changes.
 fn rev_of<'v, 'a>(change: &'v Value<'a>) -> Option<&'a str>
     ensures { option_map (λ s. s.now) result ≡ rev_in (value_view change.now) }
 {
@@ -33,7 +33,7 @@ fn rev_of<'v, 'a>(change: &'v Value<'a>) -> Option<&'a str>
     }
 }
 
-/// Returns the revisions of a list of changes.
+/// Returns the revisions of a row's list of changes.
 fn revs_of(alloc: Global, changes: &Vec<Value<'_>>) -> Result<Option<Vec<String>>, AllocError>
     ensures { IfOk result (λ o. option_map (λ v. texts_of v.items) o ≡ each_item rev_in (items_view changes.now.items)) }
 {
@@ -47,7 +47,7 @@ fn revs_of(alloc: Global, changes: &Vec<Value<'_>>) -> Result<Option<Vec<String>
     Ok(Some(revs))
 }
 
-/// Returns the revisions of a list of changes, which has at least one.
+/// Returns the revisions of a row's list of changes, or `None` if the list is empty.
 fn changes_of(alloc: Global, changes: &Vec<Value<'_>>) -> Result<Option<Vec<String>>, AllocError>
     ensures { IfOk result (λ o. option_map (λ v. texts_of v.items) o ≡ changes_in (items_view changes.now.items)) }
 {
@@ -57,7 +57,7 @@ fn changes_of(alloc: Global, changes: &Vec<Value<'_>>) -> Result<Option<Vec<Stri
     }
 }
 
-/// Whether a revision is in a list.
+/// Whether a list of revisions has the given revision.
 fn has_rev(revs: &[String], rev: &str) -> bool
     ensures { result ≡ list_any (bytes_eq rev.now) (texts_of revs.now) }
 {
@@ -69,7 +69,7 @@ fn has_rev(revs: &[String], rev: &str) -> bool
     false
 }
 
-/// Returns copies of revisions, each once.
+/// Returns copies of the given revisions, each revision once.
 fn each_once(alloc: Global, revs: &[String]) -> Result<Vec<String>, AllocError>
     ensures { IfOk result (λ v. texts_of v.items ≡ each_once (texts_of revs.now)) }
 {
@@ -82,7 +82,7 @@ fn each_once(alloc: Global, revs: &[String]) -> Result<Vec<String>, AllocError>
     Ok(once)
 }
 
-/// Returns the sequence of a row: `-` if it is `null` or missing.
+/// Returns the sequence of a row of changes, or `-` if the sequence is `null` or missing.
 fn row_seq<'v, 'a>(row: &'v Value<'a>) -> Option<&'a str>
     ensures { option_map (λ s. s.now) result ≡ row_seq (get (codes "seq") (value_view row.now)) }
 {
@@ -92,7 +92,7 @@ fn row_seq<'v, 'a>(row: &'v Value<'a>) -> Option<&'a str>
     }
 }
 
-/// Returns the leaves of a row.
+/// Returns the sequence, the document id and the leaves of a row of changes.
 fn row_of(alloc: Global, row: &Value<'_>) -> Result<Option<Leaves>, AllocError>
     ensures { IfOk result (λ o. option_map leaves_view o ≡ row_in (value_view row.now)) }
 {
@@ -114,7 +114,7 @@ fn row_of(alloc: Global, row: &Value<'_>) -> Result<Option<Leaves>, AllocError>
     Ok(Some(Leaves { seq, id, revs }))
 }
 
-/// Returns the rows of a page.
+/// Returns the rows of a page of changes.
 fn rows_of(alloc: Global, items: &Vec<Value<'_>>) -> Result<Option<Vec<Leaves>>, AllocError>
     ensures { IfOk result (λ o. option_map (λ v. map leaves_view v.items) o ≡ each_item row_in (items_view items.now.items)) }
 {
@@ -128,14 +128,14 @@ fn rows_of(alloc: Global, items: &Vec<Value<'_>>) -> Result<Option<Vec<Leaves>>,
     Ok(Some(rows))
 }
 
-/// Whether a row is printed: with `several`, only if it has two or more leaves.
+/// Whether a row is printed. If `several` is set, only a row with two or more leaves is printed.
 fn is_printed(several: bool, row: &Leaves) -> bool
     ensures { result ≡ is_printed several (leaves_view row.now) }
 {
     if several { row.revs.len() >= 2 } else { true }
 }
 
-/// Appends the line of a row, if it is printed.
+/// Appends the state line of a row, if the row is printed.
 fn push_row(
     alloc: Global,
     text: &mut Vec<u8>,
@@ -158,7 +158,7 @@ fn push_row(
     )
 }
 
-/// Appends the lines of rows.
+/// Appends the state lines of the rows that are printed.
 fn push_rows(
     alloc: Global,
     text: &mut Vec<u8>,
@@ -173,7 +173,7 @@ fn push_rows(
     Ok(())
 }
 
-/// Returns the number of documents after the page: `-` if it is missing or `null`.
+/// Returns the number of documents after a page, or `-` if the number is missing or `null`.
 fn pending_of<'v, 'a>(value: &'v Value<'a>) -> Option<&'a str>
     ensures { option_map (λ s. s.now) result ≡ pending_in (get (codes "pending") (value_view value.now)) }
 {
@@ -184,7 +184,7 @@ fn pending_of<'v, 'a>(value: &'v Value<'a>) -> Option<&'a str>
     }
 }
 
-/// A page of changes.
+/// A page of changes in parsed form.
 #[derive(Drop)]
 struct Page {
     rows: Vec<Leaves>,
@@ -192,7 +192,7 @@ struct Page {
     pending: String,
 }
 
-/// Returns the page that a value is: each row has a sequence, an id and at least one revision.
+/// Returns the page that a JSON value describes. Each row of a page has a sequence, an id and at least one revision.
 fn read_page(alloc: Global, value: &Value<'_>) -> Result<Option<Page>, AllocError>
     ensures { IfOk result (λ o. (several : Bool) → option_map (page_text several) o ≡ page_in several (value_view value.now)) }
 {
@@ -217,7 +217,7 @@ fn read_page(alloc: Global, value: &Value<'_>) -> Result<Option<Page>, AllocErro
     }))
 }
 
-/// Appends the last line of a page.
+/// Appends the last line of a page, with its number of rows, its last sequence and the number of documents after it.
 fn push_last(text: &mut Vec<u8>, rows: usize, last: &str, pending: &str) -> Result<(), AllocError>
     ensures { OnOk result (text.new.items ≡ text.old.items ++ last_line rows last.now pending.now) }
 {
@@ -232,7 +232,7 @@ fn push_last(text: &mut Vec<u8>, rows: usize, last: &str, pending: &str) -> Resu
     Ok(())
 }
 
-/// Appends a page: a state line for each row, or for each row with several leaves, and the last line.
+/// Appends a page, which is a state line for each row, or for each row with several leaves, and the last line.
 fn push_page(
     alloc: Global,
     text: &mut Vec<u8>,
@@ -250,13 +250,13 @@ fn push_page(
     )
 }
 
-/// Appends a state line for each row of a page of changes, or for each row with several leaves. The last line has the
-/// number of rows, the last sequence, and the number of documents after the page.
+/// Appends a state line for each row of a page of changes. If `several` is set, only rows with two or more leaves have
+/// a line. The last line has the number of rows, the last sequence, and the number of documents after the page.
 ///
 /// # Errors
 ///
-/// `Error` if the value is not a page and is an error of CouchDB, `Other` if it is another value; `Memory`. After an error, part
-/// of the text may be appended.
+/// Returns `Error` if the value is an error of CouchDB, or `Other` if the value is neither a page nor an error. Returns
+/// `Memory` if an allocation failed. After an error, part of the text may be appended.
 pub fn page_of(
     alloc: Global,
     text: &mut Vec<u8>,

@@ -1,4 +1,4 @@
-//! The documents that a server refused.
+//! Prints the documents that a server refused to store.
 ghost use Rattle.std.specs.Prelude.{◌≡◌, ◌++◌, IfErr, IfOk, IsSomeAnd, None, OnOk, codes, option_map};
 ghost use Rattle.json.specs.Find.{as_array};
 ghost use Rattle.json.specs.Value.{value_view, items_view};
@@ -10,7 +10,7 @@ use journal_lines::{items_of, push_json, text_at};
 use json::Value;
 use std::alloc::{AllocError, Global};
 
-/// Returns a member as text: the empty string if it is missing or no string.
+/// Returns an object's member as a string, which is empty if the member is missing or is not a string.
 fn word_at<'v, 'a>(value: &'v Value<'a>, name: &str) -> &'a str
     ensures { result.now ≡ word_at name.now (value_view value.now) }
 {
@@ -20,7 +20,7 @@ fn word_at<'v, 'a>(value: &'v Value<'a>, name: &str) -> &'a str
     }
 }
 
-/// Appends the line of a refused document.
+/// Appends the line of a document that a server rejected.
 fn push_refused(alloc: Global, text: &mut Vec<u8>, entry: &Value<'_>) -> Result<(), AllocError>
     ensures { OnOk result (text.new.items ≡ text.old.items ++ refused_line (value_view entry.now)) }
 {
@@ -36,14 +36,15 @@ fn push_refused(alloc: Global, text: &mut Vec<u8>, entry: &Value<'_>) -> Result<
     Ok(())
 }
 
-/// Whether an entry says that a document was refused.
+/// Whether an entry of a `_bulk_docs` response reports an error.
 fn is_refused(entry: &Value<'_>) -> bool
     ensures { result ≡ is_refused (value_view entry.now) }
 {
     entry.get("error").is_some()
 }
 
-/// Appends the line of an entry, if a document was refused. Returns whether it was.
+/// Appends a line for an entry of a `_bulk_docs` response, if the entry reports an error. Returns whether a line was
+/// appended.
 fn push_entry(alloc: Global, text: &mut Vec<u8>, entry: &Value<'_>) -> Result<bool, AllocError>
     ensures text { OnOk result (text.new.items ≡ text.old.items ++ entry_text (value_view entry.now)) }
     ensures refused { IfOk result (λ refused. refused ≡ is_refused (value_view entry.now)) }
@@ -55,7 +56,7 @@ fn push_entry(alloc: Global, text: &mut Vec<u8>, entry: &Value<'_>) -> Result<bo
     Ok(true)
 }
 
-/// Appends the lines of the entries of which a document was refused. Returns whether there is one.
+/// Appends a line for each entry that reports an error. Returns whether a line was appended.
 fn push_entries(
     alloc: Global,
     text: &mut Vec<u8>,
@@ -72,11 +73,12 @@ fn push_entries(
     Ok(refused)
 }
 
-/// Appends a line for each document that a response of `_bulk_docs` refuses. Returns whether there is one.
+/// Appends a line for each document that the server refused, as a response of `_bulk_docs` says. Returns whether a line
+/// was appended.
 ///
 /// # Errors
 ///
-/// `Error` or `Other` if the value is not a list; `Memory`.
+/// Returns `Error` or `Other` if the value is not a list. Returns `Memory` if an allocation failed.
 pub fn refused_of(alloc: Global, text: &mut Vec<u8>, value: &Value<'_>) -> Result<bool, Said>
     ensures ok { IfOk result (λ refused. IsSomeAnd (as_array (value_view value.now)) (λ entries.
         (text.new.items ≡ text.old.items ++ refused_text entries) × (refused ≡ any_refused entries))) }

@@ -1,4 +1,4 @@
-//! Responses that are not the requested ones.
+//! Responses that do not have the requested form.
 ghost use Rattle.std.specs.Prelude.{◌≡◌, IfErr, IfOk, Some, option_map};
 ghost use Rattle.json.specs.Json.{document};
 ghost use Rattle.json.specs.Value.{value_view};
@@ -9,14 +9,14 @@ use journal_lines::{text_at, text_of};
 use json::{Error, Scratch, Value};
 use std::alloc::{AllocError, Global};
 
-/// Why a response is not the requested one.
+/// The reason why a response does not have the requested form.
 #[derive(Drop)]
 pub enum Said {
-    /// An error of CouchDB, with its reason.
+    /// The response is an error of CouchDB, with its reason.
     Error(String, String),
-    /// Not one JSON value in UTF-8.
+    /// The response is not exactly one JSON value in UTF-8.
     NotJson,
-    /// Another JSON value.
+    /// The response is a JSON value of another form.
     Other,
     /// An allocation failed.
     Memory,
@@ -46,7 +46,7 @@ fn value_of<'a>(alloc: Global, scratch: &'a mut Scratch, text: &'a str) -> Resul
 ///
 /// # Errors
 ///
-/// `NotJson` if the response is not one JSON value in UTF-8; `Memory`.
+/// Returns `NotJson` if the response is not exactly one JSON value in UTF-8. Returns `Memory` if an allocation failed.
 pub fn read_said<'a>(
     alloc: Global,
     scratch: &'a mut Scratch,
@@ -61,7 +61,7 @@ pub fn read_said<'a>(
     value_of(alloc, scratch, text)
 }
 
-/// Returns the members of an error of CouchDB, if a value is one.
+/// Returns the members `error` and `reason` of a JSON value, if it is an error of CouchDB.
 fn error_in<'v, 'a>(value: &'v Value<'a>) -> Option<(&'a str, &'a str)>
     ensures { option_map (λ p. (p.0.now, p.1.now)) result ≡ error_in (value_view value.now) }
 {
@@ -71,7 +71,7 @@ fn error_in<'v, 'a>(value: &'v Value<'a>) -> Option<(&'a str, &'a str)>
     }
 }
 
-/// Returns an error of CouchDB.
+/// Returns the error of CouchDB with the given name and reason.
 fn error_of(alloc: Global, error: &str, reason: &str) -> Result<Said, AllocError>
     ensures { IfOk result (IsErrorOf error.now reason.now) }
 {
@@ -80,7 +80,7 @@ fn error_of(alloc: Global, error: &str, reason: &str) -> Result<Said, AllocError
     Ok(Said::Error(error, reason))
 }
 
-/// Returns what a value is if it is not the one that was asked for.
+/// Returns the reason why a JSON value does not have the requested form.
 pub(crate) fn said_of(alloc: Global, value: &Value<'_>) -> Said
     ensures { IsSaid (value_view value.now) result }
 {

@@ -1,4 +1,4 @@
-//! A request for leaves.
+//! The task that requests the leaves of a list.
 ghost use Rattle.std.specs.Prelude.{⊤};
 
 use crate::count::Count;
@@ -17,7 +17,7 @@ pub struct Ask {
 }
 
 impl Ask {
-    /// Begins a request.
+    /// Begins a request that names no leaf.
     pub fn new(alloc: Global) -> Ask {
         Ask {
             alloc,
@@ -27,12 +27,12 @@ impl Ask {
         }
     }
 
-    /// Returns the number of the first line that is not a line of a list, from 1.
+    /// Returns the number, from 1, of the first input line that is not a line of a list.
     pub fn wrong(&self) -> Option<u64> {
         self.count.wrong
     }
 
-    /// Appends a leaf to the request.
+    /// Appends a leaf to the body of the request.
     fn push(&mut self, text: &mut Vec<u8>, id: &str, rev: &str) -> Result<(), AllocError> {
         if self.begun {
             text.push(b',')?;
@@ -48,7 +48,7 @@ impl Ask {
         Ok(())
     }
 
-    /// Appends the leaves of a document to the request.
+    /// Appends the leaves of a document to the body of the request.
     fn push_all(
         &mut self,
         text: &mut Vec<u8>,

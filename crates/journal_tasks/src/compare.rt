@@ -1,4 +1,4 @@
-//! Compares two lists of leaves.
+//! The task that compares two lists of leaves.
 ghost use Rattle.std.specs.Prelude.{⊤};
 
 use crate::count::Count;
@@ -9,10 +9,11 @@ use json::Scratch;
 use line_reader::LineTask;
 use std::alloc::{AllocError, Global};
 
-/// Reads a list, an empty line and another list. Prints for each line of the second list the leaves that the first list
-/// does not have. With `documents`, prints all its leaves if the first list does not have the document.
+/// The input is a list, an empty line and a second list. The task prints for each line of the second list the leaves
+/// that the first list does not have. With `documents`, the task prints all leaves of the documents that the first list
+/// does not have.
 ///
-/// Holds the first list.
+/// The task holds the first list in memory.
 #[derive(Drop)]
 pub struct Compare {
     alloc: Global,
@@ -23,7 +24,7 @@ pub struct Compare {
     in_second: bool,
 }
 
-/// Whether a list has a leaf.
+/// Whether a list has the given leaf of a document.
 fn has_pair(docs: &Docs, id: &str, rev: &str) -> bool {
     match docs.get(id) {
         Some(revs) => revs.contains(rev),
@@ -32,7 +33,7 @@ fn has_pair(docs: &Docs, id: &str, rev: &str) -> bool {
 }
 
 impl Compare {
-    /// Begins with the first list.
+    /// Begins before the first line of the first list.
     pub fn new(alloc: Global, documents: bool) -> Compare {
         Compare {
             alloc,
@@ -44,7 +45,7 @@ impl Compare {
         }
     }
 
-    /// Returns the number of the first line that is not a line of a list, from 1.
+    /// Returns the number, from 1, of the first input line that is not a line of a list.
     pub fn wrong(&self) -> Option<u64> {
         self.count.wrong
     }
@@ -57,7 +58,7 @@ impl Compare {
         Ok(())
     }
 
-    /// Appends the leaves of a line that are printed.
+    /// Appends those leaves of a line of the second list that are printed.
     fn push(&self, text: &mut Vec<u8>, leaves: Leaves) -> Result<(), AllocError> {
         let Leaves { seq, id, revs } = leaves;
         if self.documents && self.docs.contains_key(id.as_str()) {

@@ -1,4 +1,4 @@
-//! Confirms a journal.
+//! The task that confirms a journal by its checksums.
 ghost use Rattle.std.specs.Prelude.{⊤};
 
 use crate::lacks::Lacks;
@@ -8,29 +8,30 @@ use line_reader::{LineTask, run_task};
 use script_engine::{ScriptFault, ScriptRead, ScriptWrite};
 use std::alloc::{AllocError, Global};
 
-/// Prints the longest prefix of a journal that its checksums confirm, and the lines of that prefix that name documents
-/// of which leaves are still missing. With a sequence, the prefix ends at the last block of that sequence.
+/// Prints the size and the last block of the longest prefix of a journal that its checksums confirm. The task also
+/// prints the lacks lines of that prefix, which name documents of which leaves are still missing. With a sequence, the
+/// prefix ends at the last block of that sequence.
 ///
-/// Holds one block, and the lines that it prints.
+/// The task holds one block and the lines that it prints in memory.
 #[derive(Drop)]
 pub struct Confirm {
     alloc: Global,
     blocks: Blocks,
-    /// The number of documents of the confirmed blocks.
+    /// The number of documents in the confirmed blocks.
     leaves: u64,
-    /// The number of documents of the current block.
+    /// The number of documents in the current block.
     held: u64,
     lacks: Lacks,
     at: Option<Vec<u8>>,
     found: Option<Vec<u8>>,
-    /// Whether the input does not end with a line end.
+    /// Whether the input ends without a line end.
     cut: bool,
     begun: bool,
     sums: bool,
     first_leaf: bool,
 }
 
-/// Whether a sequence is this one, or begins with it and `-`.
+/// Whether a sequence equals the sequence `at`, or begins with `at` and `-`.
 fn is_at(seq: &[u8], at: &[u8]) -> bool {
     let Some(rest) = seq.strip_prefix(at) else {
         return false;
@@ -46,7 +47,7 @@ fn leaf_of(line: &[u8]) -> u64 {
     }
 }
 
-/// Appends a number and a blank.
+/// Appends a number and a blank to the text.
 fn push_number(text: &mut Vec<u8>, number: u64) -> Result<(), AllocError> {
     let mut digits = Buffer::new();
     text.extend_from_slice(digits.format(number).as_bytes())?;
@@ -77,12 +78,12 @@ impl Confirm {
         })
     }
 
-    /// Returns the number of confirmed lines.
+    /// Returns the number of confirmed lines of the journal.
     pub fn confirmed_lines(&self) -> u64 {
         self.blocks.lines()
     }
 
-    /// Whether the complete input is confirmed.
+    /// Whether the checksums confirm the complete input.
     pub fn is_confirmed(&self) -> bool {
         !self.cut && self.blocks.is_confirmed()
     }
@@ -92,12 +93,12 @@ impl Confirm {
         self.first_leaf && !self.sums
     }
 
-    /// Whether a sequence was asked for that no confirmed block has.
+    /// Whether no confirmed block has the sequence that the task is given.
     pub fn is_not_found(&self) -> bool {
         self.at.is_some() && self.found.is_none()
     }
 
-    /// Returns what is confirmed so far.
+    /// Returns the report about the confirmed part of the journal.
     fn report(&self) -> Result<Vec<u8>, AllocError> {
         let mut text = Vec::from_slice(self.alloc, b"confirmed ".as_slice())?;
         push_number(&mut text, self.blocks.bytes())?;
@@ -111,7 +112,7 @@ impl Confirm {
         Ok(text)
     }
 
-    /// Whether the last confirmed block has the sequence that was asked for.
+    /// Whether the last confirmed block has the sequence that the task is given.
     fn is_at_seq(&self) -> bool {
         match &self.at {
             Some(at) => is_at(self.blocks.seq(), at.as_slice()),
@@ -119,7 +120,7 @@ impl Confirm {
         }
     }
 
-    /// Notes the beginning of the input, and lines with checksums.
+    /// Records whether the input begins with a document, and whether it has lines with checksums.
     fn look(&mut self, line: &[u8]) {
         if !self.begun {
             self.first_leaf = line.starts_with(b"{".as_slice());
@@ -130,7 +131,8 @@ impl Confirm {
         }
     }
 
-    /// Counts the documents after a line: `held` is their number in the current block.
+    /// Counts the documents after a line of the journal. The argument `held` is the number of documents in the current
+    /// block.
     fn settle(&mut self, took: Took, held: u64) -> Result<(), AllocError> {
         match took {
             Took::Held => {
@@ -142,7 +144,7 @@ impl Confirm {
         }
     }
 
-    /// Notes a confirmed block of `held` documents.
+    /// Records a confirmed block of `held` documents.
     fn settle_block(&mut self, body: &[u8], held: u64) -> Result<(), AllocError> {
         self.leaves = added(self.leaves, held)?;
         self.held = 0;
@@ -180,14 +182,14 @@ impl LineTask for Confirm {
     }
 }
 
-/// Confirms the journal of a reader, and writes what is confirmed. With a sequence, writes what was confirmed at the last
-/// block of that sequence, and has no output if no block has it.
+/// Confirms the journal of a reader, and writes a report about the confirmed part. With a sequence, the report is that
+/// at the last block of this sequence, and there is no output if no block has it.
 ///
 /// # Errors
 ///
-/// - `Read`: the reader failed in this call, or 4,294,967,295 reads of at most 65,536 bytes were made.
-/// - `Write`: the writer failed in this call.
-/// - `Memory`: an allocation failed, or a count is at its maximum.
+/// - Returns `Read` if the reader failed in this call, or after 4,294,967,295 reads of at most 65,536 bytes.
+/// - Returns `Write` if the writer failed in this call.
+/// - Returns `Memory` if an allocation failed, or if a count is at its maximum.
 pub fn confirm_journal<R: ScriptRead, W: ScriptWrite>(
     alloc: Global,
     at: Option<&[u8]>,

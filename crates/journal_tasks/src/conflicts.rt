@@ -1,4 +1,4 @@
-//! The documents that have several live leaves.
+//! The task that prints the documents with several live leaves.
 ghost use Rattle.std.specs.Prelude.{⊤};
 
 use crate::count::Count;
@@ -10,7 +10,7 @@ use json::Scratch;
 use line_reader::LineTask;
 use std::alloc::{AllocError, Global};
 
-/// The rank of a leaf: a live leaf is above a deleted one; then the greater generation; then the greater name.
+/// The rank of a leaf. A live leaf is above a deleted one, then the greater generation is above, then the greater name.
 #[derive(Drop, PartialEq, Eq, PartialOrd, Ord)]
 struct Rank {
     live: bool,
@@ -21,7 +21,7 @@ struct Rank {
 
 /// Prints the documents with two or more live leaves, and their leaves, the winner first.
 ///
-/// Holds the heads of all documents.
+/// The task holds the heads of all documents in memory.
 #[derive(Drop)]
 pub struct Conflicts {
     alloc: Global,
@@ -43,7 +43,7 @@ fn parts_of(rev: &str) -> (u64, &str) {
     }
 }
 
-/// Whether a revision is an ancestor of another leaf.
+/// Whether a revision is an ancestor of another of the given leaves.
 fn is_ancestor(alloc: Global, leaves: &[Leaf], rev: &str) -> Result<bool, AllocError> {
     for leaf in leaves {
         if leaf.rev.as_str() != rev && leaf.knows(alloc, rev)? {
@@ -53,7 +53,7 @@ fn is_ancestor(alloc: Global, leaves: &[Leaf], rev: &str) -> Result<bool, AllocE
     Ok(false)
 }
 
-/// Returns the ranks of the leaves among these, the least first.
+/// Returns the ranks of those given revisions that are leaves, lowest rank first.
 fn ranks_of(alloc: Global, leaves: &[Leaf]) -> Result<Vec<Rank>, AllocError> {
     let mut ranks = Vec::new(alloc);
     for (index, leaf) in leaves.iter().enumerate() {
@@ -74,7 +74,7 @@ fn ranks_of(alloc: Global, leaves: &[Leaf]) -> Result<Vec<Rank>, AllocError> {
     Ok(ranks)
 }
 
-/// Adds the revisions of a leaf and of its ancestors.
+/// Adds the revisions of a leaf and of its ancestors to a set.
 fn add_revs(alloc: Global, revs: &mut IndexSet<String>, leaf: &Leaf) -> Result<(), AllocError> {
     revs.insert(String::from_str(alloc, leaf.rev.as_str())?)?;
     for (index, name) in leaf.names.iter().enumerate() {
@@ -83,7 +83,7 @@ fn add_revs(alloc: Global, revs: &mut IndexSet<String>, leaf: &Leaf) -> Result<(
     Ok(())
 }
 
-/// Returns the number of revisions of a document.
+/// Returns the number of known revisions of a document.
 fn count_revs(alloc: Global, leaves: &[Leaf]) -> Result<usize, AllocError> {
     let mut revs = IndexSet::new(alloc);
     for leaf in leaves {
@@ -92,7 +92,7 @@ fn count_revs(alloc: Global, leaves: &[Leaf]) -> Result<usize, AllocError> {
     Ok(revs.len())
 }
 
-/// Appends a leaf with its ancestry.
+/// Appends the line of a leaf with its ancestry.
 fn push_leaf(alloc: Global, text: &mut Vec<u8>, leaf: &Leaf) -> Result<(), AllocError> {
     text.extend_from_slice(b"leaf ".as_slice())?;
     push_rev(alloc, text, leaf.rev.as_str())?;
@@ -112,14 +112,14 @@ fn push_leaf(alloc: Global, text: &mut Vec<u8>, leaf: &Leaf) -> Result<(), Alloc
     Ok(())
 }
 
-/// Appends a number after a word.
+/// Appends a word and a number to the text.
 fn push_number(text: &mut Vec<u8>, word: &str, number: usize) -> Result<(), AllocError> {
     let mut digits = Buffer::new();
     text.extend_from_slice(word.as_bytes())?;
     text.extend_from_slice(digits.format(number).as_bytes())
 }
 
-/// Appends a document in conflict, with its leaves.
+/// Appends the lines of a document in conflict and of its leaves.
 fn push_doc(
     alloc: Global,
     text: &mut Vec<u8>,
@@ -147,7 +147,7 @@ fn push_doc(
 }
 
 impl Conflicts {
-    /// Begins without documents.
+    /// Begins without any document.
     pub fn new(alloc: Global) -> Conflicts {
         Conflicts {
             alloc,
@@ -159,12 +159,12 @@ impl Conflicts {
         }
     }
 
-    /// Returns the number of the first line, from 1, that has no document.
+    /// Returns the number, from 1, of the first input line that has no document.
     pub fn wrong(&self) -> Option<u64> {
         self.count.wrong
     }
 
-    /// Adds a leaf to those of its document, unless it is there already.
+    /// Adds a leaf to those of its document, unless the document has it already.
     fn add(&mut self, leaf: Leaf) -> Result<(), AllocError> {
         let place = match self.places.get(leaf.id.as_str()) {
             Some(place) => *place,
@@ -184,7 +184,7 @@ impl Conflicts {
         Ok(())
     }
 
-    /// Appends a document, if it is in conflict.
+    /// Appends the lines of a document, if the document is in conflict.
     fn push(&mut self, text: &mut Vec<u8>, index: usize) -> Result<(), AllocError> {
         let Some((id, place)) = self.places.get_index(index) else {
             return Ok(());

@@ -1,18 +1,18 @@
-//! The lines that a task has read.
+//! Counts the lines that a task has read.
 use journal_core::added;
 use std::alloc::AllocError;
 
-/// The number of lines so far, and the first wrong line.
+/// The number of lines that a task has read, and the first wrong one.
 #[derive(Drop)]
 pub(crate) struct Count {
-    /// The number of lines.
+    /// The number of lines that the task has read.
     pub(crate) lines: u64,
-    /// The number of the first wrong line, from 1.
+    /// The number, from 1, of the first wrong line.
     pub(crate) wrong: Option<u64>,
 }
 
 impl Count {
-    /// Returns the count of no lines.
+    /// Returns the count before the first line.
     pub(crate) fn new() -> Count {
         Count {
             lines: 0,
@@ -24,27 +24,27 @@ impl Count {
     ///
     /// # Errors
     ///
-    /// The count is at its maximum.
+    /// Returns an error if the count is at its maximum.
     pub(crate) fn add(&mut self) -> Result<(), AllocError> {
         self.lines = added(self.lines, 1)?;
         Ok(())
     }
 
-    /// Notes that the last line is wrong.
+    /// Records that the last counted line is wrong.
     pub(crate) fn fail(&mut self) {
         if self.wrong.is_none() {
             self.wrong = Some(self.lines);
         }
     }
 
-    /// Notes that the bytes after the last line end are wrong, if there are any.
+    /// Records that the bytes after the last line end are wrong, if there are any.
     pub(crate) fn end(&mut self, rest: &[u8]) {
         if !rest.is_empty() && self.wrong.is_none() {
             self.wrong = Some(self.lines.saturating_add(1));
         }
     }
 
-    /// Whether no line is wrong.
+    /// Whether no line so far is wrong.
     pub(crate) fn is_right(&self) -> bool {
         self.wrong.is_none()
     }

@@ -1,4 +1,4 @@
-//! A request that asks which leaves are missing.
+//! The task that asks which leaves of a list are missing.
 ghost use Rattle.std.specs.Prelude.{⊤};
 
 use crate::count::Count;
@@ -8,9 +8,10 @@ use json::Scratch;
 use line_reader::LineTask;
 use std::alloc::{AllocError, Global};
 
-/// Prints the body of a `_revs_diff` request for the leaves of a list: each document once, at its first place.
+/// Prints the body of a `_revs_diff` request for the leaves of a list. The request has each document once, in the order
+/// of first occurrence.
 ///
-/// Holds the list.
+/// The task holds the list in memory.
 #[derive(Drop)]
 pub struct Diff {
     alloc: Global,
@@ -19,7 +20,7 @@ pub struct Diff {
     docs: Docs,
 }
 
-/// Adds the leaves of a line to those of a list. Returns whether the line lists leaves.
+/// Adds the leaves of a line to those of a list. Returns whether the line lists leaves or has a document.
 pub(crate) fn add_entry(
     alloc: Global,
     scratch: &mut Scratch,
@@ -47,7 +48,7 @@ fn add_all(alloc: Global, docs: &mut Docs, id: &str, revs: &[String]) -> Result<
     Ok(())
 }
 
-/// Appends revisions as a JSON list.
+/// Appends revisions as a JSON list of strings.
 fn push_revs(alloc: Global, text: &mut Vec<u8>, revs: &IndexSet<String>) -> Result<(), AllocError> {
     text.push(b'[')?;
     for (index, rev) in revs.as_slice().iter().enumerate() {
@@ -61,7 +62,7 @@ fn push_revs(alloc: Global, text: &mut Vec<u8>, revs: &IndexSet<String>) -> Resu
 }
 
 impl Diff {
-    /// Begins a request.
+    /// Begins a request that names no leaf.
     pub fn new(alloc: Global) -> Diff {
         Diff {
             alloc,
@@ -71,12 +72,12 @@ impl Diff {
         }
     }
 
-    /// Returns the number of the first line that is not a line of a list, from 1.
+    /// Returns the number, from 1, of the first input line that is not a line of a list.
     pub fn wrong(&self) -> Option<u64> {
         self.count.wrong
     }
 
-    /// Appends the request.
+    /// Appends the body of the request.
     fn push(&self, text: &mut Vec<u8>) -> Result<(), AllocError> {
         text.push(b'{')?;
         for index in 0..self.docs.len() {

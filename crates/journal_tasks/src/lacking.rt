@@ -1,4 +1,4 @@
-//! The leaves that a response of `_revs_diff` names as missing.
+//! The task that prints the leaves that a response of `_revs_diff` names as missing.
 ghost use Rattle.std.specs.Prelude.{⊤};
 
 use crate::count::Count;
@@ -10,10 +10,10 @@ use line_reader::LineTask;
 use std::alloc::{AllocError, Global};
 use std::str;
 
-/// Reads a list, an empty line and the response of `_revs_diff`. Prints a state line for each document of the list that
-/// has missing leaves.
+/// The input is a list, an empty line and the response of `_revs_diff`. The task prints a state line for each document
+/// of the list that has missing leaves.
 ///
-/// Holds the list and the response.
+/// The task holds the list and the response in memory.
 #[derive(Drop)]
 pub struct Lacking {
     alloc: Global,
@@ -25,8 +25,8 @@ pub struct Lacking {
     refused: bool,
 }
 
-/// Adds the missing revisions of a document. Returns whether the value lists them, and the list of leaves has all of
-/// them.
+/// Adds the missing revisions of a document, as a member of the response lists them. Returns whether the member lists
+/// revisions, and the list of leaves has all of them.
 fn add_missing(
     alloc: Global,
     missing: &mut Docs,
@@ -52,7 +52,7 @@ fn add_missing(
     Ok(true)
 }
 
-/// Returns the missing leaves that a response names, if it is one.
+/// Returns the missing leaves that a response names, or `None` if it is not a response of `_revs_diff`.
 fn missing_of(alloc: Global, docs: &Docs, value: &Value<'_>) -> Result<Option<Docs>, AllocError> {
     let Value::Object(members) = value else {
         return Ok(None);
@@ -66,7 +66,7 @@ fn missing_of(alloc: Global, docs: &Docs, value: &Value<'_>) -> Result<Option<Do
     Ok(Some(missing))
 }
 
-/// Whether a revision is in a list.
+/// Whether a list of revisions has the given revision.
 fn is_among(revs: &[String], rev: &str) -> bool {
     for known in revs {
         if rev == known.as_str() {
@@ -76,7 +76,7 @@ fn is_among(revs: &[String], rev: &str) -> bool {
     false
 }
 
-/// Returns copies of the revisions of a list that are missing.
+/// Returns copies of those revisions of a list that are missing.
 fn only(alloc: Global, revs: &[String], missing: &[String]) -> Result<Vec<String>, AllocError> {
     let mut found = Vec::new(alloc);
     for rev in revs {
@@ -88,7 +88,7 @@ fn only(alloc: Global, revs: &[String], missing: &[String]) -> Result<Vec<String
 }
 
 impl Lacking {
-    /// Begins with the list.
+    /// Begins before the first line of the list.
     pub fn new(alloc: Global) -> Lacking {
         Lacking {
             alloc,
@@ -101,7 +101,7 @@ impl Lacking {
         }
     }
 
-    /// Returns the number of the first line that is not a line of a list, from 1.
+    /// Returns the number, from 1, of the first input line that is not a line of a list.
     pub fn wrong(&self) -> Option<u64> {
         self.count.wrong
     }
@@ -111,7 +111,7 @@ impl Lacking {
         self.refused
     }
 
-    /// Returns the missing leaves, if the response is one.
+    /// Returns the missing leaves that the response names, or `None` if it is not a response of `_revs_diff`.
     fn missing(&mut self) -> Result<Option<Docs>, AllocError> {
         let Ok(text) = str::from_utf8(self.response.as_slice()) else {
             return Ok(None);
@@ -123,7 +123,7 @@ impl Lacking {
         }
     }
 
-    /// Appends the lines of the documents that have missing leaves.
+    /// Appends the state lines of the documents that have missing leaves.
     fn push(&self, text: &mut Vec<u8>, missing: &Docs) -> Result<(), AllocError> {
         for index in 0..self.docs.len() {
             if let Some((id, revs)) = self.docs.get_index(index) {
@@ -133,7 +133,7 @@ impl Lacking {
         Ok(())
     }
 
-    /// Appends the line of a document, if it has missing leaves.
+    /// Appends the state line of a document, if the document has missing leaves.
     fn push_doc(
         &self,
         text: &mut Vec<u8>,

@@ -1,4 +1,4 @@
-//! The documents of which leaves are missing.
+//! Finds the documents of a journal of which leaves are missing.
 use indexmap::IndexMap;
 use journal_lines::{Entry, entry_of};
 use json::Scratch;
@@ -14,7 +14,7 @@ pub(crate) struct Lacks {
 }
 
 impl Lacks {
-    /// Returns no lines.
+    /// Returns a table without lines.
     pub(crate) fn new(alloc: Global) -> Lacks {
         Lacks {
             alloc,
@@ -23,7 +23,7 @@ impl Lacks {
         }
     }
 
-    /// Notes a line of a confirmed block.
+    /// Reads a line of a confirmed block.
     fn note(&mut self, line: &[u8]) -> Result<(), AllocError> {
         let state = line.starts_with(b"state ".as_slice());
         let lacks = line.starts_with(b"lacks ".as_slice());
@@ -34,7 +34,8 @@ impl Lacks {
         self.note_entry(&entry, line)
     }
 
-    /// Notes a state line or a lacks line.
+    /// Reads a state line, which removes its document's lacks line, or a lacks line, which becomes its document's last
+    /// one.
     fn note_entry(&mut self, entry: &Entry, line: &[u8]) -> Result<(), AllocError> {
         match entry {
             Entry::State(leaves) => {
@@ -46,12 +47,12 @@ impl Lacks {
         }
     }
 
-    /// Removes the line of a document, if it has one.
+    /// Removes the lacks line of a document, if there is one.
     fn remove(&mut self, id: &str) {
         let _line = self.lines.shift_remove(id);
     }
 
-    /// Puts a line of a document at the end.
+    /// Adds a lacks line of a document at the end, instead of an earlier one.
     fn put(&mut self, id: &str, line: &[u8]) -> Result<(), AllocError> {
         self.remove(id);
         let line = Vec::from_slice(self.alloc, line)?;
@@ -59,7 +60,7 @@ impl Lacks {
         Ok(())
     }
 
-    /// Notes the lines of a confirmed block.
+    /// Reads the lines of a confirmed block.
     pub(crate) fn note_all(&mut self, body: &[u8]) -> Result<(), AllocError> {
         let mut rest = body;
         while let Some(end) = memchr(10, rest) {
@@ -72,7 +73,7 @@ impl Lacks {
         Ok(())
     }
 
-    /// Appends the lines.
+    /// Appends the lacks lines to the text.
     pub(crate) fn push(&self, text: &mut Vec<u8>) -> Result<(), AllocError> {
         for index in 0..self.lines.len() {
             if let Some((_, line)) = self.lines.get_index(index) {

@@ -1,4 +1,4 @@
-//! A line for each leaf.
+//! The task that prints a line for each leaf.
 ghost use Rattle.std.specs.Prelude.{⊤};
 
 use crate::count::Count;
@@ -7,7 +7,7 @@ use json::Scratch;
 use line_reader::LineTask;
 use std::alloc::{AllocError, Global};
 
-/// Prints a line for each leaf of a list: a word, the id and the revision.
+/// Prints a line for each leaf of a list, with a given word, the document id and the revision.
 #[derive(Drop)]
 pub struct Name {
     alloc: Global,
@@ -17,7 +17,7 @@ pub struct Name {
 }
 
 impl Name {
-    /// Begins with the first word of each line.
+    /// Begins with the word at the start of each line.
     pub fn new(alloc: Global, word: &str) -> Result<Name, AllocError> {
         let word = Vec::from_slice(alloc, word.as_bytes())?;
         Ok(Name {
@@ -28,7 +28,7 @@ impl Name {
         })
     }
 
-    /// Returns the number of the first line that is not a line of a list, from 1.
+    /// Returns the number, from 1, of the first input line that is not a line of a list.
     pub fn wrong(&self) -> Option<u64> {
         self.count.wrong
     }
@@ -44,7 +44,7 @@ impl Name {
         Ok(())
     }
 
-    /// Appends the lines of the leaves of a document.
+    /// Appends a line for each leaf of a document.
     fn push_all(&self, text: &mut Vec<u8>, id: &str, revs: &[String]) -> Result<(), AllocError> {
         for rev in revs {
             self.push(text, id, rev.as_str())?;

@@ -1,4 +1,4 @@
-//! Parts of a list of documents.
+//! The task that cuts a list of documents into parts.
 ghost use Rattle.std.specs.Prelude.{⊤};
 
 use crate::count::Count;
@@ -7,10 +7,10 @@ use journal_core::added;
 use line_reader::LineTask;
 use std::alloc::{AllocError, Global};
 
-/// Cuts lines, in order, into parts of at most `most_lines` lines and at most `most_bytes` bytes, and at least one line
-/// each. Prints for each part a line with its number of lines and of bytes, and then its lines.
+/// Cuts lines, in order, into parts of at most `most_lines` lines and `most_bytes` bytes, but at least one line each.
+/// The task prints for each part a line with its numbers of lines and bytes, and then its lines.
 ///
-/// Holds one part.
+/// The task holds one part in memory.
 #[derive(Drop)]
 pub struct Parts {
     alloc: Global,
@@ -22,7 +22,7 @@ pub struct Parts {
 }
 
 impl Parts {
-    /// Begins with the maximum number of bytes and of lines of a part.
+    /// Begins with the maximum numbers of bytes and of lines of a part.
     pub fn new(alloc: Global, most_bytes: u64, most_lines: u64) -> Parts {
         Parts {
             alloc,
@@ -34,12 +34,12 @@ impl Parts {
         }
     }
 
-    /// Returns the number of the last line, from 1, if it has no line end.
+    /// Returns the number, from 1, of the last input line, if it has no line end.
     pub fn wrong(&self) -> Option<u64> {
         self.count.wrong
     }
 
-    /// Whether a line of this length does not fit into the current part.
+    /// Whether a line of the given length does not fit into the current part.
     fn is_full(&self, line: usize) -> bool {
         let bytes = self.part.len() as u64;
         self.lines > 0
@@ -47,7 +47,7 @@ impl Parts {
                 || bytes.saturating_add(line as u64).saturating_add(1) > self.most_bytes)
     }
 
-    /// Appends the current part, and begins the next.
+    /// Appends the current part to the text, and begins the next part.
     fn push(&mut self, text: &mut Vec<u8>) -> Result<(), AllocError> {
         let mut digits = Buffer::new();
         text.extend_from_slice(b"part ".as_slice())?;

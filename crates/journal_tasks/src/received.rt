@@ -1,4 +1,4 @@
-//! The received part of a request.
+//! The task that says what of a request was received.
 ghost use Rattle.std.specs.Prelude.{◌≡◌, ⊤, IfOk, map};
 ghost use Rattle.journal_lines.specs.Leafs.{leaf_view};
 ghost use Rattle.journal_tasks.specs.Receiving.{received_by, wanted_view};
@@ -10,26 +10,26 @@ use json::Scratch;
 use line_reader::LineTask;
 use std::alloc::{AllocError, Global};
 
-/// A requested revision, and whether it was received.
+/// A requested revision, with a Boolean that says whether it was received.
 #[derive(Drop)]
 struct Wanted {
     rev: String,
     received: bool,
 }
 
-/// A requested document.
+/// A requested document and what was received of it.
 #[derive(Drop)]
 struct Doc {
-    /// The requested revisions.
+    /// The revisions that were requested of the document.
     wanted: Vec<Wanted>,
-    /// The revisions of the received leaves, in order.
+    /// The leaf revisions that were received of the document, in order.
     leaves: IndexSet<String>,
 }
 
-/// Reads the requested leaves, an empty line and the received documents. Prints the documents, and for each line of the
-/// request a state line, and a lacks line if a leaf was not received.
+/// The input is the requested leaves, an empty line and the received documents. The task prints the documents, and for
+/// each line of the request a state line, and a lacks line if a leaf was not received.
 ///
-/// Holds the request.
+/// The task holds the request in memory.
 #[derive(Drop)]
 pub struct Received {
     alloc: Global,
@@ -43,7 +43,7 @@ pub struct Received {
     lacks: bool,
 }
 
-/// Returns copies of the received revisions.
+/// Returns copies of the received revisions of a document.
 fn copied(alloc: Global, revs: &IndexSet<String>) -> Result<Vec<String>, AllocError> {
     let mut copies = Vec::new(alloc);
     for rev in revs.as_slice() {
@@ -52,7 +52,7 @@ fn copied(alloc: Global, revs: &IndexSet<String>) -> Result<Vec<String>, AllocEr
     Ok(copies)
 }
 
-/// Whether a revision is among those that were not received.
+/// Whether a revision was requested and not received.
 fn is_missing(wanted: &[Wanted], rev: &str) -> bool {
     for item in wanted {
         if !item.received && item.rev.as_str() == rev {
@@ -62,7 +62,7 @@ fn is_missing(wanted: &[Wanted], rev: &str) -> bool {
     false
 }
 
-/// Returns copies of the revisions of a list that were not received.
+/// Returns copies of those revisions of a list that were requested and not received.
 fn missing_of(
     alloc: Global,
     wanted: &[Wanted],
@@ -77,7 +77,7 @@ fn missing_of(
     Ok(missing)
 }
 
-/// Returns the requested revisions after a leaf was received: it and its ancestors are received.
+/// Returns the requested revisions after a leaf was received, with the leaf and its ancestors marked as received.
 fn received_after(alloc: Global, wanted: &[Wanted], leaf: &Leaf) -> Result<Vec<Wanted>, AllocError>
     ensures { IfOk result (λ after. map wanted_view after.items ≡ map (received_by (leaf_view leaf.now)) (map wanted_view wanted.now)) }
 {
@@ -91,7 +91,7 @@ fn received_after(alloc: Global, wanted: &[Wanted], leaf: &Leaf) -> Result<Vec<W
     Ok(after)
 }
 
-/// Adds the requested revisions of a line.
+/// Adds the requested revisions of a line to those of its document.
 fn want(alloc: Global, doc: &mut Doc, line: &Leaves) -> Result<(), AllocError> {
     for rev in line.revs.as_slice() {
         let rev = String::from_str(alloc, rev.as_str())?;
@@ -103,7 +103,7 @@ fn want(alloc: Global, doc: &mut Doc, line: &Leaves) -> Result<(), AllocError> {
     Ok(())
 }
 
-/// Notes a received leaf, with its ancestors.
+/// Records that a leaf was received, which marks the leaf and its ancestors.
 fn note(alloc: Global, doc: &mut Doc, leaf: &Leaf) -> Result<(), AllocError> {
     doc.wanted = received_after(alloc, doc.wanted.as_slice(), leaf)?;
     doc.leaves
@@ -112,7 +112,7 @@ fn note(alloc: Global, doc: &mut Doc, leaf: &Leaf) -> Result<(), AllocError> {
 }
 
 impl Received {
-    /// Begins with the request.
+    /// Begins before the first line of the request.
     pub fn new(alloc: Global, only_lacks: bool) -> Received {
         Received {
             alloc,
@@ -127,18 +127,18 @@ impl Received {
         }
     }
 
-    /// Returns the number of the first line, from 1, that has another form than its place requires, or a document that
-    /// was not requested.
+    /// Returns the number, from 1, of the first input line that has a wrong form, or has a document that was not
+    /// requested.
     pub fn wrong(&self) -> Option<u64> {
         self.count.wrong
     }
 
-    /// Whether a leaf was not received.
+    /// Whether a requested leaf was not received.
     pub fn lacks(&self) -> bool {
         self.lacks
     }
 
-    /// Returns the place of a document in the list, which is added if it is new.
+    /// Returns the index of a document in the list, and adds a new document to the list.
     fn place_of(&mut self, id: &str) -> Result<usize, AllocError> {
         if let Some(place) = self.places.get(id) {
             return Ok(*place);
@@ -163,7 +163,7 @@ impl Received {
         Ok(())
     }
 
-    /// Notes a received document, and returns whether it was requested.
+    /// Records a received document, and returns whether it was requested.
     fn receive(&mut self, leaf: &Leaf) -> Result<bool, AllocError> {
         let Some(place) = self.places.get(leaf.id.as_str()) else {
             return Ok(false);
@@ -186,7 +186,7 @@ impl Received {
         }
     }
 
-    /// Reads a received document, and appends its line.
+    /// Reads the line of a received document, and appends the line to the text.
     fn response_line(&mut self, line: &[u8], text: &mut Vec<u8>) -> Result<(), AllocError> {
         let known = match entry_of(self.alloc, &mut self.scratch, line)? {
             Entry::Leaf(leaf) => self.receive(&leaf)?,
@@ -201,7 +201,7 @@ impl Received {
         Ok(())
     }
 
-    /// Appends what was received of a line of the request.
+    /// Appends the lines that say what was received for a line of the request.
     fn push(&mut self, text: &mut Vec<u8>, index: usize) -> Result<(), AllocError> {
         let Some(line) = self.lines.get(index) else {
             return Ok(());

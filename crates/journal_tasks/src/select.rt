@@ -1,4 +1,4 @@
-//! The documents that a restore sends.
+//! The task that selects the documents that a restore sends.
 ghost use Rattle.std.specs.Prelude.{◌≡◌, ⊤, length, option_map, string_bytes};
 ghost use Rattle.journal_tasks.specs.Selecting.{is_selected};
 
@@ -13,21 +13,21 @@ use sha2::{Digest, Sha256};
 use std::alloc::{AllocError, Global};
 use std::mem;
 
-/// Which documents are selected.
+/// The options that say which documents are selected.
 #[derive(Drop)]
 pub struct Filter {
-    /// The id of the only document that is selected.
+    /// The id of the only document that is selected, or `None` for all documents.
     pub id: Option<String>,
     /// Whether only documents with two or more leaves are selected.
     pub several: bool,
-    /// Whether checksums are ignored.
+    /// Whether the task ignores the journal's checksums.
     pub unverified: bool,
 }
 
-/// Reads a journal twice. Prints, of each document, the lines of the leaves of its last state: of each leaf the last
-/// line. Has no output unless the first copy is confirmed.
+/// The input is the same journal twice. For each leaf in the last state of each document, the task prints the leaf's
+/// last line. The task has no output unless the checksums confirm the first copy.
 ///
-/// Holds one block, the state of each document, and an entry for each leaf.
+/// The task holds one block, the state of each document, and an entry for each leaf in memory.
 #[derive(Drop)]
 pub struct Select {
     alloc: Global,
@@ -72,32 +72,32 @@ impl Select {
         })
     }
 
-    /// Returns the number of the first line, from 1, that is not a line of a journal.
+    /// Returns the number, from 1, of the first input line that is not a line of a journal.
     pub fn wrong(&self) -> Option<u64> {
         self.count.wrong
     }
 
-    /// Returns the number of confirmed lines.
+    /// Returns the number of confirmed lines of the journal.
     pub fn confirmed_lines(&self) -> u64 {
         self.blocks.lines()
     }
 
-    /// Whether the first copy is not completely confirmed.
+    /// Whether the checksums do not confirm the complete first copy.
     pub fn is_damaged(&self) -> bool {
         self.damaged
     }
 
-    /// Whether the second copy differs from the first.
+    /// Whether the second copy of the journal differs from the first.
     pub fn differs(&self) -> bool {
         self.differs
     }
 
-    /// Whether a state names a leaf that has no line.
+    /// Whether the last state of a document names a leaf that has no line.
     pub fn lacks(&self) -> bool {
         self.lacks
     }
 
-    /// Notes the line of a leaf.
+    /// Records the number of a leaf's line.
     fn note_leaf(&mut self, leaf: Leaf) -> Result<(), AllocError> {
         self.map.add(&leaf)?;
         let number = self.count.lines;
@@ -112,7 +112,7 @@ impl Select {
         Ok(())
     }
 
-    /// Notes a line of the first copy that is no checksum.
+    /// Reads a line of the first copy that has no checksum.
     fn note(&mut self, line: &[u8]) -> Result<(), AllocError> {
         match entry_of(self.alloc, &mut self.scratch, line)? {
             Entry::State(leaves) => self.map.name(leaves),
@@ -142,7 +142,7 @@ impl Select {
         Ok(())
     }
 
-    /// Ends the first copy.
+    /// Ends the first copy, and selects the lines to print.
     fn end_first(&mut self) -> Result<(), AllocError> {
         if self.bytes != self.size || !self.filter.unverified && !self.blocks.is_confirmed() {
             self.damaged = true;
@@ -156,7 +156,7 @@ impl Select {
         Ok(())
     }
 
-    /// Returns the hash of all bytes so far, and begins anew.
+    /// Returns the hash of all bytes so far, and begins a new hash.
     fn take_hash(&mut self) -> [u8; 32] {
         let hasher = mem::replace(&mut self.hasher, Sha256::new());
         hasher.finalize()
@@ -191,7 +191,7 @@ impl Select {
         Ok(())
     }
 
-    /// Reads a line of the second copy, and appends it if it is selected.
+    /// Reads a line of the second copy, and appends the line if it is selected.
     fn second_line(&mut self, line: &[u8], text: &mut Vec<u8>) -> Result<(), AllocError> {
         if self.selected.get(self.next).copied() != Some(self.count.lines) {
             return Ok(());
@@ -203,7 +203,7 @@ impl Select {
     }
 }
 
-/// Whether a document with these leaves is selected.
+/// Whether a document with the given id and leaves is selected.
 fn is_selected(filter: &Filter, id: &str, revs: &[String]) -> bool
     ensures { result ≡ is_selected filter.now.several (option_map string_bytes filter.now.id) id.now (length revs.now) }
 {
@@ -216,7 +216,7 @@ fn is_selected(filter: &Filter, id: &str, revs: &[String]) -> bool
     }
 }
 
-/// Returns the number of the last line of a leaf, if it has one.
+/// Returns the number of the last line of a leaf, if the leaf has a line.
 fn line_of(lines: Option<&IndexMap<String, u64>>, rev: &str) -> Option<u64> {
     lines?.get(rev).copied()
 }

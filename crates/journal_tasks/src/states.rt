@@ -1,4 +1,4 @@
-//! The last state of each document of a journal.
+//! The task that prints the last state of each document of a journal.
 ghost use Rattle.std.specs.Prelude.{⊤};
 
 use crate::count::Count;
@@ -9,18 +9,18 @@ use json::Scratch;
 use line_reader::LineTask;
 use std::alloc::{AllocError, Global};
 
-/// The state of a document.
+/// The state of a document, which is its leaves at a sequence.
 #[derive(Drop)]
 pub(crate) struct State {
-    /// The sequence, or `-`.
+    /// The sequence, or `-` if none is known.
     pub(crate) seq: String,
-    /// The revisions of the leaves.
+    /// The leaf revisions of the document.
     pub(crate) revs: Vec<String>,
-    /// Whether a state line named it.
+    /// Whether a state line of the journal gives this state.
     pub(crate) named: bool,
 }
 
-/// The states of documents.
+/// The last states of documents, by document id.
 #[derive(Drop)]
 pub(crate) struct StateMap {
     alloc: Global,
@@ -28,13 +28,13 @@ pub(crate) struct StateMap {
     pub(crate) states: Vec<State>,
 }
 
-/// Whether a revision is in a list.
+/// Whether a list of revisions has the given revision.
 pub(crate) fn has_rev(revs: &[String], rev: &str) -> bool {
     revs.iter().any(|known| known.as_str() == rev)
 }
 
 impl StateMap {
-    /// Returns no states.
+    /// Returns a map without states.
     pub(crate) fn new(alloc: Global) -> StateMap {
         StateMap {
             alloc,
@@ -43,7 +43,7 @@ impl StateMap {
         }
     }
 
-    /// Returns the place of a document, which is added if it is new.
+    /// Returns the index of a document's state, and adds a state if the document is new.
     fn place_of(&mut self, id: &str) -> Result<usize, AllocError> {
         if let Some(place) = self.places.get(id) {
             return Ok(*place);
@@ -60,7 +60,7 @@ impl StateMap {
         Ok(place)
     }
 
-    /// Replaces the state of a document.
+    /// Replaces the state of a document by that of a state line.
     pub(crate) fn name(&mut self, leaves: Leaves) -> Result<(), AllocError> {
         let Leaves { seq, id, revs } = leaves;
         let place = self.place_of(id.as_str())?;
@@ -74,7 +74,7 @@ impl StateMap {
         Ok(())
     }
 
-    /// Adds a leaf to the state of a document that no state line names.
+    /// Adds a leaf to the state of a document, unless a state line gives the state.
     pub(crate) fn add(&mut self, leaf: &Leaf) -> Result<(), AllocError> {
         let place = self.place_of(leaf.id.as_str())?;
         if let Some(state) = self.states.get_mut(place) {
@@ -87,7 +87,7 @@ impl StateMap {
         Ok(())
     }
 
-    /// Appends the states as lines.
+    /// Appends a state line for each document.
     fn push(&self, text: &mut Vec<u8>) -> Result<(), AllocError> {
         for index in 0..self.places.len() {
             if let Some((id, place)) = self.places.get_index(index) {
@@ -108,9 +108,9 @@ impl StateMap {
     }
 }
 
-/// Prints the last state of each document of a journal, if the complete journal is confirmed.
+/// Prints the last state of each document of a journal, if the checksums confirm the complete journal.
 ///
-/// Holds one block, and the state of each document.
+/// The task holds one block and the state of each document in memory.
 #[derive(Drop)]
 pub struct States {
     alloc: Global,
@@ -123,7 +123,7 @@ pub struct States {
 }
 
 impl States {
-    /// Begins at the start of a journal. With `unverified`, checksums are ignored.
+    /// Begins at the start of a journal. With `unverified`, the task ignores checksums.
     pub fn new(alloc: Global, unverified: bool) -> Result<States, AllocError> {
         let blocks = Blocks::new(alloc)?;
         Ok(States {
@@ -137,22 +137,22 @@ impl States {
         })
     }
 
-    /// Returns the number of the first line, from 1, that is not a line of a journal.
+    /// Returns the number, from 1, of the first input line that is not a line of a journal.
     pub fn wrong(&self) -> Option<u64> {
         self.count.wrong
     }
 
-    /// Returns the number of confirmed lines.
+    /// Returns the number of confirmed lines of the journal.
     pub fn confirmed_lines(&self) -> u64 {
         self.blocks.lines()
     }
 
-    /// Whether the journal is not completely confirmed.
+    /// Whether the checksums do not confirm the complete journal.
     pub fn is_damaged(&self) -> bool {
         self.damaged
     }
 
-    /// Notes a line that is no checksum.
+    /// Reads a line that has no checksum.
     fn note(&mut self, line: &[u8]) -> Result<(), AllocError> {
         match entry_of(self.alloc, &mut self.scratch, line)? {
             Entry::State(leaves) => self.map.name(leaves),
