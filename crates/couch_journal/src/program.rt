@@ -36,7 +36,8 @@ fn run_words<H: AllocGlobal + Input + Print + Eprint>(rt: &H, words: &[String]) 
     }
 }
 
-/// Runs the task of a parsed command line on standard input and output. The output is buffered, and flushed at the end.
+/// Runs the task of a parsed command line on standard input and output. The program buffers its output, and flushes the
+/// buffer at the end.
 fn run_options<H: AllocGlobal + Input + Print + Eprint>(rt: &H, options: &Options<'_>) -> u8
     ensures { result ≤ 3 }
 {
@@ -58,8 +59,8 @@ fn run_options<H: AllocGlobal + Input + Print + Eprint>(rt: &H, options: &Option
     }
 }
 
-/// Returns the outcome of a run whose last output could not be flushed. A failure that occurred earlier stays the
-/// outcome.
+/// Returns the outcome of a run whose last output could not be flushed. If the run failed before, the earlier failure
+/// stays the outcome.
 fn unflushed(ended: Ended) -> Ended {
     match ended {
         Ended::Done | Ended::Missing => Ended::Fault(ScriptFault::Write),

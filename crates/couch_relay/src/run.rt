@@ -136,7 +136,7 @@ fn status_of(request: &Request<'_>) -> Option<u8>
     }
 }
 
-/// Makes requests until the run is over, and returns its exit status. The status is 3 if no response to the last
+/// Makes requests until the run is over, and returns its exit status. The exit status is 3 if no response to the last
 /// request can be read.
 ///
 /// # Errors
@@ -176,8 +176,8 @@ fn make_requests<R: ScriptRead, W: ScriptWrite>(
     Err(ScriptFault::Read)
 }
 
-/// Reads the selection of documents if the options say that there is one. Returns `None` if the input lacks the
-/// selection.
+/// Reads the selection of documents from the input if the options say that the input has one. Returns `None` if the
+/// options require a selection that the input lacks.
 fn choice_of<R: ScriptRead>(
     alloc: Global,
     options: &Options<'_>,

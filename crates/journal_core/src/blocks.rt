@@ -10,11 +10,12 @@ use std::mem;
 /// The effect of a line on a journal that is read line by line.
 #[derive(Drop)]
 pub enum Took {
-    /// The line belongs to the current block.
+    /// The line belongs to the current block of the journal.
     Held,
-    /// The line ends a block, which is now confirmed. The bytes are those of the block's lines.
+    /// The line ends a block of the journal with a right checksum, which confirms the block. The variant has the bytes
+    /// of the block's lines.
     Closed(Vec<u8>),
-    /// The line is the wrong end of a block, or follows one.
+    /// The line is the wrong last line of a block, or a line after a wrong last line.
     Damaged,
 }
 

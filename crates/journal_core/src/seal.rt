@@ -31,7 +31,7 @@ pub struct Seal {
 }
 
 impl Seal {
-    /// Begins a block after the block with the hash `chain`.
+    /// Creates the task for a block that follows the block with the hash `chain`.
     pub fn new(alloc: Global, chain: &[u8], seq: &[u8]) -> Result<Seal, AllocError>
         ensures { IfOk result (λ seal. IsSealing chain.now seq.now [] seal) }
     {
@@ -83,15 +83,15 @@ impl LineTask for Seal {
 }
 
 /// Seals the block of lines that a reader has by writing the line that ends the block. The argument `chain` is the hash
-/// of the previous block. Returns `None`, or the number of lines before the first line that a block cannot contain. A
-/// block can contain neither a line that ends a block, nor a last line without a line end. If a block cannot contain a
-/// line, there is no output.
+/// of the previous block. Returns `None` if a block can contain all lines, or else the number of lines before the first
+/// line that a block cannot contain. A block can contain neither a line that ends a block, nor a last line without a
+/// line end. If a block cannot contain one of the lines, nothing is written.
 ///
 /// # Errors
 ///
-/// - Returns `Read` if the reader failed in this call, or after 4,294,967,295 reads of at most 65,536 bytes.
-/// - Returns `Write` if the writer failed in this call.
-/// - Returns `Memory` if an allocation failed, or if a count is at its maximum.
+/// Returns `Read` if the reader failed in this call, or after 4,294,967,295 reads of at most 65,536 bytes. Returns
+/// `Write` if the writer failed in this call. Returns `Memory` if an allocation failed, or if a count is at its
+/// maximum.
 pub fn seal_block<R: ScriptRead, W: ScriptWrite>(
     alloc: Global,
     chain: &[u8],

@@ -250,13 +250,14 @@ fn push_page(
     )
 }
 
-/// Appends a state line for each row of a page of changes. If `several` is set, only rows with two or more leaves have
-/// a line. The last line has the number of rows, the last sequence, and the number of documents after the page.
+/// Appends a state line for each row of a page of changes. If `several` is set, only a row with two or more leaves has
+/// a state line. The last line of a page has the number of rows, the last sequence, and the number of documents after
+/// the page.
 ///
 /// # Errors
 ///
 /// Returns `Error` if the value is an error of CouchDB, or `Other` if the value is neither a page nor an error. Returns
-/// `Memory` if an allocation failed. After an error, part of the text may be appended.
+/// `Memory` if an allocation failed. After an error, part of the page's text may have been appended.
 pub fn page_of(
     alloc: Global,
     text: &mut Vec<u8>,

@@ -43,8 +43,8 @@ fn is_refused(entry: &Value<'_>) -> bool
     entry.get("error").is_some()
 }
 
-/// Appends a line for an entry of a `_bulk_docs` response, if the entry reports an error. Returns whether a line was
-/// appended.
+/// Appends a line for an entry of a `_bulk_docs` response, if the entry reports an error. Returns whether the call
+/// appended a line.
 fn push_entry(alloc: Global, text: &mut Vec<u8>, entry: &Value<'_>) -> Result<bool, AllocError>
     ensures text { OnOk result (text.new.items ≡ text.old.items ++ entry_text (value_view entry.now)) }
     ensures refused { IfOk result (λ refused. refused ≡ is_refused (value_view entry.now)) }
@@ -56,7 +56,8 @@ fn push_entry(alloc: Global, text: &mut Vec<u8>, entry: &Value<'_>) -> Result<bo
     Ok(true)
 }
 
-/// Appends a line for each entry that reports an error. Returns whether a line was appended.
+/// Appends a line for each entry of a `_bulk_docs` response that reports an error. Returns whether the call appended a
+/// line.
 fn push_entries(
     alloc: Global,
     text: &mut Vec<u8>,
@@ -73,8 +74,8 @@ fn push_entries(
     Ok(refused)
 }
 
-/// Appends a line for each document that the server refused, as a response of `_bulk_docs` says. Returns whether a line
-/// was appended.
+/// Appends a line for each document that the server refused, as a response of `_bulk_docs` says. Returns whether the
+/// call appended a line.
 ///
 /// # Errors
 ///

@@ -16,7 +16,7 @@ pub enum Said {
     Error(String, String),
     /// The response is not exactly one JSON value in UTF-8.
     NotJson,
-    /// The response is a JSON value of another form.
+    /// The response is a JSON value that does not have the requested form.
     Other,
     /// An allocation failed.
     Memory,

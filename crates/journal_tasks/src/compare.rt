@@ -9,9 +9,9 @@ use json::Scratch;
 use line_reader::LineTask;
 use std::alloc::{AllocError, Global};
 
-/// The input is a list, an empty line and a second list. The task prints for each line of the second list the leaves
-/// that the first list does not have. With `documents`, the task prints all leaves of the documents that the first list
-/// does not have.
+/// The task's input is a list, an empty line and a second list. The task prints for each line of the second list the
+/// leaves that the first list does not have. With the option `documents`, the task prints only the documents that the
+/// first list does not have, with all their leaves.
 ///
 /// The task holds the first list in memory.
 #[derive(Drop)]
@@ -33,7 +33,7 @@ fn has_pair(docs: &Docs, id: &str, rev: &str) -> bool {
 }
 
 impl Compare {
-    /// Begins before the first line of the first list.
+    /// Creates the task, before the first line of the first list.
     pub fn new(alloc: Global, documents: bool) -> Compare {
         Compare {
             alloc,

@@ -9,8 +9,8 @@ use script_engine::{ScriptFault, ScriptRead, ScriptWrite};
 use std::alloc::{AllocError, Global};
 
 /// Prints the size and the last block of the longest prefix of a journal that its checksums confirm. The task also
-/// prints the lacks lines of that prefix, which name documents of which leaves are still missing. With a sequence, the
-/// prefix ends at the last block of that sequence.
+/// prints the prefix's lacks lines, which name documents of which leaves are still missing. If the task is given a
+/// sequence, the prefix ends at the last block of this sequence.
 ///
 /// The task holds one block and the lines that it prints in memory.
 #[derive(Drop)]
@@ -56,7 +56,7 @@ fn push_number(text: &mut Vec<u8>, number: u64) -> Result<(), AllocError> {
 }
 
 impl Confirm {
-    /// Begins at the start of a journal.
+    /// Creates the task, at the start of a journal.
     pub fn new(alloc: Global, at: Option<&[u8]>) -> Result<Confirm, AllocError> {
         let at = match at {
             Some(at) => Some(Vec::from_slice(alloc, at)?),
@@ -182,14 +182,14 @@ impl LineTask for Confirm {
     }
 }
 
-/// Confirms the journal of a reader, and writes a report about the confirmed part. With a sequence, the report is that
-/// at the last block of this sequence, and there is no output if no block has it.
+/// Confirms the journal of a reader, and writes a report about the confirmed part. If a sequence is given, the report
+/// is about the journal up to the last block of this sequence, and there is no output if no block has it.
 ///
 /// # Errors
 ///
-/// - Returns `Read` if the reader failed in this call, or after 4,294,967,295 reads of at most 65,536 bytes.
-/// - Returns `Write` if the writer failed in this call.
-/// - Returns `Memory` if an allocation failed, or if a count is at its maximum.
+/// Returns `Read` if the reader failed in this call, or after 4,294,967,295 reads of at most 65,536 bytes. Returns
+/// `Write` if the writer failed in this call. Returns `Memory` if an allocation failed, or if a count is at its
+/// maximum.
 pub fn confirm_journal<R: ScriptRead, W: ScriptWrite>(
     alloc: Global,
     at: Option<&[u8]>,

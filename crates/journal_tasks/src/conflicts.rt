@@ -147,7 +147,7 @@ fn push_doc(
 }
 
 impl Conflicts {
-    /// Begins without any document.
+    /// Creates the task, without any document.
     pub fn new(alloc: Global) -> Conflicts {
         Conflicts {
             alloc,

@@ -10,8 +10,8 @@ use line_reader::LineTask;
 use std::alloc::{AllocError, Global};
 use std::str;
 
-/// The input is a list, an empty line and the response of `_revs_diff`. The task prints a state line for each document
-/// of the list that has missing leaves.
+/// The task's input is a list, an empty line and the response of `_revs_diff`. The task prints a state line for each
+/// document of the list that has missing leaves.
 ///
 /// The task holds the list and the response in memory.
 #[derive(Drop)]
@@ -88,7 +88,7 @@ fn only(alloc: Global, revs: &[String], missing: &[String]) -> Result<Vec<String
 }
 
 impl Lacking {
-    /// Begins before the first line of the list.
+    /// Creates the task, before the first line of the list.
     pub fn new(alloc: Global) -> Lacking {
         Lacking {
             alloc,

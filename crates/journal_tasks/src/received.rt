@@ -22,12 +22,12 @@ struct Wanted {
 struct Doc {
     /// The revisions that were requested of the document.
     wanted: Vec<Wanted>,
-    /// The leaf revisions that were received of the document, in order.
+    /// The leaf revisions of the document that were received, in order.
     leaves: IndexSet<String>,
 }
 
-/// The input is the requested leaves, an empty line and the received documents. The task prints the documents, and for
-/// each line of the request a state line, and a lacks line if a leaf was not received.
+/// The task's input is the requested leaves, an empty line and the received documents. The task prints the documents,
+/// and for each line of the request a state line, and a lacks line if a leaf was not received.
 ///
 /// The task holds the request in memory.
 #[derive(Drop)]
@@ -112,7 +112,7 @@ fn note(alloc: Global, doc: &mut Doc, leaf: &Leaf) -> Result<(), AllocError> {
 }
 
 impl Received {
-    /// Begins before the first line of the request.
+    /// Creates the task, before the first line of the request.
     pub fn new(alloc: Global, only_lacks: bool) -> Received {
         Received {
             alloc,
@@ -153,7 +153,7 @@ impl Received {
         Ok(place)
     }
 
-    /// Adds a line of the request.
+    /// Adds a line of the requested leaves.
     fn request(&mut self, leaves: Leaves) -> Result<(), AllocError> {
         let place = self.place_of(leaves.id.as_str())?;
         if let Some(doc) = self.docs.get_mut(place) {

@@ -24,8 +24,8 @@ pub struct Filter {
     pub unverified: bool,
 }
 
-/// The input is the same journal twice. For each leaf in the last state of each document, the task prints the leaf's
-/// last line. The task has no output unless the checksums confirm the first copy.
+/// The task's input is one journal, given twice. For each leaf in the last state of each document, the task prints the
+/// leaf's last line. The task has no output unless the checksums confirm the journal's first copy.
 ///
 /// The task holds one block, the state of each document, and an entry for each leaf in memory.
 #[derive(Drop)]
@@ -49,7 +49,7 @@ pub struct Select {
 }
 
 impl Select {
-    /// Begins at the start of the first copy, which has `size` bytes.
+    /// Creates the task, at the start of the journal's first copy, which has `size` bytes.
     pub fn new(alloc: Global, size: u64, filter: Filter) -> Result<Select, AllocError> {
         let blocks = Blocks::new(alloc)?;
         Ok(Select {
@@ -97,7 +97,7 @@ impl Select {
         self.lacks
     }
 
-    /// Records the number of a leaf's line.
+    /// Records the line number of a leaf's line.
     fn note_leaf(&mut self, leaf: Leaf) -> Result<(), AllocError> {
         self.map.add(&leaf)?;
         let number = self.count.lines;

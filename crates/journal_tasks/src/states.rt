@@ -16,7 +16,7 @@ pub(crate) struct State {
     pub(crate) seq: String,
     /// The leaf revisions of the document.
     pub(crate) revs: Vec<String>,
-    /// Whether a state line of the journal gives this state.
+    /// Whether the state is that of a state line of the journal.
     pub(crate) named: bool,
 }
 
@@ -34,7 +34,7 @@ pub(crate) fn has_rev(revs: &[String], rev: &str) -> bool {
 }
 
 impl StateMap {
-    /// Returns a map without states.
+    /// Returns a map that has no states.
     pub(crate) fn new(alloc: Global) -> StateMap {
         StateMap {
             alloc,
@@ -123,7 +123,7 @@ pub struct States {
 }
 
 impl States {
-    /// Begins at the start of a journal. With `unverified`, the task ignores checksums.
+    /// Creates the task, at the start of a journal. With `unverified`, the task ignores checksums.
     pub fn new(alloc: Global, unverified: bool) -> Result<States, AllocError> {
         let blocks = Blocks::new(alloc)?;
         Ok(States {

@@ -100,11 +100,11 @@ fn finish<T: LineTask, W: ScriptWrite>(
 ///
 /// # Errors
 ///
-/// - Returns `Read` if the reader failed in this call, or after 4,294,967,295 reads of at most 65,536 bytes.
-/// - Returns `Write` if the writer failed in this call.
-/// - Returns `Memory` if an allocation failed, or if a count of the task is at its maximum.
+/// Returns `Read` if the reader failed in this call, or after 4,294,967,295 reads of at most 65,536 bytes. Returns
+/// `Write` if the writer failed in this call. Returns `Memory` if an allocation failed, or if a count of the task is at
+/// its maximum.
 ///
-/// After an error, the task's text for the earlier lines is written completely or as a prefix.
+/// After an error, `run_task` has written the text for the earlier lines, or a prefix of this text.
 pub fn run_task<T: LineTask, R: ScriptRead, W: ScriptWrite>(
     alloc: Global,
     task: &mut T,

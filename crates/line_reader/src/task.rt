@@ -22,7 +22,8 @@ pub trait LineTask {
         requires empty { text.old.items ≡ [] }
         ensures { OnOk result (steps self.old line.now text.new.items self.new) };
 
-    /// Reads the bytes after the last line end of the input, and appends text. No input follows these bytes.
+    /// Reads the bytes after the last line end of the input, and appends text. The bytes after the last line end are
+    /// the end of the input.
     ///
     /// # Errors
     ///

@@ -11,8 +11,8 @@ use std::alloc::Global;
 ///
 /// # Errors
 ///
-/// - Returns `Read` if the reader failed in this call, or after 4,294,967,295 reads of at most 65,536 bytes.
-/// - Returns `Memory` if an allocation failed.
+/// Returns `Read` if the reader failed in this call, or after 4,294,967,295 reads of at most 65,536 bytes. Returns
+/// `Memory` if an allocation failed.
 pub fn read_all<R: ScriptRead>(alloc: Global, reader: &mut R) -> Result<Vec<u8>, ScriptFault>
     ensures ok { IfOk result (λ bytes. Gives (R.left reader.old) bytes.items) }
     ensures end { OnOk result (IsAtEnd (R.left reader.new)) }

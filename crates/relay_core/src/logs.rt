@@ -106,8 +106,8 @@ fn start_of(
     }
 }
 
-/// Begins a window at the newest pair of a session and a sequence that both logs have. Without such a pair, the window
-/// begins at sequence 0, and both logs record sequence 0 first.
+/// Begins a window at the newest pair of a session and a sequence that both logs have. If the logs have no common pair,
+/// the window begins at sequence 0, and both logs record sequence 0 first.
 fn begin_window(
     alloc: Global,
     run: Run,
@@ -145,7 +145,8 @@ fn restart_notices(alloc: Global, is_anew: bool) -> Result<Vec<Notice>, AllocErr
     Ok(notices)
 }
 
-/// Requests that the target store its log. The source stores its log after the target.
+/// Requests that the target store its log. The source is asked to store its log only after the target has stored its
+/// own.
 fn put_target(
     alloc: Global,
     run: Run,

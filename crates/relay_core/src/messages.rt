@@ -52,7 +52,7 @@ pub struct LogEntry {
     pub json: String,
 }
 
-/// A replication log as one server stores it. The member `rev` is `None` if the server has no such log.
+/// A replication log as one server stores it. The member `rev` is `None` if the server has no replication log.
 #[derive(Drop)]
 pub struct ReplicationLog {
     pub rev: Option<String>,
@@ -64,8 +64,8 @@ pub struct ReplicationLog {
 pub enum Fault {
     /// A server gave no complete response.
     Unanswered(Side, Operation),
-    /// A response has a status that the run cannot use. The string is the error and the reason in the server's
-    /// response.
+    /// A response has a status that the run cannot use. The fault's string gives the error and the reason in the
+    /// server's response.
     Status(Side, Operation, u16, String),
     /// A response is not exactly one JSON value.
     NotJson(Operation),
@@ -77,7 +77,7 @@ pub enum Fault {
     BadAnswer(Operation),
     /// The replication log of a server has no `_rev`, or its history is not a list.
     BadLog(Side),
-    /// A server rejected the transfer of a single document. The parts are the document's id, the server, the status,
+    /// A server rejected the transfer of a single document. The fault has the document's id, the server, the status,
     /// and the server's error and reason.
     Refused(String, Side, u16, String),
     /// A leaf is still missing after the last try, and the target has not refused the leaf.
@@ -100,8 +100,8 @@ pub struct Unaccounted {
 /// A server's response in parsed form.
 #[derive(Drop)]
 pub enum Response {
-    /// The replication log that the run requested. If the server has no such log, the log is without revision and
-    /// entries.
+    /// The replication log that the run requested. If the server has no replication log, the response's log has no
+    /// revision and no entries.
     Log(ReplicationLog),
     /// A page of the source's changes feed.
     Page(ChangesPage),
@@ -110,7 +110,7 @@ pub enum Response {
     /// The rows of a `_bulk_docs` response that report errors.
     RowErrors(Vec<RowError>),
     /// A server rejected a transfer of documents with the given status, a 4xx other than 401, 403, 404, 408 and 429.
-    /// The string is the error and the reason in the server's response.
+    /// The response's string gives the error and the reason in the server's response.
     CarryRejected(Side, u16, String),
     /// A server stored its replication log.
     Stored,
@@ -158,8 +158,8 @@ pub enum Notice {
     Refused(RefusedLeaf),
     /// The logs have changed, so the run restarts at the newest entry that both logs have.
     Restarted,
-    /// The target has or has refused each leaf of a page. The parts are the counts and the number of documents after
-    /// the page.
+    /// The target has each leaf of a page, or has refused the leaf. The notice has the counts so far and the number of
+    /// documents after the page.
     Progress(Counts, Option<String>),
 }
 
@@ -168,12 +168,12 @@ pub enum Notice {
 pub enum Request<'a> {
     /// A request for the replication log of a server.
     GetLog(Side),
-    /// A request for the source's changes after this sequence. If there is a timeout in milliseconds, it is a longpoll
-    /// request.
+    /// A request for the source's changes after a sequence. A request for changes with a timeout in milliseconds is a
+    /// longpoll request.
     GetChanges(&'a str, Option<u32>),
-    /// A request for those of these leaves that the target lacks.
+    /// A request that the target say which of the given leaves it lacks.
     RevsDiff(&'a [DocLeaves]),
-    /// A request to copy these leaves from the source to the target, called a carry.
+    /// A carry, a request to copy the given leaves from the source to the target.
     Carry(&'a [DocLeaves]),
     /// A request that a server store its replication log with a new entry.
     PutLog(Side, &'a ReplicationLog, &'a Checkpoint),

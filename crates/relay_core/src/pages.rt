@@ -119,7 +119,8 @@ fn accounted(
     Ok(onward(settings, run, notices))
 }
 
-/// Requests the transfer of the next documents, or asks the target again if all documents were transferred.
+/// Requests the transfer of the next documents, or asks the target again what it lacks if all documents were
+/// transferred.
 fn ask_carry(alloc: Global, run: Run, mut transfer: Transfer) -> Phase
     ensures { (h : List Exchange) → IsOpenAt h run transfer → Knows h result }
 {
@@ -329,7 +330,7 @@ fn retry(
     Ok(quiet(alloc, run, Stage::Changes))
 }
 
-/// Continues a run after the target's response about the leaves of a page that it still lacks.
+/// Continues a run after the target says which leaves of a page it still lacks.
 pub(crate) fn after_again(
     alloc: Global,
     settings: &Settings,

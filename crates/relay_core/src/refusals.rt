@@ -6,7 +6,7 @@ ghost use Rattle.relay_core.specs.Leaves.{is_refusal, is_about, are_about, refus
 use crate::messages::{DocLeaves, RefusedLeaf, RowError, Unaccounted};
 use std::alloc::{AllocError, Global};
 
-/// Whether an error row says that the target refuses the document.
+/// Whether an error row says that the target refuses the row's document.
 fn is_refusal(row: &RowError) -> bool
     ensures { result ≡ is_refusal (row_error_view row.now) }
 {

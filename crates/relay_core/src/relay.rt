@@ -54,10 +54,10 @@ fn is_telling(notices: &Vec<Notice>, told: usize) -> bool
     notices.get(told).is_some()
 }
 
-/// Continues a run after the response to the phase's request. The date is that of the response, or empty if the
-/// response has none.
+/// Continues a run after the response to the phase's request. The argument `date` is the response's date, or empty if
+/// the response has no date.
 ///
-/// For any response, the new phase knows what the old phase knew of the earlier exchanges, and this exchange.
+/// For any response, the new phase knows of the exchange, and of all earlier exchanges that the old phase knew of.
 pub fn step(
     alloc: Global,
     settings: &Settings,

@@ -79,7 +79,7 @@ fn put_rev(writer: &mut Writer, rev: &Option<String>) -> Result<(), AllocError>
     }
 }
 
-/// Writes the members for a session, its recorded sequence, and the version of the log's format.
+/// Writes a log's members for the session, the recorded sequence, and the version of the format.
 pub(crate) fn put_position(
     writer: &mut Writer,
     session_id: &str,
@@ -142,7 +142,7 @@ fn count_of_session(kept: &[Recorded<'_>], session_id: &str) -> usize
     kept.iter().filter(|r| r.session_id == session_id).count()
 }
 
-/// Whether the kept entries include one with the given session and recorded sequence.
+/// Whether one of the kept entries has the given session and recorded sequence.
 fn has_entry(kept: &[Recorded<'_>], session_id: &str, seq: &str) -> bool
     ensures { result ≡ list_any (λ r. is_recorded session_id.now seq.now (recorded_view r)) kept.now }
 {
@@ -171,7 +171,7 @@ fn has_space_for(kept: &[Recorded<'_>], session_id: &str) -> bool
     count_of_session(kept, session_id) < 2
 }
 
-/// Whether a log keeps an older entry if it already keeps the given ones.
+/// Whether a log that already keeps the given entries also keeps an older entry.
 fn may_keep(kept: &[Recorded<'_>], entry: &LogEntry) -> bool
     ensures { result ≡ may_keep (kept_view kept.now) (entry_view entry.now) }
 {

@@ -14,7 +14,7 @@ use percent_encoding::{AsciiSet, NON_ALPHANUMERIC, ascii_set, percent_encode};
 use relay_core::{Counts, Fault, Request, Side};
 use std::alloc::{AllocError, Global};
 
-/// The ASCII characters that a parameter has percent-encoded.
+/// The ASCII characters that are percent-encoded in a parameter.
 pub(crate) const RESERVED: AsciiSet = ascii_set!(
     NON_ALPHANUMERIC
         .remove(b'-')

@@ -17,7 +17,7 @@ use std::alloc::{AllocError, Global};
 /// The leaf revisions of documents, by document id.
 type Docs<'a> = IndexMap<&'a str, IndexSet<&'a str>>;
 
-/// Whether no byte is an ASCII control character.
+/// Whether none of the given bytes is an ASCII control character.
 fn are_plain(bytes: &[u8]) -> bool
     ensures { result ≡ list_all is_plain_byte bytes.now }
 {
@@ -95,7 +95,7 @@ fn rows_of(alloc: Global, items: &Vec<Value<'_>>) -> Result<Option<Vec<DocLeaves
     Ok(Some(rows))
 }
 
-/// Adds to a set those revisions that it does not have.
+/// Adds the given revisions to a set of revisions.
 fn add_revs<'a>(known: &mut IndexSet<&'a str>, revs: &'a [String]) -> Result<(), AllocError>
     ensures { OnOk result (texts_in known.new.keys ≡ add_revs (texts_in known.old.keys) (texts_of revs.now)) }
 {
@@ -115,7 +115,7 @@ fn known_or_empty<'a>(alloc: Global, known: Option<IndexSet<&'a str>>) -> IndexS
     }
 }
 
-/// Adds the leaves of a row to those of its document.
+/// Adds the leaves of a row of changes to those of the row's document.
 fn add_row<'a>(alloc: Global, docs: &mut Docs<'a>, row: &'a DocLeaves) -> Result<(), AllocError>
     ensures { OnOk result (docs_in docs.new.entries ≡ add_row (docs_in docs.old.entries) (doc_view row.now)) }
 {

@@ -57,7 +57,7 @@ pub(crate) fn words_of(
     }
 }
 
-/// Returns the JSON value of a response with any status.
+/// Returns the JSON value of a response, whether its status is success or not.
 pub(crate) fn parsed_json<'a>(
     alloc: Global,
     scratch: &'a mut Scratch,
