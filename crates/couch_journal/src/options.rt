@@ -70,7 +70,6 @@ pub(crate) struct Options<'a> {
     pub(crate) unverified: bool,
 }
 
-/// Returns the definition of an option that takes a string.
 fn text<'a>(alloc: Global, name: &'a str, value: &'a str, help: &'a str) -> Arg<'a> {
     Arg::new(alloc, name)
         .long(name)
@@ -79,7 +78,6 @@ fn text<'a>(alloc: Global, name: &'a str, value: &'a str, help: &'a str) -> Arg<
         .help(help)
 }
 
-/// Returns the definition of the argument that names the task.
 fn task_word<'a>(alloc: Global) -> Arg<'a> {
     Arg::new(alloc, "task")
         .value_name("TASK")
@@ -88,7 +86,6 @@ fn task_word<'a>(alloc: Global) -> Arg<'a> {
         .help("The task: see below")
 }
 
-/// Adds the positional arguments to the definition of the command line.
 fn with_arguments<'a>(alloc: Global, command: Command<'a>) -> Result<Command<'a>, AllocError> {
     command
         .arg(task_word(alloc))?
@@ -96,7 +93,6 @@ fn with_arguments<'a>(alloc: Global, command: Command<'a>) -> Result<Command<'a>
         .arg(hidden_word(alloc, "second"))
 }
 
-/// Adds the options to the definition of the command line.
 fn with_options<'a>(alloc: Global, command: Command<'a>) -> Result<Command<'a>, AllocError> {
     command
         .arg(text(alloc, "at", "SEQ", "End at this sequence (confirm)"))?

@@ -61,7 +61,6 @@ fn run_response<R: ScriptRead, W: ScriptWrite>(
     }
 }
 
-/// Seals a block of a journal.
 fn run_seal<R: ScriptRead, W: ScriptWrite>(
     alloc: Global,
     chain: &str,
@@ -76,7 +75,6 @@ fn run_seal<R: ScriptRead, W: ScriptWrite>(
     }
 }
 
-/// Confirms a journal by its checksums.
 fn run_confirm<R: ScriptRead, W: ScriptWrite>(
     alloc: Global,
     at: Option<&str>,
@@ -99,7 +97,6 @@ fn run_confirm<R: ScriptRead, W: ScriptWrite>(
     }
 }
 
-/// Prints the last state of each document of a journal.
 fn run_states<R: ScriptRead, W: ScriptWrite>(
     alloc: Global,
     unverified: bool,
@@ -127,7 +124,6 @@ fn filter_of(alloc: Global, options: &Options<'_>) -> Result<Filter, AllocError>
     })
 }
 
-/// Prints the selected documents of a journal.
 fn run_select<R: ScriptRead, W: ScriptWrite>(
     alloc: Global,
     size: u64,

@@ -149,7 +149,6 @@ pub(crate) fn task_of<'a>(options: &Options<'a>) -> Option<Task<'a>> {
     }
 }
 
-/// Returns the task `parts`, if both of its arguments are numbers.
 fn parts_of<'a>(options: &Options<'a>) -> Option<Task<'a>> {
     let Some(bytes) = number_of(options.first) else {
         return None;
@@ -160,7 +159,6 @@ fn parts_of<'a>(options: &Options<'a>) -> Option<Task<'a>> {
     Some(Task::Parts(bytes, lines))
 }
 
-/// Returns the task `seal`, if both of its arguments are given.
 fn seal_of<'a>(options: &Options<'a>) -> Option<Task<'a>> {
     match (options.first, options.second) {
         (Some(chain), Some(seq)) => Some(Task::Seal(chain, seq)),
@@ -168,7 +166,6 @@ fn seal_of<'a>(options: &Options<'a>) -> Option<Task<'a>> {
     }
 }
 
-/// Returns the task `select`, if its argument is a number.
 fn select_of<'a>(options: &Options<'a>) -> Option<Task<'a>> {
     match number_of(options.first) {
         Some(size) => Some(Task::Select(size)),
@@ -176,7 +173,6 @@ fn select_of<'a>(options: &Options<'a>) -> Option<Task<'a>> {
     }
 }
 
-/// Returns the task `name`, if its argument is given.
 fn name_of<'a>(options: &Options<'a>) -> Option<Task<'a>> {
     match options.first {
         Some(word) => Some(Task::Name(word)),

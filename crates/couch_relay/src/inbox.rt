@@ -51,7 +51,6 @@ fn split_word(text: &str) -> (&str, &str)
     }
 }
 
-/// Parses the HTTP status in a response's first line.
 fn status_of(text: &str) -> Option<u16>
     ensures { MatchOption result ((n : ℕ) → ¬ IsNumber 16 text.now n) (λ n. IsNumber 16 text.now n) }
 {
@@ -61,7 +60,6 @@ fn status_of(text: &str) -> Option<u16>
     }
 }
 
-/// Parses the number of bytes in a response's first line.
 fn size_of(text: &str) -> Option<usize>
     ensures { MatchOption result ((n : ℕ) → ¬ IsNumber 64 text.now n) (λ n. IsNumber 64 text.now n) }
 {
@@ -96,7 +94,6 @@ fn head_of(alloc: Global, line: &[u8]) -> Result<Option<Head>, AllocError>
     }))
 }
 
-/// Returns the index of the first line feed in the given bytes.
 fn line_end(bytes: &[u8]) -> Option<usize>
     ensures { result ≡ position is_line_end bytes.now }
 {

@@ -44,7 +44,6 @@ pub(crate) struct Options<'a> {
     pub(crate) choice: bool,
 }
 
-/// Returns the definition of a required positional argument.
 fn required<'a>(alloc: Global, name: &'a str, help: &'a str) -> Arg<'a> {
     Arg::new(alloc, name)
         .required(true)
@@ -52,7 +51,6 @@ fn required<'a>(alloc: Global, name: &'a str, help: &'a str) -> Arg<'a> {
         .help(help)
 }
 
-/// Returns the definition of an option that takes a number.
 fn number<'a>(alloc: Global, name: &'a str, help: &'a str) -> Arg<'a> {
     Arg::new(alloc, name)
         .long(name)
@@ -62,7 +60,6 @@ fn number<'a>(alloc: Global, name: &'a str, help: &'a str) -> Arg<'a> {
         .help(help)
 }
 
-/// Returns the definition of an option that takes a string.
 fn text<'a>(alloc: Global, name: &'a str, value: &'a str, help: &'a str) -> Arg<'a> {
     Arg::new(alloc, name)
         .long(name)
@@ -71,7 +68,6 @@ fn text<'a>(alloc: Global, name: &'a str, value: &'a str, help: &'a str) -> Arg<
         .help(help)
 }
 
-/// Adds the positional arguments to the definition of the command line.
 fn with_arguments<'a>(alloc: Global, command: Command<'a>) -> Result<Command<'a>, AllocError> {
     command
         .arg(required(
@@ -91,7 +87,6 @@ fn with_arguments<'a>(alloc: Global, command: Command<'a>) -> Result<Command<'a>
         ))
 }
 
-/// Adds the options with numbers to the definition of the command line.
 fn with_numbers<'a>(alloc: Global, command: Command<'a>) -> Result<Command<'a>, AllocError> {
     command
         .arg(number(
@@ -111,7 +106,6 @@ fn with_numbers<'a>(alloc: Global, command: Command<'a>) -> Result<Command<'a>, 
         ))
 }
 
-/// Adds the options without numbers to the definition of the command line.
 fn with_options<'a>(alloc: Global, command: Command<'a>) -> Result<Command<'a>, AllocError> {
     command
         .arg(flag(
@@ -159,7 +153,6 @@ pub(crate) fn matches_of<'a>(alloc: Global, words: &'a [String]) -> Result<ArgMa
     command.try_get_matches_from(words)
 }
 
-/// Returns the string of an option, or an empty string if the option is absent.
 fn text_of<'m, 'a>(matches: &'m ArgMatches<'a>, name: &str) -> &'m str {
     match matches.get_str(name) {
         Some(text) => text,
@@ -167,7 +160,6 @@ fn text_of<'m, 'a>(matches: &'m ArgMatches<'a>, name: &str) -> &'m str {
     }
 }
 
-/// Returns the number of an option, or the given default if the option is absent.
 fn number_of(matches: &ArgMatches<'_>, name: &str, default: u64) -> u64 {
     match matches.try_get_one::<u64>(name) {
         Ok(Some(number)) => number,

@@ -107,7 +107,6 @@ impl Blocks {
         }
     }
 
-    /// Adds a line to the current block of a journal.
     fn hold(&mut self, line: &[u8]) -> Result<(), AllocError>
         ensures { OnOk result ((place : Place) → IsAt self.old place → IsAt self.new (held_more place line.now)) }
     {
@@ -142,7 +141,6 @@ impl Blocks {
         }
     }
 
-    /// Ends the current block of a journal with its last line.
     fn close(&mut self, line: &[u8]) -> Result<Took, AllocError>
         ensures { IfOk result (λ took. (place : Place) → IsAt self.old place → place.whole ≡ true
             → IsAt self.new (ended place line.now) × TookAs place (ended place line.now) line.now took) }

@@ -35,7 +35,6 @@ pub fn added(count: u64, more: u64) -> Result<u64, AllocError>
     }
 }
 
-/// Whether two lines are equal.
 pub(crate) fn is_same(line: &[u8], other: &[u8]) -> bool
     ensures { result ≡ bytes_eq line.now other.now }
 {
@@ -76,7 +75,6 @@ pub(crate) fn hex_of(alloc: Global, hasher: Sha256) -> Result<String, AllocError
     hex::encode(alloc, digest.as_slice())
 }
 
-/// Returns the start of the line that ends a block of `count` lines.
 pub(crate) fn sum_head(alloc: Global, count: u64) -> Result<Vec<u8>, AllocError>
     ensures { IfOk result (λ head. head.items ≡ sum_head count) }
 {

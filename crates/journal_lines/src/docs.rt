@@ -8,7 +8,6 @@ use std::alloc::{AllocError, Global};
 /// The revisions of documents, in the order in which documents and revisions first occur.
 pub type Docs = IndexMap<String, IndexSet<String>>;
 
-/// Returns the given set of revisions, or an empty set if no set is given.
 fn or_empty(alloc: Global, revs: Option<IndexSet<String>>) -> IndexSet<String>
     ensures { result.keys ≡ keys_or_none revs }
 {

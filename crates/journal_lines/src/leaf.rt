@@ -70,7 +70,6 @@ impl Leaf {
     }
 }
 
-/// Returns the generation and the names that a value of `_revisions` gives.
 fn ancestry_in(
     alloc: Global,
     revisions: &Value<'_>,

@@ -28,7 +28,6 @@ fn is_token_byte(byte: u8) -> bool
     byte >= 33 && byte <= 126 && byte != b'"' && byte != b'\\'
 }
 
-/// Whether a sequence may contain all the given bytes.
 fn are_token_bytes(bytes: &[u8]) -> bool
     ensures { result ≡ list_all is_token_byte bytes.now }
 {
@@ -97,7 +96,6 @@ pub fn value_of<'a>(
     }
 }
 
-/// Returns the leaves of a document at a sequence, as a JSON list names them.
 fn list_of(
     alloc: Global,
     scratch: &mut Scratch,

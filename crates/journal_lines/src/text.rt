@@ -25,7 +25,6 @@ pub(crate) fn after<'a>(prefix: &[u8], bytes: &'a [u8]) -> Option<&'a [u8]>
     bytes.strip_prefix(prefix)
 }
 
-/// Returns the index of the first blank in the given bytes.
 fn first_blank(bytes: &[u8]) -> Option<usize>
     ensures { result ≡ position is_blank bytes.now }
 {
@@ -65,7 +64,6 @@ fn is_plain_byte(byte: u8) -> bool
         || byte == b'.'
 }
 
-/// Whether a revision that consists of the given bytes may be written without quotation marks.
 fn is_plain(bytes: &[u8]) -> bool
     ensures { result ≡ list_all is_plain_byte bytes.now }
 {

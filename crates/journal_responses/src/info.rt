@@ -41,7 +41,6 @@ fn push_info(text: &mut Vec<u8>, value: &Value<'_>) -> Result<(), AllocError>
     Ok(())
 }
 
-/// Whether a JSON value is an object.
 fn is_object(value: &Value<'_>) -> bool
     ensures { result ≡ is_object (value_view value.now) }
 {

@@ -37,7 +37,6 @@ pub(crate) fn seq_at<'v, 'a>(value: &'v Value<'a>, name: &str) -> Option<&'a str
     }
 }
 
-/// Whether all given bytes are ASCII digits.
 pub(crate) fn are_digits(bytes: &[u8]) -> bool
     ensures { result ≡ list_all is_ascii_digit bytes.now }
 {

@@ -33,7 +33,6 @@ fn rev_of<'v, 'a>(change: &'v Value<'a>) -> Option<&'a str>
     }
 }
 
-/// Returns the revisions of a row's list of changes.
 fn revs_of(alloc: Global, changes: &Vec<Value<'_>>) -> Result<Option<Vec<String>>, AllocError>
     ensures { IfOk result (λ o. option_map (λ v. texts_of v.items) o ≡ each_item rev_in (items_view changes.now.items)) }
 {
@@ -57,7 +56,6 @@ fn changes_of(alloc: Global, changes: &Vec<Value<'_>>) -> Result<Option<Vec<Stri
     }
 }
 
-/// Whether a list of revisions has the given revision.
 fn has_rev(revs: &[String], rev: &str) -> bool
     ensures { result ≡ list_any (bytes_eq rev.now) (texts_of revs.now) }
 {
@@ -114,7 +112,6 @@ fn row_of(alloc: Global, row: &Value<'_>) -> Result<Option<Leaves>, AllocError>
     Ok(Some(Leaves { seq, id, revs }))
 }
 
-/// Returns the rows of a page of changes.
 fn rows_of(alloc: Global, items: &Vec<Value<'_>>) -> Result<Option<Vec<Leaves>>, AllocError>
     ensures { IfOk result (λ o. option_map (λ v. map leaves_view v.items) o ≡ each_item row_in (items_view items.now.items)) }
 {
@@ -158,7 +155,6 @@ fn push_row(
     )
 }
 
-/// Appends the state lines of the rows that are printed.
 fn push_rows(
     alloc: Global,
     text: &mut Vec<u8>,

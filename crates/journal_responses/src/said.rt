@@ -30,7 +30,6 @@ impl From<AllocError> for Said {
     }
 }
 
-/// Returns the JSON value of a text.
 fn value_of<'a>(alloc: Global, scratch: &'a mut Scratch, text: &'a str) -> Result<Value<'a>, Said>
     ensures ok { IfOk result (λ value. document text.now ≡ Some (value_view value)) }
     ensures err { IfErr result (IsUnread (document text.now)) }

@@ -17,7 +17,7 @@ pub struct Ask {
 }
 
 impl Ask {
-    /// Creates the task, with a request that names no leaf.
+    /// Creates the task.
     pub fn new(alloc: Global) -> Ask {
         Ask {
             alloc,

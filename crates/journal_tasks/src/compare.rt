@@ -33,7 +33,7 @@ fn has_pair(docs: &Docs, id: &str, rev: &str) -> bool {
 }
 
 impl Compare {
-    /// Creates the task, before the first line of the first list.
+    /// Creates the task.
     pub fn new(alloc: Global, documents: bool) -> Compare {
         Compare {
             alloc,

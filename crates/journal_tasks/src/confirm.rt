@@ -47,7 +47,6 @@ fn leaf_of(line: &[u8]) -> u64 {
     }
 }
 
-/// Appends a number and a blank to the text.
 fn push_number(text: &mut Vec<u8>, number: u64) -> Result<(), AllocError> {
     let mut digits = Buffer::new();
     text.extend_from_slice(digits.format(number).as_bytes())?;
@@ -56,7 +55,7 @@ fn push_number(text: &mut Vec<u8>, number: u64) -> Result<(), AllocError> {
 }
 
 impl Confirm {
-    /// Creates the task, at the start of a journal.
+    /// Creates the task.
     pub fn new(alloc: Global, at: Option<&[u8]>) -> Result<Confirm, AllocError> {
         let at = match at {
             Some(at) => Some(Vec::from_slice(alloc, at)?),

@@ -112,7 +112,6 @@ fn push_leaf(alloc: Global, text: &mut Vec<u8>, leaf: &Leaf) -> Result<(), Alloc
     Ok(())
 }
 
-/// Appends a word and a number to the text.
 fn push_number(text: &mut Vec<u8>, word: &str, number: usize) -> Result<(), AllocError> {
     let mut digits = Buffer::new();
     text.extend_from_slice(word.as_bytes())?;
@@ -147,7 +146,7 @@ fn push_doc(
 }
 
 impl Conflicts {
-    /// Creates the task, without any document.
+    /// Creates the task.
     pub fn new(alloc: Global) -> Conflicts {
         Conflicts {
             alloc,

@@ -62,7 +62,7 @@ fn push_revs(alloc: Global, text: &mut Vec<u8>, revs: &IndexSet<String>) -> Resu
 }
 
 impl Diff {
-    /// Creates the task, with a request that names no leaf.
+    /// Creates the task.
     pub fn new(alloc: Global) -> Diff {
         Diff {
             alloc,

@@ -66,7 +66,6 @@ fn missing_of(alloc: Global, docs: &Docs, value: &Value<'_>) -> Result<Option<Do
     Ok(Some(missing))
 }
 
-/// Whether a list of revisions has the given revision.
 fn is_among(revs: &[String], rev: &str) -> bool {
     for known in revs {
         if rev == known.as_str() {
@@ -88,7 +87,7 @@ fn only(alloc: Global, revs: &[String], missing: &[String]) -> Result<Vec<String
 }
 
 impl Lacking {
-    /// Creates the task, before the first line of the list.
+    /// Creates the task.
     pub fn new(alloc: Global) -> Lacking {
         Lacking {
             alloc,

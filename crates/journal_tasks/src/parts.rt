@@ -22,7 +22,7 @@ pub struct Parts {
 }
 
 impl Parts {
-    /// Creates the task, with the maximum numbers of bytes and of lines of a part.
+    /// Creates the task with the maximum numbers of bytes and of lines of a part.
     pub fn new(alloc: Global, most_bytes: u64, most_lines: u64) -> Parts {
         Parts {
             alloc,

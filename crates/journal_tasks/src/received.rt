@@ -112,7 +112,7 @@ fn note(alloc: Global, doc: &mut Doc, leaf: &Leaf) -> Result<(), AllocError> {
 }
 
 impl Received {
-    /// Creates the task, before the first line of the request.
+    /// Creates the task.
     pub fn new(alloc: Global, only_lacks: bool) -> Received {
         Received {
             alloc,

@@ -49,7 +49,7 @@ pub struct Select {
 }
 
 impl Select {
-    /// Creates the task, at the start of the journal's first copy, which has `size` bytes.
+    /// Creates the task for a journal of `size` bytes.
     pub fn new(alloc: Global, size: u64, filter: Filter) -> Result<Select, AllocError> {
         let blocks = Blocks::new(alloc)?;
         Ok(Select {
@@ -162,7 +162,6 @@ impl Select {
         hasher.finalize()
     }
 
-    /// Selects the lines of all documents.
     fn select_all(&mut self) -> Result<(), AllocError> {
         for index in 0..self.map.places.len() {
             self.select(index)?;
@@ -170,7 +169,6 @@ impl Select {
         Ok(())
     }
 
-    /// Selects the lines of a document.
     fn select(&mut self, index: usize) -> Result<(), AllocError> {
         let Some((id, place)) = self.map.places.get_index(index) else {
             return Ok(());

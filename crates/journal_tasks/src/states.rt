@@ -28,7 +28,6 @@ pub(crate) struct StateMap {
     pub(crate) states: Vec<State>,
 }
 
-/// Whether a list of revisions has the given revision.
 pub(crate) fn has_rev(revs: &[String], rev: &str) -> bool {
     revs.iter().any(|known| known.as_str() == rev)
 }
@@ -123,7 +122,7 @@ pub struct States {
 }
 
 impl States {
-    /// Creates the task, at the start of a journal. With `unverified`, the task ignores checksums.
+    /// Creates the task. With `unverified`, the task ignores checksums.
     pub fn new(alloc: Global, unverified: bool) -> Result<States, AllocError> {
         let blocks = Blocks::new(alloc)?;
         Ok(States {

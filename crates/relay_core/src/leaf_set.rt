@@ -19,7 +19,6 @@ pub(crate) fn has_leaf(leaves: &LeafSet<'_>, id: &str, leaf: &str) -> bool
     leaves.contains(&(id, leaf))
 }
 
-/// Adds the leaves of a document to a set of leaves.
 fn add_leaves<'a>(leaves: &mut LeafSet<'a>, doc: &'a DocLeaves) -> Result<(), AllocError>
     ensures { OnOk result ((id leaf : Text)
         → has_leaf leaves.new.keys id leaf ≡ (has_leaf leaves.old.keys id leaf || is_leaf_of (doc_view doc.now) id leaf)) }

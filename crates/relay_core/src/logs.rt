@@ -72,7 +72,6 @@ fn is_same(a: &Option<Recorded>, b: &Option<Recorded>) -> bool
     }
 }
 
-/// Returns the checkpoint that a run records in a new log entry.
 fn checkpoint_of(alloc: Global, run: &Run) -> Result<Checkpoint, AllocError>
     ensures seq { IfOk result (λ c. string_bytes c.seq ≡ string_bytes run.now.since) }
     ensures counts { IfOk result (λ c. c.counts ≡ run.now.counts) }

@@ -221,7 +221,6 @@ pub(crate) fn after_diff(
     Ok(ask_carry(alloc, run, transfer))
 }
 
-/// Requests a transfer of half as many documents.
 fn halve(alloc: Global, mut run: Run, transfer: Transfer) -> Phase
     ensures { (h : List Exchange) → IsOpenAt h run transfer → Knows h result }
 {

@@ -213,7 +213,6 @@ pub(crate) fn part_of(transfer: &Transfer) -> &[DocLeaves]
     &rest[..transfer.size.min(rest.len())]
 }
 
-/// Returns the request of a run in the given stage.
 fn stage_request<'a>(run: &'a Run, stage: &'a Stage) -> Request<'a>
     ensures { request_view result ≡ asked_by run.now stage.now }
 {

@@ -146,7 +146,6 @@ fn refused_leaf(
     })
 }
 
-/// Appends each leaf of a document to the list of refused leaves.
 fn push_refused(
     alloc: Global,
     leaves: &mut Vec<RefusedLeaf>,

@@ -8,7 +8,6 @@ use json::Writer;
 use relay_core::DocLeaves;
 use std::alloc::{AllocError, Global};
 
-/// Writes strings to a JSON writer.
 fn put_strings(writer: &mut Writer, texts: &[String]) -> Result<(), AllocError>
     ensures before { OnOk result (writer.new.before ≡ writer.old.before) }
     ensures tokens { OnOk result (writer.new.tokens ≡ writer.old.tokens ++ strings (texts_of texts.now)) }
@@ -31,7 +30,6 @@ fn put_doc(writer: &mut Writer, doc: &DocLeaves) -> Result<(), AllocError>
     Ok(())
 }
 
-/// Writes documents with their leaves, each as a member with a list.
 fn put_docs(writer: &mut Writer, docs: &[DocLeaves]) -> Result<(), AllocError>
     ensures before { OnOk result (writer.new.before ≡ writer.old.before) }
     ensures tokens { OnOk result (writer.new.tokens ≡ writer.old.tokens ++ docs_tokens (docs_view docs.now)) }
@@ -67,7 +65,6 @@ fn put_leaf(writer: &mut Writer, id: &str, rev: &str) -> Result<(), AllocError>
     Ok(())
 }
 
-/// Writes each leaf of a document as an object with the document's id and a revision.
 fn put_leaves(writer: &mut Writer, id: &str, revs: &[String]) -> Result<(), AllocError>
     ensures before { OnOk result (writer.new.before ≡ writer.old.before) }
     ensures tokens { OnOk result (writer.new.tokens ≡ writer.old.tokens ++ leaves_tokens id.now (texts_of revs.now)) }
@@ -78,7 +75,6 @@ fn put_leaves(writer: &mut Writer, id: &str, revs: &[String]) -> Result<(), Allo
     Ok(())
 }
 
-/// Writes each leaf of the given documents as an object with a document id and a revision.
 fn put_all_leaves(writer: &mut Writer, docs: &[DocLeaves]) -> Result<(), AllocError>
     ensures before { OnOk result (writer.new.before ≡ writer.old.before) }
     ensures tokens { OnOk result (writer.new.tokens ≡ writer.old.tokens ++ all_leaves_tokens (docs_view docs.now)) }

@@ -12,7 +12,6 @@ use json::Writer;
 use relay_core::{Checkpoint, Counts, LogEntry, ReplicationLog};
 use std::alloc::{AllocError, Global};
 
-/// Writes an object's member whose value is a number.
 fn put_count(writer: &mut Writer, name: &str, count: u64) -> Result<(), AllocError>
     ensures before { OnOk result (writer.new.before ≡ writer.old.before) }
     ensures tokens { OnOk result (writer.new.tokens ≡ writer.old.tokens ++ key name.now ∷ number (decimal count) ∷ []) }
@@ -35,7 +34,6 @@ pub(crate) fn put_counts(writer: &mut Writer, counts: &Counts) -> Result<(), All
     Ok(())
 }
 
-/// Writes an object's member whose value is a string.
 fn put_member(writer: &mut Writer, name: &str, text: &str) -> Result<(), AllocError>
     ensures before { OnOk result (writer.new.before ≡ writer.old.before) }
     ensures tokens { OnOk result (writer.new.tokens ≡ writer.old.tokens ++ key name.now ∷ string text.now ∷ []) }
@@ -45,7 +43,6 @@ fn put_member(writer: &mut Writer, name: &str, text: &str) -> Result<(), AllocEr
     Ok(())
 }
 
-/// Writes the log entry in which a session records a checkpoint.
 fn put_entry(
     writer: &mut Writer,
     session_id: &str,
@@ -157,14 +154,14 @@ fn is_recorded(kept: &[Recorded<'_>], session_id: &str, seq: &str) -> bool
     has_entry(kept, session_id, seq)
 }
 
-/// Whether a log that keeps the given entries may keep one more (the maximum is 50).
+/// Whether a log may keep one more entry (the maximum is 50).
 fn has_space(kept: &[Recorded<'_>]) -> bool
     ensures { result ≡ nat_lt (length (kept_view kept.now)) 50 }
 {
     kept.len() < 50
 }
 
-/// Whether a log that keeps the given entries may keep one more of a session (the maximum is 2).
+/// Whether a log may keep one more entry of a session (the maximum is 2).
 fn has_space_for(kept: &[Recorded<'_>], session_id: &str) -> bool
     ensures { result ≡ nat_lt (count_by (is_of_session session_id.now) (kept_view kept.now)) 2 }
 {

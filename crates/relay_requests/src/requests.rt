@@ -23,7 +23,6 @@ pub(crate) const RESERVED: AsciiSet = ascii_set!(
         .remove(b'~')
 );
 
-/// Returns the percent-encoded form of a string.
 fn encoded(alloc: Global, text: &str) -> Result<String, AllocError>
     ensures { IfOk result (λ s. string_bytes s ≡ encoded text.now) }
 {
@@ -63,14 +62,12 @@ fn query_text(alloc: Global, query: &str) -> Result<String, AllocError>
     format!(in alloc; "&{query}")
 }
 
-/// Returns the HTTP method of the request for changes.
 fn changes_method(choice: &str) -> &'static str
     ensures { result.now ≡ changes_method choice.now }
 {
     if choice.is_empty() { "GET" } else { "POST" }
 }
 
-/// Returns the path of `_changes` with the given parameters.
 fn path_with(
     alloc: Global,
     batch: u64,
@@ -86,7 +83,6 @@ fn path_with(
     )
 }
 
-/// Returns the path of the request for changes.
 fn changes_path(
     alloc: Global,
     options: &RequestOptions,
@@ -142,7 +138,6 @@ fn log_request(
     two_lines(head.into_bytes(), body)
 }
 
-/// Returns the text of the request for changes.
 fn changes_request(
     alloc: Global,
     options: &RequestOptions,

@@ -46,7 +46,6 @@ fn rev_of<'v, 'a>(change: &'v Value<'a>) -> Option<&'a str>
     }
 }
 
-/// Returns the revisions of a row's list of changes.
 fn revs_of(alloc: Global, changes: &Vec<Value<'_>>) -> Result<Option<Vec<String>>, AllocError>
     ensures { IfOk result (λ o. option_map (λ v. texts_of v.items) o
         ≡ each_item rev_in (items_view changes.now.items)) }
@@ -81,7 +80,6 @@ fn row_of(alloc: Global, row: &Value<'_>) -> Result<Option<DocLeaves>, AllocErro
     Ok(Some(DocLeaves { id, revs }))
 }
 
-/// Returns the rows of a page of changes.
 fn rows_of(alloc: Global, items: &Vec<Value<'_>>) -> Result<Option<Vec<DocLeaves>>, AllocError>
     ensures { IfOk result (λ o. option_map (λ v. docs_view v.items) o ≡ each_item row_in (items_view items.now.items)) }
 {
@@ -105,7 +103,6 @@ fn add_revs<'a>(known: &mut IndexSet<&'a str>, revs: &'a [String]) -> Result<(),
     Ok(())
 }
 
-/// Returns the given set, or an empty set if no set is given.
 fn known_or_empty<'a>(alloc: Global, known: Option<IndexSet<&'a str>>) -> IndexSet<&'a str>
     ensures { texts_in result.keys ≡ texts_or_none known.entry }
 {
@@ -126,7 +123,6 @@ fn add_row<'a>(alloc: Global, docs: &mut Docs<'a>, row: &'a DocLeaves) -> Result
     Ok(())
 }
 
-/// Returns copies of the given revisions.
 fn copied_revs(alloc: Global, revs: &[&str]) -> Result<Vec<String>, AllocError>
     ensures { IfOk result (λ v. texts_of v.items ≡ texts_in revs.now) }
 {
@@ -137,7 +133,6 @@ fn copied_revs(alloc: Global, revs: &[&str]) -> Result<Vec<String>, AllocError>
     Ok(copies)
 }
 
-/// Returns a copy of a document id with its leaf revisions.
 fn copied_doc(alloc: Global, id: &str, revs: &IndexSet<&str>) -> Result<DocLeaves, AllocError>
     ensures { IfOk result (λ d. doc_view d ≡ (id.now, texts_in revs.now.keys)) }
 {
@@ -146,7 +141,6 @@ fn copied_doc(alloc: Global, id: &str, revs: &IndexSet<&str>) -> Result<DocLeave
     Ok(DocLeaves { id, revs })
 }
 
-/// Returns copies of document ids with their leaf revisions.
 fn copied_docs(alloc: Global, docs: &Docs<'_>) -> Result<Vec<DocLeaves>, AllocError>
     ensures { IfOk result (λ v. docs_view v.items ≡ docs_in docs.now.entries) }
 {

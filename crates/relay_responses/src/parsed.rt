@@ -73,7 +73,6 @@ pub(crate) fn parsed_json<'a>(
     }
 }
 
-/// Whether an HTTP status is 200, 201 or 202.
 fn is_success(status: u16) -> bool
     ensures { result ≡ is_success status }
 {

@@ -55,7 +55,6 @@ fn log_response(
     }
 }
 
-/// Returns the response to a request for changes.
 fn page_response(
     alloc: Global,
     scratch: &mut Scratch,
@@ -74,7 +73,6 @@ fn page_response(
     }
 }
 
-/// Returns the response to a `_revs_diff` request for missing leaves.
 fn diff_response(
     alloc: Global,
     scratch: &mut Scratch,
@@ -103,7 +101,6 @@ fn is_rejection(status: u16) -> bool
         && !(status == 401 || status == 403 || status == 404 || status == 408 || status == 429)
 }
 
-/// Returns the response to a transfer of documents.
 fn carry_response(
     alloc: Global,
     scratch: &mut Scratch,
@@ -126,7 +123,6 @@ fn carry_response(
     }
 }
 
-/// Returns the response to a request to store a replication log.
 fn put_response(
     alloc: Global,
     scratch: &mut Scratch,
