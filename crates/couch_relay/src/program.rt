@@ -41,8 +41,8 @@ fn run_words<H: AllocGlobal + Input + Print + Eprint>(rt: &H, words: &[String]) 
 ///
 /// # Errors
 ///
-/// Returns `OutOfMemory` if the output buffer cannot be allocated. If the buffer cannot be allocated, neither stream
-/// was used.
+/// Returns `OutOfMemory` if the output buffer cannot be allocated. If the buffer cannot be allocated, neither standard
+/// input nor standard output was used.
 fn run_standard<'a, H>(
     rt: &'a H,
     options: &Options<'_>,

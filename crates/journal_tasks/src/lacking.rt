@@ -25,8 +25,8 @@ pub struct Lacking {
     refused: bool,
 }
 
-/// Adds the missing revisions of a document, as a member of the response lists them. Returns whether the member lists
-/// revisions, and the list of leaves has all of them.
+/// Adds the missing revisions of a document, as a member of the response lists them. Returns true if the member lists
+/// revisions, and the list of leaves has all these revisions.
 fn add_missing(
     alloc: Global,
     missing: &mut Docs,

@@ -151,7 +151,7 @@ impl States {
         self.damaged
     }
 
-    /// Reads a line that has no checksum.
+    /// Reads a journal line that has no checksum.
     fn note(&mut self, line: &[u8]) -> Result<(), AllocError> {
         match entry_of(self.alloc, &mut self.scratch, line)? {
             Entry::State(leaves) => self.map.name(leaves),

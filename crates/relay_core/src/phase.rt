@@ -78,7 +78,7 @@ pub struct Transfer {
     pub size: usize,
     /// The `_bulk_docs` rows so far that refuse a leaf.
     pub refused: Vec<RowError>,
-    /// The `_bulk_docs` rows so far that report other errors.
+    /// The `_bulk_docs` rows so far that report errors other than refusals.
     pub others: Vec<RowError>,
 }
 
