@@ -15,7 +15,12 @@ use Rattle.couch_relay.specs.Frames.{HeadView, IsFrame, NoFrame}
 use Rattle.couch_relay.specs.Inbox.{Took}
 use Rattle.script_engine.specs.declared.fault.ScriptFault.{ScriptFault}
 use Rattle.couch_relay.specs.declared.options.Options.{Options}
-use Rattle.couch_relay.specs.Runs.{IsResponse, Receives, Exchanged, IsRun, status_after, Ran, RanUntil, AreOptions, IsChoice, NoChoice, TakesChoice, ReadsChoice, FindsChoice, on_one_line, Runs, RunsUntil, RunsStandard}
+use Rattle.couch_relay.specs.declared.options.NoOptions.{NoOptions}
+use Rattle.couch_relay.specs.declared.options.NoOptions.TheVariants.{NoNumber}
+use Rattle.couch_relay.specs.declared.run.Ended.{Ended}
+use Rattle.couch_relay.specs.declared.run.Ended.TheVariants as end
+use Rattle.couch_relay.specs.Options.{Says, Refuses}
+use Rattle.couch_relay.specs.Runs.{IsResponse, Receives, Exchanged, IsRun, status_after, Ran, RanUntil, AreOptions, IsChoice, NoChoice, TakesChoice, ReadsChoice, FindsChoice, on_one_line, Runs, RunsUntil, RunsOptions, RunsWords, IfRan}
 
 -- what was read and written so far; the bytes that were pending at first and that are pending now; and the phase
 pub record Going (o : RequestOptions) (taken taken' held held' : Option (List ℕ)) (before now : List ℕ) (phase : Phase) : Type 0 where
@@ -326,15 +331,34 @@ same_known {x} {y} e = ap (λ (o : Option (List ℕ)). unwrap_or o x) e
 after_none : {a b c : List ℕ} → a ≡ [] → b ≡ a ++ c → b ≡ c
 after_none {c = c} e h = h ∙ ap (λ (xs : List ℕ). xs ++ c) e
 
-pub standard : (options : Options) (ended : Type 0) (r : Result ℕ ScriptFault) (b b' h h' given sent : List ℕ) → b ≡ [] → h ≡ [] → (rest : List ℕ) × (h' ≡ given ++ rest) → Some given ≡ Some sent
-    → IfOk r (λ status. (input : List ℕ) × (text : List ℕ) × (b' ≡ b ++ input) × (h' ≡ h ++ text) × Runs options ended input text status)
-    → OnOk r (sent ≡ h')
-    → OnErr r ((input : List ℕ) × (text : List ℕ) × (b' ≡ b ++ input) × (h' ≡ h ++ text) × RunsUntil options input text)
-    → RunsStandard options ended b' given r
-standard options ended (Ok status) b b' h h' given sent eb eh front same (input, text, ei, et, runs) flushed err =
+-- the program at standard input and output: what the reader returned and the writer accepted is of the arguments
+pub standard : (words : List Text) (ended : Type 0) (e : Ended) (b b' h h' given sent : List ℕ) → b ≡ [] → h ≡ [] → (rest : List ℕ) × (h' ≡ given ++ rest) → Some given ≡ Some sent
+    → (input : List ℕ) × (text : List ℕ) × (b' ≡ b ++ input) × (h' ≡ h ++ text) × RunsWords words ended input text e
+    → IfRan e (sent ≡ h') → RunsWords words ended b' given e
+standard words ended (end.NotRun why) b b' h h' given sent eb eh (rest, front) same (input, text, ei, et, (no_input, no_output, refuses)) flushed =
+    (after_none eb ei ∙ no_input, no_text given rest h' (after_none eh et ∙ no_output) front, refuses)
+standard words ended (end.Ran (Ok status)) b b' h h' given sent eb eh front same (input, text, ei, et, (options, says, runs)) flushed =
     let input_is : b' ≡ input = after_none eb ei in
-    let text_is : given ≡ text = same_known same ∙ flushed ∙ after_none eh et in
-    subst (λ (xs : List ℕ). Runs options ended xs given status) (sym input_is) (subst (λ (xs : List ℕ). Runs options ended input xs status) (sym text_is) runs)
-standard options ended (Err fault) b b' h h' given sent eb eh (rest, front) same ok flushed (input, text, ei, et, until) =
+    let text_is : given ≡ text = same_known same ∙ flushed ∙ after_none eh et in (
+      options,
+      says,
+      subst (λ (xs : List ℕ). Runs options ended xs given status) (sym input_is) (subst (λ (xs : List ℕ). Runs options ended input xs status) (sym text_is) runs),
+    )
+standard words ended (end.Ran (Err fault)) b b' h h' given sent eb eh (rest, front) same (input, text, ei, et, (options, says, until)) flushed =
     let input_is : b' ≡ input = after_none eb ei in
-    subst (λ (xs : List ℕ). RunsUntil options xs given) (sym input_is) (cut_runs options input text given rest until (sym (after_none eh et) ∙ front))
+    (options, says, subst (λ (xs : List ℕ). RunsUntil options xs given) (sym input_is) (cut_runs options input text given rest until (sym (after_none eh et) ∙ front)))
+
+-- ---- the arguments
+
+-- the run of options that the arguments give
+pub words_ran : (words : List Text) (options : Options) (ended : Type 0) (taken taken₁ held held₁ : Option (List ℕ)) (r : Result ℕ ScriptFault) → Says words options
+    → IfOk r (λ status. (input : List ℕ) × (text : List ℕ) × Appends taken taken₁ input × Appends held held₁ text × Runs options ended input text status)
+    → OnErr r ((input : List ℕ) × (text : List ℕ) × Appends taken taken₁ input × Appends held held₁ text × RunsUntil options input text)
+    → (input : List ℕ) × (text : List ℕ) × Appends taken taken₁ input × Appends held held₁ text × RunsWords words ended input text (end.Ran r)
+words_ran words options ended taken taken₁ held held₁ (Ok status) says (input, text, took, wrote, runs) err = (input, text, took, wrote, (options, says, runs))
+words_ran words options ended taken taken₁ held held₁ (Err fault) says ok (input, text, took, wrote, until) = (input, text, took, wrote, (options, says, until))
+
+-- no option's text is a number, so the arguments give no options
+pub words_refused : (words : List Text) (ended : Type 0) (taken held : Option (List ℕ)) (why : NoOptions) → why ≡ NoNumber → ((o : Options) → Says words o → ⊥)
+    → (input : List ℕ) × (text : List ℕ) × Appends taken taken input × Appends held held text × RunsWords words ended input text (end.NotRun why)
+words_refused words ended taken held why e none = ([], [], Appends-nil taken, Appends-nil held, (refl, refl, subst (Refuses words) (sym e) none))

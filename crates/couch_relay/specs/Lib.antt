@@ -1,3 +1,5 @@
 pub mod Frames
 pub mod Inbox
+pub mod Options
 pub mod Runs
+pub mod Status

@@ -12,7 +12,10 @@ use Rattle.relay_responses.specs.Responses.{response_in}
 use Rattle.script_engine.specs.declared.fault.ScriptFault.{ScriptFault}
 use Rattle.couch_relay.specs.declared.exchange.Dated.{Dated}
 use Rattle.couch_relay.specs.declared.options.Options.{Options}
+use Rattle.couch_relay.specs.declared.run.Ended.{Ended}
+use Rattle.couch_relay.specs.declared.run.Ended.TheVariants as end
 use Rattle.couch_relay.specs.Frames.{HeadView, IsFrame, NoFrame}
+use Rattle.couch_relay.specs.Options.{Says, Refuses}
 
 -- ---- an exchange
 
@@ -171,12 +174,22 @@ RunsUntil options input text =
     ⊎ ((choice rest : List ℕ) × (o : RequestOptions) × TakesChoice options input choice rest × AreOptions options choice o
     × RanUntil o rest text)
 
--- How a run ended: with an exit status, or by a fault.
-abbrev pub RunsStandard : Options → Type 0 → List ℕ → List ℕ → Result ℕ ScriptFault → Type 0
-RunsStandard options ended input text (Ok status) = Runs options ended input text status
-RunsStandard options ended input text (Err fault) = RunsUntil options input text
+-- ---- the program
 
--- The exit status of a run.
-abbrev pub exit_status : Result ℕ ScriptFault → ℕ
-exit_status (Ok status) = status
-exit_status (Err fault) = 3
+-- The input and the output of a run with these options, which ended with an exit status or was stopped by a fault.
+abbrev pub RunsOptions : Options → Type 0 → List ℕ → List ℕ → Result ℕ ScriptFault → Type 0
+RunsOptions options ended input text (Ok status) = Runs options ended input text status
+RunsOptions options ended input text (Err fault) = RunsUntil options input text
+
+-- The input and the output of the program for its arguments, the program's name first. If the arguments give no options,
+-- the program reads and writes nothing.
+abbrev pub RunsWords : List Text → Type 0 → List ℕ → List ℕ → Ended → Type 0
+RunsWords words ended input text (end.NotRun why) = (input ≡ []) × (text ≡ []) × Refuses words why
+RunsWords words ended input text (end.Ran ran) =
+    (options : Options) × Says words options × RunsOptions options ended input text ran
+
+-- The statement holds if the program ended with the exit status of a run.
+abbrev pub IfRan : Ended → Type 0 → Type 0
+IfRan (end.NotRun why) p = Unit {0}
+IfRan (end.Ran (Ok status)) p = p
+IfRan (end.Ran (Err fault)) p = Unit {0}

@@ -1,7 +1,13 @@
-//! Parses the command line: docs/PROFILE.md, "Options of `couch_relay`".
+//! The command line: docs/PROFILE.md, "Options of `couch_relay`".
+ghost use Rattle.std.specs.Prelude.{◌≡◌, ℕ, [], IfOk, IfErr, map, string_bytes, unwrap_or, false};
+ghost use Rattle.clap.specs.Words.{app_of, found_of, first_value, one_text, rule_of};
+ghost use Rattle.cli_common.specs.Words.{IsFound};
+ghost use Rattle.couch_relay.specs.declared.options.NoOptions.TheVariants.{NoNumber, Memory};
+ghost use Rattle.couch_relay.specs.declared.options.Options.{Options};
+ghost use Rattle.couch_relay.specs.Options.{AreGiven, IsValue, Refuses, argument, command_line, number_option, text_option, with_arguments, with_numbers, with_options};
 
 use clap::{Arg, ArgAction, ArgMatches, Command, Error, value_parser};
-use cli_common::{flag, program};
+use cli_common::{find, flag, program};
 use std::alloc::{AllocError, Global};
 
 /// The description of the program in the output of `--help`.
@@ -44,14 +50,41 @@ pub(crate) struct Options<'a> {
     pub(crate) choice: bool,
 }
 
-fn required<'a>(alloc: Global, name: &'a str, help: &'a str) -> Arg<'a> {
+/// Why a command line gives no options.
+#[derive(Drop)]
+pub(crate) enum NoOptions {
+    /// `clap`'s error, which includes requests for help.
+    Words(Error),
+    /// The value of an option is not a number. `clap` has already checked this.
+    NoNumber,
+    /// An allocation failed.
+    Memory,
+}
+
+impl From<AllocError> for NoOptions {
+    ghost from_gives = { λ _ e. e ≡ Memory };
+
+    fn from(_refused: AllocError) -> NoOptions {
+        NoOptions::Memory
+    }
+}
+
+/// Defines a positional argument that must be given.
+fn required<'a>(alloc: Global, name: &'a str, help: &'a str) -> Arg<'a>
+    ensures rule { rule_of result ≡ argument name.entry.now }
+    ensures local { result.global ≡ false }
+{
     Arg::new(alloc, name)
         .required(true)
         .action(ArgAction::Set)
         .help(help)
 }
 
-fn number<'a>(alloc: Global, name: &'a str, help: &'a str) -> Arg<'a> {
+/// Defines an option with an integer value from 0 to 2^64 - 1.
+fn number<'a>(alloc: Global, name: &'a str, help: &'a str) -> Arg<'a>
+    ensures rule { rule_of result ≡ number_option name.entry.now }
+    ensures local { result.global ≡ false }
+{
     Arg::new(alloc, name)
         .long(name)
         .value_name("N")
@@ -60,7 +93,11 @@ fn number<'a>(alloc: Global, name: &'a str, help: &'a str) -> Arg<'a> {
         .help(help)
 }
 
-fn text<'a>(alloc: Global, name: &'a str, value: &'a str, help: &'a str) -> Arg<'a> {
+/// Defines an option with a string value.
+fn text<'a>(alloc: Global, name: &'a str, value: &'a str, help: &'a str) -> Arg<'a>
+    ensures rule { rule_of result ≡ text_option name.entry.now }
+    ensures local { result.global ≡ false }
+{
     Arg::new(alloc, name)
         .long(name)
         .value_name(value)
@@ -68,7 +105,10 @@ fn text<'a>(alloc: Global, name: &'a str, value: &'a str, help: &'a str) -> Arg<
         .help(help)
 }
 
-fn with_arguments<'a>(alloc: Global, command: Command<'a>) -> Result<Command<'a>, AllocError> {
+/// Adds the positional arguments to a command line.
+fn with_arguments<'a>(alloc: Global, command: Command<'a>) -> Result<Command<'a>, AllocError>
+    ensures { IfOk result (λ c. app_of c ≡ with_arguments (app_of command.entry)) }
+{
     command
         .arg(required(
             alloc,
@@ -87,7 +127,10 @@ fn with_arguments<'a>(alloc: Global, command: Command<'a>) -> Result<Command<'a>
         ))
 }
 
-fn with_numbers<'a>(alloc: Global, command: Command<'a>) -> Result<Command<'a>, AllocError> {
+/// Adds the numeric options to a command line.
+fn with_numbers<'a>(alloc: Global, command: Command<'a>) -> Result<Command<'a>, AllocError>
+    ensures { IfOk result (λ c. app_of c ≡ with_numbers (app_of command.entry)) }
+{
     command
         .arg(number(
             alloc,
@@ -106,8 +149,11 @@ fn with_numbers<'a>(alloc: Global, command: Command<'a>) -> Result<Command<'a>, 
         ))
 }
 
-fn with_options<'a>(alloc: Global, command: Command<'a>) -> Result<Command<'a>, AllocError> {
-    command
+/// Adds the options for the feed, the filter and the selection to a command line.
+fn with_options<'a>(alloc: Global, command: Command<'a>) -> Result<Command<'a>, AllocError>
+    ensures { IfOk result (λ c. app_of c ≡ with_options (app_of command.entry)) }
+{
+    let command = command
         .arg(flag(
             alloc,
             "continuous",
@@ -136,51 +182,100 @@ fn with_options<'a>(alloc: Global, command: Command<'a>) -> Result<Command<'a>, 
             alloc,
             "choice",
             "Read a selection of documents as the first response",
-        ))
+        ))?;
+    Ok(command)
 }
 
-/// Returns the definition of the program's command line.
-fn command<'a>(alloc: Global) -> Result<Command<'a>, AllocError> {
+/// Defines the command line.
+fn command<'a>(alloc: Global) -> Result<Command<'a>, AllocError>
+    ensures { IfOk result (λ c. app_of c ≡ command_line) }
+{
     let command = program(alloc, "couch_relay", ABOUT, PROTOCOL);
     let command = with_arguments(alloc, command)?;
     let command = with_numbers(alloc, command)?;
     with_options(alloc, command)
 }
 
-/// Parses the arguments, of which the first is the program's name.
-pub(crate) fn matches_of<'a>(alloc: Global, words: &'a [String]) -> Result<ArgMatches<'a>, Error> {
+/// Parses the arguments, the program's name first.
+///
+/// # Errors
+///
+/// `Words`: `clap` rejected the arguments, or they request help. `Memory`: an allocation failed.
+pub(crate) fn matches_of<'a>(
+    alloc: Global,
+    words: &'a [String],
+) -> Result<ArgMatches<'a>, NoOptions>
+    ensures ok { IfOk result (IsFound command_line (map string_bytes words.entry.now)) }
+    ensures err { IfErr result (Refuses (map string_bytes words.entry.now)) }
+{
     let command = command(alloc)?;
-    command.try_get_matches_from(words)
+    match find(command, words) {
+        Ok(matches) => Ok(matches),
+        Err(error) => Err(NoOptions::Words(error)),
+    }
 }
 
-fn text_of<'m, 'a>(matches: &'m ArgMatches<'a>, name: &str) -> &'m str {
+/// Returns the value of an argument or option, or an empty string if it is absent.
+fn text_of<'m, 'a>(matches: &'m ArgMatches<'a>, name: &str) -> &'m str
+    ensures { result.now ≡ unwrap_or (first_value (found_of matches.now) name.now) [] }
+{
     match matches.get_str(name) {
         Some(text) => text,
         None => "",
     }
 }
 
-fn number_of(matches: &ArgMatches<'_>, name: &str, default: u64) -> u64 {
+/// Reads a numeric option, or its default.
+///
+/// # Errors
+///
+/// `NoNumber` if the value is not a number.
+fn number_of(matches: &ArgMatches<'_>, name: &str, default: u64) -> Result<u64, NoOptions>
+    ensures ok { IfOk result (λ n. IsValue (one_text (found_of matches.now) name.now) default n) }
+    ensures err { IfErr result
+        (λ why. (why ≡ NoNumber) × ((n : ℕ) → IsValue (one_text (found_of matches.now) name.now) default n → ⊥)) }
+{
     match matches.try_get_one::<u64>(name) {
-        Ok(Some(number)) => number,
-        _ => default,
+        Ok(Some(number)) => Ok(number),
+        Ok(None) => Ok(default),
+        Err(_) => Err(NoOptions::NoNumber),
     }
 }
 
-/// Returns the options that the command line gives, with defaults for absent ones.
-pub(crate) fn options_of<'m, 'a>(matches: &'m ArgMatches<'a>) -> Options<'m> {
-    Options {
+/// Reads the options.
+///
+/// # Errors
+///
+/// `NoNumber` if the value of a numeric option is not a number.
+pub(crate) fn options_of<'m, 'a>(matches: &'m ArgMatches<'a>) -> Result<Options<'m>, NoOptions>
+    ensures ok { IfOk result (AreGiven (first_value (found_of matches.now)) (one_text (found_of matches.now))) }
+    ensures err { IfErr result (λ why. (why ≡ NoNumber)
+        × ((o : Options) → AreGiven (first_value (found_of matches.now)) (one_text (found_of matches.now)) o → ⊥)) }
+{
+    let batch = match number_of(matches, "batch", 500) {
+        Ok(batch) => batch,
+        Err(why) => return Err(why),
+    };
+    let carry = match number_of(matches, "carry", 500) {
+        Ok(carry) => carry,
+        Err(why) => return Err(why),
+    };
+    let every = match number_of(matches, "every", 10) {
+        Ok(every) => every,
+        Err(why) => return Err(why),
+    };
+    Ok(Options {
         source: text_of(matches, "SOURCE"),
         target: text_of(matches, "TARGET"),
         session_id: text_of(matches, "SESSION"),
-        batch: number_of(matches, "batch", 500),
-        carry: number_of(matches, "carry", 500),
-        every: number_of(matches, "every", 10),
+        batch,
+        carry,
+        every,
         continuous: matches.get_flag("continuous"),
         progress: matches.get_flag("progress"),
         filter: text_of(matches, "filter"),
         query: text_of(matches, "query"),
         salt: text_of(matches, "salt"),
         choice: matches.get_flag("choice"),
-    }
+    })
 }

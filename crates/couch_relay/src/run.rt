@@ -1,14 +1,14 @@
-//! Runs a relay over any reader and writer.
-ghost use Rattle.std.specs.Prelude.{◌≡◌, ◌++◌, ℕ, List, [], ◌==◌, not, length, IfOk, OnOk, OnErr, MatchOption, option_map, string_bytes};
+//! A run over any reader and writer.
+ghost use Rattle.std.specs.Prelude.{◌≡◌, ◌++◌, ℕ, List, [], ◌==◌, not, length, IfOk, OnOk, OnErr, MatchOption, map, option_map, string_bytes};
 ghost use Rattle.std.specs.Str.{IsUtf8};
 ghost use Rattle.std.specs.Io.KnownBytes.{Appends, Keeps};
 ghost use Rattle.relay_core.specs.Views.{request_view};
 ghost use Rattle.couch_relay.specs.Inbox.{pending, IsInbox, Took};
-ghost use Rattle.couch_relay.specs.Runs.{status_after, on_line, on_one_line, AreOptions, ReadsChoice, FindsChoice, Ran, RanUntil, Runs, RunsUntil};
+ghost use Rattle.couch_relay.specs.Runs.{status_after, on_line, on_one_line, AreOptions, ReadsChoice, FindsChoice, IfRan, Ran, RanUntil, Runs, RunsUntil, RunsWords};
 
 use crate::exchange::{receive, send};
 use crate::inbox::Inbox;
-use crate::options::Options;
+use crate::options::{NoOptions, Options, matches_of, options_of};
 use json::Scratch;
 use relay_core::{Phase, Request, Settings, step};
 use relay_requests::{RequestOptions, log_path};
@@ -16,7 +16,16 @@ use script_engine::{ScriptFault, ScriptRead, ScriptWrite};
 use std::alloc::{AllocError, Global};
 use std::str;
 
-/// Returns a space for a line feed or carriage return, and any other byte unchanged.
+/// How a run of the program ended.
+#[derive(Drop)]
+pub(crate) enum Ended {
+    /// The arguments give no options, and nothing was read or written.
+    NotRun(NoOptions),
+    /// The exit status of a run, or the fault that stopped it.
+    Ran(Result<u8, ScriptFault>),
+}
+
+/// Returns a byte of a text on one line.
 fn on_line(byte: u8) -> u8
     ensures { result ≡ on_line byte }
 {
@@ -225,4 +234,26 @@ pub(crate) fn run<R: ScriptRead, W: ScriptWrite>(
     let settings = settings_of(alloc, options)?;
     let requests = request_options(alloc, options, choice)?;
     make_requests(alloc, &settings, &requests, &mut inbox, reader, writer)
+}
+
+/// Parses the arguments, the program's name first, and runs a relay with their options.
+pub(crate) fn run_words<R: ScriptRead, W: ScriptWrite>(
+    alloc: Global,
+    words: &[String],
+    reader: &mut R,
+    writer: &mut W,
+) -> Ended
+    ensures runs { (input : List ℕ) × (text : List ℕ)
+        × Appends (R.taken reader.old) (R.taken reader.new) input × Appends (W.held writer.old) (W.held writer.new) text
+        × RunsWords (map string_bytes words.now) (R.ended reader.new) input text result }
+    ensures sent { Keeps (W.held writer.old) (W.sent writer.old) → IfRan result (Keeps (W.held writer.new) (W.sent writer.new)) }
+{
+    let matches = match matches_of(alloc, words) {
+        Ok(matches) => matches,
+        Err(why) => return Ended::NotRun(why),
+    };
+    match options_of(&matches) {
+        Ok(options) => Ended::Ran(run(alloc, &options, reader, writer)),
+        Err(why) => Ended::NotRun(why),
+    }
 }

@@ -1,0 +1,24 @@
+-- The exit status of the program: docs/PROFILE.md, "Options of `couch_relay`".
+use Rattle.std.specs.Prelude.{◌==◌, ℕ, if◌then◌else◌, Result, Ok, Err}
+use Rattle.clap.specs.Words.{kind_of}
+use Rattle.cli_common.specs.Status.{kind_status}
+use Rattle.script_engine.specs.declared.fault.ScriptFault.{ScriptFault}
+use Rattle.couch_relay.specs.declared.options.NoOptions.TheVariants.{Words, NoNumber, Memory}
+use Rattle.couch_relay.specs.declared.run.Ended.{Ended}
+use Rattle.couch_relay.specs.declared.run.Ended.TheVariants as end
+
+-- The exit status of a command line that runs nothing, from the status that `cli_common` gives it: 3, unless it is 0.
+abbrev pub usage_status : ℕ → ℕ
+usage_status status = if status == 0 then 0 else 3
+
+-- The exit status of a run: the status of its last request, or 3 if a fault stopped the run.
+abbrev pub exit_status : Result ℕ ScriptFault → ℕ
+exit_status (Ok status) = status
+exit_status (Err fault) = 3
+
+-- The exit status of the program: 3 if the arguments give no options, unless they request help.
+abbrev pub ended_status : Ended → ℕ
+ended_status (end.NotRun (Words error)) = usage_status (kind_status (kind_of error))
+ended_status (end.NotRun NoNumber) = 3
+ended_status (end.NotRun Memory) = 3
+ended_status (end.Ran ran) = exit_status ran
