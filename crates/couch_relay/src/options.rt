@@ -1,4 +1,4 @@
-//! The command line: docs/PROFILE.md, "Options of `couch_relay`".
+//! Parses the command line (docs/PROFILE.md, "Options of `couch_relay`").
 ghost use Rattle.std.specs.Prelude.{◌≡◌, ℕ, [], IfOk, IfErr, map, string_bytes, unwrap_or, false};
 ghost use Rattle.clap.specs.Words.{app_of, found_of, first_value, one_text, rule_of};
 ghost use Rattle.cli_common.specs.Words.{IsFound};
@@ -50,7 +50,7 @@ pub(crate) struct Options<'a> {
     pub(crate) choice: bool,
 }
 
-/// Why a command line gives no options.
+/// The reason why a command line gives no options.
 #[derive(Drop)]
 pub(crate) enum NoOptions {
     /// `clap`'s error, which includes requests for help.
@@ -186,7 +186,7 @@ fn with_options<'a>(alloc: Global, command: Command<'a>) -> Result<Command<'a>, 
     Ok(command)
 }
 
-/// Defines the command line.
+/// Defines the program's command line.
 fn command<'a>(alloc: Global) -> Result<Command<'a>, AllocError>
     ensures { IfOk result (λ c. app_of c ≡ command_line) }
 {
@@ -196,11 +196,11 @@ fn command<'a>(alloc: Global) -> Result<Command<'a>, AllocError>
     with_options(alloc, command)
 }
 
-/// Parses the arguments, the program's name first.
+/// Parses the arguments, of which the first is the program's name.
 ///
 /// # Errors
 ///
-/// `Words`: `clap` rejected the arguments, or they request help. `Memory`: an allocation failed.
+/// The call returns `Words` if `clap` rejects the arguments or they request help, and `Memory` if an allocation fails.
 pub(crate) fn matches_of<'a>(
     alloc: Global,
     words: &'a [String],
@@ -215,7 +215,7 @@ pub(crate) fn matches_of<'a>(
     }
 }
 
-/// Returns the value of an argument or option, or an empty string if it is absent.
+/// Returns the value of an argument or option, or an empty string if the option is absent.
 fn text_of<'m, 'a>(matches: &'m ArgMatches<'a>, name: &str) -> &'m str
     ensures { result.now ≡ unwrap_or (first_value (found_of matches.now) name.now) [] }
 {
@@ -225,7 +225,7 @@ fn text_of<'m, 'a>(matches: &'m ArgMatches<'a>, name: &str) -> &'m str
     }
 }
 
-/// Reads a numeric option, or its default.
+/// Returns the value of a numeric option, or the default if the option is absent.
 ///
 /// # Errors
 ///
@@ -242,7 +242,7 @@ fn number_of(matches: &ArgMatches<'_>, name: &str, default: u64) -> Result<u64, 
     }
 }
 
-/// Reads the options.
+/// Returns the options that the command line gives, with defaults for absent options.
 ///
 /// # Errors
 ///

@@ -1,4 +1,4 @@
-//! The program: its command line, its standard input and output, and its exit status.
+//! The program's command line, standard input and output, and exit status.
 ghost use Rattle.std.specs.Prelude.{◌≡◌, ℕ, List, Some, IfOk, if◌then◌else◌, ◌==◌, map, string_bytes};
 ghost use Rattle.couch_relay.specs.Runs.{RunsWords};
 ghost use Rattle.couch_relay.specs.Status.{ended_status, exit_status, usage_status};
@@ -71,7 +71,7 @@ fn report_end<H: Print + Eprint>(rt: &H, ended: &Ended) -> u8
     }
 }
 
-/// Reports the fault of a run, if there is one, and returns the exit status.
+/// Reports the fault of a run on standard error, if there is one, and returns the exit status.
 fn report_run(rt: &impl Eprint, ended: &Result<u8, ScriptFault>) -> u8
     ensures { result ≡ exit_status ended.now }
 {

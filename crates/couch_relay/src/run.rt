@@ -1,4 +1,4 @@
-//! A run over any reader and writer.
+//! Runs a relay over any reader and writer.
 ghost use Rattle.std.specs.Prelude.{◌≡◌, ◌++◌, ℕ, List, [], ◌==◌, not, length, IfOk, OnOk, OnErr, MatchOption, map, option_map, string_bytes};
 ghost use Rattle.std.specs.Str.{IsUtf8};
 ghost use Rattle.std.specs.Io.KnownBytes.{Appends, Keeps};
@@ -16,7 +16,7 @@ use script_engine::{ScriptFault, ScriptRead, ScriptWrite};
 use std::alloc::{AllocError, Global};
 use std::str;
 
-/// How a run of the program ended.
+/// The way in which a run of the program ended.
 #[derive(Drop)]
 pub(crate) enum Ended {
     /// The arguments give no options, and nothing was read or written.
@@ -25,7 +25,7 @@ pub(crate) enum Ended {
     Ran(Result<u8, ScriptFault>),
 }
 
-/// Returns a byte of a text on one line.
+/// Returns a space for a line feed or carriage return, and any other byte unchanged.
 fn on_line(byte: u8) -> u8
     ensures { result ≡ on_line byte }
 {
@@ -236,7 +236,7 @@ pub(crate) fn run<R: ScriptRead, W: ScriptWrite>(
     make_requests(alloc, &settings, &requests, &mut inbox, reader, writer)
 }
 
-/// Parses the arguments, the program's name first, and runs a relay with their options.
+/// Parses the arguments, of which the first is the program's name, and runs a relay with the options that they give.
 pub(crate) fn run_words<R: ScriptRead, W: ScriptWrite>(
     alloc: Global,
     words: &[String],
