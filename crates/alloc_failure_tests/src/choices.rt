@@ -143,9 +143,9 @@ fn fill(alloc: Global, source: &mut Peer<Rules>) -> Option<()> {
     Some(())
 }
 
-/// The observations of a replication of selected documents. They are the length of the replication id, the number of
-/// rows of the page, the recorded sequence, the target's sequence, and whether the target has only the selected
-/// documents.
+/// The observations of a replication of selected documents. These observations are the length of the replication id,
+/// the number of rows of the page, the recorded sequence, the target's sequence, and whether the target has only the
+/// selected documents.
 type Seen = (usize, usize, u64, u64, bool);
 
 /// Returns the observations of two peers after a replication of selected documents.

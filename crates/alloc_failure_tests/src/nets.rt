@@ -1,5 +1,5 @@
-//! Calls on a network. After a failed allocation nothing was added or written, and audits are clean. The same hops with
-//! further sessions then have the result that they would have had.
+//! Calls on a network. After a failed allocation nothing was added or written, and audits are clean. Later, the hops
+//! with further sessions have the result that they would have had without the failure.
 use crate::peers::{body, doc, doc_id};
 use crate::replications::{is_memory, is_nothing, plan};
 use anyhow::{Result, bail};

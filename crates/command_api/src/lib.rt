@@ -1,5 +1,5 @@
-//! The interface of commands (`command`), and the functions that commands share. These functions read the members of a
-//! line (`members`), parse their values (`given`), and print (`texts`).
+//! The interface of commands (`command`), and the functions that commands share. The shared functions read the members
+//! of a line (`members`), parse their values (`given`), and print (`texts`).
 #![tactic(auto)]
 
 mod command;

@@ -96,7 +96,8 @@ impl Parcel {
         &self.asked
     }
 
-    /// Returns the documents in the order of the request, those of one id winner first.
+    /// Returns the documents in the order of the request. Documents with the same id are in the order of leaves, winner
+    /// first.
     pub fn docs(&self) -> &[Doc]
         ensures value { result.now ≡ self.now.docs }
         ensures parcel { IsParcel self.now }

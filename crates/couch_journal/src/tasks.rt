@@ -12,7 +12,8 @@ pub(crate) enum Task<'a> {
     Diff,
     /// Prints those leaves of a list that a response of `_revs_diff` names as missing.
     Lacking,
-    /// Prints the received documents and what is missing of the request, or with `true` only what is missing.
+    /// Prints the received documents and the missing leaves of the request, or only the missing leaves if the Boolean
+    /// is true.
     Received(bool),
     /// Cuts lines into parts with a maximum number of bytes and of lines.
     Parts(u64, u64),
@@ -30,8 +31,8 @@ pub(crate) enum Task<'a> {
     Conflicts,
     /// Prints a line for each leaf, which begins with the given word.
     Name(&'a str),
-    /// Prints the leaves of a list that another list lacks, or with `true` those of documents that the other list
-    /// lacks.
+    /// Prints the leaves of a list that another list lacks. If the Boolean is true, it prints only leaves of documents
+    /// that the other list lacks.
     Compare(bool),
     /// Prints the identity of a server or of a database.
     Info,

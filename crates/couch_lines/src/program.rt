@@ -18,8 +18,8 @@ use std::io::{Eprint, Input, Print, Printer, Write};
 use std::{io, str};
 
 /// Runs the program, and returns its exit status. The status is 0 on success, 1 if the program skipped an object
-/// without a document, and 2 for a usage error. It is 3 if the input is not a response, or if reading, writing or an
-/// allocation failed.
+/// without a document, and 2 for a usage error. The status is 3 if the input is not a response, or if reading, writing
+/// or an allocation failed.
 pub fn run_program<H: AllocGlobal + Env + Input + Print + Eprint>(rt: &H) -> u8
     ensures { result ≤ 3 }
 {

@@ -25,7 +25,8 @@ pub fn axis_of(alloc: Global, leaves: &[Leaf], rows: &[Row]) -> Result<Vec<Cell>
     Ok(cells)
 }
 
-/// Returns the generations at which a row begins, ends or forks, in rising order. Each of them has a column of its own.
+/// Returns the generations at which a row begins, ends or forks, in rising order. Each such generation has a column of
+/// its own.
 fn kept_of(alloc: Global, leaves: &[Leaf], rows: &[Row]) -> Result<Vec<u32>, AllocError> {
     let mut kept = Vec::new(alloc);
     for (leaf, row) in leaves.iter().zip(rows) {

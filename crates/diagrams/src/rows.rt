@@ -14,7 +14,7 @@ pub struct Row {
     pub parent: usize,
     /// The generation of the leaf's oldest known ancestor.
     pub first: u32,
-    /// The generations at which branches go below this row, in rising order. They are branches of this row or of
+    /// The generations at which branches go below this row, in rising order. The branches belong to this row or to
     /// earlier rows.
     pub below: Vec<u32>,
 }

@@ -20,8 +20,8 @@ use std::alloc::{AllocError, Global};
 /// as much as 15 bytes to this size.
 const SHORT: usize = 136;
 
-/// Serializes the object of the members without a leading `_`. The buffer has fewer than 32 spare bytes. It has fewer
-/// than 16 spare bytes if the text is short and the allocation for a smaller buffer succeeds.
+/// Serializes the object of the members without a leading `_`. The buffer has fewer than 32 spare bytes. If the text is
+/// short and the allocation for a smaller buffer succeeds, the buffer has fewer than 16 spare bytes.
 pub(crate) fn plain_text<'v, V: JsonValue<'v>>(
     alloc: Global,
     members: &'v V::Object,

@@ -12,8 +12,8 @@ use itoa::Buffer;
 use rev_core::{Ancestry, Rev};
 use std::alloc::{AllocError, Global};
 
-/// Serializes a document in compact form, with the members `_id`, `_rev`, `_revisions`, `_deleted` if it is deleted,
-/// and those of the body, in this order.
+/// Serializes a document in compact form. Its members are `_id`, `_rev`, `_revisions`, `_deleted` if the document is
+/// deleted, and then the members of the body.
 ///
 /// If `serde_json` can read the result, `read_doc` returns the document.
 pub fn write_doc(alloc: Global, doc: &Doc) -> Result<Vec<u8>, AllocError>

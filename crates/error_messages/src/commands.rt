@@ -149,7 +149,7 @@ pub(crate) enum CommandFault<'v> {
     NoWord,
     /// The command is unknown.
     UnknownWord(&'v str),
-    /// The command has no such member.
+    /// The command has no member with the name of the object's member.
     UnknownMember(&'v str),
     /// A required member is missing.
     Missing(&'static str),

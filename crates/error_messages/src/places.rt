@@ -127,8 +127,8 @@ fn is_at_fault(name: &str, member: &str, value: &LineValue<'_>) -> bool {
     false
 }
 
-/// Whether a document must not have this member. Such a member is `_deleted` with a value that is not a Boolean, or has
-/// a name with an initial `_` that is not one of the four known names.
+/// Whether a document must not have this member. A document must not have `_deleted` with a value that is not a
+/// Boolean, or a member with an initial `_` other than the four known ones.
 fn is_odd(member: &str, value: &LineValue<'_>) -> bool {
     if is_same_text("_deleted", member) {
         return value.as_bool().is_none();

@@ -1,4 +1,4 @@
-//! Parts of an explanation. No character of them is hidden.
+//! Parts of an explanation. No character of an appended text is hidden.
 ghost use Rattle.std.specs.Prelude.{string_bytes, OnOk};
 ghost use Rattle.error_messages.specs.Told.{AddsSeen};
 

@@ -42,7 +42,7 @@ pub enum Finding {
     Missing,
     /// The target knows a different parent of this revision.
     Contradicts,
-    /// These leaves have different contents in the target.
+    /// The listed leaves have different contents in the target.
     Differs,
 }
 

@@ -10,7 +10,7 @@ use crate::windows::{InTurn, WindowMessage, WindowPass, WindowReceiver, WindowSe
 use crossbeam_channel::bounded_with;
 use std::alloc::{AllocError, Global};
 
-/// Both ends of the channel of windows and of the channel of parcels.
+/// The sending and receiving ends of the channel of windows and of the channel of parcels.
 #[derive(Drop)]
 pub struct Channels<S: SourceBrand> {
     pub to_fetchers: WindowSender<S>,

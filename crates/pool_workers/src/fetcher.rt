@@ -21,8 +21,8 @@ use std::alloc::AllocError;
 use std::sync::Wait;
 use std::sync::ledger::Ledger;
 
-/// A fetcher of the pool. It has its passes of both channels, the numbers of parcels sent and documents fetched, and
-/// why it stopped.
+/// A fetcher of the pool. A fetcher has its passes of both channels, the numbers of parcels sent and documents fetched,
+/// and why it stopped.
 #[derive(Drop)]
 pub struct Fetcher<S: SourceBrand> {
     pub windows: WindowPass<S>,

@@ -280,8 +280,8 @@ fn grow_heap(alloc: Global) {
 
 /// Makes the heaps of all threads keep the memory of a parcel.
 ///
-/// The C library releases the end of a heap if more than 128 KiB are free there. It allocates large blocks directly
-/// from the system; after one such block was freed, heaps keep up to twice its size.
+/// The C library releases the end of a heap if more than 128 KiB are free there. The C library allocates large blocks
+/// directly from the system. After such a block was freed, heaps keep up to twice its size.
 pub fn keep_heaps(alloc: Global) {
     if let Ok(room) = Vec::<u8>::with_capacity(alloc, HEAP_KEPT) {
         drop(room);

@@ -288,8 +288,8 @@ impl<
         (fetched, written)
     }
 
-    /// Runs the pairs while the windows are read, and returns the seats. Returns `None` if a thread cannot be created.
-    /// In that case, no window is read.
+    /// Runs the pairs while the windows are read, and returns the seats. Returns `None`, and reads no window, if a
+    /// thread cannot be created.
     pub fn pairs_in_scope<'s, E>(
         &'e self,
         scope: &Scope<'s, E>,

@@ -90,7 +90,7 @@ impl<F: WriteFilter, S: SourceBrand, T: TargetBrand<F>, L: Ledger, G, R: Wait> C
     R,
 > {
     /// Stores pages at the target in order, and releases the lock. Returns the number of stored pages, and why the next
-    /// one was not stored. That reason is `Lost` if the plan allows no further window.
+    /// one was not stored. The reason for an unstored page is `Lost` if the plan allows no further window.
     fn store_all(&self, pages: Vec<Paged<S>>) -> (usize, Option<Halt>)
         ensures refused { IfSome result.1 (λ halt. (halt ≡ Halt.Lost)
             ⊎ (fault : TargetFault) × (halt ≡ Halt.Refused fault) × IsStepFault fault) }

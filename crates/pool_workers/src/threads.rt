@@ -25,7 +25,7 @@ use std::sync::ledger::{Ledger, Share};
 use std::thread;
 use std::thread::{Scope, Threads};
 
-/// The values that the caller's thread owns before the workers start. They are capacity for a count of each fetcher,
+/// The values that the caller's thread owns before the workers start, which are capacity for a count of each fetcher,
 /// the passes with all parts of both channels, the complete share of the ledger, and the seats of the board.
 #[derive(Drop)]
 pub struct Owned<S: SourceBrand, L: Ledger> {
@@ -36,7 +36,7 @@ pub struct Owned<S: SourceBrand, L: Ledger> {
     pub seats: Vec<BoardSeat>,
 }
 
-/// The values that the caller's thread owns after all workers have ended. They are the passes with all parts of both
+/// The values that the caller's thread owns after all workers have ended, which are the passes with all parts of both
 /// channels, the complete share of the ledger, why reading ended early, and the results of both groups.
 #[derive(Drop)]
 pub struct Ended<S: SourceBrand, L: Ledger> {
@@ -58,8 +58,8 @@ impl<
     R: Threads + Wait + Sync,
 > Context<'e, F, S, T, L, G, R> {
     /// Starts the fetchers, reads the windows, and joins the fetchers. Returns why reading ended early, and the
-    /// fetchers' results, or `None` if a thread cannot be created. In that case, no window is read, and the writers
-    /// receive the end of the parcels.
+    /// fetchers' results. If a thread cannot be created, the call returns `None`, reads no window, and sends the
+    /// writers the end of the parcels.
     fn fetch_in_scope<'s, E>(
         &'e self,
         scope: &Scope<'s, E>,
@@ -102,8 +102,8 @@ impl<
         Some((read, fetched))
     }
 
-    /// Runs the workers while the windows are read, and returns the seats. Returns `None` if a thread cannot be
-    /// created. In that case, no window is read.
+    /// Runs the workers while the windows are read, and returns the seats. Returns `None`, and reads no window, if a
+    /// thread cannot be created.
     fn in_scope<'s, E>(
         &'e self,
         scope: &Scope<'s, E>,

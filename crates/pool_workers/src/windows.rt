@@ -14,9 +14,9 @@ pub enum WindowMessage<S: SourceBrand> {
     End,
 }
 
-/// A thread's facts about the channel. They are the thread's parts (of 1,024) of the right to know everything, 1 for
-/// the page reader and 0 for other threads, the number of windows that the page reader has sent, and the numbers of the
-/// windows that the thread has taken. Values of this type never exist at run time.
+/// A thread's facts about the channel of windows, which are the thread's parts (of 1,024) of the right to know
+/// everything, 1 for the page reader and 0 for other threads, the number of windows that the page reader has sent, and
+/// the numbers of the windows that the thread has taken. Values of this type never exist at run time.
 pub struct WindowView {
     pub parts: u64,
     pub reads: u64,

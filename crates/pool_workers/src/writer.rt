@@ -24,8 +24,8 @@ use rev_tree::SessionId;
 use std::sync::Wait;
 use std::sync::ledger::{Ledger, Share};
 
-/// A writer of the pool. It has its pass of the channel of parcels, its share of the ledger, the number of parcels that
-/// it settled, its seat of the board if there is one, and why it stopped.
+/// A writer of the pool. A writer has its pass of the channel of parcels, its share of the ledger, the number of
+/// parcels that it settled, its seat of the board if there is one, and why it stopped.
 #[derive(Drop)]
 pub struct Writer<S: SourceBrand, L: Ledger> {
     pub parcels: ParcelPass<S>,
@@ -133,8 +133,8 @@ impl<F: WriteFilter, S: SourceBrand, T: TargetBrand<F>, L: Ledger, G: Gate, R: W
     }
 
     /// Returns the session for which a parcel is prepared before the lock is taken. Returns `None` if one thread does
-    /// all work. In that case nobody waits for the lock, and data that is built where it is stored stays in the
-    /// processor's cache.
+    /// all work, because nobody waits for the lock, and data that is built where it is stored stays in the processor's
+    /// cache.
     fn session_ahead(&self) -> Option<SessionId> {
         if self.workers > 1 {
             Some(self.plan.session)

@@ -1,5 +1,5 @@
-//! A board of counters that threads share without a lock. It shows how many documents each worker has read and settled,
-//! and viewers read the totals.
+//! A board of counters that threads share without a lock. The board shows how many documents each worker has read and
+//! settled, and viewers read the totals.
 //!
 //! A worker changes only its own two counters. A reading never goes back, never shows more settled than read, and never
 //! shows what no worker added. The rules are in docs/PROFILE.md, "The progress board".

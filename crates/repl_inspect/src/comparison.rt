@@ -62,7 +62,7 @@ impl Comparison {
 
     /// Returns the first revision in the ancestries of the missing leaves to which the target gives another parent.
     /// Leaves are searched in order, and each ancestry from the newest revision on. The target would refuse the leaf
-    /// with such a revision in its ancestry.
+    /// that has this revision in its ancestry.
     pub fn contradiction(&self) -> Option<Contradiction>
         ensures { result ≡ self.now.contradiction }
     {

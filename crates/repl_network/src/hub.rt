@@ -16,8 +16,8 @@ use std::alloc::{AllocError, Global};
 /// One thread makes all replications, two per peer. The plans are given for the peers other than the hub, in order.
 ///
 /// Consistent peers stay consistent, also if the call fails. If the call succeeds, each document that all plans select
-/// and no peer has refused, and whose trees agreed and had complete histories, is the same everywhere; its trees agree
-/// again and have complete histories.
+/// and no peer has refused, and whose trees agreed and had complete histories, is the same at all peers, and its trees
+/// agree again and have complete histories.
 ///
 /// # Errors
 ///

@@ -49,7 +49,7 @@ pub enum TargetFault {
     /// The peer already has a session with this id.
     #[error("the session is there already")]
     SessionExists,
-    /// The base is not an earlier session of the same replication.
+    /// The base is not an earlier session of the session's replication.
     #[error("no such base session")]
     NoSuchBase,
     /// The start exceeds the recorded sequence of the base, or 0 if there is no base.

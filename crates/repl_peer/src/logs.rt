@@ -63,7 +63,7 @@ impl<F: WriteFilter> Peer<F> {
         self.outgoing.copy_of(alloc, rep)
     }
 
-    /// Stores an entry in the log of a replication from this peer. If there is no such log, creates it.
+    /// Stores an entry in the log of a replication from this peer. If the replication has no log, the call creates it.
     ///
     /// # Errors
     ///

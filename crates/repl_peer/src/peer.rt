@@ -34,7 +34,7 @@ use std::marker::Model;
 /// One side of a replication: a database, its local writes, its incoming sessions, and the logs of its outgoing
 /// sessions.
 ///
-/// Its invariant (docs/PROFILE.md, "The peer's law") holds after every call, in any order of calls.
+/// The invariant of a peer (docs/PROFILE.md, "The peer's law") holds after every call, in any order of calls.
 pub struct Peer<F: WriteFilter> {
     filter: F,
     pub(crate) db: Database,

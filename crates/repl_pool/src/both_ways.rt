@@ -37,7 +37,7 @@ pub struct SyncRan<F: WriteFilter> {
 }
 
 /// Replicates in both directions with a pool of threads: first `a` into `b`, then, if that succeeded, `b` into `a`.
-/// Each direction is a `run` with a plan of its own. Both runs use the same gate.
+/// Each direction is a `run` with a plan of its own. Both runs of the replication use the same gate.
 ///
 /// The guarantees on success are those of `sync_alone`. For consistent peers (docs/PROFILE.md, "Tied peers"), each side
 /// has every leaf of each document that both plans select and neither side has refused. If the trees agreed before and

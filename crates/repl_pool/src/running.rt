@@ -51,8 +51,8 @@ pub struct Progress<'a> {
     pub seats: Vec<BoardSeat>,
 }
 
-/// A run whose session has begun at the target. It has both peers, the session's start, and the number of workers in
-/// each group.
+/// A run whose session has begun at the target. A begun run has both peers, the session's start, and the number of
+/// workers in each group.
 #[derive(Drop)]
 struct Begun<F: WriteFilter> {
     source: Peer<F>,
@@ -61,8 +61,8 @@ struct Begun<F: WriteFilter> {
     crew: u64,
 }
 
-/// Returns the number of workers in each group. It is the plan's number of workers, but at most the number of windows
-/// that there may be, and 1 if there is nothing to read.
+/// Returns the number of workers in each group. This number is the plan's number of workers, but at most the number of
+/// windows that there may be, and 1 if there is nothing to read.
 fn crew_of(plan: &Plan, start: u64, goal: u64) -> u64
     requires workers { 0 < plan.now.workers }
     requires batch { is_batch plan.now.batch ≡ true }
@@ -296,7 +296,7 @@ fn run_with<F: WriteFilter + Send + Sync, G: Gate + Sync, R: Threads + Wait + Sy
 /// in two of the four cases the other peer needs a UUID of its own (`KeepsOthersTied`). An audit of consistent peers is
 /// then clean.
 ///
-/// Blocks until the run ends. That it ends is not proved.
+/// Blocks until the run ends. It is not proved that a run ends.
 ///
 /// # Errors
 ///
@@ -327,10 +327,10 @@ pub fn run<F: WriteFilter + Send + Sync, G: Gate + Sync, R: Threads + Wait + Syn
     run_with(rt, alloc, source, target, plan, gate, unseen)
 }
 
-/// As `run`, with a board on which others may read the progress meanwhile (`Board::read`). Each writer has the seat of
-/// a worker of the board. Before it settles a parcel, it adds the parcel's documents to its read counter. After
-/// settling, and before the gate is asked at `Settled`, it adds those that were settled to its settled counter. No lock
-/// is taken for the board.
+/// Does the same as `run`, with a board on which viewers may read the progress meanwhile (`Board::read`). Each writer
+/// has the seat of a worker of the board. Before it settles a parcel, it adds the parcel's documents to its read
+/// counter. After settling, and before the gate is asked at `Settled`, it adds those that were settled to its settled
+/// counter. No lock is taken for the board.
 ///
 /// There must be one seat for each worker of the plan. The seats are returned in order, whatever the outcome, and no
 /// count has fallen. If the run succeeds, both counts, added up over the seats, have risen by the documents read in the

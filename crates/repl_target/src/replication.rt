@@ -64,8 +64,8 @@ impl Plan {
 }
 
 /// Replicates the source's documents into the target, on one thread. The replication starts at the common checkpoint of
-/// the two logs, and ends at the source's update sequence. Each window is settled before the next one is read. Then the
-/// session is recorded, first at the target, then in the source's log.
+/// the two logs, and ends at the source's update sequence. Each window is settled before the next one is read. After
+/// all windows, the session is recorded, first at the target, then in the source's log.
 ///
 /// If the call succeeds, each leaf of the source's selected feed above the start is covered at the target, and the
 /// report is the session's. If the target was also empty and nothing was refused, each selected document has the same

@@ -49,8 +49,8 @@ impl Rev {
         Rev { generation, sig }
     }
 
-    /// Parses a revision id. The call splits the string at its first `-`. It accepts for a revision only the string
-    /// that `write` returns.
+    /// Parses a revision id. The call splits the string at its first `-`. For a revision, `parse` accepts only the
+    /// string that `write` returns.
     ///
     /// # Errors
     ///

@@ -222,7 +222,7 @@ impl Databases {
     ///
     /// # Errors
     ///
-    /// The call returns the first error whose condition holds. These are `NoDatabase` if the name is unknown,
+    /// The call returns the first of these errors whose condition holds, which are `NoDatabase` if the name is unknown,
     /// `BackupExists` if the database has a backup of this name, and `IsTarget` if the database has been a replication
     /// target.
     pub fn back_up(&mut self, alloc: Global, db: &str, name: &str) -> Result<u64, Refusal>
@@ -252,9 +252,9 @@ impl Databases {
     ///
     /// # Errors
     ///
-    /// The call returns the first error whose condition holds. These are `NoDatabase` if the name is unknown,
-    /// `NoBackup` if the database has no backup of this name, `IsTarget` if the database has been a replication target, and
-    /// `LifeFull` if the database has no unused life.
+    /// The call returns the first of these errors whose condition holds, which are `NoDatabase` if the name is unknown,
+    /// `NoBackup` if the database has no backup of this name, `IsTarget` if the database has been a replication target,
+    /// and `LifeFull` if the database has no unused life.
     pub fn put_back(&mut self, db: &str, name: &str) -> Result<PutBack, Refusal>
         ensures answer { GivesOrMemory result
             (put_back_answer (peer_at self.old db.now) (backup_at self.old db.now name.now)) }

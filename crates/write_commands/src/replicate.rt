@@ -34,7 +34,8 @@ pub struct Replicate<'v, 'a> {
     pub options: Options,
 }
 
-/// The other parameters of a replication. Absent ones are `None`; `alone` and `progress` are false if absent.
+/// The parameters of a replication other than its databases and selection. Absent ones are `None`; `alone` and
+/// `progress` are false if absent.
 #[derive(Clone, Copy, Debug, PartialEq, Eq)]
 pub struct Options {
     /// The id of the new session, as the number of its UUID.

@@ -216,7 +216,7 @@ fn exchange(
     target.grow(rt, alloc, rng, 10);
     let asked = asked(rt, alloc, source, target);
     asks(rt, alloc, &source.plain, &target.plain, &asked);
-    // The source may have changed before the fetch, and another database may lack what is requested.
+    // The source may have changed before the fetch, and another database may lack the requested revisions.
     source.grow(rt, alloc, rng, 10);
     let docs = answers(rt, alloc, source, &asked);
     let _others = answers(rt, alloc, target, &asked);

@@ -301,6 +301,6 @@ fn two_hundred_seeds_agree(rt: HostRuntime) {
         let mut tree = Tree::new(rt.alloc());
         refusals = refusals.saturating_add(merges(&rt, rt.alloc(), seed, &mut tree));
     }
-    // Both successes and failures occur often enough to be tested.
+    // Merges succeed and fail often enough for both results to be tested.
     assert!(rt; 1_000 < refusals && refusals < 9_000, "{refusals} refusals");
 }

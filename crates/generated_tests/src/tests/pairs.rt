@@ -45,8 +45,8 @@ enum Call {
     Replicate(usize, usize),
 }
 
-/// A second source is replicated into a target with documents of its own. Then the first source is replicated, for one
-/// selection and completely. After it has grown, it is replicated for both selections and completely again.
+/// A second source is replicated into a target with documents of its own. After that, the first source is replicated,
+/// for one selection and completely. After it has grown, it is replicated for both selections and completely again.
 static CALLS: &[Call] = &[
     Call::Grow(OTHER, 10),
     Call::GrowTarget(5),

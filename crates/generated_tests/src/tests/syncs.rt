@@ -112,7 +112,7 @@ fn is_same_leaf(rt: &impl Abort, alloc: Global, one: &Tree, other: &Tree, leaf: 
     }
 }
 
-/// Whether two peers have the same for a document.
+/// Whether two peers have the same tree of a document.
 fn is_same(rt: &impl Abort, alloc: Global, a: &Peer<Rules>, b: &Peer<Rules>, id: &DocId) -> bool {
     match (a.db().tree(id), b.db().tree(id)) {
         (Some(one), Some(other)) => are_same(rt, alloc, one, other),

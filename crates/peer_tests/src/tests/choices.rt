@@ -198,7 +198,8 @@ fn rep_text(alloc: Global, rep: &RepId) -> Option<String> {
     }
 }
 
-/// Returns the selection at an index; `Some(None)` for all documents, `None` if there is no such selection.
+/// Returns the selection at an index; The result is `Some(None)` for all documents, and `None` if there is no such
+/// selection.
 fn chosen(choices: &[Chosen], under: Under) -> Option<Option<&Chosen>> {
     match under {
         Some(at) => choices.get(at).map(Some),

@@ -1,5 +1,5 @@
-//! Calls on peers with large values. They are tested because no contract can exclude that a call returns `Memory`
-//! although memory is left.
+//! Calls on peers with large values. Large values are tested because no contract can exclude that a call returns
+//! `Memory` although memory is left.
 use crate::tests::databases::{edit_text, put_text};
 use crate::tests::plans::plan;
 use crate::tests::records::{fault_text, report_text};

@@ -1,5 +1,5 @@
-//! The rows of networks. They spread documents through a hub, have a broken chain, a refused document and an incomplete
-//! history, and provoke each error.
+//! The rows of networks. The rows of networks spread documents through a hub, have a broken chain, a refused document
+//! and an incomplete history, and provoke each error.
 use crate::tests::nets::{Call, Lists, Rows, expect, of_slice};
 
 /// Four peers.

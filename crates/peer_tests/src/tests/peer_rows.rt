@@ -30,7 +30,7 @@ const REP: Rep = Rep {
     target: 2,
 };
 
-/// Another replication to the same peer.
+/// A second replication to the peer with UUID 2.
 const OTHER_REP: Rep = Rep {
     source: 3,
     target: 2,
@@ -517,7 +517,7 @@ fn a_foreign_document_is_refused_before_a_done_window(rt: HostRuntime) {
     const ROWS: Rows = &[
         (Call::Fetch(SOURCE, FIRST), "0 to 1: d 1-a live {};"),
         (Call::Settle(TARGET, S1, FIRST), "written 1 failed 0"),
-        // The window is done, and the other source's document has no row in it.
+        // The window is done, and the other source's document has no row in that window.
         (Call::Load(OTHER, E), "Changed { seq: 1 }"),
         (Call::Page(OTHER, 0, 1), "0 to 1: 1 e 1-a;"),
         (Call::Diff(TARGET, SECOND), "0 to 1: e 1-a;"),

@@ -46,7 +46,7 @@ impl<F: WriteFilter> Peer<F> {
         }
     }
 
-    /// Returns the front of a session's windows, if the peer has it: which of them are done.
+    /// Returns the front of a session's windows, which says which windows are done, if the peer has the session.
     pub fn front(&self, id: SessionId) -> Option<&Front>
         ensures { option_map (λ f. f.front) (option_copied result)
             ≡ option_map (λ s. s.front) (session_in self.now.1.sessions id) }
