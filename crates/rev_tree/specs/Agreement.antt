@@ -5,21 +5,21 @@ use Rattle.rev_core.specs.Rev.{RevId}
 use Rattle.rev_tree.specs.Content.{ContentValue}
 use Rattle.rev_tree.specs.Tree.{TreeValue, has}
 
--- two trees agree: they give no revision two parents, and no revision two contents
+-- Two trees agree: they give no revision two different parents, and no revision two different contents.
 pub record Agree (s t : TreeValue) : Type 0 where
   pub parents : (c p q : RevId) → get s.parents c ≡ Some p → get t.parents c ≡ Some q → p ≡ q
   pub contents : (r : RevId) (b d : ContentValue) → get s.contents r ≡ Some b → get t.contents r ≡ Some d → b ≡ d
 
--- the tree has complete histories: a revision without a known parent has generation 1
+-- Tree t has complete histories: each of its revisions without a known parent has generation 1.
 abbrev pub IsWhole : TreeValue → Type 0
 IsWhole t = (r : RevId) → has t r ≡ true → get t.parents r ≡ None → r.generation ≡ 1
 
--- whether r is a root: a revision of the tree without a known parent
+-- Whether r is a root of tree t: a revision of the tree without a known parent.
 abbrev pub IsRoot : TreeValue → RevId → Type 0
 IsRoot t r = (has t r ≡ true) × (get t.parents r ≡ None)
 
--- a tree t has grown from `old` by data of `other`: it keeps the edges of `old`, and all of its data is from one of the
--- two trees; a root of t is a root there
+-- Tree t has grown from tree `old` by data of tree `other`. Tree t keeps the edges of `old`, and all revisions, edges
+-- and contents of t are from one of the two trees. A root of t is a root of the tree that it is from.
 pub record IsGrownBy (old other t : TreeValue) : Type 0 where
   pub kept : (c p : RevId) → get old.parents c ≡ Some p → get t.parents c ≡ Some p
   pub revs : (r : RevId) → has t r ≡ true → (has old r ≡ true) ⊎ (has other r ≡ true)

@@ -1,5 +1,5 @@
--- Two trees that agree, have complete histories and have each other's leaves are the same; and how trees come to have
--- each other's leaves.
+-- Two trees that agree, have complete histories and have each other's leaves are the same. Further theorems say how
+-- trees come to have each other's leaves.
 use Rattle.std.proofs.Common.{◌≡◌, ◌⊎◌, ℕ, zero, suc, true, false, not, ◌&&◌, ◌||◌, List, [], ◌∷◌, filter, Option, Some, None, is_some, refl, sym, ap, ◌∙◌, inl, inr, arith}
 use Rattle.std.specs.List.{list_any}
 use Rattle.std.specs.Option.{option_map_or}
@@ -26,7 +26,7 @@ use Rattle.rev_tree.specs.declared.origin.Origin.{Origin}
 pub IsGrownBy-same : (t other : TreeValue) → IsGrownBy t other t
 IsGrownBy-same t other = record { kept = λ c p h. h; revs = λ r h. inl h; parents = λ c p h. inl h; contents = λ r b h. inl h; roots = λ r h. inl h }
 
--- adding a leaf of the other tree with its ancestors
+-- Theorems about tree t after adding a leaf of tree `other` with the leaf's ancestors.
 module _ (old other t : TreeValue) (tree : IsTree other) (grown : IsGrownBy old other t) (leaf : RevId) (is : is_leaf other leaf ≡ true) (o : Origin) where
   abbrev revs : List RevId
   revs = ancestors other leaf
@@ -37,7 +37,7 @@ module _ (old other t : TreeValue) (tree : IsTree other) (grown : IsGrownBy old 
   known : has other leaf ≡ true
   known = (and_parts _ _ is).0
 
-  -- the added edges are edges of the other tree
+  -- The edges that are added are edges of tree `other`.
   edge_at : (q : RevId) → is_among q revs ≡ true → find rev_cmp q (edges_of revs) ≡ get other.parents q
   edge_at q among = edges_walked other tree leaf.generation leaf q known (omega arith) among
 
@@ -71,7 +71,7 @@ module _ (old other t : TreeValue) (tree : IsTree other) (grown : IsGrownBy old 
 one_parent : {X : Type 0} (o : Option X) (x y : X) → o ≡ Some x → o ≡ Some y → x ≡ y
 one_parent {X = X} o x y h k = ap (λ (v : Option X). option_map_or (λ w. w) v x) (sym h ∙ k)
 
--- a leaf of t that `old` already had was a leaf of `old`
+-- A leaf of tree t that the tree `old` already had was a leaf of `old`.
 leaf_kept : (old other t : TreeValue) → IsGrownBy old other t → (l : RevId) → is_leaf t l ≡ true → has old l ≡ true → is_leaf old l ≡ true
 leaf_kept old other t grown l top there =
     elim (cases_Bool (is_parent old l)) [
@@ -81,7 +81,7 @@ leaf_kept old other t grown l top there =
       | inr none ↦ and_from _ _ there (ap not none)
     ]
 
--- if `other` has the leaves of `old`, it has the leaves of a tree that grew from `old` by data of `other`
+-- If tree `other` has the leaves of tree `old`, it has the leaves of a tree that grew from `old` by data of `other`.
 pub leaves_known : (old other t : TreeValue) → IsGrownBy old other t → ((l : RevId) → is_leaf old l ≡ true → has other l ≡ true) → (l : RevId) → is_leaf t l ≡ true → has other l ≡ true
 leaves_known old other t grown all l top =
     elim (grown.revs l (and_parts _ _ top).0) [
@@ -89,7 +89,7 @@ leaves_known old other t grown all l top =
       | inr there ↦ there
     ]
 
--- b has grown by data of a, then a has grown by data of b
+-- Theorems about growth in both directions: tree b has grown by data of a into b', then a by data of b' into a'.
 module _ (a b b' a' : TreeValue) (there : IsGrownBy b a b') (back : IsGrownBy a b' a') where
   pub Agree-grown : Agree a b → Agree a' b'
   Agree-grown agree = record {
@@ -117,7 +117,8 @@ module _ (a b b' a' : TreeValue) (there : IsGrownBy b a b') (back : IsGrownBy a 
 
 -- ---- the same
 
--- in a tree that agrees with a tree of complete history, revisions above known leaves have the same parents
+-- If trees s and t agree, and t has complete histories, a revision of t with a known parent in s has the same parent in
+-- t.
 module _ (s t : TreeValue) (ours : IsTree s) (theirs : IsTree t) (agree : Agree s t) (whole : IsWhole t) where
   same_parent : (c p : RevId) → has t c ≡ true → get s.parents c ≡ Some p → get t.parents c ≡ Some p
   same_parent c p there e = go (get t.parents c) refl
@@ -150,8 +151,8 @@ module _ (s t : TreeValue) (ours : IsTree s) (theirs : IsTree t) (agree : Agree 
 turned : (s t : TreeValue) → Agree s t → Agree t s
 turned s t agree = record { parents = λ c p q h k. sym (agree.parents c q p k h); contents = λ r b d h k. sym (agree.contents r d b k h) }
 
--- two trees that agree, have complete histories and have each other's leaves have the same revisions, edges and
--- contents
+-- Two trees that agree, have complete histories and have each other's leaves have the same revisions, edges and
+-- contents.
 pub same_by_leaves : (s t : TreeValue) → IsTree s → IsTree t → Agree s t → IsWhole s → IsWhole t → ((l : RevId) → is_leaf s l ≡ true → has t l ≡ true) → ((l : RevId) → is_leaf t l ≡ true → has s l ≡ true) → SameRevisions s t
 same_by_leaves s t ours theirs agree whole_s whole_t there back = record {
   revs = λ r. both_ways _ _ (all_known s t ours theirs agree whole_t there r) (all_known t s theirs ours (turned s t agree) whole_s back r);
@@ -180,7 +181,7 @@ same_by_leaves s t ours theirs agree whole_s whole_t there back = record {
 
 -- ---- the leaves of equal trees
 
--- an element is inserted at the same position by two orders that agree on the elements of the list
+-- If two orders agree on element k and the elements of a list, both insert k at the same position.
 same_placed : {K : Type 0} (R S : K → K → Ordering) → IsTotalOrder R → (k : K) (ys : List K) → ((y : K) → list_any (eq_by_cmp R y) ys ≡ true → R k y ≡ S k y) → placed R k ys ≡ placed S k ys
 same_placed R S total k [] h = refl
 same_placed R S total k (y ∷ ys) h =
@@ -194,14 +195,14 @@ same_order R S r s (k ∷ xs) h =
     ∙ same_placed R S r k (in_order R xs) (λ y m. h k y (ap (λ b. b || list_any (eq_by_cmp R k) xs) ((eq_by_cmp_equiv r).refl k)) (or_right _ _ (sym (any-in_order r xs y) ∙ m)))
     ∙ ap (placed S k) (same_order R S r s xs (λ a b m n. h a b (or_right _ _ m) (or_right _ _ n))) ∙ sym (in_order-cons s k xs)
 
--- whether r equals a leaf of t in the leaf order of u is whether r is a leaf of t
+-- Comparing revisions in the leaf order of another tree u finds exactly the leaves of tree t.
 any_leaf : (u t : TreeValue) (r : RevId) → list_any (eq_by_cmp (leaf_cmp u) r) (filter (is_leaf t) (keys t.origins)) ≡ is_leaf t r
 any_leaf u t r =
     let all = filter (is_leaf t) (keys t.origins) in
     any_agree (eq_by_cmp (leaf_cmp u) r) (eq_by_cmp (leaf_cmp t) r) (λ x. leaf_tie u r x ∙ sym (leaf_tie t r x)) all
     ∙ sym (any-in_order (leaf_cmp_total t) all r) ∙ any_agree (eq_by_cmp (leaf_cmp t) r) (eq_by_cmp rev_cmp r) (λ x. leaf_tie t r x) (leaves t) ∙ is_among-leaves t r
 
--- equal trees have the same leaves in the same order, and so the same winner
+-- Equal trees have the same leaves in the same order, and therefore the same winner.
 pub same_leaves : (s t : TreeValue) → SameRevisions s t → leaves s ≡ leaves t
 same_leaves s t same =
     same_order (leaf_cmp s) (leaf_cmp t) (leaf_cmp_total s) (leaf_cmp_total t) (filter (is_leaf s) (keys s.origins))

@@ -1,31 +1,34 @@
--- The index from revisions to positions of nodes, by hash.
+-- The index from revisions to the positions of their nodes in the node list. The key of an entry is a revision's hash.
 use Rattle.std.specs.Prelude.{ℕ, Bool, true, ◌&&◌, not, ◌+◌, ◌%◌, ◌^◌, List, [], ◌∷◌, ◌++◌, is_some, length, nat_eq, nat_lt, if◌then◌else◌}
 use Rattle.std.specs.Map.{lookup}
 use Rattle.std.specs.Hash.FoldHasher as hasher
 use Rattle.rev_core.specs.Rev.{RevId}
 use Rattle.rev_tree.specs.declared.nodes.TheConstants.{MOST_WALKED}
 
--- the 64-bit hash of a revision
+-- The 64-bit hash of a revision.
 abbrev pub mark_of : RevId → ℕ
 mark_of r = (hasher.finish (hasher.write hasher.initial r.sig) + r.generation) % 2 ^ 64
 
--- adds a hash with its position, unless the hash has one
+-- The index entries after adding a hash with the position of its node. The entries stay the same if they have the hash
+-- already.
 abbrev pub noted : List (ℕ × ℕ) → ℕ → ℕ → List (ℕ × ℕ)
 noted entries mark place =
     if is_some (lookup (nat_eq mark) entries) then entries else entries ++ (mark, place) ∷ []
 
--- adds the hashes of revisions, whose positions start at i; each hash keeps its first position
+-- The index entries after adding the hashes of revisions, whose positions start at i. Each hash keeps its first
+-- position.
 abbrev pub noted_from : List (ℕ × ℕ) → ℕ → List RevId → List (ℕ × ℕ)
 noted_from entries i [] = entries
 noted_from entries i (r ∷ revs) = noted_from (noted entries (mark_of r) i) (i + 1) revs
 
--- whether each revision is one generation below the previous one, as in an ancestry
+-- Whether each revision of a list is one generation below the previous one, as in an ancestry.
 abbrev pub falls : List RevId → Bool
 falls [] = true
 falls (r ∷ []) = true
 falls (r ∷ (s ∷ revs)) = nat_eq r.generation (s.generation + 1) && falls (s ∷ revs)
 
--- the index of nodes with these revisions. It is empty if they are few enough to be scanned, or if each is one
--- generation below the previous one, so that the generation determines the position
+-- The index of nodes whose revisions are `revs`. The index is empty if the nodes are few enough to be scanned. It is
+-- also empty if each revision is one generation below the previous one, because the generation then determines the
+-- position.
 abbrev pub index_for : List RevId → List (ℕ × ℕ)
 index_for revs = if nat_lt MOST_WALKED (length revs) && not (falls revs) then noted_from [] 0 revs else []

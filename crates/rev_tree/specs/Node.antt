@@ -1,4 +1,4 @@
--- A node of a tree, and how its parts are stored.
+-- A node of a revision tree, and how its parts are stored.
 use Rattle.std.specs.Prelude.{ℕ, zero, suc, Bool, true, false, ◌+◌, ◌*◌, ◌^◌, Option, Some, None}
 use Rattle.rev_core.specs.Rev.{RevId}
 use Rattle.rev_tree.specs.Content.{ContentValue}
@@ -8,8 +8,8 @@ use Rattle.rev_tree.specs.declared.node.Known.TheVariants.{Bare, Full}
 use Rattle.rev_tree.specs.declared.origin.Origin.{Origin}
 use Rattle.rev_tree.specs.declared.origin.Origin.TheVariants.{Local, Feed}
 
--- a node: its revision, the index of its parent and its content if they are known, its origin, and whether it is the
--- parent of another node
+-- A node: its revision, the index of its parent and its content if they are known, its origin, and whether it is the
+-- parent of another node.
 pub record NodeValue : Type 0 where
   pub rev : RevId
   pub parent : Option ℕ
@@ -17,12 +17,12 @@ pub record NodeValue : Type 0 where
   pub origin : Origin
   pub has_child : Bool
 
--- the flags of a stored value
+-- The flags that a stored node has.
 abbrev pub marks_of : Known → Marks
 marks_of (Bare marks counted) = marks
 marks_of (Full marks counted content) = marks
 
--- the index of the parent, counted from 1, or 0
+-- The index of a stored node's parent, counted from 1, or 0 if the parent is not known.
 abbrev pub counted_of : Known → ℕ
 counted_of (Bare marks counted) = counted
 counted_of (Full marks counted content) = counted
@@ -31,12 +31,12 @@ abbrev pub content_of : Known → Option ContentValue
 content_of (Bare marks counted) = None
 content_of (Full marks counted content) = Some content
 
--- the index of the parent, from its stored form
+-- The index of a node's parent, from its stored form: the index plus 1, or 0 if the parent is not known.
 abbrev pub parent_of : ℕ → Option ℕ
 parent_of zero = None
 parent_of (suc place) = Some place
 
--- an origin from its stored form: a local write, or a session's feed with the two halves of the session's number
+-- An origin from its stored form: a local write, or a session's feed with the two halves of the session's number.
 abbrev pub origin_of : Bool → ℕ → ℕ → ℕ → Origin
 origin_of false high low number = Local number
 origin_of true high low number = Feed (record { 0 = high * 2 ^ 64 + low }) number

@@ -13,48 +13,48 @@ use Rattle.rev_tree.specs.Room.{HasIndexRoom}
 use Rattle.rev_tree.specs.Steps.{with_rev}
 use Rattle.rev_tree.specs.declared.origin.Origin.{Origin}
 
--- the revisions, by position
+-- The revisions of a list of nodes, by position.
 abbrev pub revs_in : List NodeValue → List RevId
 revs_in nodes = map (λ n. n.rev) nodes
 
--- no revision occurs twice
+-- No revision occurs twice in a list.
 abbrev pub Distinct : List RevId → Type 0
 Distinct [] = Unit {0}
 Distinct (r ∷ revs) = (is_among r revs ≡ false) × Distinct revs
 
--- each revision with its position, from i on
+-- Each revision of a list with its position, if the positions are counted from i.
 abbrev pub places_from : ℕ → List RevId → List (RevId × ℕ)
 places_from i [] = []
 places_from i (r ∷ revs) = (r, i) ∷ places_from (i + 1) revs
 
--- the position of a revision
+-- The position of revision r among the nodes, if a node has r.
 abbrev pub place_of : List NodeValue → RevId → Option ℕ
 place_of nodes r = finmap.find rev_cmp r (places_from 0 (revs_in nodes))
 
--- the node of a revision
+-- The node of revision r, if there is one.
 abbrev pub node_of : List NodeValue → RevId → Option NodeValue
 node_of nodes r = finmap.find rev_cmp r (map (λ n. (n.rev, n)) nodes)
 
--- the revision at an optional position
+-- The revision at position i of a list, or `None` without a position.
 abbrev pub rev_at : List RevId → Option ℕ → Option RevId
 rev_at revs None = None
 rev_at revs (Some i) = slice_get revs i
 
--- the parent that a node names
+-- The parent of node n: the revision at the position that n stores.
 abbrev pub parent_in : List RevId → NodeValue → Option RevId
 parent_in revs n = rev_at revs n.parent
 
--- an entry at r if there is a value
+-- A list with the entry of key r and value x, or the empty list if there is no value.
 abbrev pub entry_of : {X : Type 0} → RevId → Option X → List (RevId × X)
 entry_of r None = []
 entry_of r (Some x) = (r, x) ∷ []
 
--- the entries of a part f of all nodes, each at its revision
+-- The entries of all nodes for which part f has a value. The key of an entry is the node's revision.
 abbrev pub entries_of : {X : Type 0} → (NodeValue → Option X) → List NodeValue → List (RevId × X)
 entries_of f [] = []
 entries_of f (n ∷ nodes) = entry_of n.rev (f n) ++ entries_of f nodes
 
--- the tree that the nodes represent
+-- The revision tree that a list of nodes represents.
 abbrev pub tree_of : List NodeValue → TreeValue
 tree_of nodes = record {
   origins = finmap.from_entries (entries_of (λ n. Some n.origin) nodes);
@@ -62,52 +62,54 @@ tree_of nodes = record {
   contents = finmap.from_entries (entries_of (λ n. n.content) nodes);
 }
 
--- the index of the parent is in range, and the flag says whether the node is a parent
+-- Node n is consistent: its parent's index is in range, and its flag says whether n is a parent of another node.
 pub record IsNode (nodes : List NodeValue) (n : NodeValue) : Type 0 where
   pub parent : IfSome n.parent (λ i. i < length nodes)
   pub child : n.has_child ≡ is_parent (tree_of nodes) n.rev
 
--- the invariant of the nodes
+-- The invariant of a list of nodes: revisions are distinct, and each node is consistent with the others.
 pub record IsLinked (nodes : List NodeValue) : Type 0 where
   pub once : Distinct (revs_in nodes)
   pub each : (r : RevId) (n : NodeValue) → node_of nodes r ≡ Some n → IsNode nodes n
 
--- whether a node's content deletes the document
+-- Whether node n has a content that deletes the document.
 abbrev pub deletes : NodeValue → Bool
 deletes n = option_map_or (λ (b : ContentValue). b.deleted) n.content false
 
--- whether leaf n goes before the best leaf, if there is one, in the winner's order
+-- Whether leaf n goes before the best leaf, if there is one, in the winner's order.
 abbrev pub goes_before : NodeValue → Option NodeValue → Bool
 goes_before n None = true
 goes_before n (Some best) = is_lt (ordering_then (bool_cmp (deletes n) (deletes best)) (rev_cmp best.rev n.rev))
 
--- 1 if r is not in the list, else 0
+-- 1 if r is not in the list `known`, else 0.
 abbrev pub unless_among : List RevId → RevId → ℕ
 unless_among known r = cond (is_among r known) 0 1
 
--- the number of revisions that are not in `known`
+-- The number of revisions of a list that are not in the list `known`.
 abbrev pub count_new : List RevId → List RevId → ℕ
 count_new known [] = 0
 count_new known (r ∷ revs) = unless_among known r + count_new known revs
 
--- the nodes represent a tree, and the node at `best` is the winner's, if there is one
+-- The nodes represent a tree, and `best` is the index of the winner's node, if there is one.
 pub record IsLed (nodes : List NodeValue) (best : ℕ) : Type 0 where
   pub tree : IsTree (tree_of nodes)
   pub first : slice_get (revs_in nodes) best ≡ first_of (leaves (tree_of nodes))
 
--- nodes, and how many the list and the index can hold without allocating
+-- A list of nodes, and how many nodes and index entries fit without allocating.
 pub record NodesValue : Type 0 where
   pub items : List NodeValue
   pub capacity : ℕ
   pub index_capacity : ℕ
 
--- there is space for `more` nodes, and for their index entries if they are then too many to be scanned
+-- `more` nodes can be added without allocating. Their index entries fit, too, if all the nodes together are too many to
+-- be scanned.
 pub record HasRoom (v : NodesValue) (more : ℕ) : Type 0 where
   pub few : length v.items + more < 2 ^ 32
   pub nodes : length v.items + more ≤ v.capacity
   pub places : HasIndexRoom (length v.items + more) v.index_capacity
 
--- the effect of adding revision r, whose position is k afterwards. Space for one node is used if r is new
+-- The effect of adding revision r to a list of nodes, in which r is at position k afterwards. Space for one node is
+-- used if r is new.
 pub record HasGained (old new : NodesValue) (r : RevId) (origin : Origin) (k : ℕ) : Type 0 where
   pub tree : tree_of new.items ≡ with_rev (tree_of old.items) r origin
   pub at : slice_get (revs_in new.items) k ≡ Some r

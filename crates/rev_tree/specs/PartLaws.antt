@@ -1,5 +1,5 @@
--- Trees that are parts of others: they grow by leaves with their ancestors, and a part that has all leaves is the
--- complete tree.
+-- Trees that are parts of other trees. A part grows by leaves with their ancestors, and a part that has all leaves is
+-- the complete tree.
 use Rattle.std.proofs.Common.{◌≡◌, ℕ, zero, suc, ◌≤◌, true, false, not, cond, ◌||◌, List, [], ◌∷◌, Option, Some, None, is_some, refl, sym, ap, ◌∙◌, inl, inr, arith}
 use Rattle.std.specs.Option.{option_map_or, option_or}
 use Rattle.std.specs.Ordering.{eq_by_cmp}
@@ -29,7 +29,7 @@ or_known : {X : Type 0} (x y : Option X) → is_some x ≡ true → option_or x 
 or_known None y h = absurd (false≢true h)
 or_known (Some x) y h = refl
 
--- an option without a value is `None`
+-- An option that is not `Some` of any value is `None`.
 pub none_is : {X : Type 0} (o : Option X) → ((x : X) → o ≡ Some x → ⊥) → o ≡ None
 none_is None h = refl
 none_is (Some x) h = absurd (h x refl)
@@ -47,7 +47,7 @@ pub walk_begins : (m : FinMap rev_cmp RevId) (n : ℕ) (p : RevId) → (rest : L
 walk_begins m zero p = ([], refl)
 walk_begins m (suc n) p = (option_map_or (walk m n) (get m p) [], refl)
 
--- the edges of a traversal give each member its parent in the tree
+-- The edges of a traversal give each visited revision its parent in the tree.
 pub edges_walked : (s : TreeValue) → IsTree s → (n : ℕ) (x c : RevId) → has s x ≡ true → x.generation ≤ n → is_among c (walk s.parents n x) ≡ true → find rev_cmp c (edges_of (walk s.parents n x)) ≡ get s.parents c
 edges_walked s tree zero x c known low h = let low' = (tree.revs x known).low in absurd (omega arith)
 edges_walked s tree (suc n) x c known low h = go (λ p there under among. edges_walked s tree n p c there under among) (get s.parents x) refl
@@ -71,14 +71,14 @@ edges_walked s tree (suc n) x c known low h = go (λ p there under among. edges_
           | false ↦ λ _ later. further p (tree.parent x p e) (omega (arith, falls, low)) later
         ] refl among)
 
--- a revision outside the traversal has no edge in it
+-- A revision that a traversal does not visit is not a child in the traversal's edges.
 edges_apart : (s : TreeValue) → IsTree s → (x c : RevId) → has s x ≡ true → is_among c (ancestors s x) ≡ false → find rev_cmp c (edges_of (ancestors s x)) ≡ None
 edges_apart s tree x c known apart =
     none_is (find rev_cmp c (edges_of (ancestors s x))) (λ p e. false≢true (sym apart ∙ (edge_found (ancestors s x) c p (IsAncestry-ancestors s tree x known).falls e).child))
 
 -- ---- parts
 
--- t is a part of s: some of its revisions, each with all ancestors, and the contents of the leaves
+-- Tree t is a part of tree s: t has some revisions of s, each with all its ancestors, and the contents of the leaves.
 pub record IsPart (s t : TreeValue) : Type 0 where
   pub within : (r : RevId) → has t r ≡ true → has s r ≡ true
   pub parents : (r : RevId) → has t r ≡ true → get t.parents r ≡ get s.parents r
@@ -100,7 +100,7 @@ nothing_is_part s = record {
     none : (r : RevId) → has no_revisions r ≡ true → ⊥
     none r h = false≢true (sym (ap is_some (get-empty rev_cmp r)) ∙ h)
 
--- the content of a leaf as it is sent
+-- The content of a leaf of tree s as replication sends it.
 abbrev pub given : TreeValue → RevId → ContentValue
 given s leaf = record {
   deleted = is_deleted s leaf;
@@ -113,7 +113,7 @@ given_is s leaf b h = λ i. record {
   body = option_map_or (λ (x : ContentValue). x.body) (h i) [];
 }
 
--- the head of a leaf's ancestry is the leaf, with its content
+-- The first revision of a leaf's ancestry is the leaf, with the leaf's content.
 pub at_leaf : (s : TreeValue) (leaf q : RevId) → is_some (find rev_cmp q (at_head (ancestors s leaf) (given s leaf))) ≡ true → (q ≡ leaf) × (find rev_cmp q (at_head (ancestors s leaf) (given s leaf)) ≡ Some (given s leaf))
 at_leaf s leaf q h =
     let begins = walk_begins s.parents leaf.generation leaf in
@@ -123,7 +123,7 @@ at_leaf s leaf q h =
       | false ↦ λ _ e. absurd (false≢true (sym (ap is_some e) ∙ h))
     ] refl at)
 
--- adding a leaf with its ancestors to a part gives a part
+-- Adding a leaf of tree s with its ancestors to a part of s gives a part of s.
 module _ (s t : TreeValue) (tree : IsTree s) (part : IsPart s t) (leaf : RevId) (is : is_leaf s leaf ≡ true) (o : Origin) where
   abbrev revs : List RevId
   revs = ancestors s leaf
@@ -143,7 +143,7 @@ module _ (s t : TreeValue) (tree : IsTree s) (part : IsPart s t) (leaf : RevId) 
   absent_parent : (q : RevId) → has t q ≡ false → get t.parents q ≡ None
   absent_parent q h = none_is (get t.parents q) (λ p e. false≢true (sym h ∙ part.child q p e))
 
-  -- lemmas about the added revisions
+  -- Lemmas about the revisions that are added.
   brought_parent : (q : RevId) → is_among q revs ≡ true → get grown.parents q ≡ get s.parents q
   brought_parent q among =
       let edge : find rev_cmp q (edges_of revs) ≡ get s.parents q = edges_walked s tree leaf.generation leaf q known (omega arith) among in
@@ -219,7 +219,7 @@ module _ (s t : TreeValue) (tree : IsTree s) (part : IsPart s t) (leaf : RevId) 
 
 -- ---- the complete tree
 
--- a part that has a revision has everything that the traversal from it visits
+-- A part that has a revision has every revision that the traversal from this revision visits.
 part_walked : (s t : TreeValue) → IsPart s t → (n : ℕ) (x r : RevId) → has t x ≡ true → is_among r (walk s.parents n x) ≡ true → has t r ≡ true
 part_walked s t part zero x r there h = elim (or_cases _ _ h) [ inl tie ↦ ap (has t) (rev_tie_is r x tie) ∙ there | inr nothing ↦ absurd (false≢true nothing) ]
 part_walked s t part (suc n) x r there h =
@@ -231,7 +231,7 @@ part_walked s t part (suc n) x r there h =
       ] refl later
     ]
 
--- a part that has all leaves is the complete tree
+-- A part of tree s that has all leaves of s is the complete tree.
 pub whole_part : (s t : TreeValue) → IsTree s → IsPart s t → ((leaf : RevId) → is_leaf s leaf ≡ true → has t leaf ≡ true) → SameRevisions s t
 whole_part s t tree part all = record {
   revs = same;

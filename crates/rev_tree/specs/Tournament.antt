@@ -1,5 +1,5 @@
--- A tournament among the leaves of a tree. A player is stored as the index of its node, counted from 1; 0 means that
--- there is no player.
+-- A tournament among the leaves of a tree. A player is stored as the index of its node, counted from 1, and 0 means
+-- that there is no player.
 use Rattle.std.specs.Prelude.{◌≡◌, ℕ, zero, suc, ◌-◌, ◌/◌, ◌<◌, ◌≤◌, ◌^◌, ◌⊎◌, Bool, true, false, cond, List, length, get_or, Option, Some, None, is_some, option_map, nat_lt, slice_get}
 use Rattle.std.specs.declared.cmp.Ordering.{Ordering}
 use Rattle.std.specs.Ordering.{is_lt, bool_cmp, ordering_then}
@@ -9,40 +9,41 @@ use Rattle.rev_tree.specs.Index.{index_for}
 use Rattle.rev_tree.specs.Nodes.{IsLinked, deletes, goes_before, revs_in}
 use Rattle.rev_tree.specs.Room.{PlacesValue}
 
--- what the winner's order depends on: whether the node deletes the document, and its revision
+-- The key of a node in the winner's order: whether the node deletes the document, and its revision.
 abbrev pub Key : Type 0
 Key = Bool × RevId
 
 abbrev pub key_of : NodeValue → Key
 key_of n = (deletes n, n.rev)
 
--- the winner's order
+-- The winner's order of the keys of two nodes.
 abbrev pub key_cmp : Key → Key → Ordering
 key_cmp a b = ordering_then (bool_cmp a.0 b.0) (rev_cmp b.1 a.1)
 
--- the second player does not go before the first
+-- The second of two players does not go before the first in the winner's order.
 abbrev pub IsBefore : Option Key → Option Key → Type 0
 IsBefore x None = Unit {0}
 IsBefore None (Some b) = ⊥
 IsBefore (Some a) (Some b) = is_lt (key_cmp b a) ≡ false
 
--- the key of a stored player
+-- The key of a stored player, or `None` for 0.
 abbrev pub entry : List NodeValue → ℕ → Option Key
 entry nodes zero = None
 entry nodes (suc p) = option_map key_of (slice_get nodes p)
 
--- the key of a node, if it is a leaf
+-- The key of a node, if the node is a leaf.
 abbrev pub leaf_key : Option NodeValue → Option Key
 leaf_key None = None
 leaf_key (Some n) = cond n.has_child None (Some (key_of n))
 
--- the player at index k, given the winners of the matches and the number of nodes that take part
+-- The key of the player at index k of the tournament, given the winners of the matches and the number of nodes that
+-- take part.
 abbrev pub under : List NodeValue → List ℕ → ℕ → ℕ → Option Key
 under nodes winners entered k =
     cond (nat_lt k (length winners)) (entry nodes (get_or winners k 0))
     (cond (nat_lt (k - length winners) entered) (leaf_key (slice_get nodes (k - length winners))) None)
 
--- the stored winners and the leaves that take part are nodes with a content, which fixes their keys
+-- The stored winners, and the leaves that take part, are nodes with a content. A node's key therefore does not change.
 pub record IsHeld (nodes : List NodeValue) (winners : List ℕ) (entered : ℕ) : Type 0 where
   pub within : entered ≤ length nodes
   pub fits : entered ≤ length winners
@@ -50,31 +51,32 @@ pub record IsHeld (nodes : List NodeValue) (winners : List ℕ) (entered : ℕ) 
   pub contents : (i p : ℕ) (n : NodeValue) → get_or winners i 0 ≡ suc p → slice_get nodes p ≡ Some n → is_some n.content ≡ true
   pub leaves : (j : ℕ) (n : NodeValue) → j < entered → slice_get nodes j ≡ Some n → n.has_child ≡ false → is_some n.content ≡ true
 
--- the results of all matches but match x are right: neither player goes before the winner
+-- The stored results of all matches except match x are right: neither player of a match goes before its winner.
 pub record IsPlayed (nodes : List NodeValue) (winners : List ℕ) (entered x : ℕ) : Type 0 where
   pub held : IsHeld nodes winners entered
   pub ordered : (k : ℕ) → 2 ≤ k → k / 2 < length winners → (k / 2 ≡ x → ⊥) → IsBefore (entry nodes (get_or winners (k / 2) 0)) (under nodes winners entered k)
 
--- w is the player at index k as it is stored
+-- The stored value w represents the player at index k.
 pub record IsEntry (nodes : List NodeValue) (winners : List ℕ) (entered k w : ℕ) : Type 0 where
   pub key : entry nodes w ≡ under nodes winners entered k
   pub within : w ≤ entered
   pub content : (p : ℕ) (n : NodeValue) → w ≡ suc p → slice_get nodes p ≡ Some n → is_some n.content ≡ true
 
--- w is one of two players, and neither goes before w
+-- The stored player w is one of two stored players, `one` and `other`, and neither of them goes before w.
 pub record IsWinnerOf (nodes : List NodeValue) (one other w : ℕ) : Type 0 where
   pub either : (w ≡ one) ⊎ (w ≡ other)
   pub first : IsBefore (entry nodes w) (entry nodes one)
   pub second : IsBefore (entry nodes w) (entry nodes other)
 
--- the node at an index is a leaf, and no leaf goes before it
+-- The node at index `place` is a leaf, and no other leaf goes before it.
 pub record IsBestLeaf (nodes : List NodeValue) (place : ℕ) : Type 0 where
   pub node : NodeValue
   pub at : slice_get nodes place ≡ Some node
   pub leaf : node.has_child ≡ false
   pub best : (j : ℕ) (n : NodeValue) → slice_get nodes j ≡ Some n → n.has_child ≡ false → goes_before n (Some node) ≡ false
 
--- the invariant of the nodes, their index and their tournament. A position, counted from 1, fits into 32 bits
+-- The invariant of the nodes, their index and their tournament. A position of a node, counted from 1, fits into 32
+-- bits.
 pub record IsIndexed (nodes : List NodeValue) (places : PlacesValue) : Type 0 where
   pub few : length nodes < 2 ^ 32
   pub index : places.entries ≡ index_for (revs_in nodes)

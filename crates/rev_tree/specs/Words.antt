@@ -1,7 +1,7 @@
 -- Bytes as integers.
 use Rattle.std.specs.Prelude.{ℕ, zero, suc, ◌+◌, ◌*◌, ◌^◌, List, [], ◌∷◌}
 
--- the first n bytes of a string as a big-endian integer, with zeros after a shorter string
+-- The first n bytes of a string as a big-endian integer, with zeros after a shorter string.
 abbrev pub front_of : ℕ → List ℕ → ℕ
 front_of zero text = 0
 front_of (suc n) [] = 0

@@ -8,10 +8,10 @@ use Rattle.repl_log.specs.Log.{common}
 use Rattle.repl_peer.specs.peer.Peer.{PeerValue}
 use Rattle.repl_peer.specs.logs.Logs.{source_log, target_log}
 
--- the replication of the selected documents from one peer's database into another's
+-- The replication id of the selected documents from one peer's database to another's.
 abbrev pub rep_between : PeerValue → PeerValue → Choice → RepId
 rep_between source target chosen = record { source = source.db.uuid; target = target.db.uuid; chosen = chosen }
 
--- the common checkpoint of the two logs
+-- The common checkpoint of the source's and the target's logs of a replication, if they have one.
 abbrev pub checkpoint_between : PeerValue → PeerValue → RepId → Option (SessionId × ℕ)
 checkpoint_between source target rep = common (source_log source rep) (target_log target rep)

@@ -12,7 +12,7 @@ use Rattle.repl_peer.specs.declared.fault.TargetFault.TheVariants as faults
 
 -- ---- incoming
 
--- the log entries of the sessions of a replication, newest first
+-- The log entries of a replication's sessions, newest first.
 abbrev pub log_of : List SessionValue → RepId → List EntryValue
 log_of sessions rep = map entry_of (filter (λ s. same_rep s.rep rep) sessions)
 
@@ -24,7 +24,7 @@ target_log p rep = log_of p.sessions rep
 abbrev pub source_log : PeerValue → RepId → List EntryValue
 source_log p rep = log_in p.outgoing rep
 
--- the error of a log, as an error of the peer
+-- The error of a replication log, converted to an error of the peer.
 abbrev pub refused_by_log : LogFault → TargetFault
 refused_by_log (log_faults.Older stored) = faults.Older stored
 refused_by_log log_faults.Memory = faults.Memory
@@ -34,13 +34,13 @@ abbrev pub as_log_answers : Result (Unit {0}) LogFault → Result (Unit {0}) Tar
 as_log_answers (Ok done) = Ok done
 as_log_answers (Err fault) = Err (refused_by_log fault)
 
--- the result of storing an entry, if no allocation fails: it is from the database's life, and the recorded sequence of
--- its session does not fall
+-- The result of storing an entry in the source's log, if no allocation fails. The entry must be from the life of the
+-- database, and must not lower the recorded sequence of its session.
 abbrev pub put_entry_answer : PeerValue → RepId → EntryValue → Result (Unit {0}) TargetFault
 put_entry_answer p rep e =
     if e.life == p.db.life then as_log_answers (put_answer_in p.outgoing rep e) else Err (faults.OtherLife p.db.life)
 
--- the peer after storing an entry, given the result
+-- The peer after storing entry e in the source's log, given the result. An error leaves the peer unchanged.
 abbrev pub put_by : PeerValue → RepId → EntryValue → Result (Unit {0}) TargetFault → PeerValue
 put_by p rep e (Ok done) = record p { outgoing = logs_with p.outgoing rep e }
 put_by p rep e (Err fault) = p

@@ -10,23 +10,23 @@ use Rattle.repl_peer.specs.peer.Origins.{HasOrigins}
 use Rattle.repl_peer.specs.declared.fault.TargetFault.{TargetFault}
 use Rattle.repl_peer.specs.declared.fault.TargetFault.TheVariants as faults
 
--- a copy of a peer without incoming sessions
+-- A backup: a copy of a peer's database, local writes and outgoing logs.
 pub record BackupValue : Type 0 where
   pub db : DatabaseValue
   pub locals : List WrittenValue
   pub outgoing : List (RepId × List EntryValue)
 
--- the peer of which a backup is a copy
+-- A peer without incoming sessions that has the database, the local writes and the outgoing logs of backup b.
 abbrev pub peer_of : BackupValue → PeerValue
 peer_of b = record { db = b.db; locals = b.locals; sessions = []; outgoing = b.outgoing }
 
--- the invariant of a backup: each revision comes from a local write, and the local writes are in the trees of their
--- documents
+-- The invariant of a backup: each revision comes from a local write, and the local writes are in the trees of their
+-- documents.
 pub record IsBackup (b : BackupValue) : Type 0 where
   pub origins : HasOrigins (peer_of b)
   pub locals : (a : WrittenValue) → Among a b.locals → StandsIn b.db a
 
--- whether a peer with these sessions has been a target
+-- Whether a peer with these incoming sessions has been a replication target.
 abbrev pub is_target : List SessionValue → Bool
 is_target [] = false
 is_target (s ∷ sessions) = true
@@ -41,11 +41,11 @@ backup_answer p = if is_target p.sessions then Err faults.IsTarget else Ok (copy
 
 -- ---- restoring a backup
 
--- the greater of the lives of the peer and the backup
+-- The greater of the lives of peer p's database and backup b's database.
 abbrev pub greater_life : PeerValue → BackupValue → ℕ
 greater_life p b = max p.db.life b.db.life
 
--- the result of restoring, if no allocation fails
+-- The result of restoring backup b into peer p, if no allocation fails.
 abbrev pub restore_answer : PeerValue → BackupValue → Result (Unit {0}) TargetFault
 restore_answer p b =
     if is_target p.sessions then Err faults.IsTarget
@@ -53,7 +53,8 @@ restore_answer p b =
     then (if nat_lt (greater_life p b) most then Ok tt else Err faults.LifeFull)
     else Err faults.ForeignBackup)
 
--- the peer after restoring: the backup's content, in a life above both
+-- Peer p after restoring backup b: the backup's database, local writes and outgoing logs, in a life above the lives of
+-- both.
 abbrev pub restored : PeerValue → BackupValue → PeerValue
 restored p b =
     record p { db = in_life b.db (greater_life p b + 1); locals = b.locals; outgoing = b.outgoing }

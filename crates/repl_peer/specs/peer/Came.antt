@@ -1,4 +1,4 @@
--- The revisions of a write, and the part of them that is stored.
+-- The revisions that a write brought, and how the peer stores them.
 use Rattle.std.specs.Prelude.{◌≡◌, ℕ, List, ◌∷◌, length, Some}
 use Rattle.std.specs.Option.{option_to_list}
 use Rattle.rev_core.specs.Rev.{RevId}
@@ -6,14 +6,14 @@ use Rattle.rev_core.specs.Ancestry.{FallsByOne, head_of}
 use Rattle.repl_peer.specs.declared.peer.ghost_revs.Came.{Came}
 use Rattle.repl_peer.specs.declared.peer.ghost_revs.Came.TheVariants as came
 
--- the revisions by their origin: all of a document, the new one of an edit with its parent, or those of the copied
--- write
+-- The revisions that a write brought: all of a document's ancestry, an edit's new revision with its parent, or the
+-- revisions of a copied write.
 abbrev pub came_revs : Came → List RevId
 came_revs (came.Whole revs) = revs.now
 came_revs (came.Edit rev parent) = rev ∷ option_to_list parent
 came_revs (came.Again revs) = revs.now.revs
 
--- the newest of the revisions, and their number
+-- The list `revs` begins with revision `head`, has `count` revisions, and its generations fall by one.
 pub record IsBegun (head : RevId) (count : ℕ) (revs : List RevId) : Type 0 where
   pub first : head_of revs ≡ Some head
   pub size : length revs ≡ count

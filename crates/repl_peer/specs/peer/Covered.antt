@@ -15,33 +15,34 @@ use Rattle.repl_peer.specs.peer.Peer.{PeerValue, SessionValue, RefusedValue}
 use Rattle.repl_peer.specs.declared.fault.Reason.{Reason}
 use Rattle.repl_peer.specs.declared.fault.Reason.TheVariants as reasons
 
--- the contradiction of a document with its tree, if there is one
+-- The contradiction between a document's ancestry and the document's tree in the database, if there is one.
 abbrev pub contradiction_of : DatabaseValue → Document → Option Contradiction
 contradiction_of db d = first_contradiction (tree_of db.docs d.id).parents (edges_of d.ancestry)
 
--- why a document is refused, if it is; the filter is checked first
+-- Why a peer refuses a document, if it does. The filter is checked before the tree.
 abbrev pub refusal_of : (Document → Bool) → DatabaseValue → Document → Option Reason
 refusal_of refuses db d =
     if refuses d then Some reasons.Filtered
     else option_map (λ c. reasons.Contradicting c.child c.known c.given) (contradiction_of db d)
 
--- whether a document is rightly refused: the filter refuses it, or its ancestry contradicts its tree
+-- Whether a document is rightly refused: the filter refuses it, or its ancestry contradicts its tree.
 abbrev pub rightly_refused : (Document → Bool) → DatabaseValue → Document → Bool
 rightly_refused refuses db d = refuses d || is_some (contradiction_of db d)
 
--- whether a refused document with this id has the revision in its ancestry
+-- Whether a ledger has a document with this id and with revision r in its ancestry.
 abbrev pub in_ledger : List RefusedValue → Id → RevId → Bool
 in_ledger ledger id r = list_any (λ x. bytes_eq x.doc.id id && is_among r x.doc.ancestry) ledger
 
--- whether a revision is covered: it is in its document's tree, or in the ancestry of a document in a ledger
+-- Whether peer p covers revision r of document `id`: r is in the document's tree, or in the ancestry of a document in a
+-- ledger.
 abbrev pub covers : PeerValue → Id → RevId → Bool
 covers p id r = has (tree_of p.db.docs id) r || list_any (λ s. in_ledger s.ledger id r) p.sessions
 
--- whether each leaf of a row is known
+-- Whether each leaf of a feed row satisfies the test `known`.
 abbrev pub knows_row : (Id → RevId → Bool) → RowValue → Bool
 knows_row known row = list_all (known row.id) row.leaves
 
--- whether each leaf of a window is covered
+-- Whether peer p covers each leaf of window w.
 abbrev pub covers_window : PeerValue → WindowValue → Bool
 covers_window p w = list_all (knows_row (covers p)) w.rows
 
@@ -49,13 +50,13 @@ abbrev pub CoversWindow : PeerValue → WindowValue → Type 0
 CoversWindow p w =
     (row : RowValue) → Among row w.rows → (leaf : RevId) → Among leaf row.leaves → covers p row.id leaf ≡ true
 
--- a leaf of a row
+-- A leaf that a feed row lists: the sequence and the document id of the row, and the leaf's revision.
 pub record Leaf : Type 0 where
   pub seq : ℕ
   pub id : Id
   pub rev : RevId
 
--- the first leaf of a row that is not known
+-- The first leaf of a feed row that does not satisfy the test `known`.
 abbrev pub unknown_in : (Id → RevId → Bool) → RowValue → Option Leaf
 unknown_in known row =
     option_map (λ rev. record { seq = row.seq; id = row.id; rev = rev })
@@ -65,11 +66,11 @@ abbrev pub first_unknown : (Id → RevId → Bool) → List RowValue → Option 
 first_unknown known [] = None
 first_unknown known (row ∷ rows) = option_or (unknown_in known row) (first_unknown known rows)
 
--- the first leaf of the rows that is not covered
+-- The first leaf of the rows that peer p does not cover.
 abbrev pub first_uncovered : PeerValue → List RowValue → Option Leaf
 first_uncovered p rows = first_unknown (covers p) rows
 
--- every leaf of the session's window rows at or below sequence n is covered
+-- Peer p covers every leaf in the rows of session s's windows whose sequence is at most n.
 abbrev pub Honest : PeerValue → SessionValue → ℕ → Type 0
 Honest p s n =
     (w : WindowValue) → Among w s.windows → (row : RowValue) → Among row w.rows → row.seq ≤ n → (leaf : RevId)

@@ -1,11 +1,11 @@
--- A peer at two times: coverage is never lost.
+-- A peer at two times: a revision that the peer covers stays covered.
 use Rattle.std.specs.Prelude.{◌≡◌, ℕ, ◌≤◌, Some, slice_get}
 use Rattle.couch_base.specs.Lists.{Among}
 use Rattle.couch_base.specs.WriteLaws.{IsLater}
 use Rattle.couch_base.specs.Feed.{WindowValue}
 use Rattle.repl_peer.specs.peer.Peer.{PeerValue, SessionValue, WrittenValue, RefusedValue}
 
--- a session keeps its scope and start; its windows, arrivals, ledger and recorded sequence only grow
+-- A session after calls keeps its scope and start. Its windows, arrivals, ledger and recorded sequence only grow.
 pub record Keeps (old new : SessionValue) : Type 0 where
   pub id : new.id ≡ old.id
   pub scope : new.scope ≡ old.scope
@@ -15,7 +15,7 @@ pub record Keeps (old new : SessionValue) : Type 0 where
   pub arrivals : (a : WrittenValue) → Among a old.arrivals → Among a new.arrivals
   pub ledger : (x : RefusedValue) → Among x old.ledger → Among x new.ledger
 
--- a peer after calls: its database is a later one, local writes keep their numbers, and sessions stay
+-- A peer after calls: its database is a later one, local writes keep their numbers, and sessions stay.
 pub record IsLaterPeer (old new : PeerValue) : Type 0 where
   pub db : IsLater old.db new.db
   pub locals : (n : ℕ) (x : WrittenValue) → slice_get old.locals n ≡ Some x → slice_get new.locals n ≡ Some x

@@ -19,18 +19,19 @@ use Rattle.repl_peer.specs.peer.Origins.{HasOrigins}
 abbrev pub window_bounds : List WindowValue → List (ℕ × ℕ)
 window_bounds ws = map (λ w. (w.lo, w.hi)) ws
 
--- the windows of a session: its front, its windows, its recorded sequence and its goal
+-- The invariant of a session's stored windows `ws`, its front f, its recorded sequence n and its goal.
 pub record LawfulStore (f : FrontValue) (ws : List WindowValue) (n goal : ℕ) : Type 0 where
-  -- the windows are consecutive from the start, at or below the goal, with rising rows; the front has the same windows
+  -- The windows are consecutive from the session's start, end at or below the goal, and have rising rows. The front has
+  -- the same windows.
   pub front : IsFront f
   pub bounds : window_bounds ws ≡ bounds f
   pub within : end_of f ≤ goal
   pub windows : AllByRecursion IsWindow ws
-  -- the recorded sequence is at most the low water
+  -- The recorded sequence is at least the session's start and at most the low water.
   pub start : f.start ≤ n
   pub recorded : n ≤ low_water f
 
--- the counts agree with the lists
+-- The counts of a session agree with its arrivals and its ledger.
 pub record LawfulCounts (arrivals : List WrittenValue) (ledger : List RefusedValue) (counts : Counts) : Type 0 where
   pub written : counts.written ≡ length arrivals
   pub failures : counts.failures ≡ length ledger
@@ -39,19 +40,19 @@ pub record LawfulCounts (arrivals : List WrittenValue) (ledger : List RefusedVal
 pub record LawfulSession (refuses : Document → Bool) (p : PeerValue) (s : SessionValue) : Type 0 where
   pub store : LawfulStore s.front s.windows s.recorded s.goal
   pub open store use *
-  -- each leaf in the rows of a done window is covered
+  -- Each leaf in the rows of a done window is covered.
   pub done : (w : WindowValue) → Among w s.windows → is_done s.front w.lo w.hi ≡ true → CoversWindow p w
-  -- each document in the ledger is rightly refused
+  -- Each document in the session's ledger is rightly refused.
   pub ledger : (x : RefusedValue) → Among x s.ledger → rightly_refused refuses p.db x.doc ≡ true
-  -- each arrival is in its document's tree
+  -- Each revision of an arrival is in the tree of the arrival's document.
   pub arrivals : (a : WrittenValue) → Among a s.arrivals → (r : RevId) → is_among r a.ancestry ≡ true
       → has (tree_of p.db.docs a.id) r ≡ true
   pub stands : (a : WrittenValue) → Among a s.arrivals → StandsIn p.db a
   pub counts : LawfulCounts s.arrivals s.ledger s.counts
   pub open counts use *
 
--- a session starts at 0 without a base, or at or below the recorded sequence of an earlier session of the same
--- replication
+-- Session s has no base and starts at 0, or it starts at most at the recorded sequence of its base, an earlier session
+-- of the same replication.
 abbrev pub IsBased : List SessionValue → SessionValue → Type 0
 IsBased earlier s =
     (s.base ≡ None) × (s.front.start ≡ 0)
@@ -64,14 +65,14 @@ AllBased (s ∷ earlier) = IsBased earlier s × AllBased earlier
 abbrev pub session_numbers : List SessionValue → List ℕ
 session_numbers sessions = map (λ s. s.id.0) sessions
 
--- the invariant of the sessions of a peer
+-- The invariant of all sessions of peer p.
 pub record LawfulSessions (refuses : Document → Bool) (p : PeerValue) : Type 0 where
   pub sessions : (s : SessionValue) → Among s p.sessions → LawfulSession refuses p s
   pub based : AllBased p.sessions
   pub distinct : IsDistinct nat_eq (session_numbers p.sessions)
 
--- the invariant of a peer: that of its sessions; each of its revisions has an origin; and its local writes are in the
--- trees of their documents
+-- The invariant of peer p: its sessions satisfy their invariant, each of its revisions has an origin, and its local
+-- writes are in the trees of their documents.
 pub record Lawful (refuses : Document → Bool) (p : PeerValue) : Type 0 where
   pub sessions : LawfulSessions refuses p
   pub origins : HasOrigins p

@@ -12,14 +12,14 @@ use Rattle.couch_base.specs.Database.{Id, tree_of}
 use Rattle.couch_base.specs.Feed.{RowValue, WindowValue}
 use Rattle.repl_peer.specs.peer.Peer.{PeerValue, SessionValue, WrittenValue}
 
--- the n-th local write is of this document and has the revision
+-- The local write number n of peer p is of document `id` and has revision r.
 pub record IsLocal (p : PeerValue) (id : Id) (r : RevId) (n : ℕ) : Type 0 where
   pub write : WrittenValue
   pub stored : slice_get p.locals n ≡ Some write
   pub of : write.id ≡ id
   pub brings : is_among r write.ancestry ≡ true
 
--- a window of the session has a row of this document at a sequence
+-- A stored window of session s has a row of document `id` at sequence `seq`.
 pub record IsListed (s : SessionValue) (id : Id) (seq : ℕ) : Type 0 where
   pub window : WindowValue
   pub stored : Among window s.windows
@@ -28,14 +28,14 @@ pub record IsListed (s : SessionValue) (id : Id) (seq : ℕ) : Type 0 where
   pub at : row.seq ≡ seq
   pub of : row.id ≡ id
 
--- an arrival of the session is of this document and has the revision
+-- An arrival of session s is of document `id` and has revision r.
 pub record IsArrival (s : SessionValue) (id : Id) (r : RevId) : Type 0 where
   pub arrival : WrittenValue
   pub stored : Among arrival s.arrivals
   pub of : arrival.id ≡ id
   pub brings : is_among r arrival.ancestry ≡ true
 
--- a session of the peer has a row of the document at a sequence, and an arrival with the revision
+-- A session of peer p has a row of document `id` at sequence `seq`, and an arrival of this document with revision r.
 pub record IsFed (p : PeerValue) (id : Id) (r : RevId) (session : SessionId) (seq : ℕ) : Type 0 where
   pub by : SessionValue
   pub held : Among by p.sessions
@@ -43,12 +43,12 @@ pub record IsFed (p : PeerValue) (id : Id) (r : RevId) (session : SessionId) (se
   pub listed : IsListed by id seq
   pub arrived : IsArrival by id r
 
--- an origin is true
+-- The stated origin of revision r of document `id` is true for peer p.
 abbrev pub ComesFrom : PeerValue → Id → RevId → Origin → Type 0
 ComesFrom p id r (Local n) = IsLocal p id r n
 ComesFrom p id r (Feed session seq) = IsFed p id r session seq
 
--- every revision of every tree has a true origin
+-- Every revision of every tree of peer p has a stored origin, and this origin is true.
 abbrev pub HasOrigins : PeerValue → Type 0
 HasOrigins p =
     (id : Id) (r : RevId) → has (tree_of p.db.docs id) r ≡ true

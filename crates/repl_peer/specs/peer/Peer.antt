@@ -1,11 +1,11 @@
 -- Peers and their sessions: docs/PROFILE.md, "Sessions of a peer".
 --
--- A peer is a database with the state that replication needs. A target has a session for each replication into it: the
--- windows of the source's changes feed, which of them are done, and for each document that came, whether it was
--- accepted (an arrival) or refused (a ledger row). What a session claims to have replicated can therefore be checked
--- against what the target has. A source has a log for each replication from it: for each session, the sequence that the
--- target recorded. The common checkpoint of the next replication is read from both. Local writes are stored too, so
--- that each revision of a tree has an origin.
+-- A peer is a database with the state that replication needs. A target has a session for each replication into it. A
+-- session has the windows of the source's changes feed, and which of them are done. For each document that came, the
+-- session records whether the target stored it (an arrival) or refused it (a ledger row). What a session claims to have
+-- replicated can therefore be compared with the revisions that the target has. A source has a log for each replication
+-- from it, with the sequence that the target recorded in each session. The common checkpoint of the next replication is
+-- read from the logs of both sides. A peer also stores its local writes, so that each revision of a tree has an origin.
 use Rattle.std.specs.Prelude.{ℕ, ◌==◌, Bool, nat_le, if◌then◌else◌, List, [], map, Option, Result, Ok, Err}
 use Rattle.std.specs.List.{find, list_any}
 use Rattle.rev_core.specs.Rev.{RevId}
@@ -22,19 +22,19 @@ use Rattle.repl_log.specs.declared.counts.Counts.{Counts}
 use Rattle.repl_peer.specs.declared.fault.Reason.{Reason}
 use Rattle.repl_peer.specs.declared.session.beginning.Scope.{Scope}
 
--- the revisions of a local write or an arrival of a document
+-- The document id and the revisions of a local write or an arrival.
 pub record WrittenValue : Type 0 where
   pub id : Id
   pub ancestry : List RevId
 
--- a refused document, and why it was refused
+-- A refused document, and why it was refused.
 pub record RefusedValue : Type 0 where
   pub doc : Document
   pub reason : Reason
 
--- an incoming session: its scope, which never changes; its windows, and which of them are done; the accepted and the
--- refused documents; the counts of leaves checked and found missing, and of documents read, written and refused; and
--- when it began and last recorded
+-- An incoming session. A session has a scope, which never changes, and its windows, with a front that says which of
+-- them are done. A session also has its arrivals, its ledger of refused documents, its counts, its recorded sequence,
+-- and its two timestamps.
 pub record SessionValue : Type 0 where
   pub id : SessionId
   pub scope : Scope
@@ -48,22 +48,23 @@ pub record SessionValue : Type 0 where
   pub start_time : ℕ
   pub end_time : ℕ
 
--- a peer: a database, its local writes, its incoming sessions (newest first), and its outgoing logs (each newest first)
+-- A peer: a database, its local writes, its incoming sessions (newest first), and its outgoing logs (each newest
+-- first).
 pub record PeerValue : Type 0 where
   pub db : DatabaseValue
   pub locals : List WrittenValue
   pub sessions : List SessionValue
   pub outgoing : List (RepId × List EntryValue)
 
--- a peer without documents whose update sequence is `seq`
+-- A new peer without documents whose update sequence is `seq`.
 abbrev pub new_peer_at : ℕ → ℕ → PeerValue
 new_peer_at uuid seq = record { db = no_documents_at uuid seq; locals = []; sessions = []; outgoing = [] }
 
--- a new peer
+-- A new peer without documents whose update sequence is 0.
 abbrev pub new_peer : ℕ → PeerValue
 new_peer uuid = new_peer_at uuid 0
 
--- the result of creating a peer at a sequence
+-- The result of creating a peer at update sequence `seq`, `SeqTooLarge` if `seq` is above the maximum.
 abbrev pub new_at_answer : {F : Type 0} → F → ℕ → ℕ → Result (F × PeerValue) BaseFault
 new_at_answer filter uuid seq =
     if nat_le seq most then Ok (filter, new_peer_at uuid seq) else Err base_faults.SeqTooLarge
@@ -76,18 +77,18 @@ written_of d = record { id = d.id; ancestry = d.ancestry }
 abbrev pub is_of : SessionId → SessionValue → Bool
 is_of id s = s.id.0 == id.0
 
--- the session with an id, if the peer has it
+-- The session with the given id, if the peer has it.
 abbrev pub session_in : List SessionValue → SessionId → Option SessionValue
 session_in sessions id = find (is_of id) sessions
 
 abbrev pub holds : List SessionValue → SessionId → Bool
 holds sessions id = list_any (is_of id) sessions
 
--- replaces the session with t's id by t
+-- The sessions after the session with t's id is replaced by t.
 abbrev pub with_session : List SessionValue → SessionValue → List SessionValue
 with_session sessions t = map (λ s. if is_of t.id s then t else s) sessions
 
--- the log entry of a session
+-- The log entry of session s.
 abbrev pub entry_of : SessionValue → EntryValue
 entry_of s = record {
   session = s.id;

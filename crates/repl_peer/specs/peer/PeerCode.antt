@@ -29,7 +29,7 @@ coded_written =
     code_by (Id × List RevId) (coded× coded_id (coded_list coded_rev)) (λ w. (w.id, w.ancestry))
     (λ p. record { id = p.0; ancestry = p.1 }) (λ _. refl)
 
--- a contradiction as its three revisions
+-- Why a document was refused, encoded as data: the three revisions of a contradiction, or a value for the filter.
 abbrev reason_parts : Reason → Unit {0} ⊎ (RevId × (RevId × RevId))
 reason_parts Filtered = inl tt
 reason_parts (Contradicting child known given) = inr (child, (known, given))
@@ -54,7 +54,7 @@ coded_refused =
 
 -- ---- sessions
 
--- the scope of a session
+-- The scope of a session, encoded as data.
 abbrev coded_scope : Coded Scope
 coded_scope =
     code_by (RepId × (ℕ × (Option SessionId × ℕ)))
@@ -62,15 +62,15 @@ coded_scope =
     (λ c. (c.rep, (c.life, (c.base, c.goal))))
     (λ p. record { rep = p.0; life = p.1.0; base = p.1.1.0; goal = p.1.1.1 }) (λ _. refl)
 
--- its windows, which of them are done, and the recorded sequence
+-- The encoded front, windows and recorded sequence of a session.
 abbrev Windows : Type 0
 Windows = FrontValue × (List WindowValue × ℕ)
 
--- its arrivals and its ledger
+-- The encoded arrivals and ledger of a session.
 abbrev Brought : Type 0
 Brought = List WrittenValue × List RefusedValue
 
--- its counts, and its two timestamps
+-- The encoded counts and the two timestamps of a session.
 abbrev Counted : Type 0
 Counted = Counts × (ℕ × ℕ)
 

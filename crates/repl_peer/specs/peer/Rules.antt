@@ -5,6 +5,6 @@ use Rattle.std.specs.Option.{option_map_or}
 use Rattle.doc_json.specs.Document.{Document}
 use Rattle.repl_peer.specs.declared.peer.filter.Rules.{Rules}
 
--- refuses the ids that begin with the prefix
+-- Whether the program's filter refuses document d: the id of d begins with the denied prefix.
 abbrev pub rules_refuse : Rules → Document → Bool
 rules_refuse rules d = option_map_or (λ prefix. starts_with nat_eq d.id (string_bytes prefix)) rules.deny false

@@ -6,12 +6,13 @@ use Rattle.rev_core.specs.Ancestry.{FallsByOne}
 use Rattle.couch_base.specs.Database.{DatabaseValue, tree_of}
 use Rattle.repl_peer.specs.peer.Peer.{WrittenValue}
 
--- the parent of each revision is the next one
+-- In the map of parents, the parent of each revision of a list is the next revision of the list.
 abbrev pub Follows : FinMap rev_cmp RevId → List RevId → Type 0
 Follows parents [] = Unit {0}
 Follows parents (r ∷ []) = Unit {0}
 Follows parents (r ∷ (s ∷ rest)) = (get parents r ≡ Some s) × Follows parents (s ∷ rest)
 
--- if the generations of a write's revisions fall by one, the tree of its document has each next one as the parent
+-- If the generations of write w's revisions fall by one, its document's tree has each next revision as the parent of
+-- the previous one.
 abbrev pub StandsIn : DatabaseValue → WrittenValue → Type 0
 StandsIn db w = FallsByOne w.ancestry → Follows (tree_of db.docs w.id).parents w.ancestry

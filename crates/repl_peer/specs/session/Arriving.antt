@@ -1,13 +1,13 @@
--- Documents that are settled in bulk: their arrivals are prepared, and added as one list.
+-- Documents that are settled in bulk. Their arrivals are prepared before, and added as one list.
 use Rattle.std.specs.Prelude.{◌≡◌, ◌+◌, List, ◌++◌, map, length, take}
 use Rattle.doc_json.specs.Document.{Document}
 use Rattle.repl_peer.specs.peer.Peer.{WrittenValue, SessionValue, written_of}
 
--- the arrivals of a prefix of the documents
+-- The list `all` has the arrivals of the first documents of the list `docs`, one for each.
 abbrev pub AreArrivalsOf : List Document → List WrittenValue → Type 0
 AreArrivalsOf docs all = all ≡ map written_of (take (length all) docs)
 
--- adds arrivals, and counts them as read and as written
+-- Session s after documents were added as arrivals and counted as read and as written.
 abbrev pub with_arrivals : List Document → SessionValue → SessionValue
 with_arrivals docs s =
     record s {

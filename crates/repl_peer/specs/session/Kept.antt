@@ -1,4 +1,4 @@
--- The stored form of a window, as callers see it.
+-- The value of a stored window, which contracts use for its stored form.
 use Rattle.std.specs.Prelude.{true, false}
 use Rattle.repl_peer.specs.session.Windows.{StoredWindowValue}
 use Rattle.repl_peer.specs.declared.session.window.Kept.{Kept}

@@ -8,6 +8,6 @@ use Rattle.rev_core.specs.Ancestry.{is_among}
 use Rattle.couch_base.specs.Database.{Id}
 use Rattle.repl_peer.specs.declared.session.ledger_index.LedgerIndex.{LedgerIndex}
 
--- whether the index has a revision of a document
+-- Whether the index has revision r of document `id`.
 abbrev pub is_ledgered : LedgerIndex → Id → RevId → Bool
 is_ledgered index id r = option_map_or (λ revs. is_among r revs.keys) (lookup (bytes_eq id) index.docs.entries) false

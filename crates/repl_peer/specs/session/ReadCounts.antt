@@ -6,7 +6,7 @@ use Rattle.repl_peer.specs.declared.fault.Settled.{Settled}
 use Rattle.repl_peer.specs.declared.fault.TargetFault.{TargetFault}
 use Rattle.repl_peer.specs.declared.fault.TargetFault.TheVariants as faults
 
--- the number for an optional session; 0 if there is none
+-- The number of documents that a session has read, or 0 if there is no session.
 abbrev pub read_of : Option SessionValue → ℕ
 read_of None = 0
 read_of (Some s) = s.counts.read
@@ -14,7 +14,8 @@ read_of (Some s) = s.counts.read
 abbrev pub read_in : List SessionValue → SessionId → ℕ
 read_in sessions id = read_of (session_in sessions id)
 
--- the number that settling n documents adds: n if all were settled, m if it stopped after m, else 0
+-- The number of documents that settling a parcel of n documents adds: n if all were settled, m if settling stopped
+-- after m, else 0.
 abbrev pub taken : Result Settled TargetFault → ℕ → ℕ
 taken (Ok settled) n = n
 taken (Err (faults.Uncovered seq id rev)) n = n

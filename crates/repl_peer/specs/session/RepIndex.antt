@@ -1,4 +1,4 @@
--- The index of sessions by replication.
+-- The index that finds a peer's sessions by their replication.
 use Rattle.std.specs.Prelude.{List, []}
 use Rattle.std.specs.Map.{lookup}
 use Rattle.std.specs.Option.{option_map_or}
@@ -7,6 +7,6 @@ use Rattle.repl_log.specs.declared.replication.RepId.{RepId}
 use Rattle.repl_log.specs.RepId.{same_rep}
 use Rattle.repl_peer.specs.declared.session.rep_index.RepIndex.{RepIndex}
 
--- the sessions of a replication in the index, oldest first
+-- The ids of the sessions of a replication that the index lists, oldest first.
 abbrev pub listed : RepIndex → RepId → List SessionId
 listed index rep = option_map_or (λ ids. ids.items) (lookup (same_rep rep) index.ids.entries) []

@@ -1,4 +1,4 @@
--- Calls that concern only a peer's sessions.
+-- Calls of a peer that use only the peer's sessions.
 use Rattle.std.specs.Prelude.{Bool, ℕ, List, Option, Some, None, Result, Ok, Err, if◌then◌else◌}
 use Rattle.std.specs.List.{list_any}
 use Rattle.rev_core.specs.Rev.{RevId}
@@ -14,7 +14,7 @@ use Rattle.repl_peer.specs.declared.session.beginning.Beginning.{Beginning}
 use Rattle.repl_peer.specs.declared.fault.TargetFault.{TargetFault}
 use Rattle.repl_peer.specs.declared.fault.TargetFault.TheVariants as faults
 
--- the sessions after changing one of them, if it exists
+-- A peer's sessions after one of them, if it exists, was changed.
 abbrev pub changed : (SessionValue → SessionValue) → List SessionValue → Option SessionValue → List SessionValue
 changed change sessions None = sessions
 changed change sessions (Some s) = with_session sessions (change s)
@@ -22,18 +22,18 @@ changed change sessions (Some s) = with_session sessions (change s)
 abbrev pub with_changed : List SessionValue → SessionId → (SessionValue → SessionValue) → List SessionValue
 with_changed sessions id change = changed change sessions (session_in sessions id)
 
--- the result that a session gives, or `NoSuchSession`
+-- The result that the session with the given id gives, or `NoSuchSession` if the peer does not have the session.
 abbrev pub answer_in : {A : Type 0} → List SessionValue → SessionId → (SessionValue → Result A TargetFault)
     → Result A TargetFault
 answer_in sessions id answer = found_answer answer (session_in sessions id)
 
--- the result of beginning a session, if no allocation fails
+-- The result of beginning session `id` with parameters b, if no allocation fails.
 abbrev pub begin_in : List SessionValue → SessionId → Beginning → Result (Unit {0}) TargetFault
 begin_in sessions id b =
     if holds sessions id then Err faults.SessionExists
     else goal_answer b.start b.scope.goal (base_answer sessions b.scope.rep b.scope.base b.start)
 
--- the recorded sequence of a base, or `NoSuchBase`
+-- The recorded sequence of a session's base, or `NoSuchBase` if there is no base session.
 abbrev pub recorded_of : Option SessionValue → Result ℕ TargetFault
 recorded_of None = Err faults.NoSuchBase
 recorded_of (Some s) = Ok s.recorded
@@ -42,11 +42,11 @@ abbrev pub recorded_by : List SessionValue → RepId → Option SessionId → Re
 recorded_by sessions rep None = Ok 0
 recorded_by sessions rep (Some base) = recorded_of (base_in sessions rep base)
 
--- whether a ledger has a revision of a document
+-- Whether the ledger of one of the sessions has revision r of document `id`.
 abbrev pub in_ledgers : List SessionValue → Id → RevId → Bool
 in_ledgers sessions id r = list_any (λ s. in_ledger s.ledger id r) sessions
 
--- a result with the value of its entry
+-- The result of a call that returns a log entry, with the entry's value instead of its stored form.
 abbrev pub entry_value : Result Entry TargetFault → Result EntryValue TargetFault
 entry_value (Ok e) = Ok (value_of e)
 entry_value (Err fault) = Err fault

@@ -15,19 +15,19 @@ use Rattle.repl_peer.specs.declared.fault.Report.{Report}
 use Rattle.repl_peer.specs.declared.fault.TargetFault.{TargetFault}
 use Rattle.repl_peer.specs.declared.fault.TargetFault.TheVariants as faults
 
--- the result is the expected one, or `Memory` if `Ok` is expected
+-- A result is the expected one, or it is `Memory` and the expected one is `Ok`.
 abbrev pub GivesUnlessMemory : {A : Type 0} → Result A TargetFault → Result A TargetFault → Type 0
 GivesUnlessMemory (Err faults.Memory) expected = IsOk expected
 GivesUnlessMemory result expected = result ≡ expected
 
--- the error of a front, as an error of the session
+-- The error of a session's front, converted to an error of the peer.
 abbrev pub refused_by_front : FrontFault → TargetFault
 refused_by_front (front_faults.NotRising end) = faults.Gap end
 refused_by_front front_faults.NoSuchWindow = faults.ForeignParcel
 refused_by_front front_faults.AlreadyDone = faults.AlreadyDone
 refused_by_front front_faults.Memory = faults.Memory
 
--- changes one session, if the peer has it
+-- Peer p after a change of one session, if p has this session.
 abbrev pub on_found : PeerValue → (SessionValue → SessionValue) → Option SessionValue → PeerValue
 on_found p change None = p
 on_found p change (Some s) = record p { sessions = with_session p.sessions (change s) }
@@ -35,7 +35,7 @@ on_found p change (Some s) = record p { sessions = with_session p.sessions (chan
 abbrev pub on_session : PeerValue → SessionId → (SessionValue → SessionValue) → PeerValue
 on_session p id change = on_found p change (session_in p.sessions id)
 
--- the result that a session gives, or `NoSuchSession`
+-- The result that a session gives, or `NoSuchSession` if there is no session.
 abbrev pub found_answer : {A : Type 0} → (SessionValue → Result A TargetFault) → Option SessionValue
     → Result A TargetFault
 found_answer answer None = Err faults.NoSuchSession
@@ -47,11 +47,11 @@ session_answer p id answer = found_answer answer (session_in p.sessions id)
 
 -- ---- beginning
 
--- the start must be at or below the recorded sequence of the base
+-- The check of a session's start, which must be at or below the recorded sequence of the base.
 abbrev pub start_answer : ℕ → ℕ → Result (Unit {0}) TargetFault
 start_answer start recorded = if nat_lt recorded start then Err (faults.StartAboveBase recorded) else Ok tt
 
--- an earlier session of the same replication
+-- The earlier session with id `base`, if it is of the same replication.
 abbrev pub base_in : List SessionValue → RepId → SessionId → Option SessionValue
 base_in sessions rep base = find (λ s. is_of base s && same_rep s.rep rep) sessions
 
@@ -59,7 +59,7 @@ abbrev pub on_base : ℕ → Option SessionValue → Result (Unit {0}) TargetFau
 on_base start None = Err faults.NoSuchBase
 on_base start (Some s) = start_answer start s.recorded
 
--- checks the start against the base; without a base the start must be 0
+-- The check of a session's start against its base. Without a base the start must be 0.
 abbrev pub base_answer : List SessionValue → RepId → Option SessionId → ℕ → Result (Unit {0}) TargetFault
 base_answer sessions rep None start = start_answer start 0
 base_answer sessions rep (Some base) start = on_base start (base_in sessions rep base)
@@ -68,13 +68,13 @@ abbrev pub goal_answer : ℕ → ℕ → Result (Unit {0}) TargetFault → Resul
 goal_answer start goal (Err fault) = Err fault
 goal_answer start goal (Ok done) = if nat_lt goal start then Err faults.GoalBelowStart else Ok tt
 
--- the result of beginning a session, if no allocation fails
+-- The result of beginning session `id` with parameters b at peer p, if no allocation fails.
 abbrev pub begin_answer : PeerValue → SessionId → Beginning → Result (Unit {0}) TargetFault
 begin_answer p id b =
     if holds p.sessions id then Err faults.SessionExists
     else goal_answer b.start b.scope.goal (base_answer p.sessions b.scope.rep b.scope.base b.start)
 
--- a new session: it has no windows, and its start is recorded
+-- A new session, begun at timestamp `at`. The session has no windows, and its recorded sequence is its start.
 abbrev pub new_session : SessionId → Beginning → ℕ → SessionValue
 new_session id b at = record {
   id = id;
@@ -89,7 +89,7 @@ new_session id b at = record {
   end_time = at;
 }
 
--- adds the new session as the first, unless there is an error
+-- Peer p after adding session s as the newest one, unless the checks gave an error.
 abbrev pub begun : PeerValue → SessionValue → Result (Unit {0}) TargetFault → PeerValue
 begun p s (Ok done) = record p { sessions = s ∷ p.sessions }
 begun p s (Err fault) = p
@@ -99,13 +99,14 @@ after_begin p id b at = begun p (new_session id b at) (begin_answer p id b)
 
 -- ---- appending
 
--- the window must begin where the stored ones end, and end at or below the goal
+-- The check of a window's bounds: the window must begin at the end of the session's stored windows, and end at or below
+-- the goal.
 abbrev pub next_in : WindowValue → SessionValue → Result (Unit {0}) TargetFault
 next_in w s =
     if w.lo == end_of s.front then (if nat_lt s.goal w.hi then Err faults.PastGoal else Ok tt)
     else Err (faults.Gap (end_of s.front))
 
--- the window must also be from the session's life
+-- The result of appending window w to session s, if no allocation fails. The window must be from the session's life.
 abbrev pub append_in : WindowValue → SessionValue → Result (Unit {0}) TargetFault
 append_in w s = if w.life == s.life then next_in w s else Err (faults.OtherLife s.life)
 
@@ -116,13 +117,13 @@ abbrev pub with_window : WindowValue → SessionValue → Result (Unit {0}) Targ
 with_window w s (Ok done) = record s { front = appended s.front w.hi; windows = s.windows ++ w ∷ [] }
 with_window w s (Err fault) = s
 
--- adds the window as the last, unless there is an error
+-- Peer p after appending window w to session `id`. An error leaves the peer unchanged.
 abbrev pub after_append : PeerValue → SessionId → WindowValue → PeerValue
 after_append p id w = on_session p id (λ s. with_window w s (append_in w s))
 
 -- ---- recording
 
--- records the low water
+-- Session s after recording its low water at timestamp `at`.
 abbrev pub recorded_at : ℕ → SessionValue → SessionValue
 recorded_at at s = record s { recorded = low_water s.front; end_time = at }
 
@@ -132,7 +133,7 @@ record_answer p id = session_answer p id (λ s. Ok (low_water s.front))
 abbrev pub after_record : PeerValue → SessionId → ℕ → PeerValue
 after_record p id at = on_session p id (recorded_at at)
 
--- the report of a session
+-- The report of session s.
 abbrev pub report_of : SessionValue → Report
 report_of s = record {
   session = s.id;
@@ -141,7 +142,7 @@ report_of s = record {
   counts = s.counts;
 }
 
--- the result of concluding: a report if everything is done up to the goal
+-- The result of concluding session s: a report if its low water is its goal, otherwise `Unfinished`.
 abbrev pub conclude_in : SessionValue → Result Report TargetFault
 conclude_in s =
     if low_water s.front == s.goal then Ok (report_of (record s { recorded = low_water s.front }))

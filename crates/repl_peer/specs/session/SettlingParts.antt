@@ -1,4 +1,4 @@
--- Settling on the parts of a peer: a database, one session, and the index of refused revisions.
+-- Settling, stated for the parts of a peer: a database, one session, and the index of refused revisions.
 use Rattle.std.specs.Prelude.{◌≡◌, ℕ, ◌<◌, ◌≤◌, ◌==◌, Bool, true, false, ◌&&◌, ◌||◌, if◌then◌else◌, List, [], ◌∷◌, length, take, drop, slice_get, Some, None, Result, Ok, Err}
 use Rattle.std.specs.List.{find}
 use Rattle.std.specs.Str.{bytes_eq}
@@ -22,17 +22,17 @@ use Rattle.repl_peer.specs.declared.fault.TargetFault.{TargetFault}
 use Rattle.repl_peer.specs.declared.fault.TargetFault.TheVariants as faults
 use Rattle.repl_peer.specs.declared.session.ledger_index.LedgerIndex.{LedgerIndex}
 
--- whether a revision is in its document's tree, or refused
+-- Whether revision r is in the tree of document `id`, or in the index of refused revisions.
 abbrev pub known_of : DatabaseValue → LedgerIndex → Id → RevId → Bool
 known_of db index id r = has (tree_of db.docs id) r || is_ledgered index id r
 
--- the new index has what the old one had, and the revisions of the documents of a ledger
+-- The new index has the revisions of the old index, and the revisions of a ledger's documents.
 abbrev pub IndexesMore : LedgerIndex → List RefusedValue → LedgerIndex → Type 0
 IndexesMore old ledger new =
     (id : Id) (r : RevId) → is_ledgered new id r ≡ (is_ledgered old id r || in_ledger ledger id r)
 
--- a session keeps its id and its replication, its ledger only grows, and an index of the old ledger becomes one of the
--- new ledger
+-- A session keeps its id and its replication, and its ledger only grows. An index of the old ledger becomes an index of
+-- the new ledger.
 pub record KeepsIndexed (old : SessionValue) (index : LedgerIndex) (new : SessionValue) (index' : LedgerIndex) : Type 0
   where
     pub id : new.id ≡ old.id
@@ -40,16 +40,16 @@ pub record KeepsIndexed (old : SessionValue) (index : LedgerIndex) (new : Sessio
     pub ledger : (i : Id) (r : RevId) → in_ledger old.ledger i r ≡ true → in_ledger new.ledger i r ≡ true
     pub indexed : (base : LedgerIndex) → IndexesMore base old.ledger index → IndexesMore base new.ledger index'
 
--- the row at index i has this id
+-- The row at index i is of document `id`.
 abbrev pub IsRowOf : List RowValue → Id → ℕ → Type 0
 IsRowOf rows id i = (row : RowValue) × (slice_get rows i ≡ Some row) × (bytes_eq row.id id ≡ true)
 
--- windows are consecutive from lo
+-- The windows of a list are consecutive, and the first begins at `lo`.
 abbrev pub Consecutive : ℕ → List WindowValue → Type 0
 Consecutive lo [] = Unit {0}
 Consecutive lo (w ∷ ws) = (w.lo ≡ lo) × (lo < w.hi) × Consecutive w.hi ws
 
--- index i is that of the window with these bounds
+-- The first window with the bounds `lo` and `hi` is at index i.
 pub record IsWindowAt (ws : List WindowValue) (lo hi i : ℕ) : Type 0 where
   pub window : WindowValue
   pub at : slice_get ws i ≡ Some window
@@ -57,11 +57,11 @@ pub record IsWindowAt (ws : List WindowValue) (lo hi i : ℕ) : Type 0 where
 
 -- ---- one document
 
--- the index keeps its revisions
+-- The new index has exactly the revisions of the old index.
 abbrev pub IsSameIndex : LedgerIndex → LedgerIndex → Type 0
 IsSameIndex old new = (id : Id) (r : RevId) → is_ledgered new id r ≡ is_ledgered old id r
 
--- the index has the revisions of one more document
+-- The new index has the revisions of the old index, and those of document d.
 abbrev pub IsIndexedWith : Document → LedgerIndex → LedgerIndex → Type 0
 IsIndexedWith d old new =
     (id : Id) (r : RevId) → is_ledgered new id r ≡ (is_ledgered old id r || (bytes_eq d.id id && is_among r d.ancestry))
@@ -69,31 +69,31 @@ IsIndexedWith d old new =
 abbrev pub settling_at : DatabaseValue → SessionValue → Settling
 settling_at db session = record { db = db; session = session }
 
--- a document with an origin is settled
+-- Document d, whose new revisions get origin o, is settled.
 pub record Steps (refuses : Document → Bool) (o : Origin) (d : Document) (before after : Settling) : Type 0 where
   pub goes : stops_at refuses before d ≡ false
   pub step : (w : WindowValue) → o ≡ fed w before.session.id d → after ≡ settle_one refuses w before d
 
--- the cause if settling a document failed: `SeqFull` if no sequence was left for it, else `Memory`
+-- The cause if settling a document failed: `SeqFull` if no sequence was left for the document, else `Memory`.
 abbrev pub cause_at : Bool → Cause
 cause_at full = if full then causes.SeqFull else causes.Memory
 
 -- ---- the documents of a parcel
 
--- the first n documents are settled, and the others remain
+-- The first n documents of a parcel are settled, and the remaining documents are `others`.
 pub record Reached (refuses : Document → Bool) (w : WindowValue) (before : Settling) (docs : List Document) (n : ℕ)
     (others : List Document) (after : Settling) : Type 0 where
   pub within : n ≤ settled_before refuses w before docs
   pub rest : others ≡ drop n docs
   pub settling : after ≡ settle_docs refuses w before (take n docs)
 
--- all documents are settled
+-- All documents of a parcel are settled.
 pub record ReachedAll (refuses : Document → Bool) (w : WindowValue) (before : Settling) (docs : List Document)
     (after : Settling) : Type 0 where
   pub all : settled_before refuses w before docs ≡ length docs
   pub settling : after ≡ settle_docs refuses w before docs
 
--- the session with the window marked as done
+-- The database and session after the session's window w is marked as done.
 abbrev pub with_mark : WindowValue → ParcelValue → Settling → Settling
 with_mark w parcel z = record z { session = with_done w parcel z.session }
 
@@ -106,7 +106,8 @@ pub record SettlesAndMarks (refuses : Document → Bool) (known : Id → RevId �
 
 -- ---- the parcel
 
--- the result of a check: the index of the window, and the numbers of its leaves and of requested revisions
+-- The result of checking a parcel: the index of its window, the number of the window's leaves, and the number of
+-- requested revisions.
 pub record Passes (s : SessionValue) (parcel : ParcelValue) (place leaves asked : ℕ) : Type 0 where
   pub window : WindowValue
   pub at : slice_get s.windows place ≡ Some window
@@ -114,7 +115,8 @@ pub record Passes (s : SessionValue) (parcel : ParcelValue) (place leaves asked 
   pub leaf_count : leaves ≡ leaf_count window
   pub asked_count : asked ≡ asked_count parcel.asked
 
--- the result of marking: the window is marked if each leaf of its rows is known
+-- The result of marking window w, and the new session t. The window is marked as done if each leaf of its rows is
+-- known.
 abbrev pub Marks : (Id → RevId → Bool) → WindowValue → SessionValue → ℕ → ℕ → ℕ → Result (Unit {0}) TargetFault
     → SessionValue → Type 0
 Marks known w s leaves asked n (Ok done) t =
@@ -125,7 +127,7 @@ Marks known w s leaves asked n (Err (faults.Uncovered seq id rev)) t =
 Marks known w s leaves asked n (Err (faults.Stopped m rest causes.Memory)) t = (m ≡ n) × (rest.items ≡ []) × (t ≡ s)
 Marks known w s leaves asked n (Err fault) t = ⊥
 
--- the result and effect of settling after its check
+-- The result and effect of settling a parcel after its checks have passed.
 abbrev pub PartsSettled : (Document → Bool) → (Id → RevId → Bool) → WindowValue → Settling → ParcelValue
     → Result Settled TargetFault → Settling → Type 0
 PartsSettled refuses known w before parcel (Ok settled) after = SettlesAndMarks refuses known w before parcel settled after
@@ -136,7 +138,7 @@ PartsSettled refuses known w before parcel (Err (faults.Stopped n rest cause)) a
     Reached refuses w before parcel.docs n rest.items after × Halts refuses w before parcel.docs n cause
 PartsSettled refuses known w before parcel (Err fault) after = ⊥
 
--- the result and effect of settling
+-- The result and effect of settling a parcel, given the outcome of its checks.
 abbrev pub PartsSettle : (Document → Bool) → (Id → RevId → Bool) → Settling → ParcelValue
     → Result (SessionValue × WindowValue) TargetFault → Result Settled TargetFault → Settling → Type 0
 PartsSettle refuses known before parcel (Ok at) result after =
@@ -151,6 +153,6 @@ PartsGive refuses known before parcel result after =
 
 -- ---- the table of sessions
 
--- the peer with this database and these sessions
+-- Peer p with the given database and sessions.
 abbrev pub with_parts : PeerValue → DatabaseValue → List SessionValue → PeerValue
 with_parts p db sessions = record p { db = db; sessions = sessions }

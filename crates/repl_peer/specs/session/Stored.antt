@@ -1,4 +1,4 @@
--- The stored form of a session.
+-- The stored form of a session, and its invariant.
 use Rattle.std.specs.Prelude.{◌≡◌, ◌≤◌, ◌++◌}
 use Rattle.std.specs.List.{flat_map}
 use Rattle.range_front.specs.Front.{IsFront, bounds}
@@ -8,7 +8,7 @@ use Rattle.repl_peer.specs.peer.Law.{window_bounds}
 use Rattle.repl_peer.specs.session.Windows.{windows_of, IsThinnedWhereDone}
 use Rattle.repl_peer.specs.declared.session.Session.TheInside.{Inside}
 
--- the session that contracts see
+-- The value of a stored session, which contracts use.
 abbrev pub session_value : Inside → SessionValue
 session_value s = record {
   id = s.id;
@@ -23,11 +23,11 @@ session_value s = record {
   end_time = s.end_time;
 }
 
--- the invariant of a session alone
+-- The invariant of a stored session, without regard to other sessions.
 pub record IsSession (s : Inside) : Type 0 where
   pub front : IsFront s.front.front
   pub bounds : window_bounds (windows_of s.windows.items) ≡ bounds s.front.front
   pub start : s.front.front.start ≤ s.recorded
   pub read : AddUp s.counts
-  -- a window without leaves is done
+  -- A window without stored leaves is done.
   pub thinned : IsThinnedWhereDone s.front.front s.windows.items

@@ -15,24 +15,25 @@ use Rattle.repl_peer.specs.session.RepIndex.{listed}
 use Rattle.repl_peer.specs.declared.session.rep_index.RepIndex.{RepIndex}
 use Rattle.repl_peer.specs.declared.session.ledger_index.LedgerIndex.{LedgerIndex}
 
--- the sessions of a table, newest first
+-- The sessions of a stored table, newest first.
 abbrev pub sessions_of : List (SessionId × SessionValue) → List SessionValue
 sessions_of es = newest_first (λ s. s) es
 
--- the index has exactly the revisions of the documents in the ledgers
+-- The index has exactly the revisions of the documents in the sessions' ledgers.
 abbrev pub Indexes : LedgerIndex → List SessionValue → Type 0
 Indexes ledgered sessions = (id : Id) (r : RevId) → is_ledgered ledgered id r ≡ in_ledgers sessions id r
 
--- no id occurs twice, each session is stored under its own id, and the index is that of the ledgers
+-- No session id occurs twice in the table, each session is stored under its own id, and the index is that of the
+-- ledgers.
 pub record IsTableOf (ledgered : LedgerIndex) (es : List (SessionId × SessionValue)) : Type 0 where
   pub once : IsDistinct at_session (keys_of es)
   pub keyed : IsKeyed (λ s. s.id) es
   pub index : Indexes ledgered (sessions_of es)
 
--- the sessions of a replication, newest first
+-- The ids of the sessions of a replication, newest first.
 abbrev pub ids_of : List SessionValue → RepId → List SessionId
 ids_of sessions rep = map (λ e. e.session) (log_of sessions rep)
 
--- the index has exactly the sessions of each replication
+-- For each replication, the index lists exactly the ids of the replication's sessions.
 abbrev pub AreListed : RepIndex → List SessionValue → Type 0
 AreListed by_rep sessions = (rep : RepId) → listed by_rep rep ≡ reverse (ids_of sessions rep)

@@ -1,10 +1,10 @@
--- The stored form of windows: complete, or without the leaves of their rows.
+-- The stored form of windows, which is complete, or without the leaves of its rows.
 use Rattle.std.specs.Prelude.{◌≡◌, ◌⊎◌, ℕ, Bool, true, false, List, map, slice_get, Some}
 use Rattle.couch_base.specs.Lists.{Among}
 use Rattle.couch_base.specs.Feed.{WindowValue}
 use Rattle.range_front.specs.Front.{FrontValue, is_done}
 
--- a stored window as callers see it: the window, and whether it is complete
+-- The value of a stored window: the window, and whether its stored form is complete.
 pub record StoredWindowValue : Type 0 where
   pub window : WindowValue
   pub whole : Bool
@@ -12,12 +12,12 @@ pub record StoredWindowValue : Type 0 where
 abbrev pub windows_of : List StoredWindowValue → List WindowValue
 windows_of stored = map (λ v. v.window) stored
 
--- only done windows are incomplete
+-- Only done windows are stored without the leaves of their rows.
 abbrev pub IsThinnedWhereDone : FrontValue → List StoredWindowValue → Type 0
 IsThinnedWhereDone front stored =
     (v : StoredWindowValue) → Among v stored → v.whole ≡ false → is_done front v.window.lo v.window.hi ≡ true
 
--- only the window at this index may have become incomplete
+-- Only the window at index `place` may have lost the leaves of its rows.
 abbrev pub IsThinner : ℕ → List StoredWindowValue → List StoredWindowValue → Type 0
 IsThinner place old new =
     (v : StoredWindowValue) → Among v new → v.whole ≡ false
