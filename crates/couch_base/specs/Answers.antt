@@ -1,16 +1,17 @@
--- The result of a call that allocates.
+-- The result of a call that may run out of memory.
 use Rattle.std.specs.Prelude.{◌≡◌, Result, Err, IsOk}
 use Rattle.rev_core.specs.declared.fault.RevFault.{RevFault}
 use Rattle.rev_core.specs.declared.fault.RevFault.TheVariants as revs
 use Rattle.couch_base.specs.declared.fault.BaseFault.{BaseFault}
 use Rattle.couch_base.specs.declared.fault.BaseFault.TheVariants as faults
 
--- the result is the expected one, or `Memory` if `Ok` is expected
+-- A result is the expected one, or it is `Memory` and the expected one is `Ok`.
 abbrev pub GivesUnlessMemory : {A : Type 0} → Result A BaseFault → Result A BaseFault → Type 0
 GivesUnlessMemory (Err faults.Memory) expected = IsOk expected
 GivesUnlessMemory result expected = result ≡ expected
 
--- the error for a failed computation of a new revision: `Memory`, or else `GenerationFull`
+-- The error of an edit whose new revision could not be computed: `Memory` if an allocation failed, or else
+-- `GenerationFull`.
 abbrev pub edit_refusal : RevFault → BaseFault
 edit_refusal revs.Memory = faults.Memory
 edit_refusal refused = faults.GenerationFull

@@ -18,11 +18,11 @@ tree_there (d ∷ ds) all id t is =
       | false ↦ λ h. tree_there ds all.1 id t h
     ] is
 
--- the tree of an existing document satisfies its invariant
+-- The tree of an existing document satisfies the invariant of a document's tree.
 pub IsDocumentTree-tree_in : (db : DatabaseValue) → LawfulDatabase db → (id : Id) (t : TreeValue) → tree_in db.docs id ≡ Some t → IsDocumentTree t
 IsDocumentTree-tree_in db law id t is = tree_there db.docs law.trees id t is
 
--- a document with a revision exists
+-- If a document's tree has a revision, the tree satisfies the invariant of a document's tree.
 pub IsDocumentTree-tree_of : (db : DatabaseValue) → LawfulDatabase db → (id : Id) (r : RevId) → has (tree_of db.docs id) r ≡ true → IsDocumentTree (tree_of db.docs id)
 IsDocumentTree-tree_of db law id r known = go (tree_in db.docs id) refl
   where

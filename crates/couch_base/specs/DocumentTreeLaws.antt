@@ -22,11 +22,11 @@ nonempty : (r : RevId) (revs : List RevId) → is_among r revs ≡ true → 0 < 
 nonempty r [] h = absurd (false≢true h)
 nonempty r (s ∷ revs) h = omega arith
 
--- a tree with a revision has a leaf
+-- A revision tree with a revision has a leaf.
 pub has_leaf : (t : TreeValue) → IsTree t → (r : RevId) → has t r ≡ true → 0 < length (leaves t)
 has_leaf t tree r known = let up = leaf_above t tree r known in nonempty up.0 (leaves t) (is_among-leaves t up.0 ∙ up.1.leaf)
 
--- an empty tree has no bodies
+-- An empty revision tree has no bodies.
 pub no_bodies : HasBodies no_revisions
 no_bodies r b is = absurd (none-some b (sym (get-empty rev_cmp r) ∙ is))
 
@@ -45,7 +45,7 @@ merged_bodies t revs b o bodies body r x is =
       | inr given ↦ subst (λ (c : ContentValue). IsBody c.body) (head_content revs b x r given.1) body
     ]
 
--- merging an ancestry and a content with a valid body gives a document's tree
+-- Merging an ancestry and a content with a valid body into a tree gives a valid tree of a document.
 pub merged_document : (t : TreeValue) (revs : List RevId) (b : ContentValue) (o : Origin) → IsAncestry revs → IsBody b.body → HasBodies t → IsTree (merged t revs b o) → IsDocumentTree (merged t revs b o)
 merged_document t [] b o a body bodies tree = absurd (omega (arith, a.nonempty))
 merged_document t (r ∷ rest) b o a body bodies tree = record {
@@ -54,7 +54,7 @@ merged_document t (r ∷ rest) b o a body bodies tree = record {
   bodies = merged_bodies t (r ∷ rest) b o bodies body;
 }
 
--- an empty tree has no leaves
+-- An empty revision tree has no leaves.
 pub leaves-no_revisions : leaves no_revisions ≡ []
 leaves-no_revisions =
     ap (λ (es : List (RevId × Origin)). in_order (leaf_cmp no_revisions) (filter (is_leaf no_revisions) (map (λ e. e.0) es)))

@@ -14,8 +14,8 @@ use Rattle.couch_base.specs.Put.{after_put}
 use Rattle.couch_base.specs.declared.fault.BaseFault.{BaseFault}
 use Rattle.couch_base.specs.declared.fault.BaseFault.TheVariants as faults
 
--- the parent of an edit: the named leaf; or the winner, if none is named and all leaves are deleted; or none, if the
--- document does not exist
+-- The parent of an edit is the named leaf, or the deleted winner if no parent is named and all leaves are deleted. A
+-- new document's edit has no parent.
 abbrev pub parent_answer : Option TreeValue → Option RevId → Result (Option RevId) BaseFault
 parent_answer None None = Ok None
 parent_answer None (Some parent) = Err faults.NoSuchDocument
@@ -23,15 +23,15 @@ parent_answer (Some t) (Some parent) = if is_leaf t parent then Ok (Some parent)
 parent_answer (Some t) None =
     if list_all (is_deleted t) (leaves t) then Ok (first_of (leaves t)) else Err faults.Conflict
 
--- the new revision of an edit
+-- The new revision of an edit with the given parent, deleted flag and body.
 abbrev pub edit_id : Option RevId → Bool → List ℕ → Result RevId BaseFault
 edit_id before deleted body = named faults.GenerationFull (edit_rev before deleted body)
 
--- the ancestry of an edit: the new revision and its parent
+-- The ancestry of an edit: the new revision and its parent.
 abbrev pub edit_revs : Option RevId → Bool → List ℕ → Result (List RevId) BaseFault
 edit_revs before deleted body = edit_id before deleted body >>= λ rev. Ok (rev ∷ option_to_list before)
 
--- the new revision and its parent, or the error, before a sequence is needed
+-- The new revision of an edit and its parent, or the error. Whether a sequence is left is not checked.
 abbrev pub edited : DatabaseValue → Id → Option RevId → Bool → List ℕ → Result (RevId × Option RevId) BaseFault
 edited db id parent deleted body = do
   before ← parent_answer (tree_in db.docs id) parent
@@ -39,19 +39,19 @@ edited db id parent deleted body = do
   new ← refused_if (has (tree_of db.docs id) rev) (faults.RevExists rev)
   Ok (rev, before)
 
--- the result of an edit
+-- The result of an edit: its new revision, or the error.
 abbrev pub edit_answer : DatabaseValue → Id → Option RevId → Bool → List ℕ → Result RevId BaseFault
 edit_answer db id parent deleted body = do
   e ← edited db id parent deleted body
   room ← refused_if (nat_le most db.update_seq) faults.SeqFull
   Ok e.0
 
--- the document that an edit stores
+-- The document that an edit with revision and parent e stores.
 abbrev pub edit_document : Id → (RevId × Option RevId) → Bool → List ℕ → Document
 edit_document id e deleted body =
     record { id = id; ancestry = e.0 ∷ option_to_list e.1; deleted = deleted; body = body }
 
--- the database after an edit, given its revision and parent
+-- The database after an edit, given the edit's revision and parent. An error leaves the database unchanged.
 abbrev pub after_edited : DatabaseValue → Id → Bool → List ℕ → Origin → Result (RevId × Option RevId) BaseFault
     → DatabaseValue
 after_edited db id deleted body o (Ok e) = after_put db (edit_document id e deleted body) o
@@ -60,14 +60,14 @@ after_edited db id deleted body o (Err fault) = db
 abbrev pub after_edit : DatabaseValue → Id → Option RevId → Bool → List ℕ → Origin → DatabaseValue
 after_edit db id parent deleted body o = after_edited db id deleted body o (edited db id parent deleted body)
 
--- whether the result depends on the new revision, whose computation allocates
+-- Whether the result of an edit depends on the new revision, whose computation allocates.
 abbrev pub needs_id : {A : Type 0} → Result A BaseFault → Bool
 needs_id (Err faults.NoSuchDocument) = false
 needs_id (Err faults.Conflict) = false
 needs_id (Err faults.GenerationFull) = false
 needs_id answer = true
 
--- the result is the expected one, or `Memory` if the expected one depends on the new revision
+-- A result of an edit is the expected one, or it is `Memory` and the expected one depends on the new revision.
 abbrev pub EditGives : {A : Type 0} → Result A BaseFault → Result A BaseFault → Type 0
 EditGives (Err faults.Memory) expected = IsTrue (needs_id expected)
 EditGives result expected = result ≡ expected

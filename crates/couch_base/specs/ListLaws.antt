@@ -1,4 +1,4 @@
--- Lemmas about lists: tests of some or all elements, and lists without duplicates.
+-- Lemmas about lists: tests of at least one or of all elements, and lists without duplicates.
 use Rattle.std.specs.Prelude.{◌≡◌, ℕ, Bool, true, false, ◌||◌, List, [], ◌∷◌, ◌++◌, map, filter, refl}
 use Rattle.std.proofs.Common.{ap, ◌∙◌}
 use Rattle.std.proofs.lemmas.Bool.{or_right, cond_both, or_parts, and_from, or_left, or_from}
@@ -6,7 +6,7 @@ use Rattle.std.proofs.lemmas.Slice.Eq.{bytes_eq-Decides}
 use Rattle.std.proofs.lemmas.List.Folds.{list_any-append, list_all-append}
 use Rattle.std.specs.Str.{bytes_eq}
 use Rattle.std.specs.List.{list_any, list_all, AllByRecursion}
--- under the names that higher crates cite
+-- `both_false`, `some_is` and `none_some` are the names by which higher crates cite these lemmas.
 pub use Rattle.std.proofs.lemmas.Bool.{or_parts as both_false}
 pub use Rattle.std.proofs.lemmas.Option.{same_Some as some_is, none-some as none_some}
 use Rattle.rev_core.specs.Rev.{RevId}
@@ -16,7 +16,7 @@ use Rattle.couch_base.specs.Lists.{EachOnce}
 
 -- ---- ids
 
--- ids that compare as equal are equal
+-- Two ids that compare as equal are equal.
 pub id_is : (a b : List ℕ) → bytes_eq a b ≡ true → a ≡ b
 id_is a b h = (bytes_eq-Decides a b).0 h
 
@@ -47,7 +47,8 @@ none_filter q p (x ∷ xs) h =
 pub all_append : {X : Type 0} (p : X → Bool) (xs ys : List X) → list_all p xs ≡ true → list_all p ys ≡ true → list_all p (xs ++ ys) ≡ true
 all_append p xs ys h k = list_all-append p xs ys ∙ and_from _ _ h k
 
--- a property of the elements that pass a test holds for all that are mapped from them
+-- If f maps each element that passes test q to a value that satisfies p, all values mapped from these elements satisfy
+-- p.
 pub all_made : {X Y : Type 0} (p : Y → Bool) (f : X → Y) (q : X → Bool) → ((x : X) → q x ≡ true → p (f x) ≡ true) → (xs : List X) → list_all p (map f (filter q xs)) ≡ true
 all_made p f q h [] = refl
 all_made p f q h (x ∷ xs) =
@@ -55,7 +56,7 @@ all_made p f q h (x ∷ xs) =
     (λ passes. and_from _ _ (h x passes) (all_made p f q h xs))
     (λ _. all_made p f q h xs)
 
--- a property of each member holds for all
+-- If each revision of a list satisfies p, the test of all revisions of the list succeeds.
 pub all_members : (p : RevId → Bool) (revs : List RevId) → ((r : RevId) → is_among r revs ≡ true → p r ≡ true) → list_all p revs ≡ true
 all_members p [] h = refl
 all_members p (r ∷ revs) h = and_from _ _ (h r (ap (λ b. b || is_among r revs) (rev_tie_self r))) (all_members p revs (λ x m. h x (or_right _ _ m)))

@@ -2,17 +2,17 @@
 use Rattle.std.specs.Prelude.{◌≡◌, ◌⊎◌, ℕ, ◌<◌, ◌≤◌, Bool, false, List, [], ◌∷◌}
 use Rattle.std.specs.List.{list_any}
 
--- x is an element of the list
+-- The statement that x is an element of a list.
 abbrev pub Among : {X : Type 0} → X → List X → Type 0
 Among x [] = ⊥
 Among x (y ∷ ys) = (x ≡ y) ⊎ Among x ys
 
--- the numbers rise, from above lo to at most hi
+-- The numbers of a list rise, from above `lo` to at most `hi`.
 abbrev pub Rises : ℕ → List ℕ → ℕ → Type 0
 Rises lo [] hi = lo ≤ hi
 Rises lo (n ∷ ns) hi = (lo < n) × Rises n ns hi
 
--- no element is equal to a later one
+-- No element of a list is equal to a later one.
 abbrev pub EachOnce : {X : Type 0} → (X → X → Bool) → List X → Type 0
 EachOnce eq [] = Unit {0}
 EachOnce eq (x ∷ xs) = (list_any (eq x) xs ≡ false) × EachOnce eq xs

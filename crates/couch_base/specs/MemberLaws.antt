@@ -1,10 +1,10 @@
--- Members of lists that are concatenated, mapped or searched.
+-- Elements of lists that are concatenated, mapped or searched.
 use Rattle.std.proofs.Common.{◌≡◌, ◌⊎◌, List, [], ◌∷◌, ◌++◌, Bool, true, false, cond, Some, map, refl, sym, ap, ◌∙◌, inl, inr}
 use Rattle.std.specs.List.{find, list_any, list_all, AllByRecursion}
 use Rattle.std.proofs.lemmas.Bool.{or_left, or_right, or_cases, and_parts, false≢true}
 use Rattle.std.proofs.lemmas.Option.{same_Some, none-some}
 use Rattle.couch_base.specs.Lists.{Among}
--- under the names that higher crates cite
+-- `at-append` and `at-end` are the names by which higher crates cite these lemmas.
 pub use Rattle.rev_tree.proofs.Places.{slice_get-append as at-append, slice_get-last as at-end}
 
 -- ---- concatenated and mapped lists
@@ -18,7 +18,7 @@ pub Among-last : {X : Type 0} (x : X) (xs : List X) → Among x (xs ++ x ∷ [])
 Among-last x [] = inl refl
 Among-last x (y ∷ xs) = inr (Among-last x xs)
 
--- a member of a list with one more element
+-- An element of a list with y appended is an element of the list, or y.
 pub Among-push : {X : Type 0} (x : X) (xs : List X) (y : X) → Among x (xs ++ y ∷ []) → Among x xs ⊎ (x ≡ y)
 Among-push x [] y (inl e) = inr e
 Among-push x [] y (inr m) = absurd m
@@ -37,7 +37,7 @@ Among-mapped f x (y ∷ xs) (inr m) = inr (Among-mapped f x xs m)
 
 -- ---- tests
 
--- an element that passes a test
+-- If a test of at least one element succeeds, the list has an element that passes the test.
 pub any_member : {X : Type 0} (p : X → Bool) (xs : List X) → list_any p xs ≡ true → (x : X) × Among x xs × (p x ≡ true)
 any_member p [] h = absurd (false≢true h)
 any_member p (x ∷ xs) h =

@@ -1,4 +1,4 @@
--- Requests and parcels satisfy their invariants.
+-- Requests for revisions, and parcels, satisfy their invariants.
 use Rattle.std.specs.Prelude.{◌≡◌, ℕ, zero, suc, true, false, not, ◌&&◌, ◌||◌, List, [], ◌∷◌, ◌++◌, map, refl}
 use Rattle.std.proofs.Common.{ap, sym, ◌∙◌, inl, inr, arith}
 use Rattle.std.proofs.lemmas.Bool.{or_right, false≢true, cases_Bool, or_left, or_cases, and_from, or_parts, and_left}
@@ -49,7 +49,7 @@ all_wanted : (ds : List DocumentValue) (rows : List RowValue) → AllByRecursion
 all_wanted ds [] h = tt
 all_wanted ds (r ∷ rows) h = wanted_first r.id (missing (tree_of ds r.id) r.leaves) (wanted ds rows) (each_filter (eq_by_cmp rev_cmp) (λ l. not (has (tree_of ds r.id) l)) r.leaves h.0.distinct) (all_wanted ds rows h.1)
 
--- a request for a window names each document once, with at least one revision and no duplicates
+-- A request for a window names each document once, with at least one revision and without duplicates.
 pub IsAsked-revs_diff : (db : DatabaseValue) (w : WindowValue) → IsWindow w → IsAsked (revs_diff db w)
 IsAsked-revs_diff db w window = record { distinct = each_wanted db.docs w.rows window.distinct; docs = all_wanted db.docs w.rows window.rows }
 
@@ -145,7 +145,7 @@ each_opened : (id : Id) (t : TreeValue) (xs : List RevId) → EachOnce (eq_by_cm
 each_opened id t [] h = tt
 each_opened id t (x ∷ xs) h = (apart_in id t x xs h.0, each_opened id t xs h.1)
 
--- documents with different ids
+-- A document differs in its id from the documents of another id's leaves.
 apart_from : (d : Document) (id : Id) (t : TreeValue) (ys : List RevId) → bytes_eq d.id id ≡ false → list_any (same_revision d) (map (leaf_document id t) ys) ≡ false
 apart_from d id t [] h = refl
 apart_from d id t (y ∷ ys) h = ap (λ b. b || list_any (same_revision d) (map (leaf_document id t) ys)) (and_left _ (same_head d.ancestry (ancestors t y)) h) ∙ apart_from d id t ys h
@@ -169,7 +169,7 @@ each_fetched ds (w ∷ ws) h =
     (each_fetched ds ws h.1)
     (all_apart ds w.id t (leaves_above t w.revs) ws h.0)
 
--- what `open_revs` returns satisfies the invariant of parcels
+-- The parcel that `open_revs` returns satisfies the invariant of parcels.
 pub IsParcel-open_revs : (db : DatabaseValue) (a : AskedValue) → LawfulDatabase db → IsAsked a → IsParcel (open_revs db a)
 IsParcel-open_revs db a law asked = record {
   asked = asked;

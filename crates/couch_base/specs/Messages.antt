@@ -17,18 +17,18 @@ use Rattle.couch_base.specs.Lists.{EachOnce}
 use Rattle.couch_base.specs.Database.{Id, DocumentValue, DatabaseValue, coded_id, tree_of}
 use Rattle.couch_base.specs.Feed.{RowValue, WindowValue}
 
--- the revisions requested of one document
+-- A document's id and the revisions that are requested of this document.
 pub record WantedValue : Type 0 where
   pub id : Id
   pub revs : List RevId
 
--- a request for a window of the feed
+-- A request: for a window of the feed, the revisions that the target requests of each document.
 pub record AskedValue : Type 0 where
   pub lo : ℕ
   pub hi : ℕ
   pub docs : List WantedValue
 
--- a parcel: the request, the documents, and the requested revisions that do not exist
+-- A parcel: the request, the fetched documents, and the requested revisions that do not exist.
 pub record ParcelValue : Type 0 where
   pub asked : AskedValue
   pub docs : List Document
@@ -52,42 +52,42 @@ coded_parcel =
 
 -- ---- requesting
 
--- prepends the revisions of one document to those of others, if there are any
+-- The requested revisions of document `id`, if there are any, followed by those of other documents.
 abbrev pub want_first : Id → List RevId → List WantedValue → List WantedValue
 want_first id [] others = others
 want_first id (r ∷ revs) others = record { id = id; revs = r ∷ revs } ∷ others
 
--- the leaves of the rows that the trees do not have, in the order of the rows
+-- The leaves of the rows that the documents' trees do not have, in the order of the rows.
 abbrev pub wanted : List DocumentValue → List RowValue → List WantedValue
 wanted ds [] = []
 wanted ds (r ∷ rows) = want_first r.id (missing (tree_of ds r.id) r.leaves) (wanted ds rows)
 
--- the request of a database for a window of another database's feed
+-- The request of database `db` for window w of another database's feed: the leaves of w that `db` does not have.
 abbrev pub revs_diff : DatabaseValue → WindowValue → AskedValue
 revs_diff db w = record { lo = w.lo; hi = w.hi; docs = wanted db.docs w.rows }
 
 -- ---- fetching
 
--- the body of a revision
+-- The body of revision r in tree t, or the empty list if r has no content.
 abbrev pub body_at : TreeValue → RevId → List ℕ
 body_at t r = option_map_or (λ (b : ContentValue). b.body) (get t.contents r) []
 
--- a leaf as a document, with its known ancestry and its content
+-- A leaf of document `id` as a document, with its known ancestry, its deleted flag and its body.
 abbrev pub leaf_document : Id → TreeValue → RevId → Document
 leaf_document id t leaf =
     record { id = id; ancestry = ancestors t leaf; deleted = is_deleted t leaf; body = body_at t leaf }
 
--- the document at a revision, if it has a content
+-- Document `id` at revision r, if tree t has a content of r.
 abbrev pub document_in : Id → TreeValue → RevId → Option Document
 document_in id t r =
     option_map (λ (c : ContentValue). record { id = id; ancestry = ancestors t r; deleted = c.deleted; body = c.body })
     (get t.contents r)
 
--- the document of a database at a revision
+-- Document `id` of database `db` at revision r, if the content of r is stored.
 abbrev pub document_at : DatabaseValue → Id → RevId → Option Document
 document_at db id r = document_in id (tree_of db.docs id) r
 
--- the leaves of a document at or above the requested revisions, winner first
+-- The leaves of document `id` at or above the requested revisions, winner first.
 abbrev pub opened : Id → TreeValue → List RevId → List Document
 opened id t revs = map (leaf_document id t) (leaves_above t revs)
 
@@ -95,54 +95,54 @@ abbrev pub fetched : List DocumentValue → List WantedValue → List Document
 fetched ds [] = []
 fetched ds (w ∷ ws) = opened w.id (tree_of ds w.id) w.revs ++ fetched ds ws
 
--- the requested revisions that the trees do not have
+-- The requested revisions that the documents' trees do not have.
 abbrev pub gone_of : List DocumentValue → List WantedValue → List (Id × RevId)
 gone_of ds [] = []
 gone_of ds (w ∷ ws) = map (λ r. (w.id, r)) (missing (tree_of ds w.id) w.revs) ++ gone_of ds ws
 
--- the parcel of a database for a request
+-- The parcel that database `db` returns for request a.
 abbrev pub open_revs : DatabaseValue → AskedValue → ParcelValue
 open_revs db a = record { asked = a; docs = fetched db.docs a.docs; gone = gone_of db.docs a.docs }
 
 -- ---- invariants of requests and parcels
 
--- at least one revision, and no duplicates
+-- The revisions requested of a document are not empty, and have no duplicates.
 pub record IsWanted (w : WantedValue) : Type 0 where
   pub some : 0 < length w.revs
   pub distinct : EachOnce (eq_by_cmp rev_cmp) w.revs
 
--- each document is named once
+-- A request names each document once.
 pub record IsAsked (a : AskedValue) : Type 0 where
   pub distinct : EachOnce bytes_eq (map (λ w. w.id) a.docs)
   pub docs : AllByRecursion IsWanted a.docs
 
--- whether a document has this id, and its ancestry has the revision
+-- Whether document d has this id, and the ancestry of d has revision r.
 abbrev pub brings : Id → RevId → Document → Bool
 brings id r d = bytes_eq d.id id && is_among r d.ancestry
 
--- whether a gone revision is this one
+-- Whether the gone revision g is revision r of document `id`.
 abbrev pub is_rev_of : Id → RevId → Id × RevId → Bool
 is_rev_of id r g = bytes_eq g.0 id && eq_by_cmp rev_cmp r g.1
 
--- whether each requested revision of a document is gone, or in the ancestry of a fetched document of its id
+-- Whether each requested revision of a document is gone, or in the ancestry of a fetched document with the same id.
 abbrev pub is_answered : List Document → List (Id × RevId) → WantedValue → Bool
 is_answered docs gone w = list_all (λ r. list_any (brings w.id r) docs || list_any (is_rev_of w.id r) gone) w.revs
 
--- whether the ancestry of a fetched document has a requested revision
+-- Whether the ancestry of a fetched document has a requested revision of that document.
 abbrev pub is_wanted : List WantedValue → Document → Bool
 is_wanted ws d = list_any (λ w. list_any (λ r. brings w.id r d) w.revs) ws
 
--- whether two ancestries have the same newest revision
+-- Whether two ancestries have the same newest revision.
 abbrev pub same_head : List RevId → List RevId → Bool
 same_head [] others = false
 same_head (r ∷ revs) [] = false
 same_head (r ∷ revs) (s ∷ others) = eq_by_cmp rev_cmp r s
 
--- whether two documents have the same id and newest revision
+-- Whether documents d and e have the same id and the same newest revision.
 abbrev pub same_revision : Document → Document → Bool
 same_revision d e = bytes_eq d.id e.id && same_head d.ancestry e.ancestry
 
--- the invariant of a parcel
+-- The invariant of parcel p.
 pub record IsParcel (p : ParcelValue) : Type 0 where
   pub asked : IsAsked p.asked
   pub answered : list_all (is_answered p.docs p.gone) p.asked.docs ≡ true

@@ -13,39 +13,40 @@ use Rattle.couch_base.specs.declared.fault.Put.TheVariants as answers
 use Rattle.couch_base.specs.declared.fault.BaseFault.{BaseFault}
 use Rattle.couch_base.specs.declared.fault.BaseFault.TheVariants as faults
 
--- whether a merge changes the tree
+-- Whether a merge with this result changes the tree.
 abbrev pub is_change : Result Merged Contradiction → Bool
 is_change (Ok merges.Changed) = true
 is_change (Ok merges.Same) = false
 is_change (Err c) = false
 
--- the result of a put, given the result of the merge, whether a sequence is left, and the next sequence
+-- The result of a put, given the result of the merge, whether a sequence is left, and the next sequence.
 abbrev pub put_told : Result Merged Contradiction → Bool → ℕ → Result Put BaseFault
 put_told (Err c) room next = Err (faults.Contradiction c.child c.known c.given)
 put_told (Ok merges.Same) room next = Ok answers.Same
 put_told (Ok merges.Changed) room next = if room then Ok (answers.Changed next) else Err faults.SeqFull
 
--- the result of a put, if no allocation fails
+-- The result of putting document d into database `db`, if no allocation fails.
 abbrev pub put_answer : DatabaseValue → Document → Result Put BaseFault
 put_answer db d =
     put_told (merge_answer (tree_of db.docs d.id) d.ancestry) (nat_lt db.update_seq most) (db.update_seq + 1)
 
--- whether a put takes a sequence
+-- Whether a put with this result changes the database and so takes a sequence.
 abbrev pub is_changed : Result Put BaseFault → Bool
 is_changed (Ok (answers.Changed seq)) = true
 is_changed (Ok answers.Same) = false
 is_changed (Err fault) = false
 
--- the result of `put`: the expected one, or `Memory` if a sequence would be taken
+-- A result of `put` is the expected one, or it is `Memory` and the expected one takes a sequence.
 abbrev pub PutGives : Result Put BaseFault → Result Put BaseFault → Type 0
 PutGives (Err faults.Memory) expected = IsTrue (is_changed expected)
 PutGives result expected = result ≡ expected
 
--- the content of a new revision
+-- The content of a new revision with the given deleted flag and body.
 abbrev pub content_of : Bool → List ℕ → ContentValue
 content_of deleted body = record { deleted = deleted; body = body }
 
--- the database after a put: the document's tree is the merged one, if that is a change
+-- The database after a put of document d. If the merge is a change and a sequence is left, the document has the merged
+-- tree.
 abbrev pub after_put : DatabaseValue → Document → Origin → DatabaseValue
 after_put db d o =
     if is_changed (put_answer db d) then with_tree db d.id

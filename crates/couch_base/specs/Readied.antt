@@ -1,4 +1,4 @@
--- Prepared trees of new documents.
+-- Trees that are prepared for new documents before these are settled.
 use Rattle.std.specs.Prelude.{◌≡◌, ℕ, List, Option, Some, slice_get}
 use Rattle.rev_tree.specs.Tree.{merged, no_revisions}
 use Rattle.rev_tree.specs.declared.origin.Origin.TheVariants.{Feed}
@@ -7,13 +7,13 @@ use Rattle.couch_base.specs.Database.{IsDocumentTree}
 use Rattle.couch_base.specs.Put.{content_of}
 use Rattle.couch_base.specs.declared.prepared_tree.PreparedTree.{PreparedTree}
 
--- the tree of a document as a new one: its ancestry and its content merged into an empty tree, with its id
+-- The prepared tree m is that of document d as a new document: d's ancestry and content, merged into an empty tree.
 pub record IsMadeOf (d : Document) (m : PreparedTree) : Type 0 where
   pub key : m.key ≡ d.id
   pub tree : m.tree ≡ merged no_revisions d.ancestry (content_of d.deleted d.body) (Feed m.session m.seq)
   pub document : IsDocumentTree m.tree
 
--- prepared trees, each at the index of its document
+-- Each prepared tree of the list `all` has the index of its document in the list `docs`.
 abbrev pub AreMade : List Document → List (Option PreparedTree) → Type 0
 AreMade docs all =
     (i : ℕ) (d : Document) (m : PreparedTree) → slice_get docs i ≡ Some d → slice_get all i ≡ Some (Some m) → IsMadeOf d m

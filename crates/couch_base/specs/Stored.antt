@@ -1,5 +1,6 @@
 -- The stored form of a database: a table of documents by id, and an index of their positions by sequence. Each change
--- appends a row to the index. A row is live if its document has no later change; the live rows are the feed.
+-- of a document appends a row to the index. A row of the index is live if its document has no later change. The live
+-- rows are the feed.
 use Rattle.std.specs.Prelude.{◌≡◌, ℕ, ◌+◌, ◌*◌, ◌/◌, ◌<◌, ◌≤◌, ◌==◌, nat_lt, nat_le, Bool, false, not, List, [], ◌∷◌, cond, if◌then◌else◌, map, filter, length, slice_get, unwrap_or, Option, Some, None, IfSome, refl}
 use Rattle.std.specs.Coded.{Coded, code_by, coded×, coded_ℕ, coded_list}
 use Rattle.std.specs.Option.{option_map, option_map_or}
@@ -13,7 +14,8 @@ use Rattle.couch_base.specs.Database.{Id, coded_id, DocumentValue, DatabaseValue
 use Rattle.couch_base.specs.Feed.{RowValue, row_of}
 use Rattle.couch_base.specs.declared.kept.Kept.{Kept}
 
--- a table: its documents with their ids, the rows of their changes, and the sequence of the latest change
+-- The table of a database: its documents with their ids, the index rows of their changes, and the sequence of the
+-- latest change.
 pub record TableValue : Type 0 where
   pub entries : List (Id × Kept)
   pub rows : List (ℕ × ℕ)
@@ -30,46 +32,47 @@ coded_table =
     (coded× (coded_list (coded× coded_id coded_kept)) (coded× (coded_list (coded× coded_ℕ coded_ℕ)) coded_ℕ))
     (λ t. (t.entries, (t.rows, t.last))) (λ p. record { entries = p.0; rows = p.1.0; last = p.1.1 }) (λ _. refl)
 
--- the id at a position
+-- The id at position i of a list, or the empty id if there is none.
 abbrev pub id_at : List Id → ℕ → Id
 id_at ids i = unwrap_or (slice_get ids i) []
 
--- the index, with ids instead of positions
+-- The index rows with the ids of documents instead of their positions.
 abbrev pub named : List Id → List (ℕ × ℕ) → List (ℕ × Id)
 named ids index = map (λ e. (e.0, id_at ids e.1)) index
 
--- whether a row is live: the document at its position has its latest change at the row's sequence
+-- Whether an index row is live: the latest change of the document at its position has the row's sequence.
 abbrev pub is_live : List (Id × Kept) → ℕ × ℕ → Bool
 is_live docs e = option_map_or (λ (d : Id × Kept). d.1.seq == e.0) (slice_get docs e.1) false
 
 abbrev pub live : List (Id × Kept) → List (ℕ × ℕ) → List (ℕ × ℕ)
 live docs rows = filter (is_live docs) rows
 
--- the live rows, with ids
+-- The live rows of the index, with the ids of documents instead of their positions.
 abbrev pub feed_of : List (Id × Kept) → List (ℕ × ℕ) → List (ℕ × Id)
 feed_of docs rows = named (keys_of docs) (live docs rows)
 
--- the rows above a sequence
+-- The index rows above sequence a.
 abbrev pub above : ℕ → List (ℕ × ℕ) → List (ℕ × ℕ)
 above a rows = filter (λ e. nat_lt a e.0) rows
 
--- the live rows at or below a sequence
+-- The live index rows at or below sequence b.
 abbrev pub live_upto : List (Id × Kept) → ℕ → List (ℕ × ℕ) → List (ℕ × ℕ)
 live_upto docs b rows = filter (λ e. nat_le e.0 b) (live docs rows)
 
--- the rows after a change: all rows; or only the live ones, if there are more than twice as many rows as documents
+-- The index rows after a change of one of n documents. All rows are kept if there are at most 2 n + 1, otherwise only
+-- the live ones.
 abbrev pub swept : List (Id × Kept) → List (ℕ × ℕ) → List (ℕ × ℕ)
 swept docs rows = if nat_lt (length docs) (length rows / 2) then live docs rows else rows
 
--- each position of the index is below n
+-- Each document position in the index is below n.
 abbrev pub ArePlaces : ℕ → List (ℕ × ℕ) → Type 0
 ArePlaces n index = (e : ℕ × ℕ) → Among e index → e.1 < n
 
--- the id at a sequence of the index
+-- The document id at sequence s of the index, if there is one.
 abbrev pub at_seq : ℕ → List (ℕ × Id) → Option Id
 at_seq s index = lookup (is_at (nat_cmp s)) index
 
--- the stored document with an id
+-- The stored document with the given id, if there is one.
 abbrev pub found : List (Id × Kept) → Id → Option Kept
 found docs id = lookup (bytes_eq id) docs
 
@@ -79,34 +82,34 @@ seq_of o = option_map (λ (k : Kept). k.seq) o
 abbrev pub tree_at : Option Kept → TreeValue
 tree_at o = option_map_or (λ (k : Kept). k.tree) o no_revisions
 
--- the document of an entry of the index
+-- The document of an index entry, which has a sequence and an id.
 abbrev pub document : (Id → Option Kept) → ℕ × Id → DocumentValue
 document g e = record { id = e.1; seq = e.0; tree = tree_at (g e.1) }
 
 abbrev pub documents : (Id → Option Kept) → List (ℕ × Id) → List DocumentValue
 documents g index = map (document g) index
 
--- the documents of a table, in the order of their latest changes
+-- The documents of table t, in the order of their latest changes.
 abbrev pub documents_of : TableValue → List DocumentValue
 documents_of t = documents (found t.entries) (feed_of t.entries t.rows)
 
--- the database of a table
+-- The database that is stored as table t.
 abbrev pub database_of : ℕ → ℕ → TableValue → DatabaseValue
 database_of uuid life t = record { uuid = uuid; life = life; update_seq = t.last; docs = documents_of t }
 
--- the row of an entry of the index
+-- The feed row of an index entry, which has a sequence and a position.
 abbrev pub row_by : List (Id × Kept) → ℕ × ℕ → RowValue
 row_by docs e = row_of (document (found docs) (e.0, id_at (keys_of docs) e.1))
 
--- the row of a stored document
+-- The feed row of a stored document.
 abbrev pub row_of_kept : Id → Kept → RowValue
 row_of_kept id k = row_of (record { id = id; seq = k.seq; tree = k.tree })
 
--- the rows of a table's feed above a and at or below b
+-- The rows of table t's feed above sequence a and at or below sequence b.
 abbrev pub rows_within : TableValue → ℕ → ℕ → List RowValue
 rows_within t a b = map (row_by t.entries) (live_upto t.entries b (above a t.rows))
 
--- the index names each document of the table at its sequence, and nothing else
+-- The index has exactly the documents of the table, each at the sequence of its latest change.
 pub record IsTable (g : Id → Option Kept) (index : List (ℕ × Id)) (hi : ℕ) : Type 0 where
   pub rising : Rises 0 (map (λ e. e.0) index) hi
   pub within : hi ≤ most
@@ -114,45 +117,45 @@ pub record IsTable (g : Id → Option Kept) (index : List (ℕ × Id)) (hi : ℕ
   pub indexed : (id : Id) (k : Kept) → g id ≡ Some k → at_seq k.seq index ≡ Some id
   pub trees : (id : Id) (k : Kept) → g id ≡ Some k → IsDocumentTree k.tree
 
--- each sequence of the index is below s
+-- Each sequence of the index is below s.
 abbrev pub AllBelow : {X : Type 0} → ℕ → List (ℕ × X) → Type 0
 AllBelow {X} s index = (e : ℕ × X) → Among e index → e.0 < s
 
--- the sequences of rows rise
+-- The sequences of the index rows rise.
 abbrev pub InOrder : List (ℕ × ℕ) → Type 0
 InOrder [] = Unit {0}
 InOrder (e ∷ rows) = ((x : ℕ × ℕ) → Among x rows → e.0 < x.0) × InOrder rows
 
--- the rows of an index: positions are below n, and sequences rise and are below s
+-- The index rows are valid: document positions are below n, and sequences rise and are below s.
 pub record AreRows (n s : ℕ) (rows : List (ℕ × ℕ)) : Type 0 where
   pub places : ArePlaces n rows
   pub below : AllBelow s rows
   pub order : InOrder rows
 
--- there are at most 2 n + 1 rows
+-- An index of n documents has at most 2 n + 1 rows.
 abbrev pub AreFew : ℕ → List (ℕ × ℕ) → Type 0
 AreFew n rows = length rows ≤ 2 * n + 1
 
--- the invariant of a table
+-- The invariant of table t.
 pub record IsKept (t : TableValue) : Type 0 where
   pub table : IsTable (found t.entries) (feed_of t.entries t.rows) t.last
   pub rows : AreRows (length t.entries) (t.last + 1) t.rows
   pub few : AreFew (length t.entries) t.rows
 
--- the position of a document, if it exists
+-- `place` is the position of document `id` in the table, if the document exists.
 pub record IsPlace (docs : List (Id × Kept)) (id : Id) (place : Option ℕ) : Type 0 where
   pub there : IfSome place (λ i. (k : Kept) × (slice_get docs i ≡ Some (id, k)) × (found docs id ≡ Some k))
   pub absent : place ≡ None → found docs id ≡ None
 
--- h is g, except that it has k at the id
+-- The map h from ids to documents is g, except that it has document k at `id`.
 abbrev pub Sets : (Id → Option Kept) → (Id → Option Kept) → Id → Kept → Type 0
 Sets g h id k = (q : Id) → h q ≡ cond (bytes_eq id q) (Some k) (g q)
 
--- the feed without a document
+-- The feed's entries except that of document `id`.
 abbrev pub feed_without : Id → List (ℕ × Id) → List (ℕ × Id)
 feed_without id index = filter (λ e. not (bytes_eq e.1 id)) index
 
--- the effect of changing one document, which takes the next sequence
+-- The effect of changing one document of a table, which takes the next sequence.
 pub record IsWritten (old new : TableValue) (id : Id) (tree : TreeValue) : Type 0 where
   pub kept : IsKept new
   pub value : (uuid life : ℕ) → database_of uuid life new ≡ with_tree (database_of uuid life old) id tree

@@ -1,7 +1,8 @@
--- Responses to `_changes` and `_revs_diff`, with the leaves in them: docs/PROFILE.md, "CouchDB's answers"; CouchDB's API,
--- "/{db}/_changes" and "/{db}/_revs_diff".
--- Names: k is a name after its opening quotation mark, s is white space, t is a value up to the comma or brace after it,
--- u is the same value on one line, d is the number of open lists and objects.
+-- Responses to `_changes` and `_revs_diff`, with the leaves in them: docs/PROFILE.md, "CouchDB's answers"; CouchDB's
+-- API, "/{db}/_changes" and "/{db}/_revs_diff".
+--
+-- In this file, k is a name after its opening quotation mark, and s is white space. A value is t up to the comma or
+-- brace after it, and u is the same value on one line. The number of open lists and objects is d.
 use Rattle.std.specs.Prelude.{◌≡◌, ℕ, ◌==◌, slice_index, List, [], ◌∷◌, ◌++◌, Bool, true, false, codes}
 use Rattle.doc_envelope.specs.Texts.{Spaces, EndsString, Closed, is_space, is_json}
 use Rattle.response_parser.specs.Names.{name_of}
@@ -14,8 +15,8 @@ use Rattle.response_parser.specs.declared.place.Found.TheVariants.{Id, Rev}
 
 -- ---- objects and lists
 
--- The members of an object, up to its closing brace. `Member n n' m ps` says that m is a member with the contents ps, that
--- n says whether an id came before it, and n' whether one came before the next.
+-- The members of an object, up to its closing brace. `Member n n' m ps` says that m is a member with the contents ps.
+-- The flag n says whether an id came before the member, and n' whether an id came before the next member.
 pub data AreMembersOf (Member : Bool → Bool → List ℕ → List Piece → Type 0) : Bool → List ℕ → List Piece → Type 0 where
   last_member : {n n' : Bool} {m : List ℕ} {ps : List Piece} → Member n n' m ps → AreMembersOf Member n (m ++ 125 ∷ []) ps
   member : {n n' : Bool} {m t : List ℕ} {ps qs : List Piece} (s : List ℕ) → Member n n' m ps → Spaces s → AreMembersOf Member n' t qs
@@ -24,7 +25,7 @@ pub data AreMembersOf (Member : Bool → Bool → List ℕ → List Piece → Ty
 pub data IsObjectOf (Member : Bool → Bool → List ℕ → List Piece → Type 0) : List ℕ → List Piece → Type 0 where
   object_of : {t : List ℕ} {ps : List Piece} (s : List ℕ) → Spaces s → AreMembersOf Member false t ps → IsObjectOf Member (123 ∷ (s ++ t)) ps
 
--- the items of a list, up to its closing bracket
+-- The items of a list, up to the list's closing bracket.
 pub data AreItemsOf (Item : List ℕ → List Piece → Type 0) : List ℕ → List Piece → Type 0 where
   last_item_of : {o : List ℕ} {ps : List Piece} (s : List ℕ) → Item o ps → Spaces s → AreItemsOf Item (o ++ (s ++ 93 ∷ [])) ps
   item_of : {o t : List ℕ} {ps qs : List Piece} (s s' : List ℕ) → Item o ps → Spaces s → Spaces s' → AreItemsOf Item t qs
@@ -36,7 +37,7 @@ pub data IsListOf (Item : List ℕ → List Piece → Type 0) : List ℕ → Lis
 
 -- ---- members
 
--- names of members that are skipped
+-- Whether a member with this kind of name is skipped.
 abbrev pub is_skipped : Name → Bool
 is_skipped names.Plain = false
 is_skipped names.Document = false
@@ -52,33 +53,33 @@ is_skipped names.Reason = false
 is_skipped names.Other = true
 is_skipped names.Foreign = false
 
--- A member that is skipped. The flags say whether it is in a document's list of revisions, and whether it is in the entry
--- of a document.
+-- A member that is skipped. Flags say whether the member is in a document's list of revisions, and whether it is in the
+-- entry of a document.
 pub data IsSkipped (inner entry : Bool) (d : ℕ) : List ℕ → Type 0 where
   skipped : {k t u : List ℕ} {name : Name} (s s' : List ℕ) → EndsString k → is_json (34 ∷ k) ≡ true
       → name_of Leaves false inner entry d (34 ∷ k) ≡ name → is_skipped name ≡ true → Spaces s → Spaces s' → IsValue t u
       → IsSkipped inner entry d (34 ∷ (k ++ (s ++ 58 ∷ (s' ++ t))))
 
--- the same in an outermost object, if the value is not an object
+-- A skipped member of an outermost object, if the member's value is not an object.
 pub data IsSkippedOutside : List ℕ → Type 0 where
   skipped_outside : {k t u : List ℕ} {b : ℕ} {name : Name} (s s' : List ℕ) → EndsString k → is_json (34 ∷ k) ≡ true
       → name_of Leaves false false false 1 (34 ∷ k) ≡ name → is_skipped name ≡ true → Spaces s → Spaces s'
       → is_space b ≡ false → (b == 123) ≡ false → Closed 0 (b ∷ t) u → is_json u ≡ true
       → IsSkippedOutside (34 ∷ (k ++ (s ++ 58 ∷ (s' ++ b ∷ t))))
 
--- a name and its colon
+-- The text of a member: the name, its closing quotation mark, a colon, and the value.
 abbrev pub named_by : List ℕ → List ℕ → List ℕ → List ℕ → List ℕ
 named_by name s s' value = 34 ∷ (name ++ (s ++ 58 ∷ (s' ++ value)))
 
 -- ---- the feed
 
--- a member of an entry of `changes`, such as {"rev":"1-x"}
+-- A member of an entry of `changes`, such as {"rev":"1-x"}.
 pub data IsRevMember : Bool → Bool → List ℕ → List Piece → Type 0 where
   rev_of : {t u : List ℕ} (s s' : List ℕ) → Spaces s → Spaces s' → IsValue t u → (slice_index u 0 == 34) ≡ true
       → IsRevMember false false (named_by (codes "rev\"") s s' t) ((Rev, u) ∷ [])
   skipped_rev : {t : List ℕ} → IsSkipped true false 5 t → IsRevMember false false t []
 
--- a member of a row, such as {"seq":"1-g","id":"a","changes":[{"rev":"1-x"}]}; the id comes before the revisions
+-- A member of a feed row, such as {"seq":"1-g","id":"a","changes":[{"rev":"1-x"}]}. The id comes before the revisions.
 pub data IsRowMember : Bool → Bool → List ℕ → List Piece → Type 0 where
   id_of : {n : Bool} {t u : List ℕ} (s s' : List ℕ) → Spaces s → Spaces s' → IsValue t u → (slice_index u 0 == 34) ≡ true
       → IsRowMember n true (named_by (codes "id\"") s s' t) ((Id, u) ∷ [])
@@ -86,7 +87,7 @@ pub data IsRowMember : Bool → Bool → List ℕ → List Piece → Type 0 wher
       → IsRowMember true false (named_by (codes "changes\"") s s' (l ++ s'')) ps
   skipped_row : {n : Bool} {t : List ℕ} → IsSkipped false false 3 t → IsRowMember n n t []
 
--- a member of a page
+-- A member of a page of the changes feed.
 pub data IsPageMember : Bool → Bool → List ℕ → List Piece → Type 0 where
   results_of : {l : List ℕ} {ps : List Piece} (s s' s'' : List ℕ) → Spaces s → Spaces s' → IsListOf (IsObjectOf IsRowMember) l ps → Spaces s''
       → IsPageMember false false (named_by (codes "results\"") s s' (l ++ s'')) ps
@@ -94,26 +95,26 @@ pub data IsPageMember : Bool → Bool → List ℕ → List Piece → Type 0 whe
 
 -- ---- missing revisions
 
--- the revisions of a list, up to its closing bracket
+-- The missing revisions of a list, up to the list's closing bracket.
 pub data AreMissing : List ℕ → List Piece → Type 0 where
   last_missing : {r : List ℕ} (s : List ℕ) → EndsString r → is_json (34 ∷ r) ≡ true → Spaces s → AreMissing (34 ∷ (r ++ (s ++ 93 ∷ []))) ((Rev, 34 ∷ r) ∷ [])
   missing : {r t : List ℕ} {ps : List Piece} (s s' : List ℕ) → EndsString r → is_json (34 ∷ r) ≡ true → Spaces s → Spaces s' → AreMissing t ps
       → AreMissing (34 ∷ (r ++ (s ++ 44 ∷ (s' ++ t)))) ((Rev, 34 ∷ r) ∷ ps)
 
--- a member of the entry of a document, such as {"missing":["1-x"],"possible_ancestors":[]}
+-- A member of the entry of a document, such as {"missing":["1-x"],"possible_ancestors":[]}.
 pub data IsEntryMember : Bool → Bool → List ℕ → List Piece → Type 0 where
   missing_of : {l : List ℕ} {ps : List Piece} (s s' s'' s''' : List ℕ) → Spaces s → Spaces s' → Spaces s'' → AreMissing l ps → Spaces s'''
       → IsEntryMember false false (named_by (codes "missing\"") s s' (91 ∷ (s'' ++ (l ++ s''')))) ps
   skipped_entry : {t : List ℕ} → IsSkipped false true 2 t → IsEntryMember false false t []
 
--- a member of the response: an id, and the entry of its document
+-- A member of a `_revs_diff` response: an id, and the entry of its document.
 pub data IsDiffMember : Bool → Bool → List ℕ → List Piece → Type 0 where
   entry_of : {k o : List ℕ} {ps : List Piece} (s s' s'' : List ℕ) → EndsString k → is_json (34 ∷ k) ≡ true → Spaces s → Spaces s'
       → IsObjectOf IsEntryMember o ps → Spaces s'' → IsDiffMember false false (named_by k s s' (o ++ s'')) ((Id, 34 ∷ k) ∷ ps)
 
 -- ---- responses
 
--- a page of `_changes`, or a response of `_revs_diff`; with white space around it
+-- A page of `_changes`, or a response of `_revs_diff`, with white space around it.
 pub data AreLeaves : List ℕ → List Piece → Type 0 where
   page : {o : List ℕ} {ps : List Piece} (s s' : List ℕ) → Spaces s → IsObjectOf IsPageMember o ps → Spaces s' → AreLeaves (s ++ (o ++ s')) ps
   difference : {o : List ℕ} {ps : List Piece} (s s' : List ℕ) → Spaces s → IsObjectOf IsDiffMember o ps → Spaces s' → AreLeaves (s ++ (o ++ s')) ps

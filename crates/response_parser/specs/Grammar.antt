@@ -1,5 +1,5 @@
 -- CouchDB's responses in terms of the JSON grammar, with the documents in them: docs/PROFILE.md, "CouchDB's answers".
--- The grammar of the kit decides whether a text is JSON (`is_json`).
+-- The grammar of the kit's JSON library decides whether a text is JSON (`is_json`).
 use Rattle.std.specs.Prelude.{◌≡◌, ℕ, ◌+◌, ◌<◌, ◌==◌, slice_index, List, [], ◌∷◌, ◌++◌, Bool, true, false, codes, Some}
 use Rattle.doc_envelope.specs.Texts.{Spaces, EndsString, Closed, is_space, is_json}
 use Rattle.doc_envelope.specs.Names.{is_log}
@@ -13,20 +13,20 @@ use Rattle.response_parser.specs.declared.place.Found.TheVariants as found
 
 -- ---- values and names, by their texts
 
--- a JSON text, up to the comma or brace after it, and the same text on one line
+-- A JSON value t, up to the comma or brace after it, and the same value u on one line.
 pub record IsValue (t u : List ℕ) : Type 0 where
   pub closed : Closed 0 t u
   pub first : is_space (slice_index t 0) ≡ false
   pub json : is_json u ≡ true
 
--- a name with its quotation marks, whether it is the first one of its object, the number of open lists and objects, and
--- its meaning
+-- A name after its opening quotation mark. The other parameters are the flag of a first name, the number d of open
+-- lists and objects, and the meaning of the name.
 pub record IsNamed (wanted : Wanted) (first : Bool) (d : ℕ) (k : List ℕ) (name : Name) : Type 0 where
   pub string : EndsString k
   pub json : is_json (34 ∷ k) ≡ true
   pub says : name_of wanted first false false d (34 ∷ k) ≡ name
 
--- the contents of a named value: a document, if the name says so and the value is an object
+-- The contents of a named value: a document, if the name says so and the value is an object.
 pub data Holds (wanted : Wanted) : Name → List ℕ → List Piece → Type 0 where
   document : {u v : List ℕ} → (slice_index u 0 == 123) ≡ true → covered wanted u ≡ Some v → Holds wanted Document u ((found.Document, v) ∷ [])
   no_object : {u : List ℕ} → (slice_index u 0 == 123) ≡ false → Holds wanted Document u []
@@ -34,7 +34,7 @@ pub data Holds (wanted : Wanted) : Name → List ℕ → List Piece → Type 0 w
   of_last : {u : List ℕ} → Holds wanted Last u []
   of_other : {u : List ℕ} → Holds wanted Other u []
 
--- an object whose first member is `_id`, and the same text on one line
+-- An object o whose first member is `_id`, and the same text u on one line.
 pub record IsPlainDocument (o u : List ℕ) : Type 0 where
   pub before : List ℕ
   pub behind : List ℕ
@@ -45,12 +45,12 @@ pub record IsPlainDocument (o u : List ℕ) : Type 0 where
   pub text : u ≡ codes "{\"_id\"" ++ (line ++ 125 ∷ [])
   pub json : is_json u ≡ true
 
--- its contents: the object itself, unless it is a log
+-- The contents of an object whose first member is `_id`: the object itself, unless it is a log.
 pub data IsDocument (wanted : Wanted) : List ℕ → List Piece → Type 0 where
   document : {o u v : List ℕ} → IsPlainDocument o u → is_log u ≡ false → covered wanted u ≡ Some v → IsDocument wanted o ((found.Document, v) ∷ [])
   log : {o u : List ℕ} → IsPlainDocument o u → is_log u ≡ true → IsDocument wanted o []
 
--- ---- lists and objects that are searched, within d others
+-- ---- lists and objects that are searched, within d open lists and objects
 
 mutual
   pub data IsObject (wanted : Wanted) : ℕ → List ℕ → List Piece → Type 0 where
@@ -59,7 +59,8 @@ mutual
         → IsObject wanted d (123 ∷ (s ++ t)) ps
     itself : {d : ℕ} {o : List ℕ} {ps : List Piece} → d < 8 → IsDocument wanted o ps → IsObject wanted d o ps
 
-  -- from a name, the first one of its object or not, to the closing brace
+  -- The members of an object, from a name to the closing brace. A flag says whether the name is the first one of the
+  -- object.
   pub data IsMembers (wanted : Wanted) : Bool → ℕ → List ℕ → List Piece → Type 0 where
     last_value : {f : Bool} {d : ℕ} {k : List ℕ} (s s' : List ℕ) {t u : List ℕ} {name : Name} {ps : List Piece} → IsNamed wanted f d k name → Holds wanted name u ps
         → Spaces s → Spaces s' → IsValue t u → IsMembers wanted f d (34 ∷ (k ++ (s ++ 58 ∷ (s' ++ (t ++ 125 ∷ []))))) ps
@@ -76,7 +77,7 @@ mutual
     no_items : {d : ℕ} (s : List ℕ) → d < 8 → Spaces s → IsList wanted d (91 ∷ (s ++ 93 ∷ [])) []
     with_items : {d : ℕ} (s : List ℕ) {t : List ℕ} {ps : List Piece} → d < 8 → Spaces s → IsItems wanted (d + 1) t ps → IsList wanted d (91 ∷ (s ++ t)) ps
 
-  -- from an object to the closing bracket of the list
+  -- The items of a list, from an object to the closing bracket of the list.
   pub data IsItems (wanted : Wanted) : ℕ → List ℕ → List Piece → Type 0 where
     last_item : {d : ℕ} {o : List ℕ} (s : List ℕ) {ps : List Piece} → IsObject wanted d o ps → Spaces s → IsItems wanted d (o ++ (s ++ 93 ∷ [])) ps
     item : {d : ℕ} {o : List ℕ} (s s' : List ℕ) {more : List ℕ} {ps qs : List Piece} → IsObject wanted d o ps → Spaces s → Spaces s' → IsItems wanted d more qs
@@ -84,7 +85,7 @@ mutual
 
 -- ---- responses
 
--- responses in order, with white space around them
+-- Responses in order, with white space around them.
 pub data AreAnswers (wanted : Wanted) : List ℕ → List Piece → Type 0 where
   no_more : {s : List ℕ} → Spaces s → AreAnswers wanted s []
   of_object : (s : List ℕ) {o more : List ℕ} {ps qs : List Piece} → Spaces s → IsObject wanted 0 o ps → AreAnswers wanted more qs
@@ -92,7 +93,7 @@ pub data AreAnswers (wanted : Wanted) : List ℕ → List Piece → Type 0 where
   of_list : (s : List ℕ) {l more : List ℕ} {ps qs : List Piece} → Spaces s → IsList wanted 0 l ps → AreAnswers wanted more qs
       → AreAnswers wanted (s ++ (l ++ more)) (ps ++ qs)
 
--- at least one response
+-- At least one response, with white space around each.
 pub data IsAnswered (wanted : Wanted) : List ℕ → List Piece → Type 0 where
   object_first : (s : List ℕ) {o more : List ℕ} {ps qs : List Piece} → Spaces s → IsObject wanted 0 o ps → AreAnswers wanted more qs
       → IsAnswered wanted (s ++ (o ++ more)) (ps ++ qs)

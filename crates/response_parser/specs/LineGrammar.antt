@@ -7,21 +7,21 @@ use Rattle.response_parser.specs.Reading.{Piece}
 use Rattle.response_parser.specs.Grammar.{IsDocument}
 use Rattle.response_parser.specs.declared.place.Wanted.{Wanted}
 
--- a text without a line end
+-- The text t does not have a line end.
 abbrev pub InOneLine : List ℕ → Type 0
 InOneLine t = list_all (λ b. not (b == 10)) t ≡ true
 
--- lines with their line ends, and documents
+-- Lines of a script's output with their line ends, and the documents in them.
 pub data AreLines (wanted : Wanted) : List ℕ → List Piece → Type 0 where
   no_lines : AreLines wanted [] []
-  -- an empty line, or white space
+  -- An empty line, or white space before a line.
   blank : {b : ℕ} {t : List ℕ} {ps : List Piece} → is_space b ≡ true → AreLines wanted t ps → AreLines wanted (b ∷ t) ps
-  -- a document by its text, or a log
+  -- A document or a log in a script's output.
   document : {o t : List ℕ} {ps qs : List Piece} → IsDocument wanted o ps → AreLines wanted t qs → AreLines wanted (o ++ t) (ps ++ qs)
-  -- any other line
+  -- Any other line of a script's output.
   answer : {b : ℕ} (x : List ℕ) {t : List ℕ} {ps : List Piece} → is_lower b ≡ true → is_space b ≡ false → InOneLine x → AreLines wanted t ps
       → AreLines wanted (b ∷ (x ++ 10 ∷ t)) ps
 
--- the output of a script, with or without the last line end
+-- The output of a script, with or without the last line end, and the documents in it.
 abbrev pub IsScript : Wanted → List ℕ → List Piece → Type 0
 IsScript wanted text held = AreLines wanted (text ++ 10 ∷ []) held

@@ -11,7 +11,7 @@ use Rattle.response_parser.specs.declared.place.LinePlace.TheVariants.{Word, Res
 use Rattle.response_parser.specs.declared.place.Refusal.TheVariants.{NotJson, NoAnswer}
 use Rattle.response_parser.specs.declared.place.Found.TheVariants as found
 
--- a text begins with this byte
+-- The parser's state s after byte b, which begins a text in a line.
 abbrev pub text_begun : LinePlace → State → ℕ → State
 text_begun place s b = record s { place = Line place; text = b ∷ [] }
 
@@ -20,7 +20,8 @@ text_begun place s b = record s { place = Line place; text = b ∷ [] }
 abbrev pub is_lower : ℕ → Bool
 is_lower b = nat_le 97 b && nat_le b 122
 
--- A line ends. If a response is required and none was read, the parser returns to its first place.
+-- The parser's state after a line end. If a response is required and none was read, the parser returns to its first
+-- place.
 abbrev pub line_ended : State → State
 line_ended s = at (cond (s.some || is_strict s.wanted) Between Start) s
 
@@ -30,7 +31,7 @@ change_begun s b = cond (b == 32) (record s { place = Line Seq; text = [] }) (re
 abbrev pub is_change : State → Bool
 is_change s = wants_changes s.wanted && bytes_eq s.text (codes "change")
 
--- the first word is complete: `refused` is counted as skipped
+-- The parser's state after the first word of a line. A line that begins with `refused` is counted as skipped.
 abbrev pub word_passed : State → State
 word_passed s = record s { passed = cond (bytes_eq s.text (codes "refused")) (more s.passed) s.passed }
 
@@ -69,11 +70,11 @@ in_id_escape s b = at (Line Id) (added b s)
 abbrev pub after_id : State → ℕ → State
 after_id s b = cond (b == 32) (at (Line BeforeRev) s) (refused NoAnswer s)
 
--- an ASCII letter, a digit, a hyphen, an underscore or a period
+-- Whether a byte may be in a revision: an ASCII letter, a digit, a hyphen, an underscore or a period.
 abbrev pub is_rev_byte : ℕ → Bool
 is_rev_byte b = is_digit b || is_lower b || nat_le 65 b && nat_le b 90 || b == 45 || b == 95 || b == 46
 
--- quotation marks are added to a revision
+-- The parser's state after the first byte of a revision. The parser adds a quotation mark before the revision.
 abbrev pub before_rev : State → ℕ → State
 before_rev s b = cond (is_rev_byte b) (record s { place = Line Rev; text = 34 ∷ b ∷ [] }) (refused NoAnswer s)
 

@@ -12,7 +12,8 @@ use Rattle.response_parser.specs.declared.place.Found.TheVariants as found
 
 -- ---- of a name with its quotation marks
 
--- When documents are requested. The flag says whether the name is the first one of its object.
+-- The meaning of a name t if documents are requested. The flag `first` says whether the name is the first one of its
+-- object.
 abbrev pub document_name : Bool → List ℕ → Name
 document_name first t =
     cond (first && bytes_eq t (codes "\"_id\"")) Plain
@@ -21,8 +22,9 @@ document_name first t =
     (cond (bytes_eq t (codes "\"missing\"") || bytes_eq t (codes "\"error\"")) Passed
     (cond (bytes_eq t (codes "\"last_seq\"")) Last Other))))
 
--- When leaves are requested: in a document's list of revisions only a revision has a meaning. In the entry of a document
--- it is the list of missing revisions. The flags say whether the name is in one of these.
+-- The meaning of a name t if leaves are requested. In a document's list of revisions, only the name `rev` has a
+-- meaning. In the entry of a document, only the name `missing` has a meaning. Two flags say whether the name is in such
+-- a list or entry.
 abbrev pub leaf_name : Bool → Bool → List ℕ → Name
 leaf_name inner entry t =
     cond entry (cond (bytes_eq t (codes "\"missing\"")) Missing Other)
@@ -32,7 +34,7 @@ leaf_name inner entry t =
     (cond (bytes_eq t (codes "\"changes\"")) Changes
     (cond (bytes_eq t (codes "\"last_seq\"")) Last Other)))))
 
--- when a script's changes are requested
+-- The meaning of a name t if the changes of a script are requested.
 abbrev pub change_name : Bool → List ℕ → Name
 change_name first t = cond (first && bytes_eq t (codes "\"_id\"")) Plain Foreign
 
@@ -44,7 +46,7 @@ wanted_name Unfolded first inner entry t = document_name first t
 wanted_name Leaves first inner entry t = leaf_name inner entry t
 wanted_name InChanges first inner entry t = change_name first t
 
--- a CouchDB error is an outermost object
+-- The meaning of a name t for any request. The names `error` and `reason` have a meaning in an outermost object.
 unfoldable pub name_of : Wanted → Bool → Bool → Bool → ℕ → List ℕ → Name
 name_of wanted first inner diff depth t =
     cond (depth == 1 && bytes_eq t (codes "\"error\"")) Error
@@ -127,8 +129,8 @@ is_error Reason = false
 is_error Other = false
 is_error Foreign = false
 
--- What is found if a name has a value that begins with this byte: a document begins with a brace, an id and a revision
--- with a quotation mark.
+-- The kind of item that is found if a name has a value with this first byte. A document begins with a brace, an id and
+-- a revision with a quotation mark.
 abbrev pub found_of : Name → ℕ → Found
 found_of Plain first = found.Nothing
 found_of Document first = cond (first == 123) found.Document found.Nothing
@@ -144,7 +146,7 @@ found_of Reason first = found.Nothing
 found_of Other first = found.Nothing
 found_of Foreign first = found.Nothing
 
--- the value is a substitute for a document
+-- Whether the parser counts the value of a name, whose first byte is given, as a skipped document.
 abbrev pub passes : Name → ℕ → Bool
 passes Plain first = false
 passes Document first = cond (first == 123) false true
@@ -160,7 +162,8 @@ passes Reason first = false
 passes Other first = false
 passes Foreign first = false
 
--- the name requires an id or a revision, and the value is not a string; or it is the reason of an error
+-- The error for a name's value, if there is one. A value that must be an id or a revision is not a string, or the value
+-- is the reason of an error.
 abbrev pub refusal_of : Name → ℕ → Bool → Option Refusal
 refusal_of Plain first failed = None
 refusal_of Document first failed = None

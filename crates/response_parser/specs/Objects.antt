@@ -15,18 +15,18 @@ use Rattle.response_parser.specs.declared.place.Name.{Name}
 use Rattle.response_parser.specs.declared.place.Name.TheVariants as names
 use Rattle.response_parser.specs.declared.place.Found.TheVariants as found
 
--- the maximum number of open lists and objects
+-- The maximum number of open lists and objects in a response.
 abbrev pub max_depth : ℕ
 max_depth = 8
 
--- a list or an object opens
+-- The parser's state after a list or an object opens.
 abbrev pub opened : Place → State → State
 opened place s =
     cond (nat_lt s.depth max_depth)
     (record s { place = place; diff = s.diff && nat_lt 0 s.depth; depth = s.depth + 1; known = false; named = false; failed = false })
     (refused NoAnswer s)
 
--- a list or an object closes, and with the outermost one the response ends
+-- The parser's state after a list or an object closes. If the outermost one closes, the response ends.
 abbrev pub closed : Place → State → State
 closed place s =
     record s { place = cond (nat_lt 1 s.depth) place Between; some = true; depth = s.depth - 1; known = true; named = false; failed = false }
@@ -34,21 +34,23 @@ closed place s =
 abbrev pub list_closed : State → State
 list_closed s = closed AfterMember (record s { inner = false })
 
--- after an object, which is an item or the entry of a document
+-- The parser's place after an object, which is an item of a list or the entry of a document.
 abbrev pub behind_object : State → Place
 behind_object s = cond (s.diff && s.depth == 2) AfterMember AfterItem
 
--- an object without a known member contains no document, and is skipped or rejected
+-- The parser's state after an object closes. An object without a known member contains no document, and is skipped or
+-- rejected.
 abbrev pub object_closed : State → State
 object_closed s =
     cond s.known (closed (behind_object s) s)
     (cond (is_strict s.wanted) (refused NoDocument s) (closed (behind_object s) (record s { passed = more s.passed })))
 
--- a `_revs_diff` response without members means that nothing is missing
+-- The parser's state after an empty object closes. A `_revs_diff` response without members means that no revision is
+-- missing.
 abbrev pub empty_closed : State → State
 empty_closed s = object_closed (record s { known = wants_leaves s.wanted && s.depth == 1 })
 
--- the entry of a document, whose id is the name before it
+-- The parser's state after the entry of a document opens. The name before the entry is the document's id.
 abbrev pub entry_opened : State → State
 entry_opened s = opened Member (record s { diff = true; found = found.Id })
 
@@ -57,7 +59,7 @@ entry_opened s = opened Member (record s { diff = true; found = found.Id })
 abbrev pub list_opened : State → State
 list_opened s = cond (wants_changes s.wanted) (refused NoAnswer s) (opened Item s)
 
--- before the first response
+-- Whether a place is before the first response.
 abbrev pub is_first : Place → Bool
 is_first Start = true
 is_first Begin = true
@@ -81,7 +83,7 @@ is_first (Revs place) = false
 is_first (Line place) = false
 is_first (Refused why) = false
 
--- the first byte is not that of a list or an object: a line of a script's output, or not a response
+-- The parser's state after the first byte b of a line or response, if b opens neither a list nor an object.
 abbrev pub at_begin : State → ℕ → State
 at_begin s b =
     cond (is_lower b && not (wants_leaves s.wanted)) (text_begun Word s b)
@@ -118,7 +120,8 @@ abbrev pub after_member : State → ℕ → State
 after_member s b =
     cond (is_space b) s (cond (b == 44) (at NextMember s) (cond (b == 125) (object_closed s) (refused NotJson s)))
 
--- the object is a document; its text begins with the brace and the name
+-- The parser's state in a document whose first name was just read. The document's text begins with the brace and the
+-- name.
 abbrev pub plain_begun : State → State
 plain_begun s = record s { place = Value names.Plain; text = codes "{\"_id\""; nesting = 1 }
 
@@ -158,7 +161,7 @@ abbrev pub value_begun : Name → State → State
 value_begun name s =
     record s { place = value_place name; known = s.known || is_known name; named = s.named || is_id name; inner = s.inner || is_changes name; text = []; nesting = 0 }
 
--- the revisions of a document must come after its id
+-- The parser's state after a name and its colon. The revisions of a document must come after its id.
 abbrev pub begun_as : Name → State → State
 begun_as names.Plain s = value_begun names.Plain s
 begun_as names.Document s = value_begun names.Document s
@@ -174,7 +177,7 @@ begun_as names.Reason s = value_begun names.Reason s
 begun_as names.Other s = value_begun names.Other s
 begun_as names.Foreign s = refused NoDocument s
 
--- the name may be the id of a document with missing revisions
+-- Whether the name may be the id of a document with missing revisions.
 abbrev pub is_ahead : State → Bool
 is_ahead s = wants_leaves s.wanted && (s.depth == 1 && (s.first || s.diff))
 
@@ -186,7 +189,7 @@ at_colon name s b =
 abbrev pub at_list : State → ℕ → State
 at_list s b = cond (is_space b) s (cond (b == 91) (opened Item s) (refused NoAnswer s))
 
--- at places outside of names and values
+-- The parser's state after a byte outside of names and values.
 abbrev pub moved_between : Place → State → ℕ → State
 moved_between Start s b = s
 moved_between Begin s b = s

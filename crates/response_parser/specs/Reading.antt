@@ -1,4 +1,4 @@
--- The contents of bytes: docs/PROFILE.md, "CouchDB's answers".
+-- The items that the parser finds in a list of bytes: docs/PROFILE.md, "CouchDB's answers".
 use Rattle.std.specs.Prelude.{ℕ, List, [], ◌∷◌, ◌++◌, Bool, true, false, cond, ◌||◌, Result, Ok, Err}
 use Rattle.response_parser.specs.State.{State}
 use Rattle.response_parser.specs.Steps.{step, is_refused}
@@ -9,12 +9,12 @@ use Rattle.response_parser.specs.declared.place.Refusal.TheVariants.{NoAnswer, C
 use Rattle.response_parser.specs.declared.place.Found.{Found}
 use Rattle.response_parser.specs.declared.place.Found.TheVariants.{Nothing, Document, Id, Rev}
 
--- the state after these bytes
+-- The parser's state after the given bytes.
 abbrev pub after : State → List ℕ → State
 after s [] = s
 after s (b ∷ bytes) = after (step s b) bytes
 
--- what was found, with its text
+-- An item that the parser found: its kind, such as a document or an id, and its text.
 abbrev pub Piece : Type 0
 Piece = Found × List ℕ
 
@@ -24,7 +24,7 @@ piece_of Document text = (Document, text) ∷ []
 piece_of Id text = (Id, text) ∷ []
 piece_of Rev text = (Rev, text) ∷ []
 
--- what is complete after a byte
+-- The item that is complete after the last byte, if there is one.
 abbrev pub given : State → List Piece
 given s = piece_of s.found s.text
 
@@ -34,16 +34,16 @@ is_piece Document = true
 is_piece Id = true
 is_piece Rev = true
 
--- the parser stops if something is complete, or a byte was rejected
+-- Whether the parser stops after a byte, because an item is complete or the byte was rejected.
 abbrev pub stops : State → Bool
 stops s = is_piece s.found || is_refused s.place
 
--- the contents of these bytes, in order
+-- The items that the parser finds in the given bytes, in order.
 abbrev pub pieces : State → List ℕ → List Piece
 pieces s [] = []
 pieces s (b ∷ bytes) = given (step s b) ++ pieces (step s b) bytes
 
--- why the input is incomplete if it ends here
+-- Whether the input may end at this place of the parser, or else the error.
 abbrev pub end_of : Place → Result (Unit {0}) Refusal
 end_of Start = Err NoAnswer
 end_of Begin = Ok tt
@@ -67,7 +67,7 @@ end_of (Revs place) = Err CutOff
 end_of (Line place) = Err CutOff
 end_of (Refused why) = Err why
 
--- whether the last line has no line end
+-- Whether input that ends at this place has a last line without a line end.
 abbrev pub has_rest : Place → Bool
 has_rest Start = false
 has_rest Begin = false
@@ -91,7 +91,7 @@ has_rest (Revs place) = false
 has_rest (Line place) = true
 has_rest (Refused why) = false
 
--- a last line without a line end is read as if it had one
+-- The line end that the parser adds to a last line without one, or the empty list.
 abbrev pub last_end : State → List ℕ
 last_end s = cond (has_rest s.place) (10 ∷ []) []
 

@@ -1,4 +1,4 @@
--- Several bytes of a value, read at once.
+-- Several bytes of a value that the parser reads at once.
 use Rattle.std.specs.Prelude.{◌≡◌, ℕ, ◌==◌, length, take, List, [], ◌∷◌, ◌++◌, Bool, true, false}
 use Rattle.response_parser.specs.State.{State, more}
 use Rattle.response_parser.specs.Reading.{after, pieces}
@@ -7,35 +7,35 @@ use Rattle.response_parser.specs.declared.place.Place.TheVariants.{Value, Quoted
 use Rattle.response_parser.specs.declared.place.Name.{Name}
 use Rattle.response_parser.specs.declared.place.Found.TheVariants.{Nothing}
 
--- A count that is increased once for each byte.
+-- The count n, increased once for each byte.
 abbrev pub more_by : ℕ → List ℕ → ℕ
 more_by n [] = n
 more_by n (b ∷ bytes) = more_by (more n) bytes
 
--- The place in the value of a name, within a string or outside of strings.
+-- The parser's place in the value of a name, within a string or outside of strings.
 abbrev pub in_value_of : Name → Bool → Place
 in_value_of name true = Quoted name
 in_value_of name false = Value name
 
--- The parser is in the value of a name. The value has begun, and has a number of open brackets.
+-- The parser is in the value of a name. The value has begun, and `nesting` brackets are open in it.
 pub record IsInValue (s : State) (name : Name) (quoted : Bool) (nesting : ℕ) : Type 0 where
   pub place : s.place ≡ in_value_of name quoted
   pub nesting_is : s.nesting ≡ nesting
   pub found : s.found ≡ Nothing
   pub begun : (length s.text == 0) ≡ false
 
--- The state after bytes that are appended to the current value.
+-- The parser's state after the given bytes were appended to the current value.
 abbrev pub copied : State → List ℕ → Name → Bool → ℕ → State
 copied s bytes name quoted nesting =
     record s { place = in_value_of name quoted; nesting = nesting; text = s.text ++ bytes; taken = more_by s.taken bytes }
 
--- The bytes are appended to the current value, and complete no item.
+-- The parser appends the given bytes to the current value, and completes no item.
 pub record Copies (s : State) (bytes : List ℕ) (name : Name) (quoted : Bool) (nesting : ℕ) : Type 0 where
   pub state : after s bytes ≡ copied s bytes name quoted nesting
   pub none : pieces s bytes ≡ []
 
--- If a value was copied up to the first position of these bytes, it is copied up to the second one. Each position has
--- whether it is within a string, and the number of open brackets.
+-- If the parser copied a value up to the position `from` of the bytes, it copies the value up to the position `to`. For
+-- each position, parameters say whether it is within a string, and how many brackets are open.
 abbrev pub Continues : List ℕ → ℕ → Bool → ℕ → ℕ → Bool → ℕ → Type 0
 Continues bytes from q n to q' n' =
     (s : State) → (name : Name) → (q0 : Bool) → (n0 : ℕ) → IsInValue s name q0 n0 → Copies s (take from bytes) name q n

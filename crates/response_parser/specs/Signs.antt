@@ -7,14 +7,14 @@ use Rattle.response_parser.specs.declared.place.Place.TheVariants.{Sign, Refused
 use Rattle.response_parser.specs.declared.place.Refusal.{Refusal}
 use Rattle.response_parser.specs.declared.place.Refusal.TheVariants.{NoAnswer, Gzip, Html, Headers, Multipart, ByteOrderMark}
 
--- a proper prefix of such bytes
+-- Whether a text is a proper prefix of the first bytes of a known format.
 abbrev pub begins_sign : List ℕ → Bool
 begins_sign t =
     bytes_eq t (31 ∷ []) || bytes_eq t (codes "<") || bytes_eq t (codes "-") || bytes_eq t (239 ∷ []) || bytes_eq t (239 ∷ 187 ∷ [])
     || bytes_eq t (254 ∷ []) || bytes_eq t (255 ∷ []) || bytes_eq t (codes "H") || bytes_eq t (codes "HT") || bytes_eq t (codes "HTT")
     || bytes_eq t (codes "HTTP")
 
--- the format that begins with this text
+-- The error for the known format that begins with this text.
 abbrev pub sign_of : List ℕ → Refusal
 sign_of t =
     cond (bytes_eq t (31 ∷ 139 ∷ [])) Gzip

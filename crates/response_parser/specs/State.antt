@@ -8,39 +8,39 @@ use Rattle.response_parser.specs.declared.place.Wanted.{Wanted}
 use Rattle.response_parser.specs.declared.place.Found.{Found}
 use Rattle.response_parser.specs.declared.place.Found.TheVariants.{Nothing}
 
--- between two bytes
+-- The state of the parser between two bytes of input.
 pub record State : Type 0 where
   pub wanted : Wanted
   pub place : Place
-  -- whether a list or an object was closed
+  -- Whether a list or an object was closed.
   pub some : Bool
-  -- the number of open lists and objects
+  -- The number of open lists and objects.
   pub depth : ℕ
-  -- whether the innermost object has a known member, and whether it has an id
+  -- Whether the innermost object has a known member, and whether it has an id.
   pub known : Bool
   pub named : Bool
-  -- whether the last name is the first one of its object
+  -- Whether the last name is the first one of its object.
   pub first : Bool
-  -- whether the innermost list is a document's list of revisions
+  -- Whether the innermost list is a document's list of revisions.
   pub inner : Bool
-  -- whether the response is one of `_revs_diff`
+  -- Whether the response is one of `_revs_diff`.
   pub diff : Bool
-  -- whether the response has an error
+  -- Whether the response has a member `error`.
   pub failed : Bool
-  -- the number of open brackets within a value
+  -- The number of open brackets within a value.
   pub nesting : ℕ
-  -- the current name or value, as far as it was read; complete after its end
+  -- The part of the current name or value that was read. The text is complete after the end of the name or value.
   pub text : List ℕ
-  -- the text of the last error
+  -- The text of the last member `error`.
   pub error : List ℕ
-  -- what the last byte completed
+  -- The kind of item that the last byte completed.
   pub found : Found
-  -- the number of skipped documents
+  -- The number of skipped documents.
   pub passed : ℕ
-  -- the number of bytes read
+  -- The number of bytes that the parser has read.
   pub taken : ℕ
 
--- the initial state
+-- The initial state of the parser for a kind of request.
 abbrev pub start : Wanted → State
 start wanted = record {
   wanted = wanted;
@@ -61,7 +61,7 @@ start wanted = record {
   taken = 0;
 }
 
--- a count increased by one, at most 2 ^ 64 - 1
+-- A count increased by one, at most 2 ^ 64 - 1.
 abbrev pub more : ℕ → ℕ
 more n = cond (nat_lt n 18446744073709551615) (n + 1) n
 

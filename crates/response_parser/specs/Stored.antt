@@ -1,4 +1,4 @@
--- The value that a stored parser stands for.
+-- The state that a stored parser represents.
 use Rattle.response_parser.specs.State.{State}
 use Rattle.response_parser.specs.declared.reading.Reading.{Reading}
 

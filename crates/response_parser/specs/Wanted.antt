@@ -30,7 +30,7 @@ wants_changes Unfolded = false
 wants_changes Leaves = false
 wants_changes Changes = true
 
--- an object without a document is rejected instead of skipped, and the input may be empty
+-- Whether a request rejects, instead of skips, an object without a document. Such a request also accepts empty input.
 abbrev pub is_strict : Wanted → Bool
 is_strict Documents = false
 is_strict Enveloped = false
@@ -42,7 +42,7 @@ is_strict Changes = true
 abbrev pub first_place : Wanted → Place
 first_place wanted = cond (is_strict wanted) Begin Start
 
--- the reported form of a document: its text, its envelope, or the document in its envelope
+-- The reported form of a document: its text, its envelope, or the document in its envelope.
 abbrev pub covered : Wanted → List ℕ → Option (List ℕ)
 covered Documents t = Some t
 covered Enveloped t = enveloped t
