@@ -8,59 +8,59 @@ use Rattle.progress_board.specs.declared.seat.BoardSeat.{BoardSeat}
 use Rattle.pool_workers.specs.Sums.{total}
 use Rattle.pool_workers.specs.declared.fault.Halt.{Halt}
 
--- the seat is a worker's seat of this board
+-- Seat s is a worker's seat of board b.
 abbrev pub WorksAt : Board → BoardSeat → Type 0
 WorksAt b s = CameWith b s × (s.works ≡ true)
 
--- the seat has read and settled nothing, and has seen nothing
+-- The counters of seat s are 0, and the seat has seen no documents read or settled.
 abbrev pub HasNothing : BoardSeat → Type 0
 HasNothing s = (s.read ≡ 0) × (s.settled ≡ 0) × (seen_read s ≡ 0) × (seen_settled s ≡ 0)
 
--- the seat of the same worker, whose counters have not fallen
+-- Seats s and t are of the same worker of board b, and t's counters are not lower than those of s.
 abbrev pub IsRisen : Board → BoardSeat → BoardSeat → Type 0
 IsRisen b s t = WorksAt b t × (t.number ≡ s.number) × (s.read ≤ t.read) × (s.settled ≤ t.settled)
 
--- the same seats in the same order
+-- The seats `now` are those of the list `given`, in the same order, and no counter has fallen.
 abbrev pub AreRisen : Board → List BoardSeat → List BoardSeat → Type 0
 AreRisen b [] [] = Unit {0}
 AreRisen b (s ∷ given) (t ∷ now) = IsRisen b s t × AreRisen b given now
 AreRisen b given now = ⊥
 
--- the total that the seats have read, or settled
+-- The number of documents that all seats show as read.
 abbrev pub read_on : List BoardSeat → ℕ
 read_on seats = total (λ (s : BoardSeat). s.read) seats
 
 abbrev pub settled_on : List BoardSeat → ℕ
 settled_on seats = total (λ (s : BoardSeat). s.settled) seats
 
--- both totals have risen by n
+-- The totals of documents read and settled have both risen by n.
 abbrev pub HaveRisenBy : ℕ → List BoardSeat → List BoardSeat → Type 0
 HaveRisenBy n given now = (read_on now ≡ read_on given + n) × (settled_on now ≡ settled_on given + n)
 
 -- ---- with or without a board
 
--- a counter may be full if there is a board
+-- A read counter of the board may become full, so there must be a board.
 abbrev pub MayFill : Option Board → Type 0
 MayFill None = ⊥
 MayFill (Some b) = Unit {0}
 
--- with a board, the seats are its workers' seats; without one, there are none
+-- With a board, all seats are worker seats of this board. Without a board there are no seats.
 abbrev pub AreSeated : Option Board → List BoardSeat → Type 0
 AreSeated None seats = seats ≡ []
 AreSeated (Some b) seats = All (WorksAt b) seats
 
--- with a board, the seats are its workers' seats, and with `out` others at least one for each worker; without one,
--- there are none
+-- With a board, all seats are worker seats of this board, and with `out` further seats there is at least one for each
+-- worker. Without a board there are no seats.
 abbrev pub AreSeats : Option Board → ℕ → ℕ → List BoardSeat → Type 0
 AreSeats None out workers seats = seats ≡ []
 AreSeats (Some b) out workers seats = (workers ≤ length seats + out) × All (WorksAt b) seats
 
--- the seats are returned
+-- The seats `given` are returned as `now`, in the same order, and no counter has fallen.
 abbrev pub AreBack : Option Board → List BoardSeat → List BoardSeat → Type 0
 AreBack None given now = (given ≡ []) × (now ≡ [])
 AreBack (Some b) given now = AreRisen b given now
 
--- n documents are shown as settled and, if nothing was stopped, as read
+-- With a board, n documents are shown as settled. If no writer was stopped, n documents are also shown as read.
 abbrev pub HaveShown : Option Board → ℕ → Option Halt → List BoardSeat → List BoardSeat → Type 0
 HaveShown None n stopped given now = Unit {0}
 HaveShown (Some b) n stopped given now =
@@ -73,31 +73,32 @@ IsSeated None None = Unit {0}
 IsSeated (Some b) (Some s) = WorksAt b s
 IsSeated board seat = ⊥
 
--- n more documents are shown as read
+-- With a board, the seat shows n more documents as read.
 abbrev pub HasRead : Option Board → ℕ → Option BoardSeat → Option BoardSeat → Type 0
 HasRead None n s t = t ≡ s
 HasRead (Some b) n (Some s) (Some t) =
     WorksAt b t × (t.number ≡ s.number) × (t.read ≡ s.read + n) × (t.settled ≡ s.settled)
 HasRead (Some b) n s t = ⊥
 
--- n more documents would exceed the maximum of the seat's read counter
+-- The seat's read counter would exceed its maximum with n more documents.
 abbrev pub IsFullFor : ℕ → Option BoardSeat → Type 0
 IsFullFor n None = ⊥
 IsFullFor n (Some s) = most < s.read + n
 
--- n more documents may be shown as settled without exceeding those read
+-- The seat may show n more documents as settled without exceeding those read.
 abbrev pub HasRoom : Option Board → ℕ → Option BoardSeat → Type 0
 HasRoom (Some b) n (Some s) = s.settled + n ≤ s.read
 HasRoom board n seat = Unit {0}
 
--- the settled counter has grown by the difference between a and z
+-- With a board, the seat's settled counter has grown by the difference between a and z.
 abbrev pub HasSettled : Option Board → ℕ → ℕ → Option BoardSeat → Option BoardSeat → Type 0
 HasSettled None a z s t = t ≡ s
 HasSettled (Some b) a z (Some s) (Some t) =
     WorksAt b t × (t.number ≡ s.number) × (t.read ≡ s.read) × (t.settled + a ≡ s.settled + z)
 HasSettled (Some b) a z s t = ⊥
 
--- the settled counter has grown by the difference between a and z, and so has the read counter if nothing was stopped
+-- With a board, the seat's settled counter has grown by the difference between a and z. If no writer was stopped, the
+-- read counter has grown by this difference, too.
 abbrev pub HasWritten : Option Board → ℕ → ℕ → Option Halt → Option BoardSeat → Option BoardSeat → Type 0
 HasWritten None a z stopped s t = t ≡ s
 HasWritten (Some b) a z stopped (Some s) (Some t) =
@@ -105,14 +106,14 @@ HasWritten (Some b) a z stopped (Some s) (Some t) =
     × (stopped ≡ None → t.read + a ≡ s.read + z)
 HasWritten (Some b) a z stopped s t = ⊥
 
--- why a write halts, if it does
+-- The halt with which a write ended, if it did not succeed.
 abbrev pub halt_in : Result (Unit {0}) Halt → Option Halt
 halt_in (Ok done) = None
 halt_in (Err halt) = Some halt
 
 -- ---- seats in use
 
--- the seats that others hold; the last of them holds the first seat
+-- The seats that the elements of a list hold, where the last element holds the first seat.
 abbrev pub held : {X : Type 0} → (X → Option BoardSeat) → List X → List BoardSeat
 held f [] = []
 held f (x ∷ xs) = held f xs ++ option_to_list (f x)

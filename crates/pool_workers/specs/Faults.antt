@@ -8,8 +8,8 @@ use Rattle.pool_workers.specs.declared.fault.Halt.TheVariants as halts
 use Rattle.pool_workers.specs.declared.fault.PoolFault.{PoolFault}
 use Rattle.pool_workers.specs.declared.fault.PoolFault.TheVariants as faults
 
--- the error of a run that was not rejected early: `Halted` only if the gate allows it, `BoardFull` only if possible,
--- and `Hole` never
+-- A possible error of a run whose plan was valid. The error is `Halted` only if the gate allows the halt, `BoardFull`
+-- only if a board can be full, and never `Hole`.
 abbrev pub IsLateOn : Type 0 → (Place → Type 0) → PoolFault → Type 0
 IsLateOn may_fill may_stop faults.NoWorkers = ⊥
 IsLateOn may_fill may_stop faults.TooManyWorkers = ⊥
@@ -22,17 +22,17 @@ IsLateOn may_fill may_stop fault = Unit {0}
 
 -- ---- errors from the halts of workers
 
--- an error of a worker's call on the target; `Unfinished` is reported only at the end
+-- A possible error of a worker's call on the target, which is any error except `Unfinished`.
 abbrev pub IsStepFault : TargetFault → Type 0
 IsStepFault (refusals.Unfinished low_water) = ⊥
 IsStepFault fault = Unit {0}
 
--- an error to which a halt is converted
+-- A possible error of a run in which a worker halted.
 abbrev pub IsHaltOn : Type 0 → (Place → Type 0) → PoolFault → Type 0
 IsHaltOn may_fill may_stop (faults.Refused fault) = IsStepFault fault
 IsHaltOn may_fill may_stop fault = IsLateOn may_fill may_stop fault
 
--- the error for a halt
+-- The error of a run for a worker's halt.
 abbrev pub fault_of : Halt → PoolFault
 fault_of (halts.Stopped place) = faults.Halted place
 fault_of (halts.Refused fault) = faults.Refused fault
@@ -41,28 +41,29 @@ fault_of halts.BoardFull = faults.BoardFull
 fault_of halts.Memory = faults.Memory
 fault_of halts.Lost = faults.Memory
 
--- a halt by the gate only if it is allowed, a full board only if possible, and an error of a worker's call
+-- A possible halt of a worker. A halt by the gate must be allowed, a halt by a full board must be possible, and any
+-- other error must be one of a worker's call.
 abbrev pub AllowsOn : Type 0 → (Place → Type 0) → Halt → Type 0
 AllowsOn may_fill may_stop (halts.Stopped place) = may_stop place
 AllowsOn may_fill may_stop (halts.Refused fault) = IsStepFault fault
 AllowsOn may_fill may_stop halts.BoardFull = may_fill
 AllowsOn may_fill may_stop halt = Unit {0}
 
--- the same for a worker without a board
+-- A possible halt of a worker without a board.
 abbrev pub Allows : (Place → Type 0) → Halt → Type 0
 Allows may_stop halt = AllowsOn ⊥ may_stop halt
 
--- `CountFull` and `BoardFull` are reported only if their conditions hold
+-- A halt is `CountFull` or `BoardFull` only if the given condition for it holds.
 abbrev pub SaysFull : Type 0 → Type 0 → Halt → Type 0
 SaysFull count board halts.CountFull = count
 SaysFull count board halts.BoardFull = board
 SaysFull count board halt = Unit {0}
 
--- neither is reported
+-- A halt is neither `CountFull` nor `BoardFull`.
 abbrev pub SaysNoFull : Halt → Type 0
 SaysNoFull halt = SaysFull ⊥ ⊥ halt
 
--- the error is that of one of three halts
+-- The error of a run is that of one of the halts a, b and c.
 abbrev pub IsOneFault : Option Halt → Option Halt → Option Halt → PoolFault → Type 0
 IsOneFault a b c fault =
     (halt : Halt) × (fault ≡ fault_of halt) × ((a ≡ Some halt) ⊎ ((b ≡ Some halt) ⊎ (c ≡ Some halt)))

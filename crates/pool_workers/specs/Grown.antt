@@ -1,4 +1,4 @@
--- The state behind the lock: docs/PROFILE.md, "The pool".
+-- The state that the lock protects: docs/PROFILE.md, "The pool".
 use Rattle.std.specs.Prelude.{◌≡◌, ℕ, Bool, Option, Some}
 use Rattle.rev_tree.specs.declared.origin.SessionId.{SessionId}
 use Rattle.doc_json.specs.Document.{Document}
@@ -11,17 +11,18 @@ use Rattle.repl_target.specs.declared.replication.Plan.{Plan}
 use Rattle.repl_peer.specs.session.ReadCounts.{read_in}
 use Rattle.pool_workers.specs.Paging.{KeepsPages}
 
--- the parcel is what the source has for its request
+-- Parcel p is what the source returns for p's request.
 abbrev pub IsAnswerOf : DatabaseValue → ParcelValue → Type 0
 IsAnswerOf source p = p ≡ open_revs source p.asked
 
 module _ {F : Type 0} (refuses : F → Document → Bool) where
-  -- the filter is the given one, and the peer is the given one after calls of a run whose messages come from the source
+  -- The filter is the given one, and the peer has grown from the given one by calls of a run whose messages come from
+  -- the source.
   abbrev pub GrownPeer : DatabaseValue → Choice → SessionId → F × PeerValue → F × PeerValue → Type 0
   GrownPeer source chosen run given now = (now.0 ≡ given.0) × IsGrown (refuses given.0) source chosen run given.1 now.1
 
-  -- the given peer and the run's session are known: the peer has grown from the given one, the session has read `total`
-  -- documents, its windows are pages of the source, and the plan allows `more` windows
+  -- The target while a run is in progress. The target has grown from the given peer by calls of the run. The run's
+  -- session has read `total` documents, its windows are pages of the source, and the plan allows `more` windows.
   abbrev pub TargetKeeps : DatabaseValue → Plan → Option ((F × PeerValue) × SessionId) → SessionId → ℕ → Option ℕ
       → F × PeerValue → Type 0
   TargetKeeps source plan given session total more now =

@@ -10,13 +10,13 @@ use Rattle.pool_workers.specs.declared.parcels.ParcelMessage.TheVariants.{Parcel
 abbrev pub parcel_view : ℕ → List (ℕ × ℕ) → List (ℕ × ℕ) → ParcelView
 parcel_view parts sent got = record { parts = parts; sent = sent; got = got }
 
--- a pass without parts has sent and received nothing
+-- A thread whose pass to the channel has no parts has sent and received no parcels.
 abbrev pub IdleIsEmpty : List ParcelView → Type 0
 IdleIsEmpty views =
     (port : ℕ) (v : ParcelView) → get_elem? views port ≡ some v → v.parts ≡ 0 → (v.sent ≡ []) × (v.got ≡ [])
 
 module _ {S : Type 0} where
-  -- the parcels among messages, each by its number and its number of documents
+  -- The parcels among a channel's messages, each by its number and its number of documents.
   abbrev pub parcels : List (ParcelMessage S) → List (ℕ × ℕ)
   parcels [] = []
   parcels (Parcel number parcel ∷ xs) = (number, length parcel.docs) ∷ parcels xs
@@ -28,7 +28,8 @@ module _ {S : Type 0} where
   abbrev pub has_got : ParcelView → ParcelMessage S → ParcelView
   has_got v x = parcel_view v.parts v.sent (v.got ++ parcels (x ∷ []))
 
-  -- what was sent is what was received and what is queued; each number with its amount, equally often
+  -- The parcels that were sent are those received and those queued. Each number with its number of documents occurs
+  -- equally often on both sides.
   abbrev pub Balanced : List (ParcelMessage S) → List ParcelView → Type 0
   Balanced items views =
       (total (λ (v : ParcelView). v.parts) views ≡ 1024)
@@ -36,6 +37,6 @@ module _ {S : Type 0} where
       ≡ total (λ (v : ParcelView). weigh h v.got) views + weigh h (parcels items))
       × IdleIsEmpty views
 
-  -- what the pass with all parts knows
+  -- What a thread knows about the channel if its pass has all parts.
   abbrev pub Accounts : ParcelView → List (ParcelMessage S) → Type 0
   Accounts v items = (h : ℕ → ℕ → ℕ) → weigh h v.sent ≡ weigh h v.got + weigh h (parcels items)

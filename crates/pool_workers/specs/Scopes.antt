@@ -16,8 +16,8 @@ use Rattle.pool_workers.specs.Parcels.{parcel_view}
 use Rattle.pool_workers.specs.Windows.{window_view}
 use Rattle.pool_workers.specs.Workers.{FetcherKnows, WriterKnows}
 
--- capacity for a count of each fetcher, all parts of both channels, on which nothing was sent, all parts of the ledger,
--- which is at 0, and a seat for each writer if there is a board
+-- What the caller's thread has before it starts the workers. It has capacity for each fetcher's count, all parts of
+-- both unused channels, and all parts of the ledger, which is at 0. It has a seat for each writer if there is a board.
 pub record IsReady {S L : Type 0} (channels : Channels S) (board : Option Board) (workers : ℕ) (o : Owned S L) : Type 0
   where
     pub counts : (o.counts.items ≡ []) × (workers ≤ vec_capacity o.counts)
@@ -26,8 +26,8 @@ pub record IsReady {S L : Type 0} (channels : Channels S) (board : Option Board)
     pub all : (o.all.parts ≡ workers) × (o.all.amount ≡ 0)
     pub seats : AreSeats board 0 workers o.seats.items
 
--- the seats are returned; and if all workers were started, so are all parts of both channels and of the ledger, with
--- what the workers did, where they stopped and what they have shown
+-- What the caller's thread has after the workers have ended: the seats. If all workers were started, it also has all
+-- parts of both channels and of the ledger, with what the workers did, where they stopped and what they have shown.
 pub record HaveEnded {S L : Type 0} (channels : Channels S) (board : Option Board) (may_stop : Place → Type 0)
     (workers : ℕ) (given : List BoardSeat) (ended : Option (Ended S L)) (seats : List BoardSeat) : Type 0 where
   pub window_seat : IfSome ended (λ e. IsSeatAt (sends_on channels.to_fetchers) e.windows)
@@ -38,7 +38,8 @@ pub record HaveEnded {S L : Type 0} (channels : Channels S) (board : Option Boar
   pub back : AreBack board given seats
   pub shown : IfSome ended (λ e. HaveShown board e.all.amount e.written.stopped given seats)
 
--- a fetcher and a writer have nothing in progress, and if one was stopped, the gate allows it
+-- A fetcher and a writer that share a thread have no window or parcel in progress. If one of them was stopped, the gate
+-- allows it.
 pub record StandBy {S L : Type 0} (channels : Channels S) (board : Option Board) (may_stop : Place → Type 0)
     (p : Pair S L) : Type 0 where
   pub window_seat : IsSeatAt (sends_on channels.to_fetchers) p.fetcher.windows

@@ -10,14 +10,14 @@ use Rattle.pool_workers.specs.declared.windows.WindowMessage.TheVariants.{Window
 abbrev pub window_view : ℕ → ℕ → ℕ → List ℕ → WindowView
 window_view parts reads count taken = record { parts = parts; reads = reads; count = count; taken = taken }
 
--- a pass that is not the reader's has sent nothing, and one without parts has taken nothing and is not the reader's
+-- Only the page reader's pass has sent windows. A pass without parts is not the reader's, and has taken no windows.
 abbrev pub KeepsRole : List WindowView → Type 0
 KeepsRole views =
     (port : ℕ) (v : WindowView) → get_elem? views port ≡ some v
     → (v.reads ≡ 0 → v.count ≡ 0) × (v.parts ≡ 0 → (v.taken ≡ []) × (v.reads ≡ 0))
 
 module _ {S : Type 0} where
-  -- the numbers of the windows among messages
+  -- The numbers of the windows among a channel's messages.
   abbrev pub numbers : List (WindowMessage S) → List ℕ
   numbers [] = []
   numbers (Window number page ∷ xs) = number ∷ numbers xs
@@ -29,7 +29,7 @@ module _ {S : Type 0} where
   abbrev pub has_taken : WindowView → WindowMessage S → WindowView
   has_taken v x = window_view v.parts v.reads v.count (v.taken ++ numbers (x ∷ []))
 
-  -- what is queued and what was taken are the numbers below the reader's count, without repeats
+  -- The windows that are queued or taken have the numbers below the page reader's count, each once.
   abbrev pub Numbered : List (WindowMessage S) → List WindowView → Type 0
   Numbered items views =
       (total (λ (v : WindowView). v.parts) views ≡ 1024)
@@ -38,6 +38,6 @@ module _ {S : Type 0} where
       ≡ once_below x (total (λ (v : WindowView). v.count) views))
       × KeepsRole views
 
-  -- what the pass with all parts knows
+  -- What a thread knows about the channel if its pass has all parts.
   abbrev pub Covers : WindowView → List (WindowMessage S) → Type 0
   Covers v items = (x : ℕ) → times x v.taken + times x (numbers items) ≡ once_below x v.count

@@ -10,16 +10,16 @@ use Rattle.pool_workers.specs.Windows.{window_view}
 use Rattle.pool_workers.specs.declared.fetcher.Fetcher.{Fetcher}
 use Rattle.pool_workers.specs.declared.writer.Writer.{Writer}
 
--- the sum of the amounts
+-- The sum of the amounts of a list of numbered amounts.
 abbrev pub amounts : List (ℕ × ℕ) → ℕ
 amounts xs = weigh (λ n a. a) xs
 
--- the numbers
+-- The numbers of a list of numbered amounts.
 abbrev pub names : List (ℕ × ℕ) → List ℕ
 names xs = map (λ (x : ℕ × ℕ). x.0) xs
 
--- what a fetcher knows: if it was not stopped, its count is that of what it sent, and it sent what it took, except for
--- the windows in progress
+-- What a fetcher knows between two messages. If the fetcher was not stopped, its count is that of the parcels that it
+-- sent, and it sent a parcel for each window that it took, except for those in progress.
 abbrev pub FetcherKnows : {S : Type 0} → List ℕ → Fetcher S → Type 0
 FetcherKnows in_hand f =
     (view f.windows ≡ window_view 1 0 0 (view f.windows).taken)
@@ -28,7 +28,7 @@ FetcherKnows in_hand f =
     × (f.stopped ≡ None → (f.fetched ≡ amounts (view f.parcels).sent)
     × ((view f.windows).taken ≡ names (view f.parcels).sent ++ in_hand))
 
--- what a fetcher knows between counting a parcel and sending it
+-- What a fetcher knows between counting a parcel and sending it.
 abbrev pub HasCounted : {S : Type 0} → ℕ × ℕ → Fetcher S → Type 0
 HasCounted x f =
     (view f.windows ≡ window_view 1 0 0 (view f.windows).taken)
@@ -38,8 +38,8 @@ HasCounted x f =
     × (f.fetched ≡ amounts (view f.parcels).sent + x.1)
     × ((view f.windows).taken ≡ names (view f.parcels).sent ++ x.0 ∷ [])
 
--- what a writer knows: if it was not stopped, its count and its share are those of what it received, except for the
--- parcels in progress
+-- What a writer knows between two messages. If the writer was not stopped, its count and its share are those of the
+-- parcels that it received, except for those in progress.
 abbrev pub WriterKnows : {S L : Type 0} → List (ℕ × ℕ) → Writer S L → Type 0
 WriterKnows in_hand w =
     (view w.parcels ≡ parcel_view 1 [] (view w.parcels).got)
@@ -47,7 +47,7 @@ WriterKnows in_hand w =
     × (w.stopped ≡ None → (w.got + length in_hand ≡ length (view w.parcels).got)
     × (w.share.amount + amounts in_hand ≡ amounts (view w.parcels).got))
 
--- what a writer's seat shows: the growth of its share since the seat was given
+-- What a writer's seat shows on the board: the growth of the writer's share since the seat was given.
 abbrev pub WriterShows : {S L : Type 0} → Option Board → Option BoardSeat → Writer S L → Type 0
 WriterShows board given w =
     AreBack board (option_to_list given) (option_to_list w.seat)

@@ -1,15 +1,15 @@
--- The result of a call that allocates.
+-- The result of a call that may run out of memory.
 use Rattle.std.specs.Prelude.{◌≡◌, ℕ, List, Vec, Result, Ok, Err, IsOk}
 use Rattle.std.specs.declared.alloc.Global.{Global}
 use Rattle.repl_log.specs.declared.fault.LogFault.{LogFault}
 use Rattle.repl_log.specs.declared.fault.LogFault.TheVariants as faults
 
--- the result is the expected one, or `Memory` if `Ok` is expected
+-- A result is the expected one, or it is `Memory` and the expected one is `Ok`.
 abbrev pub GivesUnlessMemory : {A : Type 0} → Result A LogFault → Result A LogFault → Type 0
 GivesUnlessMemory (Err faults.Memory) expected = IsOk expected
 GivesUnlessMemory result expected = result ≡ expected
 
--- the bytes of a result
+-- A call's result with a list of bytes instead of a vector.
 abbrev pub bytes_of : Result (Vec ℕ Global) LogFault → Result (List ℕ) LogFault
 bytes_of (Ok bytes) = Ok bytes.items
 bytes_of (Err fault) = Err fault

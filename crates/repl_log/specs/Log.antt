@@ -7,80 +7,83 @@ use Rattle.repl_log.specs.declared.fault.LogFault.{LogFault}
 use Rattle.repl_log.specs.declared.fault.LogFault.TheVariants as faults
 use Rattle.repl_log.specs.Entry.{EntryValue, IsSound}
 
--- whether e is the entry of session s
+-- Whether e is the entry of session s.
 abbrev pub is_of : SessionId → EntryValue → Bool
 is_of s e = e.session.0 == s.0
 
--- whether the log has session s
+-- Whether the log has an entry of session s.
 abbrev pub holds : List EntryValue → SessionId → Bool
 holds log s = list_any (is_of s) log
 
--- the entry of a session, if the log has it
+-- The entry of session s, if the log has one.
 abbrev pub entry_for : List EntryValue → SessionId → Option EntryValue
 entry_for log s = find (is_of s) log
 
--- the recorded sequence of a session, if the log has it
+-- The recorded sequence of session s, if the log has an entry of s.
 abbrev pub recorded_of : List EntryValue → SessionId → Option ℕ
 recorded_of log s = option_map (λ e. e.recorded) (entry_for log s)
 
 -- ---- the effect of `put`
 
--- the log with the entry replacing its session's
+-- The log after entry e has replaced the entry of its session.
 abbrev pub replaced : List EntryValue → EntryValue → List EntryValue
 replaced log e = map (λ x. if is_of e.session x then e else x) log
 
--- the log after a put: a new session becomes the first; an existing one is replaced in place
+-- The log after a put of entry e. The entry of a new session becomes the first, and that of a known session is replaced
+-- in place.
 abbrev pub with_entry : List EntryValue → EntryValue → List EntryValue
 with_entry log e = if holds log e.session then replaced log e else e ∷ log
 
--- the result of a put, given the stored entry of the session: the recorded sequence must not fall
+-- The result of a put of entry e, given the stored entry of its session. The recorded sequence of a session must not
+-- fall.
 abbrev pub put_beside : EntryValue → Option EntryValue → Result (Unit {0}) LogFault
 put_beside e None = Ok tt
 put_beside e (Some stored) = if nat_lt e.recorded stored.recorded then Err (faults.Older stored.recorded) else Ok tt
 
--- the result of `put`, if no allocation fails
+-- The result of a put of entry e into the log, if no allocation fails.
 abbrev pub put_answer : List EntryValue → EntryValue → Result (Unit {0}) LogFault
 put_answer log e = put_beside e (entry_for log e.session)
 
--- the new log has entry e for its session, and the old entries for all other sessions
+-- The new log has entry e for the session of e, and the old entries for all other sessions.
 abbrev pub ChangesOnly : List EntryValue → List EntryValue → EntryValue → Type 0
 ChangesOnly old new e = (s : SessionId) → entry_for new s ≡ (if is_of s e then Some e else entry_for old s)
 
 -- ---- the common checkpoint
 
--- the newest entry of the target's log whose session is also in the source's log
+-- The newest entry of the target's log whose session is also in the source's log.
 abbrev pub shared : List EntryValue → List EntryValue → Option EntryValue
 shared source target = find (λ t. holds source t.session) target
 
--- a session with the lesser of the recorded sequences of its two entries
+-- The session of entry t, with the lesser of the recorded sequences of its entries t and s.
 abbrev pub lesser_of : EntryValue → EntryValue → SessionId × ℕ
 lesser_of t s = (t.session, min s.recorded t.recorded)
 
--- a session of the target's log with the lesser of its two recorded sequences, if the source's log has it
+-- The session of the target's entry t with the lesser of its two recorded sequences, if the source's log has the
+-- session.
 abbrev pub checkpoint_at : List EntryValue → EntryValue → Option (SessionId × ℕ)
 checkpoint_at source t = option_map (lesser_of t) (entry_for source t.session)
 
--- the newest session of the target's log that is also in the source's log, with the lesser of its two recorded
--- sequences; `None` if no session is shared
+-- The newest session of the target's log that is also in the source's log, with the lesser of its two recorded
+-- sequences. The result is `None` if no session is in both logs.
 abbrev pub common : List EntryValue → List EntryValue → Option (SessionId × ℕ)
 common source target = option_and_then (checkpoint_at source) (shared source target)
 
--- session s and number n are the common checkpoint, with its two entries
+-- Session s and sequence n are the common checkpoint of the logs of a source and a target.
 pub record IsCommon (source target : List EntryValue) (s : SessionId) (n : ℕ) : Type 0 where
   pub newer : List EntryValue
   pub older : List EntryValue
   pub at_target : EntryValue
   pub at_source : EntryValue
-  -- no newer session of the target's log is in the source's log
+  -- No newer session of the target's log is in the source's log.
   pub target_is : target ≡ newer ++ at_target ∷ older
   pub none_newer : list_any (λ t. holds source t.session) newer ≡ false
-  -- both logs have the session
+  -- Both logs have the session of the checkpoint.
   pub target_has : entry_for target s ≡ Some at_target
   pub source_has : entry_for source s ≡ Some at_source
-  -- n is the lesser of the two recorded sequences
+  -- The checkpoint's sequence n is the lesser of the two recorded sequences.
   pub lesser : n ≡ min at_source.recorded at_target.recorded
 
--- the logs share no session
+-- No session is in both logs.
 abbrev pub IsUnshared : List EntryValue → List EntryValue → Type 0
 IsUnshared source target = list_any (λ t. holds source t.session) target ≡ false
 
@@ -89,7 +92,7 @@ IsUnshared source target = list_any (λ t. holds source t.session) target ≡ fa
 abbrev pub session_numbers : List EntryValue → List ℕ
 session_numbers log = map (λ e. e.session.0) log
 
--- the invariant of a log: its sessions are distinct, and its entries satisfy theirs
+-- The invariant of a log: its sessions are distinct, and each of its entries satisfies the invariant of an entry.
 pub record IsLog (log : List EntryValue) : Type 0 where
   pub distinct : IsDistinct nat_eq (session_numbers log)
   pub sound : AllByRecursion IsSound log

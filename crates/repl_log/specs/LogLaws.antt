@@ -56,7 +56,7 @@ entry_for-replaced log e s held =
       | false ↦ λ other. entry_for-replaced_other log e s other
     ] refl
 
--- the new log has the entry for its session, and every other session keeps its own
+-- The log after a put of entry e has e for its session, and the old entries for all other sessions.
 pub ChangesOnly-with_entry : (log : List EntryValue) (e : EntryValue) → ChangesOnly log (with_entry log e) e
 ChangesOnly-with_entry log e s =
     elim (holds log e.session) as (λ b. holds log e.session ≡ b → entry_for (cond b (replaced log e) (e ∷ log)) s ≡ cond (is_of s e) (Some e) (entry_for log s)) [
@@ -135,7 +135,7 @@ later source target t s n not_held c =
       lesser = c.lesser;
     }
 
--- `common` satisfies `IsCommon`
+-- A checkpoint that `common` returns satisfies `IsCommon`.
 pub common-IsCommon : (source target : List EntryValue) (c : SessionId × ℕ) → common source target ≡ Some c → IsCommon source target c.0 c.1
 common-IsCommon source [] c h = cc h
 common-IsCommon source (t ∷ target) c h =
@@ -144,7 +144,7 @@ common-IsCommon source (t ∷ target) c h =
       | false ↦ λ not_held found. later source target t c.0 c.1 not_held (common-IsCommon source target c found)
     ] refl h
 
--- the number is at most what either side recorded
+-- The sequence of a common checkpoint is at most what either side recorded.
 pub common-le : (source target : List EntryValue) (s : SessionId) (n : ℕ) (c : IsCommon source target s n) → (n ≤ c.at_source.recorded) × (n ≤ c.at_target.recorded)
 common-le source target s n c = let lesser = c.lesser in (omega arith, omega arith)
 
@@ -155,7 +155,7 @@ checkpoint_at-held source t =
       | None ↦ refl
     ] ∙ is_some-entry_for source t.session
 
--- there is a common checkpoint exactly if a session is shared
+-- Two logs have a common checkpoint exactly if a session is in both.
 pub is_some-common : (source target : List EntryValue) → is_some (common source target) ≡ list_any (λ t. holds source t.session) target
 is_some-common source [] = refl
 is_some-common source (t ∷ target) =
@@ -194,12 +194,12 @@ turned source target i x is =
     at_drop_more (λ (rest : List EntryValue). common source rest) target i x (slice_get_within target i x is)
     ∙ ap (λ (y : EntryValue). common source (y ∷ drop (i + 1) target)) (get_or_from_slice_get target i x x is)
 
--- its session is shared
+-- If the source's log has the session of the entry at index i, this session is the common checkpoint.
 pub common-at : (source target : List EntryValue) (i recorded : ℕ) (x : EntryValue) → common source target ≡ common source (drop i target) → slice_get target i ≡ Some x → recorded_of source x.session ≡ Some recorded
     → common source target ≡ Some (x.session, min recorded x.recorded)
 common-at source target i recorded x so_far is held = so_far ∙ turned source target i x is ∙ common-shared source (drop (i + 1) target) x recorded held
 
--- or the checkpoint is among the later entries
+-- If the source's log does not have the session of the entry at index i, the checkpoint is among the later entries.
 pub common-behind : (source target : List EntryValue) (i : ℕ) (x : EntryValue) → common source target ≡ common source (drop i target) → slice_get target i ≡ Some x → recorded_of source x.session ≡ None
     → common source target ≡ common source (drop (i + 1) target)
 common-behind source target i x so_far is none = so_far ∙ turned source target i x is ∙ common-passed source (drop (i + 1) target) x none

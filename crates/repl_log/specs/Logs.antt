@@ -6,16 +6,16 @@ use Rattle.repl_log.specs.Entry.{EntryValue}
 use Rattle.repl_log.specs.Log.{with_entry, put_answer}
 use Rattle.repl_log.specs.RepId.{same_rep}
 
--- the log of a replication; empty if there is none
+-- The log of a replication, or the empty list if there is no such log.
 abbrev pub log_in : List (RepId × List EntryValue) → RepId → List EntryValue
 log_in [] rep = []
 log_in (l ∷ logs) rep = if same_rep rep l.0 then l.1 else log_in logs rep
 
--- stores the entry in the log of its replication; the log of a new replication is the last
+-- The logs after entry e was stored in the log of its replication. The log of a new replication becomes the last.
 abbrev pub logs_with : List (RepId × List EntryValue) → RepId → EntryValue → List (RepId × List EntryValue)
 logs_with [] rep e = (rep, with_entry [] e) ∷ []
 logs_with (l ∷ logs) rep e = if same_rep rep l.0 then (l.0, with_entry l.1 e) ∷ logs else l ∷ logs_with logs rep e
 
--- the result of storing an entry, if no allocation fails
+-- The result of storing entry e in the log of a replication, if no allocation fails.
 abbrev pub put_answer_in : List (RepId × List EntryValue) → RepId → EntryValue → Result (Unit {0}) LogFault
 put_answer_in logs rep e = put_answer (log_in logs rep) e

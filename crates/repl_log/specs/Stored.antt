@@ -1,16 +1,16 @@
--- Values stored by session, oldest first, and the list that contracts see, newest first.
+-- Values stored by session, oldest first, and the list of the values that contracts use, newest first.
 use Rattle.std.specs.Prelude.{◌≡◌, ◌==◌, Bool, List, map, reverse}
 use Rattle.std.specs.List.{AllByRecursion}
 use Rattle.rev_tree.specs.declared.origin.SessionId.{SessionId}
 
--- whether two session ids are equal
+-- Whether two session ids are equal.
 abbrev pub at_session : SessionId → SessionId → Bool
 at_session s k = s.0 == k.0
 
--- the values of a table, newest first
+-- The values of a table, newest first.
 abbrev pub newest_first : {X V : Type 0} → (X → V) → List (SessionId × X) → List V
 newest_first value es = reverse (map (λ e. value e.1) es)
 
--- each value is stored under its own session
+-- Each value of a table is stored under the value's own session.
 abbrev pub IsKeyed : {X : Type 0} → (X → SessionId) → List (SessionId × X) → Type 0
 IsKeyed session es = AllByRecursion (λ e. session e.1 ≡ e.0) es

@@ -15,7 +15,7 @@ use Rattle.indexmap.specs.IndexMap.{insert_entry}
 use Rattle.rev_tree.specs.declared.origin.SessionId.{SessionId}
 use Rattle.repl_log.specs.Stored.{at_session, newest_first, IsKeyed}
 
--- no session occurs twice
+-- No session occurs twice in a table.
 abbrev pub EachSessionOnce : {X : Type 0} → List (SessionId × X) → Type 0
 EachSessionOnce es = IsDistinct at_session (keys_of es)
 
@@ -34,7 +34,7 @@ absent-lookup : {X : Type 0} (s : SessionId) (es : List (SessionId × X)) → Al
 absent-lookup s [] none = refl
 absent-lookup s (e ∷ es) none = ap (λ b. cond b (Some e.1) (lookup (at_session s) es)) none.0 ∙ absent-lookup s es none.1
 
--- inserting at an existing session replaces its value
+-- Inserting a value for a session that the table has already replaces the session's value.
 pub insert_entry-present : {X : Type 0} (s : SessionId) (es : List (SessionId × X)) (x y : X) → lookup (at_session s) es ≡ Some y → insert_entry at_session es s x ≡ set_value (at_session s) es x
 insert_entry-present s [] x y is = cc is
 insert_entry-present s (e ∷ es) x y is =
@@ -43,7 +43,8 @@ insert_entry-present s (e ∷ es) x y is =
       | false ↦ λ rest. ap (λ l. e ∷ l) (insert_entry-present s es x y rest)
     ] is
 
--- given the session of a value, and its model
+-- Theorems about stored values, given the function from a stored value to the value in contracts, and that to its
+-- session.
 module _ {X V : Type 0} (value : X → V) (session : V → SessionId) where
   abbrev named : SessionId → V → Bool
   named s v = (session v).0 == s.0
@@ -60,13 +61,13 @@ module _ {X V : Type 0} (value : X → V) (session : V → SessionId) where
   pub newest_first-cons : (e : SessionId × X) (es : List (SessionId × X)) → newest_first value (e ∷ es) ≡ newest_first value es ++ value e.1 ∷ []
   newest_first-cons e es = reverse_onto (map (λ (e : SessionId × X). value e.1) es) (value e.1) []
 
-  -- one more value is the newest
+  -- A value that is appended to a table is the newest.
   pub newest_first-push : (s : SessionId) (x : X) (es : List (SessionId × X)) → newest_first value (es ++ (s, x) ∷ []) ≡ value x ∷ newest_first value es
   newest_first-push s x es = ap reverse (map_push (λ (e : SessionId × X). value e.1) es (s, x)) ∙ reverse-append (map (λ (e : SessionId × X). value e.1) es) (value x ∷ [])
 
   -- ---- lookups
 
-  -- the value that a table has at a session, if it passes a further test
+  -- The value that a table has for a session, if the value passes a further test.
   abbrev pub chosen : (V → Bool) → Option X → Option V
   chosen q None = None
   chosen q (Some x) = if q (value x) then Some (value x) else None
@@ -96,7 +97,7 @@ module _ {X V : Type 0} (value : X → V) (session : V → SessionId) where
   chosen-always None = refl
   chosen-always (Some x) = refl
 
-  -- the value of a session is the one that the table has there
+  -- Searching the list of values for a session finds the value that the table has for the session.
   pub find-lookup : (s : SessionId) (es : List (SessionId × X)) → IsKeyed own es → EachSessionOnce es → find (named s) (newest_first value es) ≡ option_map value (lookup (at_session s) es)
   find-lookup s es keyed once =
       find-chosen (λ _. true) (named s) s (λ v. sym (and-true (named s v))) es keyed once ∙ chosen-always (lookup (at_session s) es)
@@ -129,7 +130,7 @@ module _ {X V : Type 0} (value : X → V) (session : V → SessionId) where
   put_over-set s x [] keyed once = refl
   put_over-set s x (e ∷ es) keyed once = put_step s x e es keyed once.0 (put_over-set s x es keyed.1 once.1) (at_session s e.0) refl
 
-  -- a write at an existing session replaces its value
+  -- A write for a session that the table has already replaces the session's value.
   pub newest_first-set : (s : SessionId) (x : X) (es : List (SessionId × X)) → IsKeyed own es → EachSessionOnce es → newest_first value (set_value (at_session s) es x) ≡ map (put_over s x) (newest_first value es)
   newest_first-set s x es keyed once = ap reverse (put_over-set s x es keyed once) ∙ sym (map-reverse (put_over s x) (map (λ e. value e.1) es))
 

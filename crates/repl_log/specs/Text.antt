@@ -14,23 +14,23 @@ use Rattle.repl_log.specs.declared.replication.RepId.{RepId}
 use Rattle.repl_log.specs.Entry.{EntryValue}
 use Rattle.repl_log.specs.Time.{time_text}
 
--- the 32 lower-case hexadecimal digits of a number below 2^128
+-- The 32 lower-case hexadecimal digits of a number below 2^128.
 unfoldable pub id_digits : ℕ → List ℕ
 id_digits n = encode_lower (to_be_bytes w128 n)
 
 -- ---- replication ids
 
--- the text of a selection: `-`, and the lower-case hexadecimal digits of the JSON array of its ids
+-- The text of a selection in a replication id: `-`, and the lower-case hexadecimal digits of the JSON array of its ids.
 abbrev pub choice_digits : Choice → List ℕ
 choice_digits None = []
 choice_digits (Some ids) = 45 ∷ encode_lower (ids_text ids)
 
--- the ids of a selection are strings of bytes
+-- The ids of a selection are strings of bytes.
 abbrev pub HasTexts : Choice → Type 0
 HasTexts None = Unit {0}
 HasTexts (Some ids) = AllByRecursion IsText ids
 
--- both numbers are UUIDs, and the selected ids are strings of bytes
+-- The UUIDs in a replication id are below 2^128, and the selected ids are strings of bytes.
 pub record IsRepId (id : RepId) : Type 0 where
   pub source : id.source < 2 ^ 128
   pub target : id.target < 2 ^ 128
@@ -45,13 +45,14 @@ coded_rep =
     (λ r. (r.source, (r.target, r.chosen))) (λ p. record { source = p.0; target = p.1.0; chosen = p.1.1 })
     (λ _. refl)
 
--- the text of a replication id: the source's digits, `-`, the target's, and the text of the selection
+-- The text of a replication id: the digits of the source's UUID, `-`, those of the target's UUID, and the text of the
+-- selection.
 abbrev pub rep_text : RepId → List ℕ
 rep_text id = id_digits id.source ++ 45 ∷ (id_digits id.target ++ choice_digits id.chosen)
 
 -- ---- logs
 
--- the members of an object, in order
+-- A JSON object's members, in the order of the list.
 abbrev pub members : List (List ℕ × Data) → Members
 members [] = no_members
 members (m ∷ ms) = member m.0 m.1 (members ms)
@@ -59,7 +60,7 @@ members (m ∷ ms) = member m.0 m.1 (members ms)
 abbrev pub whole : ℕ → Data
 whole n = number (unsigned n)
 
--- an entry of the history, given the strings of its session and its two times
+-- An entry of a log's history as a JSON object, given the strings of the session and of the two timestamps.
 abbrev pub entry_with : EntryValue → List ℕ → List ℕ → List ℕ → Data
 entry_with e session_id start_time end_time =
     object (members
@@ -79,13 +80,13 @@ entry_with e session_id start_time end_time =
 abbrev pub entry_json : EntryValue → Data
 entry_json e = entry_with e (id_digits e.session.0) (time_text e.start_time) (time_text e.end_time)
 
--- the texts of entries, separated by commas; a comma also comes before the first if `later` is true
+-- The texts of log entries, separated by commas. A comma also comes before the first if `later` is true.
 abbrev pub listed : Bool → List EntryValue → List ℕ
 listed later [] = []
 listed later (e ∷ es) = comma_if later ++ (compact_text (entry_json e) ++ listed true es)
 
--- a log, newest first, given the text of its replication id, its history, and the session and recorded sequence of its
--- newest entry
+-- A log as a JSON object, given the text of its replication id, its history, and the session and recorded sequence of
+-- its newest entry.
 abbrev pub log_with : List ℕ → Items → List ℕ → ℕ → Data
 log_with name history session_id recorded =
     object (members
@@ -100,7 +101,7 @@ abbrev pub log_json : RepId → EntryValue → List EntryValue → Data
 log_json id newest log =
     log_with (rep_text id) (items_of (map entry_json log)) (id_digits newest.session.0) newest.recorded
 
--- the text of a log: its object in compact form; a log without entries has none
+-- The text of a log: its JSON object in compact form. A log without entries has no text, so the result is `EmptyLog`.
 abbrev pub log_text : RepId → List EntryValue → Result (List ℕ) LogFault
 log_text id [] = Err faults.EmptyLog
 log_text id (newest ∷ older) = Ok (compact_text (log_json id newest (newest ∷ older)))

@@ -13,40 +13,40 @@ use Rattle.repl_peer.specs.logs.Checkpoint.{rep_between, checkpoint_between}
 use Rattle.repl_target.specs.declared.auditing.found.Audit.{Audit}
 use Rattle.repl_target.specs.declared.auditing.found.Audit.TheVariants.{Clean, Hole}
 
--- the first leaf of the source's selected feed at or below sequence n that is not covered at the target
+-- The first leaf of the source's selected feed at or below sequence n that the target does not cover.
 abbrev pub hole_under : PeerValue → PeerValue → Choice → ℕ → Option Leaf
 hole_under source target chosen n = first_uncovered target (chosen_feed chosen source.db 0 n)
 
--- the first uncovered leaf at or below a checkpoint; none if the logs share no session
+-- The first leaf at or below a checkpoint that the target does not cover. The result is `None` without a checkpoint.
 abbrev pub hole_at : PeerValue → PeerValue → Choice → Option (SessionId × ℕ) → Option Leaf
 hole_at source target chosen None = None
 hole_at source target chosen (Some checkpoint) = hole_under source target chosen checkpoint.1
 
--- the first uncovered leaf at or below the common checkpoint
+-- The first leaf of the source's selected feed, at or below the common checkpoint, that the target does not cover.
 abbrev pub hole_between : PeerValue → PeerValue → RepId → Option Leaf
 hole_between source target rep = hole_at source target rep.chosen (checkpoint_between source target rep)
 
 abbrev pub audit_answer : PeerValue → PeerValue → Choice → Option Leaf
 audit_answer source target chosen = hole_between source target (rep_between source target chosen)
 
--- the leaf that an audit names
+-- The leaf that an audit reports, if it reports one.
 abbrev pub hole_of : Audit → Option Leaf
 hole_of Clean = None
 hole_of (Hole seq id rev) = Some (record { seq = seq; id = id; rev = rev })
 
 -- ---- meaning
 
--- each leaf of a database's selected feed at or below n is covered at the target
+-- The target covers each leaf of a database's selected feed at or below sequence n.
 abbrev pub CoversFeedOf : Choice → DatabaseValue → PeerValue → ℕ → Type 0
 CoversFeedOf chosen db target n =
     (row : RowValue) → Among row (chosen_feed chosen db 0 n) → (leaf : RevId) → Among leaf row.leaves
     → covers target row.id leaf ≡ true
 
--- each leaf of the source's selected feed at or below n is covered at the target
+-- The target covers each leaf of the source's selected feed at or below sequence n.
 abbrev pub CoversFeed : PeerValue → PeerValue → Choice → ℕ → Type 0
 CoversFeed source target chosen n = CoversFeedOf chosen source.db target n
 
--- each leaf up to the common checkpoint is covered
+-- The target covers each leaf of the source's selected feed up to the common checkpoint, if there is one.
 abbrev pub IsAudited : PeerValue → PeerValue → Choice → Type 0
 IsAudited source target chosen =
     (s : SessionId) (n : ℕ) → checkpoint_between source target (rep_between source target chosen) ≡ Some (s, n)

@@ -19,7 +19,7 @@ use Rattle.repl_peer.specs.declared.fault.TargetFault.{TargetFault}
 use Rattle.repl_peer.specs.declared.session.beginning.Beginning.{Beginning}
 use Rattle.repl_target.specs.declared.replication.Plan.{Plan}
 
--- the number of documents of a parcel that are settled if no allocation fails; 0 if the checks fail
+-- The number of documents of a parcel that are settled if no allocation fails, or 0 if a check of the parcel fails.
 abbrev pub settled_of : (Document → Bool) → PeerValue → ParcelValue → Result (SessionValue × WindowValue) TargetFault
     → ℕ
 settled_of refuses p parcel (Err fault) = 0
@@ -28,12 +28,13 @@ settled_of refuses p parcel (Ok at) = settled_before refuses at.1 (settling_of p
 abbrev pub most_settled : (Document → Bool) → PeerValue → SessionId → ParcelValue → ℕ
 most_settled refuses p session parcel = settled_of refuses p parcel (settle_check p session parcel)
 
--- the target if settling ran out of memory after n documents, or after those that can be settled, if they are fewer
+-- The target after settling ran out of memory after n documents, or after all that can be settled if these are fewer
+-- than n.
 abbrev pub after_some : (Document → Bool) → PeerValue → SessionId → ParcelValue → ℕ → PeerValue
 after_some refuses p session parcel n =
     after_stop refuses p session parcel (min n (most_settled refuses p session parcel))
 
--- a call on a target. `Stop` is a settling that ran out of memory after a number of documents
+-- A call on a target. The call `Stop` is a settling that ran out of memory after a number of documents.
 pub data Call : Type 0 where
   Load : (doc : Document) → Call
   Edit : (id : Id) (parent : Option RevId) (deleted : Bool) (body : List ℕ) → Call
@@ -44,7 +45,7 @@ pub data Call : Type 0 where
   Record : (session : SessionId) (at : ℕ) → Call
   Conclude : (session : SessionId) (at : ℕ) → Call
 
--- the target after a call, including a failed one
+-- The target after a call, even if the call failed.
 abbrev pub after_call : (Document → Bool) → PeerValue → Call → PeerValue
 after_call refuses p (Load doc) = after_load p doc
 after_call refuses p (Edit id parent deleted body) = after_edit p id parent deleted body
@@ -55,12 +56,12 @@ after_call refuses p (Stop session parcel settled) = after_some refuses p sessio
 after_call refuses p (Record session at) = after_record p session at
 after_call refuses p (Conclude session at) = after_conclude p session at
 
--- the target after a list of calls
+-- The target after a list of calls.
 abbrev pub after_calls : (Document → Bool) → PeerValue → List Call → PeerValue
 after_calls refuses p [] = p
 after_calls refuses p (c ∷ calls) = after_calls refuses (after_call refuses p c) calls
 
--- w is a page of the database for a selection
+-- Window w is a page of database `db` for a selection.
 pub record IsPageOf (db : DatabaseValue) (chosen : Choice) (w : WindowValue) : Type 0 where
   pub since : ℕ
   pub goal : ℕ
@@ -70,8 +71,8 @@ pub record IsPageOf (db : DatabaseValue) (chosen : Choice) (w : WindowValue) : T
   pub within : goal ≤ db.update_seq
   pub is : w ≡ page db since goal limit chosen
 
--- a call of a run: it concerns the run's session, begins no session and makes no local write; its messages come from
--- the source, for the selection
+-- A call of a run of the pool, for the run's session. The call begins no session and makes no local write, and its
+-- messages come from the source, for the selection.
 abbrev pub IsFrom : DatabaseValue → Choice → SessionId → Call → Type 0
 IsFrom source chosen run (Append session window) = (session ≡ run) × IsPageOf source chosen window
 IsFrom source chosen run (Settle session parcel) = (session ≡ run) × (parcel ≡ open_revs source parcel.asked)
@@ -84,20 +85,20 @@ abbrev pub AllFrom : DatabaseValue → Choice → SessionId → List Call → Ty
 AllFrom source chosen run [] = Unit {0}
 AllFrom source chosen run (c ∷ calls) = IsFrom source chosen run c × AllFrom source chosen run calls
 
--- the target has grown from a given one by calls of a run
+-- The target peer `now` has grown from the peer `given` by calls of a run.
 abbrev pub IsGrown : (Document → Bool) → DatabaseValue → Choice → SessionId → PeerValue → PeerValue → Type 0
 IsGrown refuses source chosen run given now =
     (calls : List Call) × AllFrom source chosen run calls × (now ≡ after_calls refuses given calls)
 
--- the effect of a replication on its target: unchanged, or the plan's session has begun at the common checkpoint, and
--- the target has grown since
+-- The effect of a replication on its target. The target is unchanged, or the plan's session has begun at the common
+-- checkpoint, and the target has grown by calls of this session.
 abbrev pub IsLeft : (Document → Bool) → PeerValue → PeerValue → Plan → PeerValue → Type 0
 IsLeft refuses source given plan now =
     (now ≡ given)
     ⊎ (begins_answer source given plan ≡ Ok tt)
     × IsGrown refuses source.db plan.chosen plan.session (after_begins source given plan) now
 
--- P holds for each window of the sessions for which Q holds
+-- Each window of a session that satisfies Q satisfies P.
 abbrev pub EachStored : (SessionId → RepId → Type 0) → (WindowValue → Type 0) → List SessionValue → Type 0
 EachStored Q P sessions =
     (s : SessionValue) → Among s sessions → Q s.id s.rep → (w : WindowValue) → Among w s.windows → P w

@@ -14,18 +14,18 @@ use Rattle.repl_target.specs.declared.replication.Plan.{Plan}
 use Rattle.repl_target.specs.ties.Ties.{IsTiedWith, IsSentEntry, KeepsOthersTied}
 use Rattle.repl_target.specs.replication.Calls.{IsLeft}
 
--- each tree of a database has grown from the older one by data of the other database
+-- Each tree of database `now` has grown from the tree in database `old` by data of database `other`.
 abbrev pub HasGrownBy : DatabaseValue → DatabaseValue → DatabaseValue → Type 0
 HasGrownBy old other now = (id : Id) → IsGrownBy (tree_of old.docs id) (tree_of other.docs id) (tree_of now.docs id)
 
--- the source is unchanged, or an entry of the target's was stored in its log
+-- The source after a replication is unchanged, or an entry of a session of the target was stored in its log.
 abbrev pub IsPut : PeerValue → PeerValue → Choice → PeerValue → Type 0
 IsPut source target chosen source' =
     (source' ≡ source)
     ⊎ (e : EntryValue) × IsSentEntry target e × (source' ≡ after_put_entry source (rep_between source target chosen) e)
 
--- of the source only the log changes, in which an entry may have been stored; the target is unchanged or has grown by
--- calls of the plan's session; and the two peers, and third ones, stay tied
+-- The effect of a replication on both peers. Of the source only the log may have changed. The target is unchanged or
+-- has grown by calls of the plan's session. Both peers stay tied to each other and to third peers.
 pub record Leaves (refuses : Document → Bool) (source target : PeerValue) (plan : Plan) (source' target' : PeerValue)
     : Type 0 where
   pub log : source' ≡ record source { outgoing = source'.outgoing }

@@ -29,17 +29,17 @@ use Rattle.repl_target.specs.declared.replication.Plan.{Plan}
 
 -- ---- before a session begins
 
--- whether the maximum number of rows of a window is 1 to 10,000
+-- Whether `batch`, the maximum number of rows of a window, is valid: from 1 to 10,000.
 abbrev pub is_batch : ℕ → Bool
 is_batch n = nat_le 1 n && nat_le n 10000
 
--- the result of the first checks, for databases with these UUIDs
+-- The result of checking a replication's plan, for databases with these UUIDs.
 abbrev pub plan_answer : ℕ → ℕ → Plan → Result (Unit {0}) TargetFault
 plan_answer source target plan =
     if is_batch plan.batch then (if source == target then Err faults.SamePeer else Ok tt)
     else Err faults.BadBatch
 
--- the base of a session: the session of the common checkpoint, if there is one
+-- The base of a new session: the session of the common checkpoint, if there is one.
 abbrev pub base_at : Option (SessionId × ℕ) → Option SessionId
 base_at None = None
 base_at (Some checkpoint) = Some checkpoint.0
@@ -48,15 +48,15 @@ abbrev pub start_at : Option (SessionId × ℕ) → ℕ
 start_at None = 0
 start_at (Some checkpoint) = checkpoint.1
 
--- the common checkpoint of a replication from one peer into the other
+-- The common checkpoint of a replication from the source to the target.
 abbrev pub checkpoint_of : PeerValue → PeerValue → Choice → Option (SessionId × ℕ)
 checkpoint_of source target chosen = checkpoint_between source target (rep_between source target chosen)
 
 abbrev pub start_between : PeerValue → PeerValue → Choice → ℕ
 start_between source target chosen = start_at (checkpoint_of source target chosen)
 
--- the scope of the session: the source's life, the session of the common checkpoint as base, and the source's update
--- sequence as goal
+-- The scope of a new session. Its base is the session of the common checkpoint, and its goal is the source's update
+-- sequence.
 abbrev pub scope_between : PeerValue → PeerValue → Choice → Scope
 scope_between source target chosen = record {
   rep = rep_between source target chosen;
@@ -77,27 +77,27 @@ after_begins source target plan = after_begin target plan.session (beginning_bet
 
 -- ---- windows
 
--- the sequence up to which the source's feed is read, and the target at that time
+-- A replication between two windows: the sequence up to which the source's feed was read, and the target.
 pub record Reading : Type 0 where
   pub since : ℕ
   pub target : PeerValue
 
--- the next window of the source's feed, with the rows of selected documents
+-- The next window of the source's feed above sequence `since`, with the rows of selected documents.
 abbrev pub next_window : DatabaseValue → Plan → ℕ → WindowValue
 next_window source plan since = page source since source.update_seq plan.batch plan.chosen
 
--- the documents of a window that the target lacks, as the source has them
+-- The parcel of window w for target p: the documents of w's leaves that p does not have, as the source has them.
 abbrev pub parcel_for : DatabaseValue → PeerValue → WindowValue → ParcelValue
 parcel_for source p w = open_revs source (revs_diff p.db w)
 
--- the session stores the window, and the missing documents are settled, with this result
+-- The session stores window w, and settling the missing documents has this result.
 abbrev pub StoresAndSettles : (Document → Bool) → Plan → PeerValue → WindowValue → ParcelValue
     → Result Settled TargetFault → PeerValue → Type 0
 StoresAndSettles refuses plan p w parcel result q =
     (append_answer p plan.session w ≡ Ok tt)
     × SettleGives refuses (after_append p plan.session w) plan.session parcel result q
 
--- the next window is read, stored and settled
+-- The next window of the source's feed is read, stored and settled.
 pub record Carries (refuses : Document → Bool) (source : DatabaseValue) (plan : Plan) (before after : Reading) : Type 0
   where
     pub due : before.since < source.update_seq
@@ -108,7 +108,7 @@ pub record Carries (refuses : Document → Bool) (source : DatabaseValue) (plan 
         (Ok settled) after.target
     pub reached : after.since ≡ window.hi
 
--- the next window fails: an allocation fails, or the session does not store it, or settling fails
+-- The next window fails, because an allocation fails, the session does not store the window, or settling fails.
 abbrev pub WindowRefused : (Document → Bool) → DatabaseValue → Plan → Reading → TargetFault → PeerValue → Type 0
 WindowRefused refuses source plan before why q =
     (why ≡ faults.Memory) × (q ≡ before.target)
@@ -116,29 +116,29 @@ WindowRefused refuses source plan before why q =
     ⊎ StoresAndSettles refuses plan before.target (next_window source plan before.since)
     (parcel_for source before.target (next_window source plan before.since)) (Err why) q
 
--- whether a plan allows another window after n windows
+-- Whether a plan allows another window after n windows.
 abbrev pub has_left : Option ℕ → ℕ → Bool
 has_left None n = true
 has_left (Some stop_after) n = nat_lt n stop_after
 
--- whether another window is due
+-- Whether a replication must read another window after n windows.
 abbrev pub is_due : DatabaseValue → Plan → ℕ → ℕ → Bool
 is_due source plan n since = nat_lt since source.update_seq && has_left plan.stop_after n
 
--- n windows are read in order, each stored and settled before the next
+-- Exactly n windows are read in order, and each is stored and settled before the next is read.
 abbrev pub Reads : (Document → Bool) → DatabaseValue → Plan → ℕ → Reading → Reading → Type 0
 Reads refuses source plan zero from to = to ≡ from
 Reads refuses source plan (suc n) from to =
     (before : Reading) × Reads refuses source plan n from before × (is_due source plan n before.since ≡ true)
     × Carries refuses source plan before to
 
--- windows are read until no other is due
+-- Windows are read until no other window must be read.
 abbrev pub ReadsAll : (Document → Bool) → DatabaseValue → Plan → Reading → PeerValue → Type 0
 ReadsAll refuses source plan from target' =
     (n : ℕ) × (now : Reading) × Reads refuses source plan n from now × (is_due source plan n now.since ≡ false)
     × (target' ≡ now.target)
 
--- windows are read until one fails
+-- Windows are read until one fails.
 abbrev pub ReadsUntil : (Document → Bool) → DatabaseValue → Plan → Reading → TargetFault → PeerValue → Type 0
 ReadsUntil refuses source plan from why target' =
     (n : ℕ) × (now : Reading) × Reads refuses source plan n from now × (is_due source plan n now.since ≡ true)
@@ -146,7 +146,7 @@ ReadsUntil refuses source plan from why target' =
 
 -- ---- the end
 
--- the target after the session is concluded, or recorded if it cannot be concluded
+-- The target after the session is concluded, or recorded if it cannot be concluded.
 abbrev pub closed_as : PeerValue → Plan → Result Report TargetFault → PeerValue
 closed_as p plan (Ok report) = after_conclude p plan.session plan.at
 closed_as p plan (Err fault) = after_record (after_conclude p plan.session plan.at) plan.session plan.at
@@ -154,17 +154,19 @@ closed_as p plan (Err fault) = after_record (after_conclude p plan.session plan.
 abbrev pub closed : PeerValue → Plan → PeerValue
 closed p plan = closed_as p plan (conclude_answer p plan.session)
 
--- an entry is stored in the log of a replication, or skipped if it is older, or an allocation fails
+-- The source after an entry was put into the log of a replication. An older entry is ignored, and a failed allocation
+-- leaves the source unchanged.
 abbrev pub PutsOver : PeerValue → RepId → EntryValue → Result (Unit {0}) AllocError → PeerValue → Type 0
 PutsOver source rep entry (Ok done) source' = source' ≡ after_put_entry source rep entry
 PutsOver source rep entry (Err refused) source' = source' ≡ source
 
--- the result of recording both sides: that of concluding, or `Memory` if the allocation at the source fails
+-- The result of recording at both sides. It is the result of concluding, or `Memory` if the allocation at the source
+-- fails.
 abbrev pub told_by : Result Report TargetFault → Result (Unit {0}) AllocError → Result Report TargetFault
 told_by concluded (Ok done) = concluded
 told_by concluded (Err refused) = Err faults.Memory
 
--- both sides are recorded: the target first, then the entry of its session at the source
+-- Both sides record: the target first, then the source, which stores the entry of the target's session.
 pub record Closes (source target : PeerValue) (plan : Plan) (result : Result Report TargetFault)
     (source' target' : PeerValue) : Type 0 where
   pub at_target : target' ≡ closed target plan
@@ -180,23 +182,23 @@ abbrev pub first_reading : PeerValue → PeerValue → Plan → Reading
 first_reading source target plan =
     record { since = start_between source target plan.chosen; target = after_begins source target plan }
 
--- the result of a replication by one thread, and the source and target after it
+-- The result of a replication by one thread, and the source and target after it.
 pub data Replicates (refuses : Document → Bool) (source target : PeerValue) (plan : Plan) : Result Report TargetFault
     → PeerValue → PeerValue → Type 0 where
-  -- the plan is not valid for these peers
+  -- The plan is not valid for these two peers.
   not_planned : {why : TargetFault} → plan_answer source.db.uuid target.db.uuid plan ≡ Err why
       → Replicates refuses source target plan (Err why) source target
-  -- an allocation fails before the session begins, or the session cannot begin
+  -- An allocation fails before the session begins, or the session cannot begin.
   no_memory : plan_answer source.db.uuid target.db.uuid plan ≡ Ok tt
       → Replicates refuses source target plan (Err faults.Memory) source target
   not_begun : {why : TargetFault} → plan_answer source.db.uuid target.db.uuid plan ≡ Ok tt → begins_answer source target plan ≡ Err why
       → Replicates refuses source target plan (Err why) source target
-  -- a window fails
+  -- Reading, storing or settling a window fails.
   cut : {why : TargetFault} {target' : PeerValue} → plan_answer source.db.uuid target.db.uuid plan ≡ Ok tt
       → begins_answer source target plan ≡ Ok tt
       → ReadsUntil refuses source.db plan (first_reading source target plan) why target'
       → Replicates refuses source target plan (Err why) source target'
-  -- all windows are read
+  -- All windows of the replication are read.
   ended : {result : Result Report TargetFault} {source' target' : PeerValue} (read : PeerValue)
       → plan_answer source.db.uuid target.db.uuid plan ≡ Ok tt → begins_answer source target plan ≡ Ok tt
       → ReadsAll refuses source.db plan (first_reading source target plan) read
@@ -204,14 +206,14 @@ pub data Replicates (refuses : Document → Bool) (source target : PeerValue) (p
 
 -- ---- meaning
 
--- each leaf of the source's selected feed above n is covered at the target
+-- The target covers each leaf of the source's selected feed above sequence n.
 abbrev pub CoversFrom : PeerValue → PeerValue → Choice → ℕ → Type 0
 CoversFrom source target chosen n =
     (row : RowValue) → Among row (chosen_feed chosen source.db n source.db.update_seq) → (leaf : RevId) → Among leaf row.leaves
     → covers target row.id leaf ≡ true
 
--- the report is that of the plan's session: of this replication and the source's life, based on the session of the
--- common checkpoint, begun there, and recorded at its goal, the source's update sequence
+-- The report describes the plan's session at the target. The session began at the common checkpoint, is of the source's
+-- life, and has recorded the source's update sequence, its goal.
 pub record IsReported (source target target' : PeerValue) (plan : Plan) (report : Report) : Type 0 where
   pub session : SessionValue
   pub held : session_in target'.sessions plan.session ≡ Some session
@@ -221,16 +223,16 @@ pub record IsReported (source target target' : PeerValue) (plan : Plan) (report 
   pub recorded : report.recorded ≡ source.db.update_seq
   pub counts : AddUp report.counts
 
--- a peer without documents and sessions
+-- Peer p has no documents and no sessions.
 abbrev pub IsEmpty : PeerValue → Type 0
 IsEmpty p = (p.db.docs ≡ []) × (p.sessions ≡ [])
 
--- a document has the same revisions, parents and contents of leaves in two databases, and so the same leaves in the
--- same order
+-- A document has the same revisions, parents and contents of leaves in two databases, and therefore the same leaves in
+-- the same order.
 abbrev pub SameDocument : DatabaseValue → DatabaseValue → Id → Type 0
 SameDocument a b id =
     SameRevisions (tree_of a.docs id) (tree_of b.docs id) × (leaves (tree_of a.docs id) ≡ leaves (tree_of b.docs id))
 
--- each selected document is the same in both databases
+-- Each selected document is the same in databases a and b.
 abbrev pub SameDocuments : Choice → DatabaseValue → DatabaseValue → Type 0
 SameDocuments chosen a b = (id : Id) → is_chosen chosen id ≡ true → SameDocument a b id

@@ -17,8 +17,8 @@ use Rattle.repl_peer.specs.declared.fault.Report.{Report}
 use Rattle.repl_peer.specs.declared.fault.TargetFault.{TargetFault}
 use Rattle.repl_target.specs.declared.replication.Plan.{Plan}
 
--- the result of replicating a into b and then b into a, and the two peers after it; the second replication runs only if
--- the first succeeded
+-- The result of replicating from a to b and then from b to a, and the two peers afterwards. The second replication runs
+-- only if the first succeeded.
 pub data Syncs (refuses_a refuses_b : Document → Bool) (a b : PeerValue) (there back : Plan) : Result Synced
     SyncFault → PeerValue → PeerValue → Type 0 where
   refused_there : {why : TargetFault} {a' b' : PeerValue} → Replicates refuses_b a b there (Err why) a' b'
@@ -32,29 +32,30 @@ pub data Syncs (refuses_a refuses_b : Document → Bool) (a b : PeerValue) (ther
 
 -- ---- meaning
 
--- each leaf that one database has of a document is a revision of the other database
+-- Each leaf of document `id` in database `db` is a revision of the document in database `knower`.
 abbrev pub KnowsLeaves : DatabaseValue → DatabaseValue → Id → Type 0
 KnowsLeaves knower db id =
     (leaf : RevId) → is_leaf (tree_of db.docs id) leaf ≡ true → has (tree_of knower.docs id) leaf ≡ true
 
--- no session of the peer has refused this document
+-- No session of peer p has refused document `id`.
 abbrev pub HasRefusedNone : PeerValue → Id → Type 0
 HasRefusedNone p id =
     (s : SessionValue) → Among s p.sessions → (x : RefusedValue) → Among x s.ledger → x.doc.id ≡ id → ⊥
 
--- the effect of both replications on a document: each side has the other's leaves; if the trees agreed before and had
--- complete histories, both sides have the same document
+-- The effect of both replications on a document. Each side has the other side's leaves. If the trees agreed before and
+-- had complete histories, both sides have the same document.
 pub record Meets (a b a' b' : DatabaseValue) (id : Id) : Type 0 where
   pub there : KnowsLeaves b' a' id
   pub back : KnowsLeaves a' b' id
   pub same : Agree (tree_of a.docs id) (tree_of b.docs id) → IsWhole (tree_of a.docs id) → IsWhole (tree_of b.docs id)
       → SameDocument a' b' id
-  -- both conditions hold again afterwards
+  -- After both replications, the trees agree and have complete histories if they did so before.
   pub agree : Agree (tree_of a.docs id) (tree_of b.docs id) → Agree (tree_of a'.docs id) (tree_of b'.docs id)
   pub whole : IsWhole (tree_of a.docs id) → IsWhole (tree_of b.docs id)
       → IsWhole (tree_of a'.docs id) × IsWhole (tree_of b'.docs id)
 
--- for tied peers, each document that both plans select and neither side has refused meets
+-- If the peers were tied in both directions, both replications leave a document's trees as `Meets` says. The document
+-- must be selected by both plans, and neither side may have refused it.
 abbrev pub MeetBoth : PeerValue → PeerValue → PeerValue → PeerValue → Plan → Plan → Type 0
 MeetBoth a b a' b' there back =
     IsTiedPair a b there.chosen → IsTiedPair b a back.chosen → (id : Id) → HasRefusedNone a' id → HasRefusedNone b' id
