@@ -26,7 +26,7 @@ use Rattle.diagrams.specs.Ink.{Draws, signs_of, signs_of_found, signs_of_log, si
 
 -- ---- documents, line by line
 
--- a leaf: its revision, whether it is the winner, and whether it is live
+-- A leaf in a picture: its revision, whether it is the winner, and whether it is live.
 abbrev pub State : Type 0
 State = RevId × Bool × Bool
 
@@ -36,58 +36,59 @@ state_of l = (l.rev, l.wins, l.live)
 abbrev pub states : Document → List State
 states d = map state_of d.leaves.items
 
--- with another leaf; the first one is the winner
+-- The leaves of a document after one more is added, where the first leaf is the winner.
 abbrev pub with_leaf : List State → RevId → Bool → List State
 with_leaf [] r live = (r, true, live) ∷ []
 with_leaf (s ∷ rest) r live = (s ∷ rest) ++ (r, false, live) ∷ []
 
--- with several other leaves, which are live
+-- The leaves of a document after several live leaves are added.
 abbrev pub with_all : List State → List RevId → List State
 with_all leaves [] = leaves
 with_all leaves (r ∷ revs) = with_all (with_leaf leaves r true) revs
 
--- the document has this id and these leaves
+-- Document d has this id and these leaves.
 pub record Holds (d : Document) (id : List ℕ) (leaves : List State) : Type 0 where
   pub named : string_bytes d.id ≡ id
   pub read : states d ≡ leaves
 
--- After a line, this document is open, and this item is complete.
+-- The effect of a line of a script's output: whether a document is open after the line, and which item, if any, the
+-- line completes.
 pub data IsNext : Option Document → Told → Option Document → Option Whole → Type 0 where
-  -- a document begins
+  -- A line that begins a document.
   opened : {old : Option Document} {id : String Global} {count : ℕ} {d : Document} → Holds d (string_bytes id) [] → d.count ≡ count
       → IsNext old (told.Document id count) (Some d) None
-  -- a leaf comes, and more are expected
+  -- A line with a leaf that is not the last one of the open document.
   more : {d e : Document} {live : Bool} {revs : Vec RevId Global} (r : RevId) → head_of revs.items ≡ Some r
       → Holds e (string_bytes d.id) (with_leaf (states d) r live) → e.count ≡ d.count → vec_len e.leaves < e.count
       → IsNext (Some d) (told.Leaf live revs) (Some e) None
-  -- the last leaf comes
+  -- A line with the last leaf of the open document, which is then complete.
   whole : {d e : Document} {live : Bool} {revs : Vec RevId Global} (r : RevId) → head_of revs.items ≡ Some r
       → Holds e (string_bytes d.id) (with_leaf (states d) r live) → e.count ≡ d.count → e.count ≤ vec_len e.leaves
       → IsNext (Some d) (told.Leaf live revs) None (Some (wholes.Tree e))
-  -- a leaf without a document
+  -- A line with a leaf, if no document is open.
   loose : {live : Bool} {revs : Vec RevId Global} → IsNext None (told.Leaf live revs) None None
-  -- a leaf with an empty list; no line is parsed as one
+  -- A line with a leaf and an empty list of revisions. No line is parsed as one.
   empty : {old : Option Document} {live : Bool} {revs : Vec RevId Global} → head_of revs.items ≡ None → IsNext old (told.Leaf live revs) None None
-  -- a document with its live leaves in one line
+  -- A line with a document and its live leaves.
   conflict : {old : Option Document} {id : String Global} {revs : Vec RevId Global} {e : Document} → Holds e (string_bytes id) (with_all [] revs.items)
       → IsNext old (told.Conflict id revs) None (Some (wholes.Tree e))
-  -- a line of `compare` about a document, and a line of numbers
+  -- A line of `compare` about a document, and a line of numbers.
   found : {old : Option Document} {f : Found} → IsNext old (told.Found f) None (Some (wholes.Found f))
   row : {old : Option Document} {r : Row} → IsNext old (told.Row r) None (Some (wholes.Row r))
-  -- a log
+  -- A line with a log.
   log : {old : Option Document} {l : Log} → IsNext old (told.Log l) None (Some (wholes.Log l))
-  -- any other line
+  -- Any other line of a script's output.
   other : {old : Option Document} → IsNext old told.Other None None
 
 -- ---- pictures
 
--- a picture of the document: its id, each leaf once, in some order, and the commands that resolve its conflict
+-- A picture of document d: its id, each leaf once, in any order, and the commands that resolve its conflict.
 pub record IsPicture (form : Form) (db : Option (List ℕ)) (d : Document) (text : List ℕ) : Type 0 where
   pub leaves : List Leaf
   pub each : IsPermutation (states d) (map state_of leaves)
   pub draws : Draws [] text (signs_of form db (string_bytes d.id) leaves)
 
--- the drawing of a complete item, or nothing
+-- The drawing of a complete item, or the empty text if there is no item.
 abbrev pub IsDrawn : Form → Option (List ℕ) → Option Whole → List ℕ → Type 0
 IsDrawn form db None text = text ≡ []
 IsDrawn form db (Some (wholes.Tree d)) text = IsPicture form db d text
@@ -95,7 +96,7 @@ IsDrawn form db (Some (wholes.Found f)) text = Draws [] text (signs_of_found for
 IsDrawn form db (Some (wholes.Row r)) text = Draws [] text (signs_of_row form r.table (string_bytes r.name) r.numbers.items)
 IsDrawn form db (Some (wholes.Log l)) text = Draws [] text (signs_of_log form (string_bytes l.id) l.entries.items)
 
--- the format, the database, and the open document
+-- The state of drawing between two lines: the format, the database, and the open document.
 pub record Sketch : Type 0 where
   pub form : Form
   pub db : Option (List ℕ)
@@ -104,7 +105,7 @@ pub record Sketch : Type 0 where
 abbrev pub sketch_of : Form → Option (Bor (List ℕ)) → Option Document → Sketch
 sketch_of form db begun = record { form = form; db = option_map (λ (s : Bor (List ℕ)). s.now) db; begun = begun }
 
--- the drawing of what a line completes, or nothing
+-- The effect of a line of a script's output: the drawing of the item that it completes, or the empty text.
 pub record Takes (old : Sketch) (line : List ℕ) (new : Sketch) (text : List ℕ) : Type 0 where
   pub told : Told
   pub whole : Option Whole
@@ -114,7 +115,8 @@ pub record Takes (old : Sketch) (line : List ℕ) (new : Sketch) (text : List �
   pub form : new.form ≡ old.form
   pub db : new.db ≡ old.db
 
--- the result of a line: the drawing of what it completes; or an allocation failed, and no document is open
+-- The result of a line of a script's output: the drawing of what it completes, or an error. After a failed allocation
+-- no document is open.
 abbrev pub Pictures : Answering Sketch (List ℕ)
 Pictures old line (Ok text) new = Takes old line new text
 Pictures old line (Err name) new =
@@ -122,12 +124,13 @@ Pictures old line (Err name) new =
 
 -- ---- everything from a reader
 
--- Before the first line.
+-- The state of drawing before the first line.
 abbrev pub first_sketch : Form → Option (List ℕ) → Sketch
 first_sketch form db = record { form = form; db = db; begun = None }
 
 -- A picture of a script's output: a start, the drawings for its lines, and an end. The flag says whether memory was
--- sufficient for every line. No character of an input text in it is hidden, and in SVG none is markup.
+-- sufficient for every line. No character of an input text is hidden in the picture, and in SVG no such character is
+-- markup.
 pub record IsPictureOf (form : Form) (db : Option (List ℕ)) (input : List ℕ) (clean : Bool) (picture : List ℕ) : Type 0 where
   pub head : List ℕ
   pub head_drawn : Draws [] head []
@@ -139,8 +142,8 @@ pub record IsPictureOf (form : Form) (db : Option (List ℕ)) (input : List ℕ)
   pub parts : picture ≡ (head ++ text) ++ tail
   pub safe : (shows : List ℕ) → IsSafe form (shown form (chars shows))
 
--- A picture of what the reader has left is written. The last arguments are what the reader has left, and what the
--- writer has accepted, before and after.
+-- A picture of the reader's remaining bytes is written. The last arguments are the reader's remaining bytes, and what
+-- the writer has accepted, before and after.
 pub record IsPictured (form : Form) (db : Option (List ℕ)) (clean : Bool) (left held held' : Option (List ℕ)) : Type 0 where
   pub input : List ℕ
   pub gives : Gives left input
@@ -148,20 +151,20 @@ pub record IsPictured (form : Form) (db : Option (List ℕ)) (clean : Bool) (lef
   pub pictured : IsPictureOf form db input clean picture
   pub written : Appends held held' picture
 
--- The start of a picture, and drawings of which this holds.
+-- A text that is the start of a picture, and drawings that satisfy `holds`.
 abbrev pub BeginsPicture : (List ℕ → Type 0) → List ℕ → Type 0
 BeginsPicture holds text = (head : List ℕ) × Draws [] head [] × (drawn : List ℕ) × holds drawn × (text ≡ head ++ drawn)
 
--- The text that is written before this error. After `Read` and `Memory` each drawing in it is complete, and after `Cut` it
--- ends within a drawing.
+-- The text that is written before an error. After `Read` and `Memory` each drawing in the text is complete, and after
+-- `Cut` the text ends within a drawing.
 abbrev pub IsDrawnUntil : ScriptFault → Form → Option (List ℕ) → List ℕ → List ℕ → Type 0
 IsDrawnUntil Read form db input text = BeginsPicture (AnswersFirst Pictures (first_sketch form db) input) text
 IsDrawnUntil Write form db input text = ⊤
 IsDrawnUntil Memory form db input text = BeginsPicture (AnswersFirst Pictures (first_sketch form db) input) text
 IsDrawnUntil Cut form db input text = BeginsPicture (AnswersCut Pictures (first_sketch form db) input) text
 
--- After an error, a prefix of a picture of what the reader has left is written. The last arguments are what the reader
--- has left, and what the writer has accepted, before and after.
+-- After an error, a prefix of a picture of the reader's remaining bytes is written. The last arguments are the reader's
+-- remaining bytes, and what the writer has accepted, before and after.
 pub record IsPicturedUntil (fault : ScriptFault) (form : Form) (db : Option (List ℕ)) (left held held' : Option (List ℕ)) : Type 0 where
   pub input : List ℕ
   pub gives : Gives left input
@@ -174,7 +177,7 @@ pub record IsPicturedUntil (fault : ScriptFault) (form : Form) (db : Option (Lis
   pub written : Appends held held' text
   pub drawn : IsDrawnUntil fault form db input text
 
--- A picture of what the reader has left is written, or after an error a prefix of such a picture.
+-- A picture of the reader's remaining bytes is written, or after an error a prefix of such a picture.
 abbrev pub PicturedBy : Result Bool ScriptFault → Form → Option (List ℕ) → Option (List ℕ) → Option (List ℕ) → Option (List ℕ) → Type 0
 PicturedBy (Ok clean) form db left held held' = IsPictured form db clean left held held'
 PicturedBy (Err fault) form db left held held' = IsPicturedUntil fault form db left held held'

@@ -18,7 +18,7 @@ use Rattle.diagrams.specs.declared.markup.Markup.{Markup}
 use Rattle.diagrams.specs.declared.markup.Markup.TheVariants as own
 use Rattle.diagrams.specs.Shown.{shown}
 
--- the program's own markup, in UTF-8
+-- The program's own markup in a picture, in UTF-8.
 abbrev pub markup_text : Markup → List ℕ
 markup_text own.Space = codes " "
 markup_text own.LineEnd = codes "\n"
@@ -51,13 +51,13 @@ markup_text own.NodeEnd = codes "</text></g>\n"
 markup_text own.Line = codes ")\"><text x=\"20\" y=\"18\">"
 markup_text own.Numbers = codes "</text>\n<text x=\"20\" y=\"40\">"
 
--- a revision as its generation and the first six characters of its signature
+-- A revision as its generation and the first six characters of its signature.
 abbrev pub short_text : RevId → List ℕ
 short_text r = decimal r.generation ++ 45 ∷ take 6 r.sig
 
 -- ---- the signs of a picture
 
--- the label and the shape of a leaf: whether it is the winner, and whether it is live
+-- The label of a leaf, which says whether the leaf is the winner, and whether it is live.
 abbrev pub label_text : Bool → Bool → List ℕ
 label_text true true = codes "  wins, live\n"
 label_text true false = codes "  wins, deleted\n"
@@ -76,32 +76,32 @@ node_label true false = codes "</text><text x=\"14\" y=\"4\">wins, deleted</text
 node_label false true = codes "</text><text x=\"14\" y=\"4\">live</text></g>\n"
 node_label false false = codes "</text><text x=\"14\" y=\"4\">deleted</text></g>\n"
 
--- an input text, in UTF-8
+-- An input text as a picture shows it, in UTF-8.
 abbrev pub shown_text : Form → List ℕ → List ℕ
 shown_text form text = encode_utf8_all (shown form (chars text))
 
 pub data Sign : Type 0 where
-  -- a document id
+  -- The sign of a document id.
   title : Form → List ℕ → Sign
-  -- a leaf, whether it is the winner, and whether it is live
+  -- The sign of a leaf, with whether it is the winner, and whether it is live.
   leaf : Form → RevId → Bool → Bool → Sign
-  -- the command that resolves a leaf's conflict: its database, document id and revision
+  -- The sign of the command that resolves a leaf's conflict, with its database, document id and revision.
   edit : List ℕ → List ℕ → RevId → Sign
-  -- a finding of `compare`, and the document id
+  -- The sign of a finding of `compare`, with the document id.
   found : Form → Finding → List ℕ → Sign
-  -- a revision of a finding
+  -- The sign of a revision of a finding.
   listed : RevId → Sign
-  -- the kind and the name of a line of numbers
+  -- The sign of the kind and the name of a line of numbers.
   heading : Form → Table → List ℕ → Sign
-  -- the number of a column
+  -- The sign of the number of a column.
   count : Column → ℕ → Sign
-  -- the part of a whole
+  -- The sign of a part of a total.
   bar : Form → ℕ → ℕ → Sign
-  -- a log, by its replication id
+  -- The sign of a log, with its replication id.
   log : Form → List ℕ → Sign
-  -- the start time of a session
+  -- The sign of the start time of a session.
   moment : Form → List ℕ → Sign
-  -- the numbers of documents written and read, and the largest number read in the log
+  -- The sign of the numbers of documents written and read, with the largest number read in the log.
   chart : Form → ℕ → ℕ → ℕ → Sign
 
 abbrev pub leaf_ink : Form → RevId → Bool → Bool → List ℕ
@@ -113,7 +113,7 @@ edit_ink db id r =
     codes "  to keep the winner alone: {\"do\":\"edit\",\"db\":\"" ++ (shown_text forms.Text db ++ (codes "\",\"id\":"
     ++ (shown_text forms.Text id ++ (codes ",\"parent\":\"" ++ (rev_text r ++ codes "\",\"deleted\":true}\n")))))
 
--- the caption of a column
+-- The caption of a column of numbers.
 abbrev pub caption : Column → List ℕ
 caption columns.ComparedDocuments = codes "documents"
 caption columns.ComparedLeaves = codes "leaves"
@@ -136,20 +136,20 @@ caption columns.Read = codes "read"
 caption columns.Written = codes "written"
 caption columns.Failed = codes "failed"
 
--- the kind of a line of numbers
+-- The text for the kind of a line of numbers.
 abbrev pub table_text : Table → List ℕ
 table_text tables.Compared = codes "compare"
 table_text tables.Info = codes "database "
 table_text tables.Session = codes "session "
 
--- the part of a whole, on a scale of 400
+-- A part of a total, on a scale of 400.
 abbrev pub share : ℕ → ℕ → ℕ
 share part all = if all == 0 then 400 else (if nat_le 400 (part * 400 / all) then 400 else part * 400 / all)
 
 abbrev pub ratio : ℕ → ℕ → List ℕ
 ratio part all = (decimal part ++ codes " of ") ++ decimal all
 
--- a bar of 40 characters, or 400 wide
+-- A bar in a picture, which is 40 characters long, or 400 wide in SVG.
 abbrev pub bar_ink : Form → ℕ → ℕ → List ℕ
 bar_ink forms.Text part all =
     ((((codes "  [" ++ take (share part all / 10) (codes "########################################"))
@@ -159,7 +159,7 @@ bar_ink forms.Svg part all =
     ++ decimal (share part all)) ++ codes "\" height=\"10\" class=\"w\"/><text x=\"432\" y=\"63\">") ++ ratio part all)
     ++ codes "</text>\n"
 
--- the filled part of a bar of 40 characters, and its length
+-- The filled part of a bar of 40 characters, and its length.
 abbrev pub filled : ℕ → ℕ → ℕ
 filled written most = share written most / 10
 
@@ -191,7 +191,7 @@ sign_ink (chart form written read most) = chart_ink form written read most
 
 -- ---- the pieces of a picture
 
--- the pieces of a picture: markup, numbers, ancestors, and signs
+-- A piece of a picture: markup, a number, an ancestor, or a sign.
 pub data Piece : Type 0 where
   mark : Markup → Piece
   number : ℕ → Piece
@@ -199,7 +199,7 @@ pub data Piece : Type 0 where
   short : RevId → Piece
   sign : Sign → Piece
 
--- the bytes of a piece
+-- The bytes of a piece of a picture.
 abbrev pub ink_of : Piece → List ℕ
 ink_of (mark m) = markup_text m
 ink_of (number n) = decimal n
@@ -207,7 +207,7 @@ ink_of (whole r) = rev_text r
 ink_of (short r) = short_text r
 ink_of (sign s) = sign_ink s
 
--- the sign of a piece
+-- The sign that a piece of a picture is, if it is one.
 abbrev pub sign_in : Piece → List Sign
 sign_in (mark m) = []
 sign_in (number n) = []
@@ -215,7 +215,7 @@ sign_in (whole r) = []
 sign_in (short r) = []
 sign_in (sign s) = s ∷ []
 
--- the new text is the old one and some pieces, with these signs, in order
+-- The new text is the old text followed by pieces of a picture, which have these signs, in order.
 pub record Draws (old new : List ℕ) (signs : List Sign) : Type 0 where
   pub pieces : List Piece
   pub ink : new ≡ old ++ flat_map ink_of pieces
@@ -226,7 +226,8 @@ pub record Draws (old new : List ℕ) (signs : List Sign) : Type 0 where
 abbrev pub leaf_sign : Form → Leaf → Sign
 leaf_sign form l = leaf form l.rev l.wins l.live
 
--- if the database is named, a live leaf that is not the winner has a command that resolves its conflict
+-- The command that resolves the conflict of a leaf, if the database is named. Only a live leaf that is not the winner
+-- has such a command.
 abbrev pub edit_of : List ℕ → List ℕ → Leaf → List Sign
 edit_of db id l = if not l.wins && l.live then edit db id l.rev ∷ [] else []
 
@@ -234,43 +235,44 @@ abbrev pub edits_of : Option (List ℕ) → List ℕ → List Leaf → List Sign
 edits_of None id leaves = []
 edits_of (Some db) id leaves = flat_map (edit_of db id) leaves
 
--- its id, its leaves, and in text the commands that resolve its conflict
+-- The signs of a document: its id, its leaves, and in text the commands that resolve its conflict.
 abbrev pub signs_of : Form → Option (List ℕ) → List ℕ → List Leaf → List Sign
 signs_of forms.Text db id leaves = title forms.Text id ∷ (map (leaf_sign forms.Text) leaves ++ edits_of db id leaves)
 signs_of forms.Svg db id leaves = title forms.Svg id ∷ map (leaf_sign forms.Svg) leaves
 
 -- ---- the signs of other lines
 
--- a finding of `compare`, and its revisions
+-- The signs of a finding of `compare`: the finding, and its revisions.
 abbrev pub signs_of_found : Form → Finding → List ℕ → List RevId → List Sign
 signs_of_found form finding id revs = found form finding id ∷ map listed revs
 
--- each number with its column
+-- The signs of a line of numbers, each number with its column.
 abbrev pub counts_of : List Column → List ℕ → List Sign
 counts_of (c ∷ cs) (n ∷ ns) = count c n ∷ counts_of cs ns
 counts_of cs ns = []
 
--- for `compare`, the leaves that the target has; for a session, the documents that were written among those read
+-- The bar of a line of numbers. For `compare`, its filled part is the leaves that the target has. For a session, the
+-- filled part is the documents written among those read.
 abbrev pub bars_of : Form → Table → List ℕ → List Sign
 bars_of form tables.Compared ns = bar form (get_or ns 1 0 - get_or ns 2 0) (get_or ns 1 0) ∷ []
 bars_of form tables.Info ns = []
 bars_of form tables.Session ns = bar form (get_or ns 5 0) (get_or ns 4 0) ∷ []
 
--- its name, its numbers, and a bar
+-- The signs of a line of numbers: its name, its numbers, and a bar.
 abbrev pub signs_of_row : Form → Table → List ℕ → List ℕ → List Sign
 signs_of_row form table name ns = heading form table name ∷ (counts_of (columns_of table) ns ++ bars_of form table ns)
 
--- the largest number of documents that these sessions read, at least `most`
+-- The largest number of documents that one of these sessions read, but at least `most`.
 abbrev pub most_from : ℕ → List Entry → ℕ
 most_from most [] = most
 most_from most (e ∷ es) = most_from (max most e.read) es
 
--- for a session of a log: its start time, its documents, and its id
+-- The signs of a session of a log: its start time, its documents, and its id.
 abbrev pub signs_of_session : Form → ℕ → Entry → List Sign
 signs_of_session form most e =
     moment form (string_bytes e.begun) ∷ chart form e.written e.read most ∷ count columns.Read e.read ∷ count columns.Written e.written
     ∷ count columns.Failed e.failed ∷ heading form tables.Session (string_bytes e.session) ∷ []
 
--- its id, and each session
+-- The signs of a log: its replication id, and those of each session.
 abbrev pub signs_of_log : Form → List ℕ → List Entry → List Sign
 signs_of_log form id es = log form id ∷ flat_map (signs_of_session form (most_from 1 es)) es

@@ -5,7 +5,7 @@ use Rattle.visible_text.specs.Visible.{IsSeen, escape_of, is_hidden}
 use Rattle.diagrams.specs.declared.form.Form.{Form}
 use Rattle.diagrams.specs.declared.form.Form.TheVariants.{Text, Svg}
 
--- the XML entities of markup characters
+-- The XML entity of a markup character, or the character itself.
 abbrev pub entity_of : ℕ → List ℕ
 entity_of c =
     if c == 38 then codes "&amp;" else if c == 60 then codes "&lt;" else if c == 62 then codes "&gt;"
@@ -21,17 +21,17 @@ shown_char form c = if is_hidden c then escape_of c else seen_char form c
 abbrev pub shown : Form → List ℕ → List ℕ
 shown form cs = flat_map (shown_char form) cs
 
--- `&`, `<`, `>` and `"`
+-- Whether a character is `&`, `<`, `>` or `"`.
 abbrev pub is_markup : ℕ → Bool
 is_markup c = c == 38 || c == 60 || c == 62 || c == 34
 
--- no character is hidden, and markup characters occur only in entities
+-- In an escaped text no character is hidden, and markup characters occur only in entities.
 pub data IsEscaped : List ℕ → Type 0 where
   done : IsEscaped []
   plain : {c : ℕ} {cs : List ℕ} → is_hidden c ≡ false → is_markup c ≡ false → IsEscaped cs → IsEscaped (c ∷ cs)
   named : (c : ℕ) {cs : List ℕ} → is_markup c ≡ true → IsEscaped cs → IsEscaped (entity_of c ++ cs)
 
--- an input text in a picture of this format
+-- An input text is safe in a picture of the given format.
 abbrev pub IsSafe : Form → List ℕ → Type 0
 IsSafe Text cs = IsSeen cs
 IsSafe Svg cs = IsEscaped cs

@@ -1,9 +1,9 @@
--- The result of a call that allocates.
+-- The result of a call that may run out of memory.
 use Rattle.std.specs.Prelude.{◌≡◌, ◌⊎◌, Result, Ok, Err, IsOk}
 use Rattle.doc_json.specs.declared.fault.DocFault.{DocFault}
 use Rattle.doc_json.specs.declared.fault.DocFault.TheVariants as faults
 
--- the result is the expected one, or `Memory` if `Ok` is expected
+-- A result is the expected one, or it is `Memory` and the expected one is `Ok`.
 abbrev pub GivesUnlessMemory : {A : Type 0} → Result A DocFault → Result A DocFault → Type 0
 GivesUnlessMemory (Ok x) expected = expected ≡ Ok x
 GivesUnlessMemory (Err e) expected = (expected ≡ Err e) ⊎ ((e ≡ faults.Memory) × IsOk expected)

@@ -9,24 +9,25 @@ use Rattle.doc_json.specs.Members.{has_special, plain_members}
 use Rattle.doc_json.specs.declared.fault.DocFault.{DocFault}
 use Rattle.doc_json.specs.declared.fault.DocFault.TheVariants as faults
 
--- the string that `serde_json` writes for a value without refused numbers, with the guarantees of its writer
+-- The string that `serde_json` writes for a value without rejected numbers, with the guarantees of its writer.
 pub record IsWritten (text : List ℕ) (d : Data) : Type 0 where
   pub compact : text ≡ compact_text d
   pub order : IsInOrder text d
   pub reads_back : depth d ≤ max_depth → read text ≡ Some d
 
--- the compact form of an object without special members and without refused numbers
+-- The serialized body of a document: the compact form of an object without special members and without rejected
+-- numbers.
 pub record IsBody (text : List ℕ) : Type 0 where
   pub members : Members
   pub plain : has_special members ≡ false
   pub exact : members_have_float members ≡ false
   pub written : IsWritten text (object members)
 
--- the compact form of the members without a leading `_`
+-- The compact form of the object with those members whose names do not begin with `_`.
 abbrev pub body_text : Members → List ℕ
 body_text ms = compact_text (object (plain_members ms))
 
--- the result of reading a value as a body
+-- The result of reading a JSON value as a body.
 unfoldable pub body_read : Data → Result (List ℕ) DocFault
 body_read d = do
   ms ← or_refused faults.NotObject (as_object d)

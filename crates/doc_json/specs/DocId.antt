@@ -4,16 +4,16 @@ use Rattle.std.specs.List.{starts_with}
 use Rattle.doc_json.specs.declared.fault.DocFault.{DocFault}
 use Rattle.doc_json.specs.declared.fault.DocFault.TheVariants as faults
 
--- whether a string begins with `_`
+-- Whether a string begins with `_`.
 abbrev pub is_special : List ℕ → Bool
 is_special [] = false
 is_special (c ∷ rest) = c == 95
 
--- whether a string is `_design/` and at least one more character
+-- Whether a string is `_design/` and at least one more character.
 abbrev pub is_design : List ℕ → Bool
 is_design text = starts_with nat_eq text (codes "_design/") && nat_lt 8 (length text)
 
--- the result of parsing a document id
+-- The result of parsing a document id.
 abbrev pub doc_id_read : List ℕ → Result (List ℕ) DocFault
 doc_id_read text =
     if length text == 0 then Err faults.NoId

@@ -12,14 +12,14 @@ use Rattle.doc_json.specs.Document.{Document}
 use Rattle.doc_json.specs.declared.fault.DocFault.{DocFault}
 use Rattle.doc_json.specs.declared.fault.DocFault.TheVariants as faults
 
--- the member `_id` as an id
+-- The result of reading the member `_id` as a document id.
 abbrev pub id_of : Option Data → Result (List ℕ) DocFault
 id_of o = or_refused faults.NoId (option_and_then as_str o) >>= doc_id_read
 
 abbrev pub id_member : Data → Result (List ℕ) DocFault
 id_member d = id_of (get (codes "_id") d)
 
--- the member `_deleted`, false if it is missing
+-- The result of reading the member `_deleted`, false if the member is missing.
 abbrev pub flag_of : Option Data → Result Bool DocFault
 flag_of None = Ok false
 flag_of (Some d) = or_refused faults.SpecialMember (as_bool d)

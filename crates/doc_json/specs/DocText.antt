@@ -8,32 +8,32 @@ use Rattle.rev_core.specs.Rev.{RevId}
 use Rattle.rev_core.specs.Text.{rev_text}
 use Rattle.doc_json.specs.Document.{Document}
 
--- the newest revision
+-- The string of an ancestry's newest revision.
 abbrev pub head_text : List RevId → List ℕ
 head_text [] = []
 head_text (r ∷ rest) = rev_text r
 
--- the generation of the newest revision in decimal
+-- The generation of an ancestry's newest revision in decimal.
 abbrev pub start_text : List RevId → List ℕ
 start_text [] = []
 start_text (r ∷ rest) = decimal r.generation
 
--- a signature in quotation marks
+-- A revision's signature in quotation marks.
 abbrev pub sig_text : RevId → List ℕ
 sig_text r = 34 ∷ (r.sig ++ 34 ∷ [])
 
--- the signatures, separated by commas
+-- The signatures of a list of revisions, separated by commas.
 abbrev pub sig_texts : List RevId → List ℕ
 sig_texts revs = join_with_byte 44 (map sig_text revs)
 
 abbrev pub deleted_text : Bool → List ℕ
 deleted_text deleted = if deleted then codes ",\"_deleted\":true" else []
 
--- the body's members, and the end of the object
+-- The members of a body, and the closing brace of the document.
 abbrev pub rest_text : List ℕ → List ℕ
 rest_text body = if bytes_eq body (codes "{}") then codes "}" else 44 ∷ drop 1 body
 
--- `_rev` and `_revisions`, each after a comma
+-- The members `_rev` and `_revisions` of a document, each after a comma.
 unfoldable pub revs_text : List RevId → List ℕ
 revs_text revs =
     codes ",\"_rev\":\"" ++ head_text revs ++ codes "\",\"_revisions\":{\"start\":" ++ start_text revs

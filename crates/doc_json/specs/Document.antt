@@ -7,7 +7,7 @@ use Rattle.rev_core.specs.Ancestry.{IsAncestry}
 use Rattle.doc_json.specs.DocId.{doc_id_read}
 use Rattle.doc_json.specs.Body.{IsBody}
 
--- a document: its id, its ancestry (newest first), whether it is deleted, and its serialized body
+-- A document: its id, its ancestry (newest first), whether it is deleted, and its serialized body.
 pub record Document : Type 0 where
   pub id : List ℕ
   pub ancestry : List RevId
@@ -21,7 +21,7 @@ coded_doc =
     (λ d. (d.id, (d.ancestry, (d.deleted, d.body))))
     (λ p. record { id = p.0; ancestry = p.1.0; deleted = p.1.1.0; body = p.1.1.1 }) (λ _. refl)
 
--- the invariant of a document
+-- The invariant of document d.
 pub record IsDocument (d : Document) : Type 0 where
   pub id : doc_id_read d.id ≡ Ok d.id
   pub ancestry : IsAncestry d.ancestry

@@ -2,23 +2,23 @@
 use Rattle.std.specs.Prelude.{◌≡◌, ℕ, ◌+◌, ◌-◌, ◌*◌, ◌%◌, ◌<◌, Bool, true, false, List, [], ◌∷◌, length, drop, get_or}
 use Rattle.std.specs.List.{AllByRecursion}
 
--- the hash of a string, byte by byte
+-- The hash of a string, computed byte by byte from the value n.
 abbrev pub place_from : ℕ → List ℕ → ℕ
 place_from n [] = n
 place_from n (b ∷ bs) = place_from ((n * 31 + b) % 8192) bs
 
--- the table index of an id, from its last eight bytes
+-- The table index of an id, computed from its last eight bytes.
 abbrev pub place_of : ℕ → List ℕ → ℕ
 place_of places id = place_from 0 (drop (length id - 8) id) % places
 
--- whether the table entry of an id is true
+-- Whether the table entry of an id is true.
 abbrev pub is_marked_of : ℕ → List Bool → List ℕ → Bool
 is_marked_of places marks id = get_or marks (place_of places id) false
 
 abbrev pub is_marked : List Bool → List ℕ → Bool
 is_marked marks id = is_marked_of (length marks) marks id
 
--- the table is not empty, and the entry of each id is true
+-- The table is not empty, and its entry for each of the ids is true.
 pub record AreMarks (marks : List Bool) (ids : List (List ℕ)) : Type 0 where
   pub some : 0 < length marks
   pub each : AllByRecursion (λ id. is_marked marks id ≡ true) ids

@@ -1,4 +1,4 @@
--- Data whose numbers are read back from their text.
+-- JSON values whose numbers are read back from their text.
 use Rattle.std.specs.Prelude.{◌≡◌, Some, ⊤}
 use Rattle.json.specs.Print.{IsNumber}
 use Rattle.serde_json.specs.Data.{Num, Data, null, boolean, number, string, array, object, Items, no_items, item, Members, no_members, member}
@@ -8,7 +8,7 @@ use Rattle.serde_json.specs.Written.{number_text}
 abbrev pub ReadsBack : Num → Type 0
 ReadsBack n = IsNumber (number_text n) × (number_of (number_text n) ≡ Some n)
 
--- each number is read back, at any depth
+-- Each number in a JSON value is read back from its text, at any depth.
 abbrev mutual
   pub AllReadBack : Data → Type 0
   AllReadBack null = ⊤

@@ -12,27 +12,28 @@ use Rattle.rev_core.specs.Checks.{◌>>=◌, named}
 use Rattle.doc_json.specs.declared.fault.DocFault.{DocFault}
 use Rattle.doc_json.specs.declared.fault.DocFault.TheVariants as faults
 
--- the revision id that a string denotes
+-- The result of reading a string as a revision id, or `NoRev` if there is no string.
 abbrev pub rev_of_text : Option (List ℕ) → Result (Option RevId) DocFault
 rev_of_text None = Err faults.NoRev
 rev_of_text (Some text) = named faults.NoRev (rev_read text) >>= (λ r. Ok (Some r))
 
--- the result of reading the member `_rev`
+-- The result of reading the member `_rev`, `None` if the member is missing.
 abbrev pub rev_member : Option Data → Result (Option RevId) DocFault
 rev_member None = Ok None
 rev_member (Some d) = rev_of_text (as_str d)
 
--- a signature, from an optional string
+-- The signature that a string is, if there is a string and it is a signature.
 abbrev pub sig_of : Option (List ℕ) → Option (List ℕ)
 sig_of None = None
 sig_of (Some text) = if is_sig text then Some text else None
 
--- the signatures, if each item is one
+-- The signatures of a JSON list, if each item is a signature.
 abbrev pub sigs_of : Items → Option (List (List ℕ))
 sigs_of no_items = Some []
 sigs_of (item d ds) = option_and_then (λ sig. option_map (λ sigs. sig ∷ sigs) (sigs_of ds)) (sig_of (as_str d))
 
--- the ancestry of a start and signatures: the start is a generation, and there are 1 to `start` signatures
+-- The ancestry of a start and signatures, or `BadRevisions`. The start must be a generation, and there must be 1 to
+-- `start` signatures.
 abbrev pub numbered_from : Option ℕ → Option (List (List ℕ)) → Result (List RevId) DocFault
 numbered_from None sigs = Err faults.BadRevisions
 numbered_from (Some start) None = Err faults.BadRevisions
@@ -45,16 +46,16 @@ start_of d = option_and_then as_u64 (option_and_then as_number (get (codes "star
 abbrev pub ids_read : Data → Option (List (List ℕ))
 ids_read d = option_and_then sigs_of (option_and_then as_array (get (codes "ids") d))
 
--- the result of reading a value of `_revisions`
+-- The result of reading a value of `_revisions`.
 abbrev pub revisions_read : Data → Result (List RevId) DocFault
 revisions_read d = numbered_from (start_of d) (ids_read d)
 
--- whether r is the first of a list
+-- Whether r is the first revision of a list.
 abbrev pub is_head : RevId → List RevId → Bool
 is_head r [] = false
 is_head r (s ∷ rest) = eq_by_cmp rev_cmp r s
 
--- whether `_rev` is missing or is the newest revision
+-- Whether `_rev` is missing or is the newest revision of `_revisions`.
 abbrev pub agrees : Option RevId → List RevId → Bool
 agrees None revs = true
 agrees (Some r) revs = is_head r revs
@@ -62,24 +63,24 @@ agrees (Some r) revs = is_head r revs
 abbrev pub matched : Option RevId → List RevId → Result (List RevId) DocFault
 matched rev revs = if agrees rev revs then Ok revs else Err faults.RevMismatch
 
--- the ancestry if only `_rev` may be present
+-- The ancestry of a document without `_revisions`, which is `_rev` alone.
 abbrev pub alone : Option RevId → Result (List RevId) DocFault
 alone None = Err faults.NoRev
 alone (Some r) = Ok (r ∷ [])
 
--- the ancestry of a start and signatures, given the value of `_rev`
+-- The ancestry of a start and signatures, given the value of `_rev`.
 abbrev pub numbered_beside : Option RevId → Option ℕ → Option (List (List ℕ)) → Result (List RevId) DocFault
 numbered_beside rev start sigs = numbered_from start sigs >>= matched rev
 
--- the ancestry of a value of `_revisions`, given the value of `_rev`
+-- The ancestry of a value of `_revisions`, given the value of `_rev`.
 abbrev pub revisions_beside : Option RevId → Data → Result (List RevId) DocFault
 revisions_beside rev d = revisions_read d >>= matched rev
 
--- the ancestry of the member `_revisions`, given the value of `_rev`
+-- The ancestry of a document, given its member `_revisions`, if there is one, and the value of `_rev`.
 abbrev pub with_revisions : Option Data → Option RevId → Result (List RevId) DocFault
 with_revisions None rev = alone rev
 with_revisions (Some d) rev = revisions_beside rev d
 
--- the ancestry of a document
+-- The result of reading the ancestry of a document.
 unfoldable pub revs_read : Data → Result (List RevId) DocFault
 revs_read d = rev_member (get (codes "_rev") d) >>= with_revisions (get (codes "_revisions") d)

@@ -26,8 +26,8 @@ pub record IsReady {S L : Type 0} (channels : Channels S) (board : Option Board)
     pub all : (o.all.parts ≡ workers) × (o.all.amount ≡ 0)
     pub seats : AreSeats board 0 workers o.seats.items
 
--- What the caller's thread has after the workers have ended: the seats. If all workers were started, it also has all
--- parts of both channels and of the ledger, with what the workers did, where they stopped and what they have shown.
+-- What the caller's thread has after the workers have ended: the seats. If all workers were started, the thread also
+-- has all parts of both channels and of the ledger, and knows what the workers did.
 pub record HaveEnded {S L : Type 0} (channels : Channels S) (board : Option Board) (may_stop : Place → Type 0)
     (workers : ℕ) (given : List BoardSeat) (ended : Option (Ended S L)) (seats : List BoardSeat) : Type 0 where
   pub window_seat : IfSome ended (λ e. IsSeatAt (sends_on channels.to_fetchers) e.windows)

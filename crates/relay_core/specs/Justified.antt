@@ -1,4 +1,4 @@
--- When a replication log may be asked to record a sequence. A history has its last exchange first.
+-- When a replication log may be requested to record a sequence. A history of exchanges has its last exchange first.
 use Rattle.std.specs.Prelude.{ℕ, ◌≡◌, ◌+◌, ◌-◌, ◌^◌, ◌≤◌, ◌==◌, codes, Bool, true, false, ◌&&◌, ◌||◌, not, if◌then◌else◌, List, [], ◌∷◌, ◌++◌, Option, None, Some, min, bytes_eq}
 use Rattle.std.specs.List.{list_any}
 use Rattle.relay_core.specs.declared.messages.Side.{Side}
@@ -8,19 +8,19 @@ use Rattle.relay_core.specs.Leaves.{names, are_distinct, leaf_count, docs_where,
 
 -- ---- what settles a leaf
 
--- whether the target was asked whether it has this leaf, in a request whose documents have distinct ids, and did not
--- name the leaf as missing
+-- Whether a `_revs_diff` request of documents with distinct ids names this leaf, and the target's response does not
+-- name the leaf as missing.
 abbrev pub finds : RequestView → ResponseView → Text → Text → Bool
 finds (revs_diff docs) (missing_response missing) id leaf = are_distinct docs && (names docs id leaf && not (names missing id leaf))
 finds q r id leaf = false
 
--- whether the target refused a request of one document as too large
+-- Whether the target refused a request of one document as too large.
 abbrev pub is_too_large : Side → ℕ → Bool
 is_too_large Target status = status == 413
 is_too_large Source status = false
 
--- whether the response to a carry has a row that refuses this leaf, or the target refused a carry of this document
--- alone as too large
+-- Whether the response to a carry has a row that refuses this leaf, or the target refused a carry of this document
+-- alone as too large.
 abbrev pub rejects : RequestView → ResponseView → Text → Text → Bool
 rejects (carry_docs docs) (row_errors_response rows) id leaf = refuses rows id leaf
 rejects (carry_docs docs) (rejected_response side status words) id leaf = is_too_large side status && is_alone docs id
@@ -32,50 +32,51 @@ is_found h id leaf = list_any (λ e. finds e.request e.response id leaf) h
 abbrev pub is_rejected : List Exchange → Text → Text → Bool
 is_rejected h id leaf = list_any (λ e. rejects e.request e.response id leaf) h
 
--- the target has each leaf of the rows, or refused it
+-- The target has each leaf of the rows, or refused it.
 abbrev pub AreSettled : List Exchange → List DocView → Type 0
 AreSettled h rows = (id leaf : Text) → names rows id leaf ≡ true → (is_found h id leaf || is_rejected h id leaf) ≡ true
 
--- the leaves of the rows that the target does not have
+-- The leaves of the rows that the target does not have.
 abbrev pub not_found : List Exchange → List DocView → List DocView
 not_found h rows = docs_where (λ id leaf. not (is_found h id leaf)) rows
 
 -- ---- the replication logs
 
--- the log of a response, if it is one
+-- The log that a response has, if it has one.
 abbrev pub log_in : ResponseView → Option LogView
 log_in (log_response log) = Some log
 log_in r = None
 
--- the log of a side after an exchange, given the log before
+-- The log of a side after an exchange, given the log before.
 abbrev pub log_after : Side → RequestView → ResponseView → Option LogView → Option LogView
 log_after Source (get_log Source) r before = log_in r
 log_after Target (get_log Target) r before = log_in r
 log_after side q r before = before
 
--- the log of a side, as its server last returned it
+-- The log of a side, as its server last returned it.
 abbrev pub last_log : Side → List Exchange → Option LogView
 last_log side [] = None
 last_log side (e ∷ h) = log_after side e.request e.response (last_log side h)
 
--- whether one of the entries has this session and this sequence
+-- Whether one of the entries has this session and this sequence.
 abbrev pub has_pair : List EntryView → Text → Text → Bool
 has_pair entries session seq = list_any (λ e. bytes_eq e.session session && bytes_eq e.seq seq) entries
 
--- the pair of the first of the target's entries that is in the source's too
+-- The session and sequence of the first of the target's entries that is also in the source's log.
 abbrev pub newest_common : List EntryView → List EntryView → Option (Text × Text)
 newest_common [] source = None
 newest_common (e ∷ target) source = if has_pair source e.session e.seq then Some (e.session, e.seq) else newest_common target source
 
--- the sequence at which a run begins, given the newest common pair
+-- The sequence at which a run begins, given the newest pair of session and sequence in both logs, or 0 without such a
+-- pair.
 abbrev pub seq_of : Option (Text × Text) → Text
 seq_of None = codes "0"
 seq_of (Some pair) = pair.1
 
 -- ---- how far a run has come
 
--- Pages lead from one sequence to another. After each page, the target had each leaf of the page, or refused it. The
--- number counts the leaves of these pages that the target refused and does not have.
+-- Pages lead from sequence `begin` to sequence s. After each page, the target had each leaf of the page, or refused it.
+-- The number n counts the leaves of these pages that the target refused and does not have.
 pub data Reached : Text → List Exchange → Text → ℕ → Type 0 where
   begun : {begin : Text} {h : List Exchange} {s : Text} {n : ℕ} → begin ≡ s → n ≡ 0 → Reached begin h s n
   paged : {begin : Text} {h : List Exchange} {s : Text} {n : ℕ} (before after rest : List Exchange) (since : Text) (wait : Option ℕ) (page : PageView) (m : ℕ) → h ≡ rest ++ (after ++ exchange_of (get_changes since wait) (page_response page) ∷ before) → Reached begin before since m → AreSettled after page.rows → page.last_seq ≡ s → n ≡ m + leaf_count (not_found after page.rows) → Reached begin h s n
@@ -86,7 +87,7 @@ abbrev pub log_of : Side → LogView → LogView → LogView
 log_of Target target source = target
 log_of Source target source = source
 
--- Both logs were read after these pages, and the pages lead from the newest common pair of both logs to this sequence.
+-- Both logs were read after some pages, and the pages lead from the newest common pair of both logs to sequence s.
 pub record AreReady (h : List Exchange) (target source : LogView) (s : Text) (failures : ℕ) : Type 0 where
   pub before : List Exchange
   pub later : List Exchange
@@ -97,27 +98,27 @@ pub record AreReady (h : List Exchange) (target source : LogView) (s : Text) (fa
   pub reached : Reached (seq_of (newest_common target.history source.history)) before s rejected
   pub counted : min rejected (2 ^ 64 - 1) ≤ failures
 
--- A log may be asked to record the sequence that the pages reached. Its history is then the new entry and the history
--- that the log had when it was last read.
+-- A log may be requested to record the sequence s that the pages reached. Its history is then the new entry and the
+-- history that the log had when it was last read.
 pub record IsReady (h : List Exchange) (side : Side) (log : LogView) (s : Text) (failures : ℕ) : Type 0 where
   pub target : LogView
   pub source : LogView
   pub ready : AreReady h target source s failures
   pub own : log ≡ log_of side target source
 
--- whether the target stored its log in this exchange, with this recorded sequence; or the exchange is a notice, and
--- this holds of the exchanges before it
+-- The target stored its log in this exchange, with the recorded sequence s. If the exchange is a notice, the exchanges
+-- before it decide.
 abbrev pub IsStoring : RequestView → ResponseView → Text → Type 0 → Type 0
 IsStoring (put_log Target log checkpoint) stored_response s before = checkpoint.seq ≡ s
 IsStoring (tell notice) r s before = before
 IsStoring q r s before = ⊥
 
--- the target has just stored its log, which records that sequence
+-- The last exchange, notices aside, stored the target's log, which records sequence s.
 abbrev pub IsStored : List Exchange → Text → Type 0
 IsStored [] s = ⊥
 IsStored (e ∷ h) s = IsStoring e.request e.response s (IsStored h s)
 
--- the source's log is written only after the target's
+-- The source's log is written only after the target's log.
 abbrev pub IsInOrder : List Exchange → Side → Text → Type 0
 IsInOrder h Target s = Unit {0}
 IsInOrder h Source s = IsStored h s
@@ -131,7 +132,7 @@ MayAsk h (put_log side log checkpoint) = IsReady h side log checkpoint.seq check
 MayAsk h (tell notice) = Unit {0}
 MayAsk h (done fault counts recorded) = Unit {0}
 
--- each request of a history was allowed when it was sent
+-- Each request of a history was allowed when it was sent.
 abbrev pub IsJustified : List Exchange → Type 0
 IsJustified [] = Unit {0}
 IsJustified (e ∷ h) = MayAsk h e.request × IsJustified h

@@ -1,4 +1,4 @@
--- What a phase asks for, and what is known of the history in it.
+-- What a phase of the relay requests, and what is known of the history in the phase.
 use Rattle.std.specs.Prelude.{ℕ, ◌≡◌, ◌-◌, ◌^◌, ◌≤◌, true, if◌then◌else◌, List, [], ◌∷◌, ◌++◌, Option, None, Some, min, option_map, take, drop, slice_get, string_bytes}
 use Rattle.std.specs.Option.{option_map_or}
 use Rattle.relay_core.specs.declared.messages.Side.TheVariants.{Source, Target}
@@ -13,19 +13,19 @@ use Rattle.relay_core.specs.Views.{docs_view, row_errors_view, log_view, fault_v
 use Rattle.relay_core.specs.Leaves.{are_distinct, are_about}
 use Rattle.relay_core.specs.Justified.{is_rejected, not_found, last_log, seq_of, Reached, AreReady, IsReady, IsStored}
 
--- ---- what is asked for
+-- ---- what is requested
 
 abbrev pub pair_view : Recorded → Text × Text
 pair_view r = (string_bytes r.session_id, string_bytes r.seq)
 
--- the sequence at which the window begins
+-- The sequence at which the window of a run begins.
 abbrev pub begin_of : Run → Text
 begin_of run = seq_of (option_map pair_view run.begin)
 
 abbrev pub wait_of : Run → Option ℕ
 wait_of run = if run.waits then Some (if run.is_open then 5000 else 60000) else None
 
--- the documents of the current carry
+-- The documents of the current carry.
 abbrev pub part_of : Transfer → List DocView
 part_of t = docs_view (take t.size (drop t.carried t.missing.items))
 
@@ -40,13 +40,13 @@ asked_by run (stages.TargetPut target source checkpoint) = put_log Target (log_v
 asked_by run (stages.SourcePut source checkpoint) = put_log Source (log_view source) (checkpoint_view checkpoint)
 asked_by run (stages.Done fault) = done (option_map fault_view fault) run.counts (begin_of run)
 
--- the next notice, or the request of the stage
+-- The next notice, or the request of the phase's stage.
 abbrev pub asked_of : Phase → RequestView
 asked_of phase = option_map_or (λ n. tell (notice_view n)) (slice_get phase.notices.items phase.told) (asked_by phase.run phase.stage)
 
 -- ---- what is known
 
--- Pages lead from one sequence to another, and the number counts the refused leaves of these pages.
+-- Pages lead from sequence `begin` to sequence `since`, and `failures` counts the refused leaves of these pages.
 pub record IsReachedFrom (h : List Exchange) (begin since : Text) (failures : ℕ) : Type 0 where
   pub rejected : ℕ
   pub reached : Reached begin h since rejected
@@ -55,7 +55,7 @@ pub record IsReachedFrom (h : List Exchange) (begin since : Text) (failures : �
 abbrev pub IsReached : List Exchange → Run → Type 0
 IsReached h run = IsReachedFrom h (begin_of run) (string_bytes run.since) run.counts.doc_write_failures
 
--- the target's log was read after these pages
+-- The target's log was read after the pages that lead from `begin` to `since`.
 pub record IsRead (h : List Exchange) (begin since : Text) (failures : ℕ) (target : LogView) : Type 0 where
   pub before : List Exchange
   pub later : List Exchange
@@ -63,8 +63,8 @@ pub record IsRead (h : List Exchange) (begin since : Text) (failures : ℕ) (tar
   pub target_is : last_log Target later ≡ Some target
   pub reached : IsReachedFrom before begin since failures
 
--- The source returned a page. The documents are its leaves that the target did not have since then, and the target
--- refused each leaf that the rows name.
+-- The source returned a page that is not complete at the target. The documents `missing` are the page's leaves that the
+-- target did not have since then, and the target refused each leaf that the rows name.
 pub record IsOpen (h : List Exchange) (begin since last : Text) (failures : ℕ) (missing : List DocView) (rows : List RowErrorView) : Type 0 where
   pub before : List Exchange
   pub after : List Exchange

@@ -5,19 +5,19 @@ use Rattle.relay_core.specs.Messages.{Text, DocView, RowErrorView}
 
 -- ---- documents
 
--- whether a list of texts has that text
+-- Whether a list of texts has the given text.
 abbrev pub has_text : List Text → Text → Bool
 has_text texts text = list_any (λ t. bytes_eq t text) texts
 
--- whether one of the documents has that id, and that leaf
+-- Whether one of the documents has the given id and the given leaf.
 abbrev pub names : List DocView → Text → Text → Bool
 names docs id leaf = list_any (λ d. bytes_eq d.0 id && has_text d.1 leaf) docs
 
--- whether one of the documents has that id
+-- Whether one of the documents has the given id.
 abbrev pub has_id : List DocView → Text → Bool
 has_id docs id = list_any (λ d. bytes_eq d.0 id) docs
 
--- whether the documents have distinct ids
+-- Whether the documents have distinct ids.
 abbrev pub are_distinct : List DocView → Bool
 are_distinct [] = true
 are_distinct (d ∷ ds) = not (has_id ds d.0) && are_distinct ds
@@ -26,29 +26,29 @@ abbrev pub is_filled : List Text → Bool
 is_filled [] = false
 is_filled (r ∷ revs) = true
 
--- whether each document has a leaf
+-- Whether each document has a leaf.
 abbrev pub have_leaves : List DocView → Bool
 have_leaves docs = list_all (λ d. is_filled d.1) docs
 
--- whether the documents name each of these leaves of a document
+-- Whether the documents name each of the given leaves of document `id`.
 abbrev pub are_named : List DocView → Text → List Text → Bool
 are_named docs id revs = list_all (λ r. names docs id r) revs
 
--- whether the first list names each leaf of the second list
+-- Whether the documents of the first list name each leaf of the second list.
 abbrev pub name_all : List DocView → List DocView → Bool
 name_all docs named = list_all (λ d. are_named docs d.0 d.1) named
 
--- the number of leaves
+-- The number of leaves in a list of documents.
 abbrev pub leaf_count : List DocView → ℕ
 leaf_count [] = 0
 leaf_count (d ∷ ds) = length d.1 + leaf_count ds
 
--- the document with this id and these leaves; an empty list if there are no leaves
+-- The document with the given id and leaves, or the empty list if there are no leaves.
 abbrev pub doc_if_any : Text → List Text → List DocView
 doc_if_any id [] = []
 doc_if_any id (r ∷ revs) = (id, r ∷ revs) ∷ []
 
--- the leaves that pass a test, in order; documents without such a leaf are left out
+-- The leaves that pass a test, in order. Documents without such a leaf are left out.
 abbrev pub docs_where : (Text → Text → Bool) → List DocView → List DocView
 docs_where p [] = []
 docs_where p (d ∷ ds) = doc_if_any d.0 (filter (λ r. p d.0 r) d.1) ++ docs_where p ds
@@ -58,39 +58,39 @@ docs_where p (d ∷ ds) = doc_if_any d.0 (filter (λ r. p d.0 r) d.1) ++ docs_wh
 abbrev pub is_refusal : RowErrorView → Bool
 is_refusal row = bytes_eq row.error (codes "forbidden") || bytes_eq row.error (codes "unauthorized")
 
--- whether a row that names this revision, or none, is about that leaf
+-- Whether a row about revision `rev`, or about all revisions, is about the given leaf.
 abbrev pub is_about : Option Text → Text → Bool
 is_about None leaf = true
 is_about (Some rev) leaf = bytes_eq rev leaf
 
--- whether one of the rows is about that leaf of that id
+-- Whether one of the rows is about the given leaf of document `id`.
 abbrev pub are_about : List RowErrorView → Text → Text → Bool
 are_about rows id leaf = list_any (λ r. bytes_eq r.id id && is_about r.rev leaf) rows
 
 abbrev pub refusals_in : List RowErrorView → List RowErrorView
 refusals_in rows = filter (λ r. is_refusal r) rows
 
--- whether one of the rows refuses that leaf of that id
+-- Whether one of the rows refuses the given leaf of document `id`.
 abbrev pub refuses : List RowErrorView → Text → Text → Bool
 refuses rows id leaf = are_about (refusals_in rows) id leaf
 
--- whether a row is about each of these leaves of an id
+-- Whether the rows are about each of the given leaves of document `id`.
 abbrev pub are_all_about : List RowErrorView → Text → List Text → Bool
 are_all_about rows id revs = list_all (λ r. are_about rows id r) revs
 
--- whether a row is about each leaf
+-- Whether the rows are about each leaf of the documents.
 abbrev pub cover : List RowErrorView → List DocView → Bool
 cover rows docs = list_all (λ d. are_all_about rows d.0 d.1) docs
 
--- the row of a leaf whose document is too large for the target
+-- The row of a leaf whose document is too large for the target.
 abbrev pub too_large_row : Text → Text → RowErrorView
 too_large_row id leaf = record { id = id; rev = Some leaf; error = codes "too_large"; reason = codes "status 413" }
 
--- the rows of a document that is too large for the target
+-- The rows of a document that is too large for the target, one for each leaf.
 abbrev pub too_large_rows : Text → List Text → List RowErrorView
 too_large_rows id revs = map (λ r. too_large_row id r) revs
 
--- whether a document of that id is the only one
+-- Whether the list has exactly one document, and this is document `id`.
 abbrev pub is_alone : List DocView → Text → Bool
 is_alone [] id = false
 is_alone (d ∷ []) id = bytes_eq d.0 id

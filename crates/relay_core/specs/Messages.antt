@@ -1,4 +1,4 @@
--- The messages between the relay and the two servers, without memory. A text is its bytes.
+-- The messages between the relay and the two servers, as values without memory. A text is a list of bytes.
 use Rattle.std.specs.Prelude.{ℕ, Bool, List, Option}
 use Rattle.relay_core.specs.declared.messages.Side.{Side}
 use Rattle.relay_core.specs.declared.messages.Operation.{Operation}
@@ -7,7 +7,7 @@ use Rattle.relay_core.specs.declared.messages.Counts.{Counts}
 abbrev pub Text : Type 0
 Text = List ℕ
 
--- the id of a document, and leaf revisions of that document
+-- The id of a document, and leaf revisions of that document.
 abbrev pub DocView : Type 0
 DocView = Text × List Text
 
@@ -41,7 +41,8 @@ pub data FaultView : Type 0 where
   bad_answer : Operation → FaultView
   bad_log : Side → FaultView
   refused : Text → Side → ℕ → Text → FaultView
-  -- an id, a revision, the error and the reason of a row, and the number of such leaves
+  -- A leaf whose carry the target's response does not account for: an id, a revision, the error and the reason of a
+  -- row, and the number of such leaves.
   unaccounted : Text → Text → Option (Text × Text) → ℕ → FaultView
   log_changed : FaultView
 
@@ -53,18 +54,18 @@ pub record CheckpointView : Type 0 where
   pub counts : Counts
 
 pub data NoticeView : Type 0 where
-  -- an id, a revision, an error and a reason
+  -- The notice of a leaf that the target refused: an id, a revision, an error and a reason.
   leaf_refused : Text → Text → Text → Text → NoticeView
   restarted : NoticeView
   progress : Counts → Option Text → NoticeView
 
 pub data RequestView : Type 0 where
   get_log : Side → RequestView
-  -- the changes after a sequence; by longpoll if there is a timeout
+  -- The request of the changes after a sequence, by longpoll if there is a timeout.
   get_changes : Text → Option ℕ → RequestView
   revs_diff : List DocView → RequestView
   carry_docs : List DocView → RequestView
-  -- the log as the server last answered it, and the entry that is put before its history
+  -- The request to put a log: the log as the server last returned it, and the entry that is put before its history.
   put_log : Side → LogView → CheckpointView → RequestView
   tell : NoticeView → RequestView
   done : Option FaultView → Counts → Text → RequestView
@@ -80,7 +81,7 @@ pub data ResponseView : Type 0 where
   noted_response : ResponseView
   fault_response : FaultView → ResponseView
 
--- a request, and the response to it
+-- An exchange: a request, and the response to it.
 pub record Exchange : Type 0 where
   pub request : RequestView
   pub response : ResponseView

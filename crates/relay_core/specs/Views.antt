@@ -1,4 +1,4 @@
--- The messages of the code, as messages without memory.
+-- The messages in the code, and the same messages as values without memory.
 use Rattle.std.specs.Prelude.{List, map, option_map, String, string_bytes}
 use Rattle.std.specs.Global.{Global}
 use Rattle.relay_core.specs.declared.messages.DocLeaves.{DocLeaves}

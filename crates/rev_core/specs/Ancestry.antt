@@ -6,43 +6,43 @@ use Rattle.rev_core.specs.Rev.{RevId, IsRev, rev_cmp}
 use Rattle.rev_core.specs.declared.fault.RevFault.{RevFault}
 use Rattle.rev_core.specs.declared.fault.RevFault.TheVariants as faults
 
--- each generation is one above the next
+-- In a list of revisions, each generation is one above that of the next revision.
 abbrev pub FallsByOne : List RevId → Type 0
 FallsByOne [] = Unit {0}
 FallsByOne (r ∷ []) = Unit {0}
 FallsByOne (r ∷ (s ∷ rest)) = (r.generation ≡ s.generation + 1) × FallsByOne (s ∷ rest)
 
--- a nonempty list of revisions whose generations fall by one
+-- An ancestry: a nonempty list of revisions whose generations fall by one.
 pub record IsAncestry (revs : List RevId) : Type 0 where
   pub nonempty : 0 < length revs
   pub each : AllByRecursion IsRev revs
   pub falls : FallsByOne revs
 
--- the first revision, which is the newest
+-- The first revision of a list, which in an ancestry is the newest.
 abbrev pub head_of : List RevId → Option RevId
 head_of [] = None
 head_of (r ∷ rest) = Some r
 
--- the edges of an ancestry: each child with its parent, newest child first
+-- The edges of an ancestry: each child with its parent, newest child first.
 abbrev pub edges_of : List RevId → List (RevId × RevId)
 edges_of [] = []
 edges_of (r ∷ []) = []
 edges_of (r ∷ (s ∷ rest)) = (r, s) ∷ edges_of (s ∷ rest)
 
--- whether r is the parent in one of the edges
+-- Whether revision r is the parent in one of the edges.
 abbrev pub has_parent : List (RevId × RevId) → RevId → Bool
 has_parent edges r = list_any (λ (e : RevId × RevId). eq_by_cmp rev_cmp r e.1) edges
 
--- whether r is in the list
+-- Whether revision r is in a list.
 abbrev pub is_among : RevId → List RevId → Bool
 is_among r revs = list_any (eq_by_cmp rev_cmp r) revs
 
--- the revisions that signatures denote, from generation `start` downwards
+-- The revisions of a list of signatures, whose generations fall by one from `start`.
 abbrev pub numbered : ℕ → List (List ℕ) → List RevId
 numbered start [] = []
 numbered start (sig ∷ sigs) = record { generation = start; sig = sig } ∷ numbered (start - 1) sigs
 
--- the ancestry of a newest generation and signatures, or the error
+-- The ancestry of a newest generation and signatures, or the error.
 abbrev pub ancestry_read : ℕ → List (List ℕ) → Result (List RevId) RevFault
 ancestry_read start sigs =
     if length sigs == 0 then Err faults.NoIds

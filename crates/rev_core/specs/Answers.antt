@@ -1,9 +1,9 @@
--- The result of a call that allocates.
+-- The result of a call that may run out of memory.
 use Rattle.std.specs.Prelude.{◌≡◌, Result, Err, IsOk}
 use Rattle.rev_core.specs.declared.fault.RevFault.{RevFault}
 use Rattle.rev_core.specs.declared.fault.RevFault.TheVariants as faults
 
--- the result is the expected one, or `Memory` if `Ok` is expected
+-- A result is the expected one, or it is `Memory` and the expected one is `Ok`.
 abbrev pub GivesUnlessMemory : {A : Type 0} → Result A RevFault → Result A RevFault → Type 0
 GivesUnlessMemory (Err faults.Memory) expected = IsOk expected
 GivesUnlessMemory result expected = result ≡ expected

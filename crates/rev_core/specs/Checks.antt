@@ -1,23 +1,23 @@
--- A sequence of checks: each passes a value on to the next, or gives an error.
+-- A sequence of checks, in which each check passes a value on to the next, or gives an error.
 use Rattle.std.specs.Prelude.{Bool, true, false, ⊤, Option, Some, None, Result, Ok, Err}
 
--- applies the next check if the previous one passed
+-- The result of the check f of a value, or the error of the previous check.
 infixl 10 ◌>>=◌
 abbrev pub ◌>>=◌ : {A B E : Type 0} → Result A E → (A → Result B E) → Result B E
 Ok x >>= f = f x
 Err e >>= f = Err e
 
--- the error e if the test is true
+-- The result of a check that gives the error e if its test is true.
 abbrev pub refused_if : {E : Type 0} → Bool → E → Result ⊤ E
 refused_if true e = Err e
 refused_if false e = Ok tt
 
--- the error e if there is no value
+-- The value of an option, or the error e if there is no value.
 abbrev pub or_refused : {A E : Type 0} → E → Option A → Result A E
 or_refused e None = Err e
 or_refused e (Some x) = Ok x
 
--- replaces every error by e
+-- A result in which every error is replaced by e.
 abbrev pub named : {A E F : Type 0} → F → Result A E → Result A F
 named e (Ok x) = Ok x
 named e (Err why) = Err e

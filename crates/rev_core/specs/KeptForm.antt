@@ -1,10 +1,10 @@
--- How a compact revision is stored. No public clause cites this module.
+-- How a compact revision is stored. No public contract uses this module.
 use Rattle.rev_core.specs.Rev.{RevId}
 use Rattle.rev_core.specs.ShortSig.{text_in}
 use Rattle.rev_core.specs.declared.kept_rev.Form.{Form}
 use Rattle.rev_core.specs.declared.kept_rev.Form.TheVariants.{Short, Long}
 
--- the stored revision
+-- The revision id that a stored form represents.
 abbrev pub rev_of : Form → RevId
 rev_of (Short len generation front back) = record { generation = generation; sig = text_in len front back }
 rev_of (Long block) = block.value

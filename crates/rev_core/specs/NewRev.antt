@@ -7,30 +7,30 @@ use Rattle.rev_core.specs.Text.{rev_text}
 use Rattle.rev_core.specs.declared.fault.RevFault.{RevFault}
 use Rattle.rev_core.specs.declared.fault.RevFault.TheVariants as faults
 
--- the generation of a new revision: 1 without a parent, else the parent's generation plus 1
+-- The generation of a new revision: 1 without a parent, else the parent's generation plus 1.
 abbrev pub next_generation : Option RevId → ℕ
 next_generation None = 1
 next_generation (Some parent) = parent.generation + 1
 
--- the parent's string, or an empty string
+-- The string of the parent's revision id, or an empty string without a parent.
 abbrev pub parent_text : Option RevId → List ℕ
 parent_text None = []
 parent_text (Some parent) = rev_text parent
 
--- `deleted` or `live`
+-- The string `deleted` or `live`, according to the deleted flag.
 abbrev pub kind_text : Bool → List ℕ
 kind_text true = codes "deleted"
 kind_text false = codes "live"
 
--- the parent, the kind and the body, separated by line feeds
+-- The bytes of an edit that are hashed: the parent, `live` or `deleted`, and the body, separated by line feeds.
 abbrev pub edit_text : Option RevId → Bool → List ℕ → List ℕ
 edit_text parent deleted body = parent_text parent ++ 10 ∷ (kind_text deleted ++ 10 ∷ body)
 
--- the signature of an edit: the hexadecimal digits of the MD5 of its text
+-- The signature of an edit: the hexadecimal digits of the MD5 of the edit's bytes.
 unfoldable pub edit_sig : Option RevId → Bool → List ℕ → List ℕ
 edit_sig parent deleted body = encode_lower (md5 (edit_text parent deleted body))
 
--- the revision id of an edit, or `GenerationFull` if the parent has the greatest generation
+-- The revision id of an edit, or `GenerationFull` if the parent has the greatest generation.
 abbrev pub edit_rev : Option RevId → Bool → List ℕ → Result RevId RevFault
 edit_rev parent deleted body =
     if nat_lt (next_generation parent) (2 ^ 32) then Ok

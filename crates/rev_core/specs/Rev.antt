@@ -5,17 +5,17 @@ use Rattle.std.specs.Ordering.{nat_cmp, ordering_then}
 use Rattle.std.specs.Cmp.Lexicographic.{slice_cmp}
 use Rattle.rev_core.specs.Sig.{is_sig}
 
--- a revision id: its generation, and the bytes of its signature
+-- A revision id: its generation, and the bytes of its signature.
 pub record RevId : Type 0 where
   pub generation : ℕ
   pub sig : List ℕ
 
--- a generation from 1 to 2^32 - 1, and a signature
+-- A revision id is valid: its generation is from 1 to 2^32 - 1, and its signature is valid.
 pub record IsRev (r : RevId) : Type 0 where
   pub low : 1 ≤ r.generation
   pub high : r.generation < 2 ^ 32
   pub sig : is_sig r.sig ≡ true
 
--- the order of revisions: by generation, then by signature in ASCII order
+-- The order of revisions: by generation, then by signature in ASCII order.
 abbrev pub rev_cmp : RevId → RevId → Ordering
 rev_cmp a b = ordering_then (nat_cmp a.generation b.generation) (slice_cmp nat_cmp a.sig b.sig)

@@ -35,7 +35,7 @@ is_equal Less e = absurd (subst T (sym e) tt)
 is_equal Equal e = refl
 is_equal Greater e = absurd (subst T (sym e) tt)
 
--- revisions that compare as equal are equal
+-- Two revisions that compare as equal are equal.
 pub rev_tie_is : (a b : RevId) → eq_by_cmp rev_cmp a b ≡ true → a ≡ b
 rev_tie_is a b e = rev_cmp_exact a b (is_equal _ e)
 
@@ -47,7 +47,7 @@ same_tests true y f g = sym (f refl)
 same_tests false true f g = g refl
 same_tests false false f g = refl
 
--- `==` on the parts is the same as comparing by `rev_cmp`
+-- Comparing two revisions' parts by `==` is the same as comparing the revisions by `rev_cmp`.
 pub rev_eq_is : (a b : RevId)
     → (nat_eq a.generation b.generation && pointwise nat_eq a.sig b.sig) ≡ eq_by_cmp rev_cmp a b
 rev_eq_is a b = same_tests _ _
@@ -59,15 +59,15 @@ rev_eq_is a b = same_tests _ _
     (ap (λ t. t && pointwise nat_eq a.sig a.sig) (eq-eqb a.generation a.generation refl)
     ∙ (bytes_decides a.sig a.sig).1 refl))
 
--- what a revision feeds to a hasher: its generation, then its signature
+-- The bytes of a revision that are hashed: those of its generation, then its signature.
 abbrev pub hashed : RevId → List (List ℕ)
 hashed r = fed.u32 r.generation ++ r.sig ∷ []
 
--- equal revisions have equal hashes
+-- Equal revisions have equal hashes.
 pub hashed_alike : (a b : RevId) → eq_by_cmp rev_cmp a b ≡ true → hashed a ≡ hashed b
 hashed_alike a b e = ap hashed (rev_tie_is a b e)
 
--- a revision encoded as a pair
+-- A revision encoded as a pair of its generation and its signature.
 abbrev pub coded_rev : Coded RevId
 coded_rev =
     code_by (ℕ × List ℕ) (coded× coded_ℕ (coded_list coded_ℕ)) (λ r. (r.generation, r.sig))

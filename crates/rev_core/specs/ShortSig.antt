@@ -3,26 +3,27 @@ use Rattle.std.specs.Prelude.{ℕ, ◌+◌, ◌/◌, ◌%◌, Bool, ◌&&◌, �
 use Rattle.std.specs.List.{list_all}
 use Rattle.std.specs.Int.{to_le_bytes, w64}
 
--- whether b is a digit or a letter from `a` to `f`
+-- Whether b is a digit or a letter from `a` to `f`.
 abbrev pub is_hex_digit : ℕ → Bool
 is_hex_digit b = nat_le 48 b && nat_le b 57 || nat_le 97 b && nat_le b 102
 
--- the digit of a value below 16
+-- The hexadecimal digit of a value below 16.
 abbrev pub digit_of : ℕ → ℕ
 digit_of value = if nat_lt value 10 then value + 48 else value + 87
 
--- the digits of bytes: the high digits of all bytes, then the low digits
+-- The hexadecimal digits of bytes: the high digits of all bytes, then the low digits.
 abbrev pub digits_of : List ℕ → List ℕ
 digits_of bytes = map (λ b. digit_of (b / 16)) bytes ++ map (λ b. digit_of (b % 16)) bytes
 
--- whether a signature is short: the digits of a digest, or any other signature of at most 16 bytes
+-- Whether a signature is short: the digits of a digest, or any other signature of at most 16 bytes.
 abbrev pub is_short : List ℕ → Bool
 is_short text = if length text == 32 then list_all is_hex_digit text else nat_le (length text) 16
 
--- the sixteen bytes of two integers
+-- The sixteen bytes of two integers.
 unfoldable pub bytes_in : ℕ → ℕ → List ℕ
 bytes_in front back = to_le_bytes w64 front ++ to_le_bytes w64 back
 
--- the signature packed with length `len`; length 0 stands for the 32 digits of the bytes
+-- The signature that is packed in two integers with length `len`. If `len` is 0, the signature is the 32 digits of the
+-- bytes.
 abbrev pub text_in : ℕ → ℕ → ℕ → List ℕ
 text_in len front back = if len == 0 then digits_of (bytes_in front back) else take len (bytes_in front back)

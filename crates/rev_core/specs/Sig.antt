@@ -4,25 +4,25 @@ use Rattle.std.specs.List.{list_all}
 use Rattle.rev_core.specs.declared.fault.RevFault.{RevFault}
 use Rattle.rev_core.specs.declared.fault.RevFault.TheVariants as faults
 
--- whether b is an ASCII letter, a digit, `-`, `_` or `.`
+-- Whether b is an ASCII letter, a digit, `-`, `_` or `.`.
 abbrev pub is_sig_byte : ℕ → Bool
 is_sig_byte b =
     nat_le 97 b && nat_le b 122 || nat_le 65 b && nat_le b 90 || nat_le 48 b && nat_le b 57 || b == 45 || b == 95
     || b == 46
 
--- whether a string is a signature: 1 to 64 such bytes
+-- Whether a string is a signature: 1 to 64 bytes that a signature may have.
 abbrev pub is_sig : List ℕ → Bool
 is_sig text = nat_le 1 (length text) && nat_le (length text) 64 && list_all is_sig_byte text
 
--- the result of parsing a signature
+-- The result of parsing a signature.
 abbrev pub sig_read : List ℕ → Result (List ℕ) RevFault
 sig_read text = if is_sig text then Ok text else Err faults.BadSig
 
--- the string, followed by zeros up to 64 bytes
+-- The string, followed by zeros up to 64 bytes.
 abbrev pub padded : List ℕ → List ℕ
 padded text = text ++ replicate (64 - length text) 0
 
--- the first `len` bytes of the array are a signature, and the other bytes are zero
+-- The first `len` bytes of the stored array are a signature, and its other bytes are zero.
 pub record IsStored (bytes : List ℕ) (len : ℕ) : Type 0 where
   pub size : length bytes ≡ 64
   pub fits : len ≤ 64

@@ -10,39 +10,39 @@ use Rattle.rev_core.specs.declared.fault.RevFault.TheVariants as faults
 abbrev pub is_digit : ℕ → Bool
 is_digit c = nat_le 48 c && nat_le c 57
 
--- the number n with the decimal digit c appended
+-- The number n with the decimal digit c appended.
 abbrev pub with_digit : ℕ → ℕ → ℕ
 with_digit n c = n * 10 + (c - 48)
 
--- the value of decimal digits
+-- The value of a string of decimal digits.
 abbrev pub value_of : List ℕ → ℕ
 value_of digits = fold with_digit 0 digits
 
--- whether a string is a generation: 1 to 2^32 - 1 in decimal, without leading zeros
+-- Whether a string is a generation: 1 to 2^32 - 1 in decimal, without leading zeros.
 abbrev pub is_generation : List ℕ → Bool
 is_generation text = nat_le 49 (slice_index text 0) && list_all is_digit text && nat_lt (value_of text) (2 ^ 32)
 
--- the generation that a string denotes
+-- The generation that a string denotes, if it denotes one.
 abbrev pub generation_read : List ℕ → Option ℕ
 generation_read text = if is_generation text then Some (value_of text) else None
 
 abbrev pub is_dash : ℕ → Bool
 is_dash c = c == 45
 
--- a revision from an optional generation and the string after the `-`
+-- The revision id of a generation, if there is one, and the string after the `-`, or the error.
 abbrev pub with_sig : Option ℕ → List ℕ → Result RevId RevFault
 with_sig None text = Err faults.BadGeneration
 with_sig (Some n) text = if is_sig text then Ok (record { generation = n; sig = text }) else Err faults.BadSig
 
--- the result of parsing a string split at index i
+-- The result of parsing a revision id that is split at index i.
 abbrev pub cut_at : List ℕ → Option ℕ → Result RevId RevFault
 cut_at text None = Err faults.BadGeneration
 cut_at text (Some i) = with_sig (generation_read (take i text)) (drop (i + 1) text)
 
--- the result of parsing a revision id: it is split at its first `-`
+-- The result of parsing a revision id, which is split at its first `-`.
 abbrev pub rev_read : List ℕ → Result RevId RevFault
 rev_read text = cut_at text (position is_dash text)
 
--- the string of a revision id: the generation in decimal, `-`, the signature
+-- The string of a revision id: the generation in decimal, `-`, the signature.
 abbrev pub rev_text : RevId → List ℕ
 rev_text r = decimal r.generation ++ 45 ∷ r.sig

@@ -14,7 +14,7 @@ use Rattle.rev_core.specs.Rev.{RevId, IsRev}
 use Rattle.rev_core.specs.Text.{is_digit, with_digit, value_of, is_generation, generation_read, is_dash, with_sig, cut_at, rev_read, rev_text}
 use Rattle.rev_core.specs.declared.fault.RevFault.TheVariants as faults
 
--- `value_of` is the numeral model of the standard library
+-- The function `value_of` is the standard library's model of numerals.
 decimals : IsNumeralModel (λ ds. list_all is_digit ds ≡ true) value_of
 decimals = numerals_by_fold _ (search rules) (fold with_digit) (search rules)
 
@@ -24,7 +24,7 @@ rev_of n sig = record { generation = n; sig = sig }
 not_dash : (c : ℕ) → is_digit c ≡ true → not (is_dash c) ≡ true
 not_dash c h = let parts = and_parts _ _ h in let low = leb-true 48 c parts.0 in grind arith
 
--- digits contain no `-`
+-- A string of decimal digits contains no `-`.
 digits_before : (ds rest : List ℕ) → list_all is_digit ds ≡ true → position_or_len is_dash (ds ++ 45 ∷ rest) ≡ length ds
 digits_before [] rest h = refl
 digits_before (c ∷ ds) rest h =
@@ -44,7 +44,7 @@ generation_written n low high =
     ∙ ap (λ b. cond b (Some (value_of (decimal n))) None) fits
     ∙ ap Some value
 
--- the string of a revision parses back to the revision
+-- Parsing the string of a revision gives the revision.
 pub rev_read-text : (r : RevId) → IsRev r → rev_read (rev_text r) ≡ Ok r
 rev_read-text r h =
     let ds = decimal r.generation in
@@ -66,7 +66,7 @@ nonempty : (ds : List ℕ) → nat_le 49 (get_or ds 0 0) ≡ true → 0 < length
 nonempty [] h = absurd (false≢true h)
 nonempty (c ∷ ds) h = omega arith
 
--- a generation is parsed only from its own decimal string
+-- If a string parses as a generation, it is the generation's decimal string.
 generation_told : (b : Bool) (ds rest : List ℕ) (r : RevId) → b ≡ is_generation ds → with_sig (cond b (Some (value_of ds)) None) rest ≡ Ok r → rev_text r ≡ ds ++ 45 ∷ rest
 generation_told true ds rest r is e =
     let parts = and_parts _ _ (sym is) in
@@ -87,6 +87,6 @@ cut_told true text r is e =
     ∙ sym (split_at_first is_dash text 0 within)
 cut_told false text r is e = cc
 
--- only the string of a revision parses to it
+-- If a string parses as a revision, it is the string of this revision.
 pub rev_text-read : (text : List ℕ) (r : RevId) → rev_read text ≡ Ok r → rev_text r ≡ text
 rev_text-read text r e = cut_told _ text r refl e

@@ -12,26 +12,27 @@ use Rattle.script_databases.specs.Databases.{State, NamedBackupValue, IsTaken, p
 
 -- ---- databases that are known to each other
 
--- another database of the script has this UUID
+-- A database of script state s has the UUID `uuid`, and this is not the UUID `own`.
 abbrev pub IsOther : State → ℕ → ℕ → Type 0
 IsOther s own uuid = IsTaken s uuid × (uuid ≡ own → ⊥)
 
--- each log belongs to a replication into another database of the script
+-- Each log of a database, whose UUID is `own`, belongs to a replication to another database of the script.
 abbrev pub LeadToOthers : State → ℕ → List (RepId × List EntryValue) → Type 0
 LeadToOthers s own logs = (l : RepId × List EntryValue) → Among l logs → IsOther s own l.0.target
 
--- each session belongs to a replication from another database of the script
+-- Each session of a database, whose UUID is `own`, belongs to a replication from another database of the script.
 abbrev pub ComeFromOthers : State → ℕ → List SessionValue → Type 0
 ComeFromOthers s own sessions = (x : SessionValue) → Among x sessions → IsOther s own x.rep.source
 
--- a backup is of the database under whose name it is stored, and its logs lead to other databases
+-- Backup k is of the database under whose name it is stored, and its logs are of replications to other databases.
 pub record IsCopyOfOne (s : State) (k : NamedBackupValue) : Type 0 where
   pub peer : PeerValue
   pub there : peer_at s k.db ≡ Some peer
   pub uuid : k.backup.db.uuid ≡ peer.db.uuid
   pub logs : LeadToOthers s peer.db.uuid k.backup.outgoing
 
--- no two databases have the same UUID; each backup belongs to a database, and each log and session to another database
+-- No two databases have the same UUID, each backup is of the database under whose name it is stored, and each log and
+-- session belongs to another database.
 pub record IsKnown (s : State) : Type 0 where
   pub apart : (n m : List ℕ) (p q : PeerValue) → peer_at s n ≡ Some p → peer_at s m ≡ Some q → p.db.uuid ≡ q.db.uuid
       → n ≡ m
@@ -41,18 +42,19 @@ pub record IsKnown (s : State) : Type 0 where
 
 -- ---- databases that are all tied
 
--- these are backups of the database with this name
+-- The peers of the list `backups` are backups of the database with name n.
 abbrev pub AreCopiesOf : State → List ℕ → List BackupValue → Type 0
 AreCopiesOf s n backups =
     (b : BackupValue) → Among b backups → (k : NamedBackupValue) × Among k s.backups × (k.db ≡ n) × (k.backup ≡ b)
 
--- each database, with its backups, is tied as a source to each database as a target, for every selection
+-- Each database, with its backups, is consistent as a source with each database as a target, for every selection.
 pub record AllTied (s : State) : Type 0 where
   pub known : IsKnown s
   pub tied : (n m : List ℕ) (p q : PeerValue) → peer_at s n ≡ Some p → peer_at s m ≡ Some q → (chosen : Choice)
       → (backups : List BackupValue) → AreCopiesOf s n backups → IsTiedWith backups p q chosen
 
--- the database `target` covers the selected feed of the database `source` up to its update sequence, which is n
+-- The database `target` covers the selected feed of the database `source` up to the source's update sequence, which is
+-- n.
 abbrev pub CoversUpTo : State → List ℕ → List ℕ → Choice → ℕ → Type 0
 CoversUpTo s source target chosen n =
     (p : PeerValue) × (q : PeerValue) × (peer_at s source ≡ Some p) × (peer_at s target ≡ Some q)

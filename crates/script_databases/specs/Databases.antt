@@ -25,12 +25,12 @@ use Rattle.script_databases.specs.declared.databases.PutBack.{PutBack}
 use Rattle.script_databases.specs.declared.refusal.Refusal.{Refusal}
 use Rattle.script_databases.specs.declared.refusal.Refusal.TheVariants as why
 
--- the order of strings, byte by byte
+-- The order of strings, byte by byte.
 abbrev pub text_cmp : List ℕ → List ℕ → Ordering
 text_cmp = slice_cmp nat_cmp
 
--- the settings: the id prefix that targets refuse, the seed of generated ids, the default timestamp, workers and batch
--- size of replications, and whether successful loads and edits print nothing
+-- The program's settings: the id prefix that targets refuse, the seed of generated ids, and the defaults of
+-- replications. A further setting says whether successful loads and edits print no text.
 pub record Program : Type 0 where
   pub deny : Option (List ℕ)
   pub seed : ℕ
@@ -39,7 +39,7 @@ pub record Program : Type 0 where
   pub batch : ℕ
   pub quiet : Bool
 
--- a backup, with the name of its database and its own name
+-- A backup, with the name of its database and its own name.
 pub record NamedBackupValue : Type 0 where
   pub db : List ℕ
   pub name : List ℕ
@@ -51,8 +51,8 @@ coded_named_backup =
     (coded× (coded_list coded_ℕ) (coded× (coded_list coded_ℕ) coded_backup)) (λ k. (k.db, (k.name, k.backup)))
     (λ p. record { db = p.0; name = p.1.0; backup = p.1.1 }) (λ _. refl)
 
--- the settings, which no line changes; the number of generated ids, modulo the length of the stream; the backups; and
--- the peers by name
+-- The state of a script: the settings, the number of generated ids, the backups, and the peers by name. No line changes
+-- the settings, and the number is modulo the length of the random stream.
 pub record State : Type 0 where
   pub program : Program
   pub drawn : ℕ
@@ -83,26 +83,26 @@ coded_state = code_by (Option (List ℕ) × (ℕ × (ℕ × (ℕ × (ℕ × (Boo
 abbrev pub no_databases : Program → State
 no_databases program = record { program = program; drawn = 0; backups = []; peers = finmap.empty }
 
--- the next generated id, and the state after it is drawn
+-- The id that is generated next.
 abbrev pub next_made : State → ℕ
 next_made s = made_id s.program.seed s.drawn
 
 abbrev pub drawn_one : State → State
 drawn_one s = record s { drawn = next_place s.drawn }
 
--- the peer with this name, if there is one
+-- The peer with this name, if there is one.
 abbrev pub peer_at : State → List ℕ → Option PeerValue
 peer_at s name = finmap.get s.peers name
 
--- the state after a peer is stored under a name
+-- The state after peer p is stored under a name.
 abbrev pub with_peer : State → List ℕ → PeerValue → State
 with_peer s name p = record s { peers = finmap.insert s.peers name p }
 
--- a database has this UUID
+-- A database of state s has this UUID.
 abbrev pub IsTaken : State → ℕ → Type 0
 IsTaken s uuid = (name : List ℕ) × (p : PeerValue) × (peer_at s name ≡ Some p) × (p.db.uuid ≡ uuid)
 
--- the state after the peer of a name is changed by f; the same state if there is no such peer
+-- The state after the peer of a name is changed by f. The state is unchanged if there is no such peer.
 abbrev pub with_changed : State → List ℕ → (PeerValue → PeerValue) → Option PeerValue → State
 with_changed s name f None = s
 with_changed s name f (Some p) = with_peer s name (f p)
@@ -121,7 +121,7 @@ loaded_at s name doc = changed_at s name (λ l. after_load l doc)
 
 -- ---- editing a document
 
--- the new revision, and the update sequence after the edit
+-- The result of an `edit` line: the new revision and the update sequence after the edit, or the error.
 abbrev pub edited_as : PeerValue → Result RevId BaseFault → Result Edited Refusal
 edited_as after (Ok rev) = Ok (record { rev = rev; seq = after.db.update_seq })
 edited_as after (Err fault) = Err (base_refusal fault)
@@ -139,18 +139,18 @@ edited_at s name id parent deleted body = changed_at s name (λ l. after_edit l 
 abbrev pub is_named : List ℕ → List ℕ → NamedBackupValue → Bool
 is_named db name k = bytes_eq k.db db && bytes_eq k.name name
 
--- the backup of a database with this name, if there is one
+-- The backup of database `db` with this name, if there is one.
 abbrev pub backup_among : List NamedBackupValue → List ℕ → List ℕ → Option BackupValue
 backup_among backups db name = option_map (λ k. k.backup) (find (is_named db name) backups)
 
 abbrev pub backup_at : State → List ℕ → List ℕ → Option BackupValue
 backup_at s db name = backup_among s.backups db name
 
--- the state with one more backup, at the end of the list
+-- The state with one more backup, at the end of the list.
 abbrev pub with_backup : State → List ℕ → List ℕ → BackupValue → State
 with_backup s db name b = record s { backups = s.backups ++ record { db = db; name = name; backup = b } ∷ [] }
 
--- the backup of an existing database under an unused name
+-- The new backup of a database, or the error. The database must exist, and the backup's name must be unused.
 abbrev pub backed_of : Option PeerValue → Option BackupValue → Result BackupValue Refusal
 backed_of None o = Err why.NoDatabase
 backed_of (Some p) (Some b) = Err why.BackupExists
@@ -159,7 +159,7 @@ backed_of (Some p) None = told_as target_refusal (backup_answer p)
 abbrev pub backed_answer : State → List ℕ → List ℕ → Result BackupValue Refusal
 backed_answer s db name = backed_of (peer_at s db) (backup_at s db name)
 
--- the result of `back_up` is the update sequence of the backup
+-- The result of `back_up`: the update sequence of the backup, or the error.
 abbrev pub backed_told : Result BackupValue Refusal → Result ℕ Refusal
 backed_told (Ok b) = Ok b.db.update_seq
 backed_told (Err refusal) = Err refusal
@@ -173,7 +173,7 @@ backed_at s db name = backed_by s db name (backed_answer s db name)
 
 -- ---- restoring a database
 
--- the result of `put_back` is the update sequence and the life of the restored peer
+-- The result of `put_back`: the update sequence and the life of the restored peer, or the error.
 abbrev pub put_back_of : PeerValue → Result (Unit {0}) Refusal → Result PutBack Refusal
 put_back_of p (Ok done) = Ok (record { seq = p.db.update_seq; life = p.db.life })
 put_back_of p (Err refusal) = Err refusal

@@ -15,7 +15,7 @@ use Rattle.repl_peer.specs.declared.fault.TargetFault.TheVariants as target
 use Rattle.script_databases.specs.declared.refusal.Refusal.{Refusal}
 use Rattle.script_databases.specs.declared.refusal.Refusal.TheVariants as why
 
--- the result is the expected one, or the error `Memory`
+-- A result is the expected one, or the error `Memory`.
 abbrev pub GivesOrMemory : {A : Type 0} → Result A Refusal → Result A Refusal → Type 0
 GivesOrMemory (Ok x) expected = expected ≡ Ok x
 GivesOrMemory (Err e) expected = (expected ≡ Err e) ⊎ (e ≡ why.Memory)
@@ -63,7 +63,7 @@ log_refusal (log.Older stored) = why.Older
 log_refusal log.EmptyLog = why.EmptyLog
 log_refusal log.Memory = why.Memory
 
--- the error of a line whose call of a peer failed
+-- The error of a line whose call of a peer failed.
 abbrev pub target_refusal : TargetFault → Refusal
 target_refusal target.SessionExists = why.SessionExists
 target_refusal target.NoSuchBase = why.NoSuchBase
@@ -87,12 +87,12 @@ target_refusal target.BadBatch = why.BadBatch
 target_refusal target.SamePeer = why.SamePeer
 target_refusal target.Memory = why.Memory
 
--- the low water of a replication that its plan stopped, or the error of the line
+-- The low water of a replication that its plan stopped, or the error of the line.
 abbrev pub stop_of : TargetFault → Result ℕ Refusal
 stop_of (target.Unfinished low_water) = Ok low_water
 stop_of fault = Err (target_refusal fault)
 
--- the low water of a pool run that its plan stopped, or the error of the line
+-- The low water of a pool run that its plan stopped, or the error of the line.
 abbrev pub run_stop_of : PoolFault → Result ℕ Refusal
 run_stop_of pool.NoWorkers = Err why.NoWorkers
 run_stop_of pool.TooManyWorkers = Err why.TooManyWorkers
@@ -105,7 +105,7 @@ run_stop_of pool.CountFull = Err why.CountFull
 run_stop_of pool.BoardFull = Err why.BoardFull
 run_stop_of pool.Memory = Err why.Memory
 
--- a result with its error converted to the error of a line
+-- A result whose error is converted to the error of a line.
 abbrev pub told_as : {A E : Type 0} → (E → Refusal) → Result A E → Result A Refusal
 told_as name (Ok x) = Ok x
 told_as name (Err fault) = Err (name fault)

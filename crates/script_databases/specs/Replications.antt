@@ -21,20 +21,21 @@ use Rattle.repl_target.specs.declared.replication.Plan.{Plan}
 use Rattle.script_databases.specs.Databases.{State, peer_at, with_peer}
 use Rattle.script_databases.specs.declared.watched.Watched.{Watched}
 
--- a target refuses the documents whose ids begin with the prefix
+-- Whether a target refuses document d, because the id of d begins with the denied prefix.
 abbrev pub deny_refuses : Option (List ℕ) → Document → Bool
 deny_refuses deny d = option_map_or (λ prefix. starts_with nat_eq d.id prefix) deny false
 
--- the state after two peers are stored under their names
+-- The state after a source and a target are stored under their names.
 abbrev pub with_both : State → List ℕ → List ℕ → PeerValue → PeerValue → State
 with_both old source target s t = with_peer (with_peer old source s) target t
 
 -- ---- by one thread
 
--- After a replication by one thread (docs/PROFILE.md, "Replication by one thread" and "Tied peers"): only the log of
--- the source changed, and the target is a later one; peers that were tied are still tied, with all backups of the
--- source, for every selection. If it succeeded, the report is the session's, and the target covers the source's
--- selected feed if the two were tied before.
+-- What holds after a replication by one thread: docs/PROFILE.md, "Replication by one thread" and "Tied peers".
+--
+-- Only the source's log changed, and the target is a later one. Peers that were tied are still tied, with all backups
+-- of the source, for every selection. If the replication succeeded, the report is that of its session. If the two peers
+-- were also tied before, the target covers the source's selected feed.
 pub record KeepsTied (s t : PeerValue) (plan : Plan) (result : Result Report TargetFault) (s' t' : PeerValue) : Type 0
   where
     pub log : s' ≡ record s { outgoing = s'.outgoing }
@@ -44,7 +45,8 @@ pub record KeepsTied (s t : PeerValue) (plan : Plan) (result : Result Report Tar
     pub well : IfOk result (λ report. IsReported s t t' plan report)
     pub whole : OnOk result (IsTiedPair s t plan.chosen → CoversFeed s t' plan.chosen s.db.update_seq)
 
--- the possible results of a replication, including errors; every plan from a database to itself is rejected
+-- The possible results of a replication by one thread, including errors, and the state after it. If source and target
+-- are the same database, every plan is rejected.
 abbrev pub ReplicatesAlone : State → List ℕ → List ℕ → PeerValue → PeerValue → Plan → Result Report TargetFault → State
     → Type 0
 ReplicatesAlone old source target s t plan result new =
@@ -53,11 +55,11 @@ ReplicatesAlone old source target s t plan result new =
 
 -- ---- by the pool
 
--- no worker is stopped
+-- No worker of a run may be stopped, at any place.
 abbrev pub Nowhere : Place → Type 0
 Nowhere place = ⊥
 
--- the possible results of a pool run, including errors
+-- The possible results of a pool run, including errors, and the state after it.
 abbrev pub ReplicatesByPool : State → List ℕ → List ℕ → PeerValue → PeerValue → Plan → Result Report PoolFault → State
     → Type 0
 ReplicatesByPool old source target s t plan result new =
@@ -68,12 +70,13 @@ ReplicatesByPool old source target s t plan result new =
 
 -- ---- by the pool, with a progress board
 
--- the result of a watched run, without its counters
+-- The result of a run with a progress board, without the board's counts.
 abbrev pub unwatched : Result Watched PoolFault → Result Report PoolFault
 unwatched (Ok watched) = Ok watched.report
 unwatched (Err why) = Err why
 
--- at most as much was settled as was read; or nothing changed, because a board for a valid plan could not be allocated
+-- The possible results of a run with a progress board. At most as many documents were settled as were read. If the
+-- board for a valid plan could not be allocated, the result is `Memory` and the state is unchanged.
 abbrev pub ReplicatesWatched : State → List ℕ → List ℕ → PeerValue → PeerValue → Plan → Result Watched PoolFault
     → State → Type 0
 ReplicatesWatched old source target s t plan result new =

@@ -1,4 +1,4 @@
--- The values that the stored databases stand for.
+-- The values that stored databases represent.
 use Rattle.std.specs.Prelude.{◌≡◌, ℕ, true, List, map, nat_eq, Option, Some, option_map, String, string_bytes}
 use Rattle.std.specs.declared.alloc.Global.{Global}
 use Rattle.std.specs.FinMap as finmap
@@ -9,19 +9,19 @@ use Rattle.repl_peer.specs.declared.peer.filter.Rules.{Rules}
 use Rattle.script_databases.specs.Databases.{Program, State, NamedBackupValue, IsTaken, text_cmp}
 use Rattle.script_databases.specs.declared.settings.Settings.{Settings}
 
--- the values of a table's entries, by the bytes of their names
+-- The values of a table's entries, by the bytes of the entries' names.
 abbrev pub by_text : {X V : Type 0} → (X → V) → List (String Global × X) → FinMap text_cmp V
 by_text value entries = finmap.from_entries (map (λ e. (string_bytes e.0, value e.1)) entries)
 
--- an entry: the name, the filter and the peer
+-- The entries of the stored table of databases: for each name, the filter and the peer.
 abbrev pub Entries : Type 0
 Entries = List (String Global × (Rules × PeerValue))
 
--- the peers of a table
+-- The peers of a stored table, by name.
 abbrev pub peers_of : Entries → FinMap text_cmp PeerValue
 peers_of entries = by_text (λ p. p.1) entries
 
--- the part of the state other than the peers
+-- The part of a script's state other than the peers.
 pub record Beside : Type 0 where
   pub program : Program
   pub drawn : ℕ
@@ -31,27 +31,27 @@ abbrev pub state_of : Beside → Entries → State
 state_of beside entries =
     record { program = beside.program; drawn = beside.drawn; backups = beside.backups; peers = peers_of entries }
 
--- the id prefix that a filter refuses
+-- The id prefix that a filter refuses, if it has one.
 abbrev pub deny_of : Rules → Option (List ℕ)
 deny_of rules = option_map string_bytes rules.deny
 
--- the id prefixes that the peers of a table refuse
+-- The id prefixes that the peers of a table refuse, by name.
 abbrev pub denied_of : Entries → FinMap text_cmp (Option (List ℕ))
 denied_of entries = by_text (λ p. deny_of p.0) entries
 
--- all of them refuse the same prefix
+-- All peers of a table refuse the same id prefix.
 abbrev pub AllDeny : Option (List ℕ) → Entries → Type 0
 AllDeny deny entries =
     (name : List ℕ) (denied : Option (List ℕ)) → finmap.get (denied_of entries) name ≡ Some denied → denied ≡ deny
 
--- any peers are under the two names, and all else is unchanged
+-- A table after a change of the peers of two names, all else being unchanged.
 abbrev pub IsEmptied : Entries → List ℕ → List ℕ → Entries → Type 0
 IsEmptied old source target new =
     (p : Rules × PeerValue) × (q : Rules × PeerValue)
     × (peers_of new ≡ finmap.insert (finmap.insert (peers_of old) source p.1) target q.1)
     × (denied_of new ≡ finmap.insert (finmap.insert (denied_of old) source (deny_of p.0)) target (deny_of q.0))
 
--- the program settings as a value
+-- The program's settings as a value, which contracts use.
 abbrev pub program_of : Settings → Program
 program_of s =
     record {
@@ -66,7 +66,7 @@ program_of s =
 abbrev pub beside_of : Settings → ℕ → List NamedBackupValue → Beside
 beside_of s drawn backups = record { program = program_of s; drawn = drawn; backups = backups }
 
--- the list contains exactly the UUIDs of the databases
+-- The list contains exactly the UUIDs of the databases.
 pub record IsIndex (s : State) (uuids : List ℕ) : Type 0 where
   pub noted : (uuid : ℕ) → list_any (nat_eq uuid) uuids ≡ true → IsTaken s uuid
   pub taken : (uuid : ℕ) → IsTaken s uuid → list_any (nat_eq uuid) uuids ≡ true

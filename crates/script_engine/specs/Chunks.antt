@@ -1,32 +1,35 @@
--- Reading in chunks: docs/PROFILE.md, "Limits".
+-- Reading a script in chunks: docs/PROFILE.md, "Limits".
 use Rattle.std.specs.Prelude.{◌≡◌, ◌<◌, ◌≤◌, ◌⊎◌, ℕ, length, List, [], Bool, true, false, Option}
 use Rattle.std.specs.Io.KnownBytes.{Consumes, IsAtEnd, Keeps}
 use Rattle.script_engine.specs.Device.{FailsOnce, counted}
 use Rattle.script_engine.specs.declared.chunks.Chunks.{Chunks}
 
--- the maximum number of reads
+-- The maximum number of reads of a script.
 abbrev pub max_reads : ℕ
 max_reads = 4294967295
 
--- the buffer is not empty, the last chunk is within it, and at most `max_reads` reads were made
+-- The invariant of a chunk reader: its buffer is not empty, the last chunk is within the buffer, and at most
+-- `max_reads` reads were made.
 pub record AreChunks (c : Chunks) : Type 0 where
   pub some : 0 < length c.room.items
   pub most : length c.room.items ≤ 65536
   pub fits : c.count ≤ length c.room.items
   pub few : c.turns ≤ max_reads
 
--- The result of a read: whether there was a chunk. The first two arguments are the reader's remaining bytes, before and
--- after.
+-- The result of a read: whether a chunk was read. The first two arguments after this result are the reader's remaining
+-- bytes, before and after.
 abbrev pub ReadsChunk : Bool → Option (List ℕ) → Option (List ℕ) → List ℕ → Type 0
 ReadsChunk true left left' chunk = Consumes left left' chunk × (0 < length chunk) × (length chunk ≤ 65536)
 ReadsChunk false left left' chunk = Keeps left left' × IsAtEnd left' × (chunk ≡ [])
 
--- `turns` reads were made, and none of them failed; the reader's counts of reads and of failures, before and after
+-- `turns` reads were made, and no read failed. The further arguments are the reader's counts of reads and of failures,
+-- before and after.
 pub record HasRead (turns reads reads' failures failures' : ℕ) : Type 0 where
   pub made : counted reads' 0 ≡ counted reads turns
   pub unfailing : failures' ≡ failures
 
--- the reader failed, or the maximum number of reads was reached
+-- The reader failed, or the maximum number of reads was reached. The arguments are the reader's counts of reads and of
+-- failures, before and after.
 abbrev pub StopsReading : ℕ → ℕ → ℕ → ℕ → Type 0
 StopsReading reads reads' failures failures' =
     FailsOnce failures failures' ⊎ ((counted reads' 0 ≡ counted reads max_reads) × (failures' ≡ failures))

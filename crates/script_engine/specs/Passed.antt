@@ -1,9 +1,9 @@
--- The history of a stream.
+-- The history of the bytes of a stream.
 use Rattle.std.specs.Prelude.{ℕ, List, [], ◌++◌}
 use Rattle.script_engine.specs.declared.passed.Pass.{Pass}
 use Rattle.script_engine.specs.declared.passed.Pass.TheVariants as pass
 
--- the bytes of a stream's history after a step
+-- The bytes of a stream's history after a step.
 abbrev pub passed_bytes : Pass → List ℕ
 passed_bytes pass.Nothing = []
 passed_bytes (pass.More before bytes) = before.now.bytes ++ bytes.now
