@@ -1,9 +1,10 @@
--- The exit status of a program that has nothing to run: docs/PROFILE.md, "Options" and "Options of `couch_lines`".
+-- The exit status of a program whose command line gives nothing to run: docs/PROFILE.md, "Options" and "Options of
+-- `couch_lines`".
 use Rattle.std.specs.Prelude.{ℕ}
 use Rattle.clap.specs.declared.error.kind.ErrorKind.{ErrorKind}
 use Rattle.clap.specs.declared.error.kind.ErrorKind.TheVariants.{DisplayHelp, DisplayVersion, OutOfMemory}
 
--- the exit status for an error of `clap`; help and version are successes
+-- The exit status for an error of `clap`, which is 0 for the requests of help and version.
 abbrev pub kind_status : ErrorKind → ℕ
 kind_status OutOfMemory = 3
 kind_status DisplayHelp = 0

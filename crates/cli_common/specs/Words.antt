@@ -5,25 +5,25 @@ use Rattle.clap.specs.Simple.{on_top}
 use Rattle.clap.specs.declared.builder.action.ArgAction.TheVariants.{Set, SetTrue}
 use Rattle.clap.specs.declared.parser.matches.ArgMatches.{ArgMatches}
 
--- a program without arguments; it has a version
+-- The command line of a program without arguments, which has an option for its version.
 abbrev pub program_app : List ℕ → App
 program_app name = on_top (λ s. record s { has_version = true }) (new_app name)
 
--- an option without a value
+-- An option without a value.
 abbrev pub flag_option : List ℕ → Rule
 flag_option name = record (new_rule name) { long = Some name; action = Some SetTrue }
 
--- a positional argument
+-- The rule of a positional argument.
 abbrev pub hidden_option : List ℕ → Rule
 hidden_option name = record (new_rule name) { action = Some Set }
 
--- the value of an option without a value, from its text
+-- Whether an option without a value is set, from the text that `clap` stores for it.
 abbrev pub IsFlag : Option (List ℕ) → Bool → Type 0
 IsFlag text flag =
     ((text ≡ None) → flag ≡ false) × ((text ≡ Some (codes "true")) → flag ≡ true)
     × ((text ≡ Some (codes "false")) → flag ≡ false)
 
--- the first values and the single values of all arguments are those that the command line gives them
+-- The first values and the single values of all arguments are those that the command line gives them.
 abbrev pub IsFound : App → List (List ℕ) → ArgMatches → Type 0
 IsFound line words m =
     (first_value (found_of m) ≡ λ id. first_of id (matches_of line words))

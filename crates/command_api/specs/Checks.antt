@@ -4,11 +4,11 @@ use Rattle.rev_core.specs.Checks.{or_refused}
 use Rattle.script_databases.specs.declared.refusal.Refusal.{Refusal}
 use Rattle.script_databases.specs.declared.refusal.Refusal.TheVariants as why
 
--- a required part; without it the object is not a command
+-- A required member of a command, or `BadCommand` if the member is missing or has another type.
 abbrev pub needed : {A : Type 0} → Option A → Result A Refusal
 needed x = or_refused why.BadCommand x
 
--- a successful result, converted by f
+-- A result whose value, if it is a success, is converted by f.
 abbrev pub seen_as : {A B : Type 0} → (A → B) → Result A Refusal → Result B Refusal
 seen_as f (Ok x) = Ok (f x)
 seen_as f (Err why) = Err why

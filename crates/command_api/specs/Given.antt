@@ -12,7 +12,7 @@ use Rattle.doc_json.specs.Document.{Document}
 use Rattle.script_databases.specs.Refusals.{told_as, doc_refusal, rev_refusal}
 use Rattle.script_databases.specs.declared.refusal.Refusal.{Refusal}
 
--- the document id in a string
+-- The document id that a string gives, or the error.
 abbrev pub id_given : List ℕ → Result (List ℕ) Refusal
 id_given text = told_as doc_refusal (doc_id_read text)
 
@@ -20,7 +20,7 @@ abbrev pub some_of : {A : Type 0} → Result A Refusal → Result (Option A) Ref
 some_of (Ok x) = Ok (Some x)
 some_of (Err refusal) = Err refusal
 
--- the document ids in a list of strings, in order; the first invalid one is the error
+-- The document ids that a list of strings gives, in order. The first invalid string gives the error.
 abbrev pub ids_given : List (List ℕ) → Result (List (List ℕ)) Refusal
 ids_given [] = Ok []
 ids_given (text ∷ texts) = do
@@ -28,31 +28,31 @@ ids_given (text ∷ texts) = do
   ids ← ids_given texts
   Ok (id ∷ ids)
 
--- the selection of some ids
+-- The selection of a list of ids, or the error.
 abbrev pub chosen_given : List (List ℕ) → Result Choice Refusal
 chosen_given ids = some_of (told_as doc_refusal (chosen_answer ids))
 
--- the selection of an optional list of strings; without a list, all documents are selected
+-- The selection that an optional list of strings gives. Without a list, all documents are selected.
 abbrev pub choice_given : Option (List (List ℕ)) → Result Choice Refusal
 choice_given None = Ok None
 choice_given (Some texts) = do
   ids ← ids_given texts
   chosen_given ids
 
--- the revision in an optional string
+-- The revision id that an optional string gives, or the error.
 abbrev pub rev_given : Option (List ℕ) → Result (Option RevId) Refusal
 rev_given None = Ok None
 rev_given (Some text) = some_of (told_as rev_refusal (rev_read text))
 
--- the body that a value gives
+-- The body that a JSON value gives, or the error.
 abbrev pub body_given : Data → Result (List ℕ) Refusal
 body_given d = told_as doc_refusal (body_read d)
 
--- an empty object if there is no value
+-- The body that an optional JSON value gives, which is the empty object if there is no value.
 abbrev pub body_given_or_empty : Option Data → Result (List ℕ) Refusal
 body_given_or_empty d = body_given (unwrap_or d (object no_members))
 
--- the document that an optional value gives
+-- The document that an optional JSON value gives, or the error.
 abbrev pub document_given : Option Data → Result (Option Document) Refusal
 document_given None = Ok None
 document_given (Some d) = some_of (told_as doc_refusal (doc_read d))

@@ -8,34 +8,35 @@ use Rattle.script_databases.specs.declared.refusal.Refusal.{Refusal}
 use Rattle.script_databases.specs.declared.refusal.Refusal.TheVariants as why
 use Rattle.rev_core.specs.Checks.{or_refused}
 
--- the database of a name
+-- The peer of a database name, or `NoDatabase`.
 abbrev pub database_of : State → List ℕ → Result PeerValue Refusal
 database_of s name = or_refused why.NoDatabase (peer_at s name)
 
--- the result of a line: the output, or the name of the error
+-- The result of a line: the output, or the name of the error.
 abbrev pub told_of : Result (List ℕ) Refusal → Told
 told_of (Ok text) = Ok text
 told_of (Err refusal) = Err (name_of refusal)
 
--- the line fails with this error, and changes nothing
+-- The line fails with this error, and leaves the state unchanged.
 abbrev pub Refuses : Refusal → State → Told → State → Type 0
 Refuses refusal old told new = (told ≡ Err (name_of refusal)) × (new ≡ old)
 
--- a valid request has one of its results; an invalid one fails and changes nothing
+-- The results of a line. A valid request has one of its results, and an invalid one fails and leaves the state
+-- unchanged.
 abbrev pub AnswersIn : {L : Type 0} → Answering State L → Answering State (Result L Refusal)
 AnswersIn answers old (Ok ask) told new = answers old ask told new
 AnswersIn answers old (Err refusal) told new = Refuses refusal old told new
 
--- the line has this result, and changes nothing
+-- The line has this result, and leaves the state unchanged.
 abbrev pub Reads : Result (List ℕ) Refusal → State → Told → State → Type 0
 Reads text old told new = (told ≡ told_of text) × (new ≡ old)
 
--- the line has this output and leaves this state, or fails and changes nothing
+-- The line has this output and leaves this state, or it fails and leaves the state unchanged.
 abbrev pub Does : Result (List ℕ × State) Refusal → State → Told → State → Type 0
 Does (Ok done) old told new = (told ≡ Ok done.0) × (new ≡ done.1)
 Does (Err refusal) old told new = Refuses refusal old told new
 
--- a quiet program prints nothing for a success
+-- The output of a successful line, which is empty if the program is quiet.
 abbrev pub hushed : Bool → List ℕ → List ℕ
 hushed quiet text = if quiet then [] else text
 
@@ -43,12 +44,12 @@ abbrev pub told_hushed : Bool → Told → Told
 told_hushed quiet (Ok text) = Ok (hushed quiet text)
 told_hushed quiet (Err name) = Err name
 
--- a request has one of its results, without the output if the program is quiet
+-- A request has one of its results, without the output if the program is quiet.
 abbrev pub UnlessQuiet : {L : Type 0} → Answering State L → Answering State L
 UnlessQuiet answers old ask told new =
     (loud : Told) × answers old ask loud new × (told ≡ told_hushed old.program.quiet loud)
 
--- the result of a call that writes its output into a buffer
+-- The result of a line whose call writes its output into a buffer.
 abbrev pub told_by : {A : Type 0} → Result A Refusal → List ℕ → Told
 told_by (Ok done) text = Ok text
 told_by (Err refusal) text = Err (name_of refusal)

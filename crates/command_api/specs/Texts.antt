@@ -7,30 +7,30 @@ use Rattle.serde_json.specs.Written.{compact_text}
 use Rattle.rev_core.specs.Rev.{RevId}
 use Rattle.rev_core.specs.Text.{rev_text}
 
--- a text with a line end
+-- A text with a line end.
 abbrev pub ended : List ℕ → List ℕ
 ended text = text ++ 10 ∷ []
 
--- a string as JSON
+-- A string as JSON, in quotation marks.
 abbrev pub quoted : List ℕ → List ℕ
 quoted text = compact_text (string text)
 
--- the text of an optional revision
+-- The text of an optional revision, which is empty without a revision.
 abbrev pub text_of_any : Option RevId → List ℕ
 text_of_any rev = option_map_or rev_text rev []
 
--- the texts of revisions, separated by commas
+-- The texts of revisions, separated by commas.
 abbrev pub texts_of_revs : List RevId → List ℕ
 texts_of_revs revs = join_with_byte 44 (map rev_text revs)
 
--- a line with a keyword, a document id and revisions
+-- A line of output with a keyword, a document id and revisions.
 abbrev pub line_of_revs : List ℕ → List ℕ → List RevId → List ℕ
 line_of_revs word id revs = ended (word ++ codes " " ++ quoted id ++ codes " " ++ texts_of_revs revs)
 
--- empty if there are no revisions
+-- A line of output with a keyword, a document id and revisions, or the empty text if there are no revisions.
 abbrev pub revs_line : List ℕ → List ℕ → List RevId → List ℕ
 revs_line word id revs = if length revs == 0 then [] else line_of_revs word id revs
 
--- the last sequence of a feed
+-- The line of output with the last sequence of a feed.
 abbrev pub last_line : ℕ → List ℕ
 last_line last = ended (codes "last " ++ decimal last)

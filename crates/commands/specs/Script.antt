@@ -1,5 +1,5 @@
--- The possible results of a line: docs/PROFILE.md, "Command lines" and "Answers". The results of each command are in
--- its crate; `words` collects them.
+-- The possible results of a line: docs/PROFILE.md, "Command lines" and "Answers". The results of each command are
+-- defined in the command's crate, and `words` collects these results.
 use Rattle.std.specs.Prelude.{◌≡◌, ◌⊎◌, ℕ, List, Some, Result, Ok, Err}
 use Rattle.std.specs.Str.{IsUtf8}
 use Rattle.serde_json.specs.Data.{object, Members}
@@ -11,23 +11,24 @@ use Rattle.script_databases.specs.declared.refusal.Refusal.TheVariants as why
 use Rattle.command_api.specs.Telling.{AnswersIn}
 use Rattle.commands.specs.words.{Asked, asked_in, WordsAnswer}
 
--- the line is this JSON object
+-- The line is the JSON object with members ms.
 abbrev pub IsObject : List ℕ → Members → Type 0
 IsObject line ms = IsUtf8 line × (read line ≡ Some (object ms))
 
--- the line is not a JSON object
+-- The line is not a JSON object.
 abbrev pub IsNoObject : List ℕ → Type 0
 IsNoObject line = (ms : Members) → IsObject line ms → ⊥
 
--- the request of a line, or why it is not a command
+-- The request of a line, or why the line is not a command.
 abbrev pub Asks : List ℕ → Result Asked Refusal → Type 0
 Asks line asked =
     ((ms : Members) × IsObject line ms × (asked ≡ asked_in (object ms))) ⊎ (IsNoObject line × (asked ≡ Err why.BadLine))
 
--- a valid request has one of its results; an invalid one fails and changes nothing
+-- The results of a parsed line. A valid request has one of its results, and an invalid one fails and leaves the state
+-- unchanged.
 abbrev pub AnswersAsked : Answering State (Result Asked Refusal)
 AnswersAsked old asked told new = AnswersIn WordsAnswer old asked told new
 
--- the possible results of lines
+-- The possible results of a line of a script.
 abbrev pub LinesAnswer : Answering State (List ℕ)
 LinesAnswer old line told new = (asked : Result Asked Refusal) × Asks line asked × AnswersAsked old asked told new

@@ -1,4 +1,4 @@
--- What a program prints that runs a script: docs/PROFILE.md, "Answers".
+-- What a program that runs a script prints: docs/PROFILE.md, "Answers".
 use Rattle.std.specs.Prelude.{◌≡◌, ℕ, List, Bool, Result, Ok, Err}
 use Rattle.script_engine.specs.Script.{AnswersEnded, IsAnswered}
 use Rattle.script_engine.specs.Faults.{IsToldUntil}
@@ -7,10 +7,11 @@ use Rattle.script_engine.specs.declared.fault.ScriptFault.TheVariants.{Read}
 use Rattle.script_databases.specs.Databases.{Program, State, no_databases}
 use Rattle.commands.specs.Trust.{TrustedLines}
 
--- A program runs a script with these settings. The other arguments are the bytes that its reads returned, whether they
--- came to the end of the input, the bytes that its writer accepted, and how the script ended. On success the input has
--- ended, and the text is its complete output. After an error the text is a prefix of the output; if a read failed, it is
--- the output of all lines that end in the bytes read. The output has the guarantees of `TrustedLines`.
+-- A program runs a script with these settings. The arguments about its input are the bytes that its reads returned, and
+-- whether these came to the end. The last arguments are the bytes that its writer accepted, and how the script ended.
+-- On success the input has ended, and the text is its complete output. After an error the text is a prefix of the
+-- output. If a read failed, the text is the output of all lines that end in the bytes read. The output has the
+-- guarantees of `TrustedLines`.
 abbrev pub Prints : Program → List ℕ → Type 0 → List ℕ → Result Bool ScriptFault → Type 0
 Prints program input ended text (Ok clean) =
     ended × (state : State) × IsAnswered TrustedLines (no_databases program) input clean text state

@@ -10,15 +10,15 @@ use Rattle.read_commands.specs.Audit.{IsClean}
 use Rattle.write_commands.specs.Replicate.{IsCovered}
 use Rattle.write_commands.specs.Sync.{IsMet}
 
--- the guarantee for the output of an audit, a replication and a sync
+-- The guarantee for the output of an audit, a replication and a sync.
 abbrev pub IsTrusted : Asked → Told → State → Type 0
 IsTrusted (audit ask) told new = IsClean told
 IsTrusted (replicate ask) told new = IsCovered new ask told
 IsTrusted (sync ask) told new = IsMet new ask told
 IsTrusted ask told new = Unit {0}
 
--- the possible results of lines: in addition, all databases are tied before and after a line, and its output has the
--- guarantee
+-- The possible results of a line, with the guarantees of a script. All databases are consistent with each other before
+-- and after the line, and the line's output has its guarantee.
 abbrev pub TrustedLines : Answering State (List ℕ)
 TrustedLines old line told new =
     (asked : Result Asked Refusal) × Asks line asked × AnswersAsked old asked told new × AllTied old × AllTied new

@@ -28,7 +28,7 @@ use Rattle.write_commands.specs.Sync.{SyncAsk, sync_in, Syncs}
 use Rattle.commands.specs.declared.words.CommandName.{CommandName}
 use Rattle.commands.specs.declared.words.CommandName.TheVariants as word
 
--- the request of a line: a command with its parameters
+-- The request of a line: a command with its parameters.
 pub data Asked : Type 0 where
   load : LoadAsk → Asked
   edit : EditAsk → Asked
@@ -47,7 +47,7 @@ pub data Asked : Type 0 where
   ledger : LedgerAsk → Asked
   sync : SyncAsk → Asked
 
--- the request that an object gives for a command
+-- The request that a JSON object gives for a command, or the error.
 abbrev pub asked_as : CommandName → Data → Result Asked Refusal
 asked_as word.Load d = seen_as load (load_in d)
 asked_as word.Edit d = seen_as edit (edit_in d)
@@ -66,12 +66,12 @@ asked_as word.Info d = seen_as info (info_in d)
 asked_as word.Ledger d = seen_as ledger (ledger_in d)
 asked_as word.Sync d = seen_as sync (sync_in d)
 
--- if the command is known
+-- The request of a JSON object for a command, if the command is known, otherwise `BadCommand`.
 abbrev pub asked_if : Option CommandName → Data → Result Asked Refusal
 asked_if (Some w) d = asked_as w d
 asked_if None d = Err why.BadCommand
 
--- by the name of the command
+-- The request of a JSON object for the command with the given name, or the error.
 abbrev pub asked_by : List ℕ → Data → Result Asked Refusal
 asked_by name d =
     if bytes_eq name (codes "load") then asked_as word.Load d
@@ -92,13 +92,13 @@ asked_by name d =
     else (if bytes_eq name (codes "sync") then asked_as word.Sync d
     else Err why.BadCommand)))))))))))))))
 
--- by the member `do`
+-- The request of a JSON object, whose command is named by the member `do`, or the error.
 abbrev pub asked_in : Data → Result Asked Refusal
 asked_in d = do
   name ← needed (text_at (codes "do") d)
   asked_by name d
 
--- the possible results of a request, and the states that they leave
+-- The possible results of a request, and the states that they leave.
 abbrev pub WordsAnswer : Answering State Asked
 WordsAnswer old (load ask) told new = Loads old ask told new
 WordsAnswer old (edit ask) told new = Edits old ask told new

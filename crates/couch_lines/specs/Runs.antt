@@ -23,7 +23,7 @@ use Rattle.couch_lines.specs.declared.tasks.Task.TheVariants.{Load, Ids, Diff, L
 use Rattle.couch_lines.specs.declared.run.Ended.{Ended}
 use Rattle.couch_lines.specs.declared.run.Ended.TheVariants.{NotRun, Ran, Drawn}
 
--- what a task looks for in its input
+-- What a task looks for in its input.
 abbrev pub wanted_of : Task → Wanted
 wanted_of (Load db false) = Documents
 wanted_of (Load db true) = Enveloped
@@ -34,7 +34,7 @@ wanted_of (Bulk n false) = Bodies
 wanted_of (Bulk n true) = Unfolded
 wanted_of (Trees db svg) = Documents
 
--- the formatter of a task
+-- The formatter that writes the output of a task.
 abbrev pub words_of_task : Task → Words
 words_of_task (Load db whole) = loads_of (string_bytes db)
 words_of_task (Ids n) = asked_of n
@@ -43,23 +43,24 @@ words_of_task (Leaves db) = docs_of (string_bytes db)
 words_of_task (Bulk n whole) = bodies_of n
 words_of_task (Trees db svg) = bodies_of 0
 
--- whether the task draws instead of converting
+-- Whether a task draws a picture instead of converting its input.
 abbrev pub is_drawn : Task → Bool
 is_drawn (Trees db svg) = true
 is_drawn task = false
 
--- the format of the picture
+-- The format of a picture, which is SVG if the flag is true.
 abbrev pub form_of : Bool → Form
 form_of true = Svg
 form_of false = Text
 
--- The arguments are what the reader has left, and what the writer has accepted, before and after.
+-- A task was run with this result. The arguments are the reader's remaining bytes, and what the writer has accepted,
+-- before and after.
 abbrev pub IsDone : Task → Option (List ℕ) → Option (List ℕ) → Option (List ℕ) → Result ℕ AnswerFault → Type 0
 IsDone task left held held' result = Converts result (wanted_of task) (words_of_task task) left held held'
 
--- The guarantees for input with known contents: each document in CouchDB responses gives a `load` line, in order, by
--- its text or in its envelope; the documents in a script's output are written into bodies, and each leaf of its changes
--- into a `doc` line. The input is not rejected.
+-- The guarantees of a task for input with known contents. Each document in CouchDB responses gives a `load` line, in
+-- order, by its text or in its envelope. The documents in a script's output are written into bodies, and each leaf of
+-- its changes into a `doc` line. The input is not rejected.
 abbrev pub Makes : Task → Option (List ℕ) → Option (List ℕ) → Option (List ℕ) → Result ℕ AnswerFault → Type 0
 Makes (Load db whole) left held held' result = (answers : List ℕ) → (documents : List Piece) → left ≡ Some answers
     → IsAnswered (wanted_of (Load db whole)) answers documents → ReadsAnswers (loads_of (string_bytes db)) documents held held' result
@@ -73,8 +74,8 @@ Makes (Bulk n whole) left held held' result = (answers : List ℕ) → (document
     → IsScript (wanted_of (Bulk n whole)) answers documents → ReadsAnswers (bodies_of n) documents held held' result
 Makes (Trees db svg) left held held' result = ⊥
 
--- If the arguments have no task, or an allocation fails, the run reads and writes no byte. Otherwise the task is run, and
--- only `trees` draws.
+-- The effect of a run with these arguments. If the arguments have no task, or an allocation fails, the run reads and
+-- writes no byte. Otherwise the task is run, and only `trees` draws.
 abbrev pub RunsWords : List (List ℕ) → Option (List ℕ) → Option (List ℕ) → Option (List ℕ) → Option (List ℕ) → Ended → Type 0
 RunsWords words left left' held held' (NotRun why) = Refuses words why × (left' ≡ left) × (held' ≡ held)
 RunsWords words left left' held held' (Ran run) =
@@ -83,8 +84,8 @@ RunsWords words left left' held held' (Drawn ended) =
     (db : Option (String Global)) × (svg : Bool) × Says words (Trees db svg)
     × PicturedBy ended (form_of svg) (option_map string_bytes db) left held held'
 
--- The device that an error names failed in this call, and no other. The arguments are the reader's counts of reads,
--- before and after, then the failure counts of the reader and of the writer.
+-- The device that an error names failed in this run, and the other device did not. The arguments are the reader's
+-- counts of reads, before and after, then the failure counts of the reader and of the writer.
 abbrev pub RunCounts : Result ℕ AnswerFault → ℕ → ℕ → ℕ → ℕ → ℕ → ℕ → Type 0
 RunCounts (Ok passed) reads reads' reader reader' writer writer' = (reader' ≡ reader) × (writer' ≡ writer)
 RunCounts (Err fault) reads reads' reader reader' writer writer' = CountsOf fault reads reads' reader reader' writer writer'
@@ -99,15 +100,15 @@ EndedCounts (NotRun why) reads reads' reader reader' writer writer' =
 EndedCounts (Ran run) reads reads' reader reader' writer writer' = RunCounts run.ended reads reads' reader reader' writer writer'
 EndedCounts (Drawn ended) reads reads' reader reader' writer writer' = DrawnCounts ended reads reads' reader reader' writer writer'
 
--- If the run succeeded, this holds.
+-- The statement `holds` is true if the run succeeded.
 abbrev pub IfDone : Ended → Type 0 → Type 0
 IfDone (NotRun why) holds = ⊤
 IfDone (Ran run) holds = OnOk run.ended holds
 IfDone (Drawn ended) holds = OnOk ended holds
 
 -- A run of the program on its standard streams. The arguments are the command line, the bytes that the reads returned,
--- and whether they came to the end of the input. Then come the bytes that the output has accepted, and how the run ended.
--- If the last output cannot be flushed, its rest is missing, and the run ends as `unflushed` says.
+-- and whether they came to the end of the input. Further arguments are the bytes that the output has accepted, and how
+-- the run ended. If the last output cannot be flushed, a part of it is missing, and the run ends as `unflushed` says.
 abbrev pub RunsStandard : List (List ℕ) → List ℕ → Type 0 → List ℕ → Ended → Type 0
 RunsStandard words input all text ended =
     (first : Ended) × (rest : List ℕ) × RunsWords words (Some input) (Some []) (Some []) (Some (text ++ rest)) first

@@ -11,18 +11,18 @@ use Rattle.couch_lines.specs.declared.options.NoTask.TheVariants.{Words, Unknown
 use Rattle.couch_lines.specs.declared.run.Ended.{Ended}
 use Rattle.couch_lines.specs.declared.run.Ended.TheVariants.{NotRun, Ran, Drawn}
 
--- of a conversion: whether something was skipped
+-- The exit status of a conversion, which says whether something was skipped.
 abbrev pub status_of : Result ℕ AnswerFault → ℕ
 status_of (Ok passed) = cond (passed == 0) 0 1
 status_of (Err fault) = 3
 
--- of a drawing: whether memory was insufficient for a line
+-- The exit status of a drawing, which says whether memory was insufficient for a line.
 abbrev pub drawn_status : Result Bool ScriptFault → ℕ
 drawn_status (Ok true) = 0
 drawn_status (Ok false) = 1
 drawn_status (Err fault) = 3
 
--- of arguments without a task
+-- The exit status if the arguments have no task.
 abbrev pub words_status : NoTask → ℕ
 words_status (Words error) = kind_status (kind_of error)
 words_status Unknown = 2
@@ -34,7 +34,7 @@ ended_status (NotRun why) = words_status why
 ended_status (Ran run) = status_of run.ended
 ended_status (Drawn ended) = drawn_status ended
 
--- the result of a conversion whose last output could not be flushed; an earlier error stays
+-- The result of a conversion whose last output could not be flushed. An earlier error stays.
 abbrev pub unwritten : Result ℕ AnswerFault → Result ℕ AnswerFault
 unwritten (Ok passed) = Err (Device faults.Write)
 unwritten (Err fault) = Err fault

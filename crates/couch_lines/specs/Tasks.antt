@@ -12,16 +12,16 @@ use Rattle.couch_lines.specs.declared.tasks.Task.TheVariants.{Load, Ids, Diff, L
 use Rattle.couch_lines.specs.declared.options.NoTask.{NoTask}
 use Rattle.couch_lines.specs.declared.options.NoTask.TheVariants.{Words, Unknown, Wrong, Memory}
 
--- an ASCII letter, a digit, `-` or `_`
+-- Whether a byte is an ASCII letter, a digit, `-` or `_`.
 abbrev pub is_name_byte : ℕ → Bool
 is_name_byte b =
     nat_le 97 b && nat_le b 122 || nat_le 65 b && nat_le b 90 || nat_le 48 b && nat_le b 57 || b == 45 || b == 95
 
--- the name of a database: 1 to 32 of these
+-- Whether a string is the name of a database: 1 to 32 ASCII letters, digits, `-` or `_`.
 abbrev pub is_name : List ℕ → Bool
 is_name text = nat_lt 0 (length text) && nat_le (length text) 32 && list_all is_name_byte text
 
--- the number of items per body, or the default
+-- The number of items per body: the number in the text, or the default without a text.
 abbrev pub IsSize : ℕ → Option (List ℕ) → ℕ → Type 0
 IsSize absent None n = n ≡ absent
 IsSize absent (Some text) n =
@@ -31,7 +31,7 @@ IsSize absent (Some text) n =
 abbrev pub IsNamed : Option (List ℕ) → List ℕ → Type 0
 IsNamed word db = (word ≡ Some db) × (is_name db ≡ true)
 
--- the name of a task
+-- The name of a task, as an argument.
 abbrev pub word_of : Named → List ℕ
 word_of named.Load = codes "load"
 word_of named.Ids = codes "ids"
@@ -40,12 +40,12 @@ word_of named.Leaves = codes "leaves"
 word_of named.Bulk = codes "bulk"
 word_of named.Trees = codes "trees"
 
--- the name of a database, or no argument
+-- An optional argument is the name of a database, if there is one.
 abbrev pub IsNamedOrNone : Option (List ℕ) → Option (List ℕ) → Type 0
 IsNamedOrNone word None = word ≡ None
 IsNamedOrNone word (Some db) = IsNamed word db
 
--- the task of this name, with this argument and these flags
+-- The task of this name, with this argument and these flags.
 abbrev pub Fits : Named → Option (List ℕ) → Bool → Bool → Task → Type 0
 Fits named.Load word whole svg (Load db w) = IsNamed word (string_bytes db) × (w ≡ whole) × (svg ≡ false)
 Fits named.Load word whole svg (Ids n) = ⊥
@@ -84,27 +84,27 @@ Fits named.Trees word whole svg (Leaves db) = ⊥
 Fits named.Trees word whole svg (Bulk n w) = ⊥
 Fits named.Trees word whole svg (Trees db s) = IsNamedOrNone word (option_map string_bytes db) × (whole ≡ false) × (s ≡ svg)
 
--- the task of the arguments: the first names it, and there is no third
+-- The task of the arguments. The first argument names the task, and there is no third one.
 abbrev pub Asks : Option (List ℕ) → Option (List ℕ) → Option (List ℕ) → Bool → Bool → Task → Type 0
 Asks word second third whole svg task = (n : Named) × (word ≡ Some (word_of n)) × (third ≡ None) × Fits n second whole svg task
 
 -- ---- arguments without a task
 
--- the task does not take these arguments, or an allocation failed
+-- The named task does not take these arguments, or an allocation failed.
 abbrev pub FitsNone : Named → Option (List ℕ) → Bool → Bool → NoTask → Type 0
 FitsNone n word whole svg (Words error) = ⊥
 FitsNone n word whole svg Unknown = ⊥
 FitsNone n word whole svg (Wrong m) = (m ≡ n) × ((t : Task) → Fits n word whole svg t → ⊥)
 FitsNone n word whole svg Memory = Unit {0}
 
--- the argument is not a database name, or an allocation failed
+-- The argument is not a database name, or an allocation failed.
 abbrev pub NamesNone : Named → Option (List ℕ) → NoTask → Type 0
 NamesNone n word (Words error) = ⊥
 NamesNone n word Unknown = ⊥
 NamesNone n word (Wrong m) = (m ≡ n) × ((db : List ℕ) → IsNamed word db → ⊥)
 NamesNone n word Memory = Unit {0}
 
--- the first argument is not a task; or the task does not take the others; or an allocation failed
+-- The first argument is not a task, or the task does not take the other arguments, or an allocation failed.
 abbrev pub AskNothing : Option (List ℕ) → Option (List ℕ) → Option (List ℕ) → Bool → Bool → NoTask → Type 0
 AskNothing word second third whole svg (Words error) = ⊥
 AskNothing word second third whole svg Unknown = (n : Named) → word ≡ Some (word_of n) → ⊥
@@ -114,47 +114,48 @@ AskNothing word second third whole svg Memory = Unit {0}
 
 -- ---- the command line
 
--- the first argument, which is required
+-- The rule of the first argument, which is required.
 abbrev pub task_word : Rule
 task_word = record (new_rule (codes "task")) { action = Some Set; value_names = 1; required = true }
 
--- the second argument
+-- The rule of the second argument.
 abbrev pub second_word : Rule
 second_word = record (new_rule (codes "of")) { action = Some Set; value_names = 1 }
 
--- a third argument is accepted, so that the program can reject it with its own message
+-- The command line of the program. A third argument is accepted, so that the program can reject it with its own
+-- message.
 abbrev pub command_line : App
 command_line =
     with_rule (with_rule (with_rule (with_rule (with_rule (program_app (codes "couch_lines")) task_word) second_word)
     (hidden_option (codes "further"))) (flag_option (codes "whole"))) (flag_option (codes "svg"))
 
--- the task, by the texts of the arguments and flags
+-- The task of a command line, given the texts of its arguments and flags.
 abbrev pub SaysBy : (List ℕ → Option (List ℕ)) → Option (List ℕ) → Option (List ℕ) → Task → Type 0
 SaysBy text flag drawn task =
     (whole : Bool) × (svg : Bool) × IsFlag flag whole × IsFlag drawn svg
     × Asks (text (codes "task")) (text (codes "of")) (text (codes "further")) whole svg task
 
--- there is no task, or an allocation failed
+-- The command line has no task, given the texts of its arguments and flags, or an allocation failed.
 abbrev pub RefusesBy : (List ℕ → Option (List ℕ)) → Option (List ℕ) → Option (List ℕ) → NoTask → Type 0
 RefusesBy text flag drawn why =
     (whole : Bool) × (svg : Bool) × IsFlag flag whole × IsFlag drawn svg
     × AskNothing (text (codes "task")) (text (codes "of")) (text (codes "further")) whole svg why
 
--- the text of an argument, and of a flag
+-- The text of an argument of the command line, if the command line has it.
 abbrev pub text_said : List (List ℕ) → List ℕ → Option (List ℕ)
 text_said words id = first_of id (matches_of command_line words)
 
 abbrev pub flag_said : List (List ℕ) → List ℕ → Option (List ℕ)
 flag_said words id = one_of id (matches_of command_line words)
 
--- the same for the arguments of a command line
+-- The arguments of the command line name this task.
 abbrev pub Says : List (List ℕ) → Task → Type 0
 Says words task = SaysBy (text_said words) (flag_said words (codes "whole")) (flag_said words (codes "svg")) task
 
 abbrev pub Refused : List (List ℕ) → NoTask → Type 0
 Refused words why = RefusesBy (text_said words) (flag_said words (codes "whole")) (flag_said words (codes "svg")) why
 
--- `clap`'s error for the arguments, or they name no task, or an allocation failed
+-- Why the program has no task: `clap`'s error for the arguments, or they name no task, or an allocation failed.
 abbrev pub Refuses : List (List ℕ) → NoTask → Type 0
 Refuses words (Words error) = HasKind (fault_of command_line words) error
 Refuses words Unknown = Refused words Unknown

@@ -12,7 +12,7 @@ use Rattle.relay_core.specs.Messages.{Text}
 
 pub record HeadView : Type 0 where
   pub status : ℕ
-  -- The length of the body.
+  -- The length of the response's body.
   pub size : ℕ
   pub who : Option Side
   pub date : Text
@@ -28,18 +28,18 @@ word_in text = before_first is_space text
 abbrev pub rest_in : Text → Text
 rest_in text = after_first is_space text
 
--- The decimal digits of the text, after an optional plus, are a number of at most `bits` bits.
+-- The decimal digits of the text, after an optional plus, are the number n, which has at most `bits` bits.
 abbrev pub IsNumber : ℕ → Text → ℕ → Type 0
 IsNumber bits text n =
     IsNumeral 10 (without_leading_plus text) × (digits_value 10 (without_leading_plus text) < 2 ^ bits)
     × (n ≡ digits_value 10 (without_leading_plus text))
 
--- The server of a name.
+-- The server that a name denotes, source or target.
 abbrev pub side_in : Text → Option Side
 side_in name =
     if bytes_eq name (codes "source") then Some Source else if bytes_eq name (codes "target") then Some Target else None
 
--- The line is `STATUS BYTES WHO DATE`, in UTF-8.
+-- The line is `STATUS BYTES WHO DATE`, in UTF-8, the head of a response.
 pub record IsHead (line : Text) (head : HeadView) : Type 0 where
   pub text : IsUtf8 line
   pub status : IsNumber 16 (word_in line) head.status
@@ -49,7 +49,7 @@ pub record IsHead (line : Text) (head : HeadView) : Type 0 where
 
 -- ---- a response
 
--- The bytes are a line, a line feed, and a rest.
+-- The bytes are a line, a line feed, and further bytes `rest`.
 pub record IsLine (bytes line rest : List ℕ) : Type 0 where
   pub is : bytes ≡ line ++ 10 ∷ rest
   pub one : has_line_end line ≡ false
@@ -61,7 +61,8 @@ pub record IsFrame (bytes : List ℕ) (head : HeadView) (body : List ℕ) : Type
   pub head_is : IsHead line head
   pub size_is : length body ≡ head.size
 
--- No response is read from these bytes: the input ended in a head or in a body, or the first line is not a head.
+-- No response is read from these bytes, because the input ended in a head or in a body, or the first line is not a
+-- head.
 pub data NoFrame (ended : Type 0) (bytes : List ℕ) : Type 0 where
   cut_head : ended → has_line_end bytes ≡ false → NoFrame ended bytes
   bad_head : (line rest : List ℕ) → IsLine bytes line rest → ((head : HeadView) → ¬ IsHead line head) → NoFrame ended bytes

@@ -1,4 +1,4 @@
--- The bytes that were read and not yet used: docs/PROFILE.md, "Responses to the relay".
+-- The bytes that the relay has read and not yet used: docs/PROFILE.md, "Responses to the relay".
 use Rattle.std.specs.Prelude.{◌≡◌, ◌+◌, ◌<◌, ◌≤◌, ℕ, false, List, ◌∷◌, ◌++◌, Option, length, take, drop, string_bytes, MatchOption}
 use Rattle.std.specs.Io.KnownBytes.{Appends}
 use Rattle.script_engine.specs.Lines.{has_line_end}
@@ -6,16 +6,17 @@ use Rattle.couch_relay.specs.declared.inbox.Inbox.{Inbox}
 use Rattle.couch_relay.specs.declared.inbox.Head.{Head}
 use Rattle.couch_relay.specs.Frames.{HeadView, IsHead, IsLine, NoFrame}
 
--- The bytes that were read and not yet used.
+-- The bytes that the relay has read and not yet used.
 abbrev pub pending : Inbox → List ℕ
 pending inbox = drop inbox.at inbox.held.items
 
--- The unused bytes begin within the stored bytes, and the buffer for a read is not empty.
+-- The invariant of the stored input: the unused bytes begin within the stored bytes, and the buffer for a read is not
+-- empty.
 pub record IsInbox (inbox : Inbox) : Type 0 where
   pub within : inbox.at ≤ length inbox.held.items
   pub some : 0 < length inbox.buffer.items
 
--- A reader returned these bytes: its history grew by them.
+-- A reader returned bytes, by which its history grew.
 abbrev pub Took : Option (List ℕ) → Option (List ℕ) → Type 0
 Took old new = (bytes : List ℕ) × Appends old new bytes
 
@@ -30,7 +31,7 @@ HasLine bytes size = IsLine bytes (take size bytes) (drop (size + 1) bytes) × (
 abbrev pub head_view : Head → HeadView
 head_view head = record { status = head.status; size = head.size; who = head.who; date = string_bytes head.date }
 
--- The bytes are the line of a head, and then `rest`.
+-- The bytes are the line of a response's head, and then `rest`.
 abbrev pub BeginsWithHead : List ℕ → HeadView → List ℕ → Type 0
 BeginsWithHead bytes head rest = (line : List ℕ) × IsLine bytes line rest × IsHead line head
 

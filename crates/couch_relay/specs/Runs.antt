@@ -19,7 +19,7 @@ use Rattle.couch_relay.specs.Options.{Says, Refuses}
 
 -- ---- an exchange
 
--- These bytes are the head and the body of a response, which means `response` for this request, with this date.
+-- The bytes are the head and the body of a response to request q. The response has this meaning and this date.
 pub record IsResponse (q : RequestView) (bytes : List ℕ) (response : ResponseView) (date : Text) : Type 0 where
   pub head : HeadView
   pub body : List ℕ
@@ -27,7 +27,7 @@ pub record IsResponse (q : RequestView) (bytes : List ℕ) (response : ResponseV
   pub response_is : response ≡ response_in q head.status head.who body
   pub date_is : date ≡ head.date
 
--- The bytes are the response to a request, and then `rest`.
+-- The bytes are the response to request q, and then `rest`.
 abbrev pub BeginsWithResponse : RequestView → List ℕ → List ℕ → Dated → Type 0
 BeginsWithResponse q bytes rest d =
     (frame : List ℕ) × (bytes ≡ frame ++ rest) × IsResponse q frame (response_view d.response) (string_bytes d.date)
@@ -39,7 +39,8 @@ Receives q old new ended before after dated =
     (bytes : List ℕ) × Appends old new bytes
     × MatchOption dated (NoFrame ended (before ++ bytes)) (λ d. BeginsWithResponse q (before ++ bytes) after d)
 
--- An exchange after others: its request was written after theirs, and its response was read after theirs.
+-- Exchange e follows the earlier exchanges. Its request was written after theirs, and its response was read after
+-- theirs.
 pub record IsNext (o : RequestOptions) (e : Exchange) (earlier : List ℕ → List ℕ → Type 0) (read written : List ℕ) : Type 0 where
   pub read_before : List ℕ
   pub written_before : List ℕ
@@ -55,7 +56,7 @@ abbrev pub Exchanged : RequestOptions → List Exchange → List ℕ → List �
 Exchanged o [] read written = (read ≡ []) × (written ≡ [])
 Exchanged o (e ∷ h) read written = IsNext o e (Exchanged o h) read written
 
--- These bytes were read and written in exchanges that were all allowed, and after which this request is allowed.
+-- These bytes were read and written in exchanges that were all allowed, and after which the next request is allowed.
 pub record IsRun (o : RequestOptions) (read written : List ℕ) (next : RequestView) : Type 0 where
   pub history : List Exchange
   pub exchanged : Exchanged o history read written
@@ -64,7 +65,7 @@ pub record IsRun (o : RequestOptions) (read written : List ℕ) (next : RequestV
 
 -- ---- the end of a run
 
--- The exit status after a request, if no response follows it.
+-- The exit status after a request, if no response follows the request.
 abbrev pub status_after : RequestView → Option ℕ
 status_after (get_log side) = None
 status_after (get_changes since wait) = None
@@ -75,12 +76,13 @@ status_after (tell notice) = None
 status_after (done None counts recorded) = Some (if counts.doc_write_failures == 0 then 0 else 1)
 status_after (done (Some fault) counts recorded) = Some 3
 
--- The run is over with this status: after `done`, or because the rest has no response to the last request.
+-- The run is over with this status, because of `done`, or because the remaining bytes have no response to the last
+-- request.
 abbrev pub EndsWith : Type 0 → RequestView → List ℕ → ℕ → Type 0
 EndsWith ended next left status =
     (status_after next ≡ Some status) ⊎ ((status_after next ≡ None) × NoFrame ended left × (status ≡ 3))
 
--- A complete run: the input, the output, and the exit status.
+-- A complete run of the program: the input, the output, and the exit status.
 pub record Ran (o : RequestOptions) (ended : Type 0) (input text : List ℕ) (status : ℕ) : Type 0 where
   pub read : List ℕ
   pub left : List ℕ
@@ -91,7 +93,7 @@ pub record Ran (o : RequestOptions) (ended : Type 0) (input text : List ℕ) (st
   pub text_is : text ≡ written ++ request_text o next
   pub ends : EndsWith ended next left status
 
--- A run that a fault stopped: a prefix of one more request was written.
+-- A run that a fault stopped, in which a prefix of one more request was written.
 pub record RanUntil (o : RequestOptions) (input text : List ℕ) : Type 0 where
   pub read : List ℕ
   pub left : List ℕ
@@ -106,7 +108,7 @@ pub record RanUntil (o : RequestOptions) (input text : List ℕ) : Type 0 where
 
 -- ---- the command line and the selection of documents
 
--- The options of the requests are those of the command line and this selection.
+-- The request options o are those of the command line and this selection.
 pub record AreOptions (options : Options) (choice : Text) (o : RequestOptions) : Type 0 where
   pub path : string_bytes o.log_path
       ≡ log_path options.source.now options.target.now options.filter.now options.query.now choice options.salt.now
@@ -116,7 +118,7 @@ pub record AreOptions (options : Options) (choice : Text) (o : RequestOptions) :
   pub query : string_bytes o.query ≡ options.query.now
   pub choice_is : string_bytes o.choice ≡ choice
 
--- A byte of a text on one line.
+-- A byte of a text on one line: a blank instead of a line end.
 abbrev pub on_line : ℕ → ℕ
 on_line b = if b == 10 || b == 13 then 32 else b
 
@@ -147,27 +149,27 @@ ReadsChoice old new ended before after choice =
     (bytes : List ℕ) × Appends old new bytes
     × MatchOption choice (NoChoice ended (before ++ bytes)) (λ text. IsChoice (before ++ bytes) text after)
 
--- The selection at the beginning of the input, if the options ask for one.
+-- The selection at the beginning of the input, if the options require one.
 abbrev pub TakesChoice : Options → List ℕ → Text → List ℕ → Type 0
 TakesChoice options input choice rest =
     (options.choice ≡ true → IsChoice input choice rest) × (options.choice ≡ false → (choice ≡ []) × (rest ≡ input))
 
--- The bytes that were read after the pending bytes, and the selection, if the options ask for one.
+-- The bytes that were read after the pending bytes, and the selection, if the options require one.
 abbrev pub FindsChoice : Options → Option (List ℕ) → Option (List ℕ) → Type 0 → List ℕ → List ℕ → Option Text → Type 0
 FindsChoice options old new ended before after choice =
     (bytes : List ℕ) × Appends old new bytes
     × MatchOption choice ((options.choice ≡ true) × NoChoice ended (before ++ bytes))
     (λ text. TakesChoice options (before ++ bytes) text after)
 
--- A run of the program with these options: the requests and their responses, and the exit status. Or no selection of
--- documents could be read, and the output is empty. `ended` is that the input has ended.
+-- A run of the program with these options: the requests and their responses, and the exit status. If no selection of
+-- documents could be read, the output is empty. The statement `ended` says that the input has ended.
 abbrev pub Runs : Options → Type 0 → List ℕ → List ℕ → ℕ → Type 0
 Runs options ended input text status =
     ((choice rest : List ℕ) × (o : RequestOptions) × TakesChoice options input choice rest × AreOptions options choice o
     × Ran o ended rest text status)
     ⊎ ((options.choice ≡ true) × NoChoice ended input × (text ≡ []) × (status ≡ 3))
 
--- A run that a fault stopped: at most a prefix of a request was written after the exchanges.
+-- A run that a fault stopped, in which at most a prefix of a request was written after the exchanges.
 abbrev pub RunsUntil : Options → List ℕ → List ℕ → Type 0
 RunsUntil options input text =
     (text ≡ [])
@@ -181,8 +183,8 @@ abbrev pub RunsOptions : Options → Type 0 → List ℕ → List ℕ → Result
 RunsOptions options ended input text (Ok status) = Runs options ended input text status
 RunsOptions options ended input text (Err fault) = RunsUntil options input text
 
--- The input and the output of the program for its arguments, the program's name first. If the arguments give no options,
--- the program reads and writes nothing.
+-- The input and the output of the program for its arguments, of which the first is the program's name. If the arguments
+-- give no options, the program reads and writes nothing.
 abbrev pub RunsWords : List Text → Type 0 → List ℕ → List ℕ → Ended → Type 0
 RunsWords words ended input text (end.NotRun why) = (input ≡ []) × (text ≡ []) × Refuses words why
 RunsWords words ended input text (end.Ran ran) =

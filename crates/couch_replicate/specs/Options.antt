@@ -10,31 +10,31 @@ use Rattle.couch_replicate.specs.declared.options.NoSettings.{NoSettings}
 use Rattle.couch_replicate.specs.declared.options.Options.{Options}
 use Rattle.couch_replicate.specs.declared.options.NoSettings.TheVariants.{Words, NoNumber, File, Memory}
 
--- the option `--deny`
+-- The rule of the option `--deny`.
 abbrev pub deny_option : Rule
 deny_option = record (new_rule (codes "deny")) { long = Some (codes "deny"); action = Some Set; value_names = 1 }
 
--- an option with an integer value below 2 ^ 64
+-- An option with an integer value below 2 ^ 64.
 abbrev pub number_option : List ℕ → Rule
 number_option name =
     record (new_rule name)
     { long = Some name; action = Some Set; value_names = 1; parser = Some (vp.Unsigned 0 18446744073709551615) }
 
--- the command line of the program
+-- The command line of the program.
 abbrev pub options : App
 options = with_rule (with_rule (with_rule (with_rule (with_rule (with_rule (with_rule (with_rule (with_rule
     (program_app (codes "couch_replicate")) deny_option) (number_option (codes "seed"))) (number_option (codes "at"))) (number_option (codes "workers")))
     (number_option (codes "batch"))) (flag_option (codes "quiet"))) (flag_option (codes "explain")))
     (flag_option (codes "progress"))) (hidden_option (codes "file"))
 
--- the text is this number; without a text it is the default
+-- The text is the number n, or without a text n is the default.
 abbrev pub IsNumber : Option (List ℕ) → ℕ → ℕ → Type 0
 IsNumber None default n = n ≡ default
 IsNumber (Some text) default n =
     IsNumeral 10 (without_leading_plus text) × (digits_value 10 (without_leading_plus text) < 2 ^ 64)
     × (n ≡ digits_value 10 (without_leading_plus text))
 
--- the settings are those of the options' texts, and there is no positional argument
+-- The settings are those of the options' texts, and there is no positional argument.
 abbrev pub AreSettings : (List ℕ → Option (List ℕ)) → (List ℕ → Option (List ℕ)) → Settings → Type 0
 AreSettings text number s =
     (text (codes "file") ≡ None) × (option_map string_bytes s.deny ≡ text (codes "deny")) × IsNumber (number (codes "seed")) 0 s.seed
@@ -42,25 +42,25 @@ AreSettings text number s =
     × IsNumber (number (codes "workers")) 4 s.workers × IsNumber (number (codes "batch")) 500 s.batch
     × IsFlag (number (codes "quiet")) s.quiet
 
--- the settings and the reports on standard error are those of the options
+-- The settings and the reports on standard error are those of the options.
 abbrev pub AreOptions : (List ℕ → Option (List ℕ)) → (List ℕ → Option (List ℕ)) → Options → Type 0
 AreOptions text number o = AreSettings text number o.settings
     × IsFlag (number (codes "explain")) o.explain × IsFlag (number (codes "progress")) o.progress
 
--- the same for the arguments of a command line
+-- The options are those that the arguments of a command line say.
 abbrev pub Says : List (List ℕ) → Options → Type 0
 Says words o = AreOptions (λ id. first_of id (matches_of options words)) (λ id. one_of id (matches_of options words)) o
 
 -- ---- arguments that give no settings
 
--- no settings match the options' texts, for example because there is a positional argument; or an allocation failed
+-- No settings match the options' texts, for example because there is a positional argument, or an allocation failed.
 abbrev pub SetNothing : (List ℕ → Option (List ℕ)) → (List ℕ → Option (List ℕ)) → NoSettings → Type 0
 SetNothing text number (Words error) = ⊥
 SetNothing text number NoNumber = (s : Settings) → AreSettings text number s → ⊥
 SetNothing text number File = text (codes "file") ≡ None → ⊥
 SetNothing text number Memory = Unit {0}
 
--- `clap`'s error for the arguments, or no options match them, or an allocation failed
+-- Why the arguments give no options: `clap`'s error for them, or no options match them, or an allocation failed.
 abbrev pub Refuses : List (List ℕ) → NoSettings → Type 0
 Refuses words (Words error) = HasKind (fault_of options words) error
 Refuses words NoNumber = (o : Options) → Says words o → ⊥

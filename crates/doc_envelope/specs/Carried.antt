@@ -6,14 +6,15 @@ use Rattle.doc_envelope.specs.Members.{is_blank, joined, object_of}
 use Rattle.doc_envelope.specs.Names.{has_name, value_of}
 use Rattle.doc_envelope.specs.Envelopes.{whole_name, stays, goes, string_of}
 
--- within `nesting` brackets, a byte that is not a quotation mark or a bracket, and not a comma if `nesting` is 0
+-- The byte b is plain within `nesting` brackets: it is not a quotation mark or a bracket, and not a comma if `nesting`
+-- is 0.
 pub record IsByte (nesting b : ℕ) : Type 0 where
   pub comma : (nesting == 0 && b == 44) ≡ false
   pub quote : (b == 34) ≡ false
   pub opens : (b == 123 || b == 91) ≡ false
   pub closes : (b == 125 || b == 93) ≡ false
 
--- strings are closed, and brackets are paired, within `n` other brackets
+-- In a text within n brackets, strings are closed, and brackets are paired.
 pub data Paired : ℕ → List ℕ → Type 0 where
   nothing : {n : ℕ} → Paired n []
   byte : {n b : ℕ} {t : List ℕ} → IsByte n b → Paired n t → Paired n (b ∷ t)
@@ -21,7 +22,7 @@ pub data Paired : ℕ → List ℕ → Type 0 where
   object : {n : ℕ} {m t : List ℕ} → Paired (n + 1) m → Paired n t → Paired n (123 ∷ (m ++ 125 ∷ t))
   list : {n : ℕ} {m t : List ℕ} → Paired (n + 1) m → Paired n t → Paired n (91 ∷ (m ++ 93 ∷ t))
 
--- the text of a member; it has more than blanks
+-- The text m is that of a member, and is not blank.
 pub record IsMember (m : List ℕ) : Type 0 where
   pub paired : Paired 0 m
   pub filled : is_blank m ≡ false
@@ -30,25 +31,25 @@ abbrev pub AreMembers : List (List ℕ) → Type 0
 AreMembers [] = Unit {0}
 AreMembers (m ∷ ms) = IsMember m × AreMembers ms
 
--- the text of an object with these members, in order
+-- The text x is an object with the members ms, in order.
 pub record HasMembers (x : List ℕ) (ms : List (List ℕ)) : Type 0 where
   pub members : AreMembers ms
   pub text : x ≡ object_of ms
 
--- One member `whole` holds these other members with commas between them, in any spelling of its string; or there are no
--- other members and no member `whole`.
+-- One member `whole` holds the given other members with commas between them, in any spelling of its string. If there
+-- are no other members, there is no member `whole`.
 pub data Carries : List (List ℕ) → List (List ℕ) → Type 0 where
   none : Carries [] []
   whole : {w : List ℕ} (o : List ℕ) (os : List (List ℕ)) → has_name w whole_name ≡ true
       → string_of (value_of w whole_name) ≡ Some (joined (o ∷ os)) → Carries (w ∷ []) (o ∷ os)
 
--- no member has the name `whole`
+-- No member of the list has the name `whole`.
 abbrev pub AreOthers : List (List ℕ) → Type 0
 AreOthers [] = Unit {0}
 AreOthers (m ∷ ms) = (has_name m whole_name ≡ false) × AreOthers ms
 
--- A text is an envelope of a document with these members: first the members that stay outside, unchanged and in order,
--- and then the one that holds the others.
+-- The text t is an envelope of a document with the members ms. The members that stay outside come first, unchanged and
+-- in order, and then the member that holds the others.
 pub record Envelops (ms : List (List ℕ)) (t : List ℕ) : Type 0 where
   pub carrier : List (List ℕ)
   pub members : HasMembers t (filter stays ms ++ carrier)

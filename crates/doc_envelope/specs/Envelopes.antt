@@ -9,13 +9,13 @@ use Rattle.doc_envelope.specs.Texts.{is_json}
 use Rattle.doc_envelope.specs.Members.{is_blank, members_of, joined, object_of}
 use Rattle.doc_envelope.specs.Names.{has_name, value_of}
 
--- the name of the member that holds the others
+-- The name of the member of an envelope that holds the wrapped members.
 abbrev pub whole_name : List ℕ
 whole_name = codes "\"whole\""
 
 -- ---- wrapping
 
--- a member that stays outside of the string
+-- Whether a member stays outside of the envelope's string.
 abbrev pub stays : List ℕ → Bool
 stays m =
     has_name m (codes "\"_id\"") || has_name m (codes "\"_rev\"") || has_name m (codes "\"_revisions\"")
@@ -24,7 +24,8 @@ stays m =
 abbrev pub goes : List ℕ → Bool
 goes m = not (stays m)
 
--- the member that holds the others, if there are any: their texts with commas between them, as one string
+-- The member of an envelope that holds the wrapped members, if there are any: their texts with commas between them, as
+-- one string.
 abbrev pub whole_of : List (List ℕ) → List (List ℕ)
 whole_of [] = []
 whole_of (m ∷ ms) = (whole_name ++ 58 ∷ quoted (joined (m ∷ ms))) ∷ []
@@ -32,7 +33,7 @@ whole_of (m ∷ ms) = (whole_name ++ 58 ∷ quoted (joined (m ∷ ms))) ∷ []
 abbrev pub envelope_of : List ℕ → List ℕ
 envelope_of x = object_of (filter stays (members_of x) ++ whole_of (filter goes (members_of x)))
 
--- The members that an envelope may have. Only the types of `_deleted` and `whole` are checked.
+-- Whether an envelope may have a member with this name and value. Only the types of `_deleted` and `whole` are checked.
 abbrev pub may_stand : List ℕ → Json → Bool
 may_stand name j =
     cond (bytes_eq name (codes "_id") || bytes_eq name (codes "_rev") || bytes_eq name (codes "_revisions")) true
@@ -51,7 +52,7 @@ is_envelope_value (Some (string s)) = false
 is_envelope_value (Some (array js)) = false
 is_envelope_value None = false
 
--- the text of an envelope
+-- Whether a text is an envelope.
 abbrev pub is_envelope : List ℕ → Bool
 is_envelope t = is_utf8 t && is_envelope_value (document t)
 
@@ -63,15 +64,15 @@ enveloped x = cond (is_enveloped x) (Some (envelope_of x)) None
 
 -- ---- unwrapping
 
--- a text that is not blank
+-- A text, if it is not blank.
 abbrev pub if_any : List ℕ → Option (List ℕ)
 if_any t = cond (is_blank t) None (Some t)
 
--- the value of a JSON string
+-- The value of a JSON string.
 abbrev pub string_of : List ℕ → Option (List ℕ)
 string_of t = cond (is_utf8 t) (option_and_then as_str (document t)) None
 
--- a member, or the members that it holds
+-- The text of a member, or of the members that it holds if it is named `whole`.
 abbrev pub unfolded_member : List ℕ → Option (List ℕ)
 unfolded_member m = cond (has_name m whole_name) (option_and_then if_any (string_of (value_of m whole_name))) (Some m)
 

@@ -4,7 +4,7 @@ use Rattle.std.specs.List.{list_all, filter}
 
 -- ---- byte by byte
 
--- the next byte is outside of strings, in a string, or after a backslash in a string
+-- Where a byte is in a member: outside of strings, in a string, or after a backslash in a string.
 pub data Mode : Type 0 where
   Outside : Mode
   Quoted : Mode
@@ -16,7 +16,7 @@ opens b = b == 123 || b == 91
 abbrev pub closes : ℕ → Bool
 closes b = b == 125 || b == 93
 
--- a byte that ends a member, with `n` open brackets in the member: a comma, or the bracket that closes the object
+-- Whether a byte ends a member in which n brackets are open. It is a comma, or the bracket that closes the object.
 abbrev pub ends_member : Mode → ℕ → ℕ → Bool
 ends_member Outside n b = n == 0 && (b == 44 || closes b)
 ends_member Quoted n b = false
@@ -34,17 +34,17 @@ nesting_behind Escaped n b = n
 
 -- ---- members
 
--- the number of bytes that are left of the current member
+-- The number of bytes of the current member that were not yet read.
 unfoldable pub length_in : Mode → ℕ → List ℕ → ℕ
 length_in m n [] = 0
 length_in m n (b ∷ t) = cond (ends_member m n b) 0 (length_in (mode_behind m b) (nesting_behind m n b) t + 1)
 
--- the number of bytes of the first member
+-- The number of bytes of the first member.
 abbrev pub first_length : List ℕ → ℕ
 first_length t = length_in Outside 0 t
 
--- the members of a text up to the bracket that closes the object; u is the part of the first member that is already
--- read
+-- The members of a text up to the bracket that closes the object, given the part u of the first member that was read
+-- before.
 unfoldable pub members_in : Mode → ℕ → List ℕ → List ℕ → List (List ℕ)
 members_in m n u [] = cond (length u == 0) [] (u ∷ [])
 members_in m n u (b ∷ t) =
@@ -54,16 +54,16 @@ members_in m n u (b ∷ t) =
 abbrev pub is_blank : List ℕ → Bool
 is_blank m = list_all (λ b. b == 32) m
 
--- the members of an object, without blank ones
+-- The members of an object, without blank ones.
 abbrev pub members_of : List ℕ → List (List ℕ)
 members_of x = filter (λ m. not (is_blank m)) (members_in Outside 0 [] (drop 1 x))
 
--- members with commas between them
+-- The texts of members, with commas between them.
 abbrev pub joined : List (List ℕ) → List ℕ
 joined [] = []
 joined (m ∷ []) = m
 joined (m ∷ n ∷ ms) = m ++ 44 ∷ joined (n ∷ ms)
 
--- the text of an object
+-- The text of an object with the given members.
 abbrev pub object_of : List (List ℕ) → List ℕ
 object_of ms = 123 ∷ (joined ms ++ 125 ∷ [])

@@ -3,7 +3,7 @@ use Rattle.std.specs.Prelude.{ℕ, ◌==◌, nat_eq, length, drop, take, List, [
 use Rattle.std.specs.List.{starts_with}
 use Rattle.doc_envelope.specs.Members.{first_length}
 
--- a text without leading blanks
+-- A text without leading blanks.
 abbrev pub trimmed : List ℕ → List ℕ
 trimmed [] = []
 trimmed (b ∷ t) = cond (b == 32) (trimmed t) (b ∷ t)
@@ -11,17 +11,17 @@ trimmed (b ∷ t) = cond (b == 32) (trimmed t) (b ∷ t)
 abbrev pub has_name : List ℕ → List ℕ → Bool
 has_name member name = starts_with nat_eq (trimmed member) name
 
--- after the name and the colon
+-- The text of a member's value, after the member's name and the colon.
 abbrev pub value_of : List ℕ → List ℕ → List ℕ
 value_of member name = trimmed (drop 1 (trimmed (drop (length name) (trimmed member))))
 
--- the text of a document's id, if it is the first member
+-- The text of the first member of an object.
 abbrev pub first_member : List ℕ → List ℕ
 first_member x = take (first_length (drop 1 x)) (drop 1 x)
 
 abbrev pub id_of : List ℕ → List ℕ
 id_of x = cond (has_name (first_member x) (codes "\"_id\"")) (value_of (first_member x) (codes "\"_id\"")) []
 
--- the text of a replication log, which is not a document
+-- Whether a text is a replication log, which is not a document.
 abbrev pub is_log : List ℕ → Bool
 is_log x = starts_with nat_eq x (codes "{\"_id\":\"_local/")

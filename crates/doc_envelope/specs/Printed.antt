@@ -1,4 +1,4 @@
--- Envelopes that are written as the kit writes their values.
+-- Envelopes that have the text that the kit's JSON library writes for their values.
 use Rattle.std.specs.Prelude.{◌≡◌, ℕ, ◌≤◌, ◌<◌, List, [], ◌∷◌, ◌++◌, codes, true, Some}
 use Rattle.std.specs.Str.{IsUtf8}
 use Rattle.json.specs.Json.{Json, max_depth}
@@ -7,7 +7,7 @@ use Rattle.json.specs.Print.{print, token_text, quoted, IsNumber}
 use Rattle.json.specs.Tree.{json_tokens, depth, HasNumbers}
 use Rattle.doc_envelope.specs.Envelopes.{is_envelope_value, may_stand}
 
--- the text t is what the kit writes for the value of an envelope
+-- The text t is what the kit's JSON library writes for the value of an envelope.
 pub record IsPrinted (t : List ℕ) : Type 0 where
   pub utf8 : IsUtf8 t
   pub value : Json
@@ -16,7 +16,7 @@ pub record IsPrinted (t : List ℕ) : Type 0 where
   pub text : t ≡ print (json_tokens value)
   pub envelope : is_envelope_value (Some value) ≡ true
 
--- the text t is what the kit writes for a value, which is nested less deep than an envelope may be
+-- The text t is what the kit's JSON library writes for a value that is nested less deep than an envelope may be.
 pub record IsPrintedValue (t : List ℕ) : Type 0 where
   pub utf8 : IsUtf8 t
   pub value : Json
@@ -24,7 +24,7 @@ pub record IsPrintedValue (t : List ℕ) : Type 0 where
   pub nests : depth value < max_depth
   pub text : t ≡ print (json_tokens value)
 
--- the text m is what the kit writes for a member that an envelope may have
+-- The text m is what the kit's JSON library writes for a member that an envelope may have.
 pub record IsPrintedMember (m : List ℕ) : Type 0 where
   pub utf8 : IsUtf8 m
   pub name : List ℕ
@@ -34,23 +34,24 @@ pub record IsPrintedMember (m : List ℕ) : Type 0 where
   pub text : m ≡ token_text (key name) ++ print (json_tokens value)
   pub stands : may_stand name value ≡ true
 
--- the text is a number of RFC 8259, in UTF-8
+-- The text t is a number of RFC 8259, in UTF-8.
 pub record IsDigits (t : List ℕ) : Type 0 where
   pub utf8 : IsUtf8 t
   pub number : IsNumber t
 
--- the text t begins with a string as the kit writes it, and `rest` follows
+-- The text t begins with a string as the kit's JSON library writes it, and `rest` follows.
 pub record BeginsWithString (t rest : List ℕ) : Type 0 where
   pub string : List ℕ
   pub utf8 : IsUtf8 string
   pub text : t ≡ quoted string ++ rest
 
--- strings as the kit writes them, with commas between them, and then the brackets that close a list and an object
+-- Strings as the kit's JSON library writes them, with commas between them, and then the brackets that close a list and
+-- an object.
 pub data AreIds : List ℕ → Type 0 where
   last_id : {s : List ℕ} → IsUtf8 s → AreIds (quoted s ++ 93 ∷ 125 ∷ [])
   more_ids : {s t : List ℕ} → IsUtf8 s → AreIds t → AreIds (quoted s ++ 44 ∷ t)
 
--- a number, and then strings in the list `ids`, which is the last member of an object
+-- The text t is a number, and then strings in the list `ids`, which is the last member of an object.
 pub record IsStarted (t : List ℕ) : Type 0 where
   pub digits : List ℕ
   pub ids : List ℕ

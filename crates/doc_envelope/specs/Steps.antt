@@ -4,11 +4,11 @@ use Rattle.json.specs.Print.{quoted}
 use Rattle.doc_envelope.specs.Members.{is_blank}
 use Rattle.doc_envelope.specs.Envelopes.{whole_name, stays, unfolded_member}
 
--- appended to the members of a text that begins with a brace
+-- The text t of an object without its closing brace after member m is appended.
 abbrev pub added : List ℕ → List ℕ → List ℕ
 added t m = cond (nat_lt 1 (length t)) (t ++ 44 ∷ m) (t ++ m)
 
--- appended to the members in the string
+-- The text h of an envelope's string after member m is appended.
 abbrev pub held_with : List ℕ → List ℕ → List ℕ
 held_with h m = cond (length h == 0) (h ++ m) (h ++ 44 ∷ m)
 
@@ -21,7 +21,7 @@ held_by h m = cond (is_blank m) h (cond (stays m) h (held_with h m))
 abbrev pub taken_with : List ℕ → List ℕ → Option (List ℕ)
 taken_with t m = cond (is_blank m) (Some t) (option_map (added t) (unfolded_member m))
 
--- after a member of n bytes and its comma
+-- The text after a member of n bytes and its comma.
 abbrev pub behind_comma : List ℕ → ℕ → List ℕ
 behind_comma t n = cond (get_or t n 0 == 44) (drop (n + 1) t) []
 
@@ -39,6 +39,6 @@ unfoldable pub all_taken : List ℕ → List (List ℕ) → Option (List ℕ)
 all_taken t [] = Some t
 all_taken t (m ∷ ms) = option_and_then (λ u. all_taken u ms) (taken_with t m)
 
--- the member that holds those of a string, appended to the others
+-- The text t of an object without its closing brace, after the member that holds the wrapped members h is appended.
 abbrev pub with_held : List ℕ → List ℕ → List ℕ
 with_held t h = cond (length h == 0) t (added t (whole_name ++ 58 ∷ []) ++ quoted h)

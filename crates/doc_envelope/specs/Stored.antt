@@ -1,4 +1,4 @@
--- The values that the stored envelope buffers stand for.
+-- The values that the stored envelope buffers represent.
 use Rattle.std.specs.Prelude.{◌≡◌, ℕ, List, [], ◌∷◌, ◌++◌, Bool, true}
 use Rattle.doc_envelope.specs.Printed.{IsPrinted}
 use Rattle.doc_envelope.specs.declared.envelope.Envelope.{Envelope}
@@ -12,6 +12,7 @@ held_of e = e.held.items
 abbrev pub printed_of : Envelope → Bool
 printed_of e = e.printed
 
--- if the members of the result are marked as printed, they are with a closing brace what the kit writes for an envelope
+-- If the members of the result are marked as printed, the result with a closing brace is what the kit's JSON library
+-- writes for an envelope.
 abbrev pub HasPrintedFront : Envelope → Type 0
 HasPrintedFront e = printed_of e ≡ true → IsPrinted (made_of e ++ 125 ∷ [])

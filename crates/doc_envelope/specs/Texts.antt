@@ -1,28 +1,29 @@
--- JSON texts, as bytes: docs/PROFILE.md, "CouchDB's answers". The grammar of the kit decides whether a text is JSON.
+-- JSON texts, as bytes: docs/PROFILE.md, "CouchDB's answers". The grammar of the kit's JSON library decides whether a
+-- text is JSON.
 use Rattle.std.specs.Prelude.{◌≡◌, ℕ, ◌+◌, ◌<◌, ◌&&◌, ◌||◌, ◌==◌, List, [], ◌∷◌, ◌++◌, Bool, true, false, is_some}
 use Rattle.std.specs.List.{list_all}
 use Rattle.std.specs.Str.{is_utf8}
 use Rattle.json.specs.Json.{document}
 
--- JSON white space
+-- Whether a byte is JSON white space.
 abbrev pub is_space : ℕ → Bool
 is_space b = b == 32 || b == 9 || b == 10 || b == 13
 
 abbrev pub Spaces : List ℕ → Type 0
 Spaces s = list_all is_space s ≡ true
 
--- a JSON text in UTF-8
+-- Whether a text is JSON in UTF-8.
 abbrev pub is_json : List ℕ → Bool
 is_json text = is_utf8 text && is_some (document text)
 
--- the text after the opening quotation mark of a string
+-- The text of a string after its opening quotation mark, with the closing one.
 pub data EndsString : List ℕ → Type 0 where
   ends : EndsString (34 ∷ [])
   plain : {b : ℕ} {t : List ℕ} → (b == 34) ≡ false → (b == 92) ≡ false → EndsString t → EndsString (b ∷ t)
   escaped : {b : ℕ} {t : List ℕ} → EndsString t → EndsString (92 ∷ b ∷ t)
 
--- within `nesting` brackets, a byte that is not white space, a quotation mark or a bracket, and not a comma if
--- `nesting` is 0
+-- The byte b is plain within `nesting` brackets: not white space, a quotation mark or a bracket, and not a comma if
+-- `nesting` is 0.
 pub record IsPlain (nesting b : ℕ) : Type 0 where
   pub space : is_space b ≡ false
   pub comma : (nesting == 0 && (b == 44 || b == 125)) ≡ false
@@ -30,8 +31,8 @@ pub record IsPlain (nesting b : ℕ) : Type 0 where
   pub opens : (b == 123 || b == 91) ≡ false
   pub closes : (b == 125 || b == 93) ≡ false
 
--- Strings are closed and brackets are paired, at most 128 deep. The second text is the first one with a blank for each
--- byte of white space outside of strings.
+-- In a text, strings are closed and brackets are paired, at most 128 deep. The second text is the first one with a
+-- blank for each byte of white space outside of strings.
 pub data Closed : ℕ → List ℕ → List ℕ → Type 0 where
   nothing : {n : ℕ} → Closed n [] []
   space : {n b : ℕ} {t u : List ℕ} → is_space b ≡ true → Closed n t u → Closed n (b ∷ t) (32 ∷ u)

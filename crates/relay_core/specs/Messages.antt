@@ -41,8 +41,8 @@ pub data FaultView : Type 0 where
   bad_answer : Operation → FaultView
   bad_log : Side → FaultView
   refused : Text → Side → ℕ → Text → FaultView
-  -- A leaf whose carry the target's response does not account for: an id, a revision, the error and the reason of a
-  -- row, and the number of such leaves.
+  -- The fault of leaves that the target's response to a carry does not account for: the id, revision, error and reason
+  -- of one such leaf, and the number of these leaves.
   unaccounted : Text → Text → Option (Text × Text) → ℕ → FaultView
   log_changed : FaultView
 
