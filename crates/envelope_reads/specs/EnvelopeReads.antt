@@ -9,11 +9,12 @@ use Rattle.doc_json.specs.Document.{Document}
 use Rattle.doc_json.specs.declared.fault.DocFault.{DocFault}
 use Rattle.doc_envelope.specs.Envelopes.{enveloped}
 
--- the document in a JSON value, if there is a value
+-- The document in a JSON value, if there is a value, or the error of reading it.
 abbrev pub read_if_any : Option Data → Result (Option Document) DocFault
 read_if_any None = Ok None
 read_if_any (Some value) = doc_read value >>= λ doc. Ok (Some doc)
 
--- the result for the text `document`: `None` if the text has no envelope, or its envelope is not JSON
+-- The result of reading the envelope of a text. The result is `None` if the text has no envelope, or its envelope is
+-- not JSON.
 abbrev pub envelope_read : List ℕ → Result (Option Document) DocFault
 envelope_read document = read_if_any (option_and_then read_text (enveloped document))

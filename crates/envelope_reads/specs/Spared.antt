@@ -6,7 +6,7 @@ use Rattle.serde_json.specs.Find.{as_str, as_bool}
 use Rattle.doc_json.specs.declared.fault.DocFault.{DocFault}
 use Rattle.doc_json.specs.declared.fault.DocFault.TheVariants as faults
 
--- an error about something that an envelope wraps
+-- Whether an error is about something that an envelope wraps.
 abbrev pub looks_into : DocFault → Bool
 looks_into faults.NotObject = false
 looks_into faults.NoId = false
@@ -21,7 +21,7 @@ looks_into faults.NoneChosen = false
 looks_into faults.TooManyChosen = false
 looks_into faults.Memory = false
 
--- a member that an envelope may have
+-- Whether an envelope may have a member with this name and value.
 abbrev pub may_be : List ℕ → Data → Bool
 may_be k d =
     cond (bytes_eq k (codes "_id") || bytes_eq k (codes "_rev") || bytes_eq k (codes "_revisions")) true

@@ -30,14 +30,15 @@ first_chain = codes "start"
 unfoldable pub first_seq : List ℕ
 first_seq = codes "0"
 
--- The lines are blocks with right checksums. The last arguments are the hash and the sequence of the last block.
+-- The lines of a journal are blocks with right checksums. The last arguments are the hash and the sequence of the last
+-- block.
 pub data Confirmed : List (List ℕ) → List ℕ → List ℕ → Type 0 where
   nothing : Confirmed [] first_chain first_seq
   block : {lines : List (List ℕ)} {chain seq : List ℕ} (body : List (List ℕ)) (next : List ℕ) → Confirmed lines chain seq
       → All (λ line. is_sum line ≡ false) body
       → Confirmed (lines ++ (body ++ sum_line (length body) (block_hash chain next (joined body)) next ∷ [])) (block_hash chain next (joined body)) next
 
--- The first `count` lines are blocks with right checksums, and no more lines are.
+-- The lines `confirmed` are the longest prefix of a journal's lines that consists of blocks with right checksums.
 pub record IsGreatest (lines confirmed : List (List ℕ)) (chain seq : List ℕ) : Type 0 where
   pub rest : List (List ℕ)
   pub begins : lines ≡ confirmed ++ rest

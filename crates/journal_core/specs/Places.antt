@@ -6,8 +6,8 @@ use Rattle.journal_core.specs.declared.blocks.Blocks.{Blocks}
 use Rattle.journal_core.specs.declared.blocks.Took.{Took}
 use Rattle.journal_core.specs.declared.blocks.Took.TheVariants.{Held, Closed, Damaged}
 
--- The place of a reader in a journal: the hash and the sequence of the last confirmed block, the confirmed lines, and the lines
--- after it. The place is complete (`whole`) if no wrong checksum was read.
+-- The place of a reader in a journal: the hash and the sequence of the last confirmed block, the confirmed lines, and
+-- the lines after these. The place is complete (`whole`) if no wrong checksum was read.
 pub record Place : Type 0 where
   pub chain : List ℕ
   pub seq : List ℕ
@@ -18,23 +18,23 @@ pub record Place : Type 0 where
 abbrev pub start : Place
 start = record { chain = first_chain; seq = first_seq; confirmed = []; held = []; whole = true }
 
--- The sequence that a line names if it ends a block of `count` lines.
+-- The sequence that a line names if the line ends a block of `count` lines.
 unfoldable pub seq_of : ℕ → List ℕ → List ℕ
 seq_of count line = drop (length (sum_head count) + 65) line
 
--- The hash of the lines that are held, with the sequence of this line.
+-- The hash of the lines after the last confirmed block, with the sequence of the given line.
 unfoldable pub hash_at : Place → List ℕ → List ℕ
 hash_at place line = block_hash place.chain (seq_of (length place.held) line) (joined place.held)
 
--- The right end of the lines that are held, with the sequence of this line.
+-- The line that would rightly end the lines after the last confirmed block, with the sequence of the given line.
 unfoldable pub right_end : Place → List ℕ → List ℕ
 right_end place line = sum_line (length place.held) (hash_at place line) (seq_of (length place.held) line)
 
--- The hash of a block, if the line is its right end.
+-- The hash of a block, if the given line rightly ends the block.
 unfoldable pub end_in : Place → List ℕ → Option (List ℕ)
 end_in place line = if bytes_eq line (right_end place line) then Some (hash_at place line) else None
 
--- The place after the right end of a block, which has this hash.
+-- The place after a line that rightly ends a block, which has the given hash.
 abbrev pub closed : Place → List ℕ → List ℕ → Place
 closed place line hash = record {
   chain = hash;
@@ -44,7 +44,7 @@ closed place line hash = record {
   whole = true;
 }
 
--- The place after the wrong end of a block.
+-- The place after a line that ends a block with a wrong checksum.
 abbrev pub damaged : Place → Place
 damaged place = record { chain = place.chain; seq = place.seq; confirmed = place.confirmed; held = place.held; whole = false }
 
@@ -56,19 +56,19 @@ ended_by place line (Some hash) = closed place line hash
 abbrev pub ended : Place → List ℕ → Place
 ended place line = ended_by place line (end_in place line)
 
--- The place after another line.
+-- The place after a line that does not end a block.
 abbrev pub held_more : Place → List ℕ → Place
 held_more place line = record { chain = place.chain; seq = place.seq; confirmed = place.confirmed; held = place.held ++ line ∷ []; whole = place.whole }
 
--- The place after a line.
+-- The place after the next line of a journal.
 abbrev pub next : Place → List ℕ → Place
 next place line = if place.whole then (if is_sum line then ended place line else held_more place line) else place
 
--- The place after lines.
+-- The place after all of the given lines.
 abbrev pub place_after : List (List ℕ) → Place
 place_after lines = fold next start lines
 
--- The stored state of a reader.
+-- The stored state of a journal reader at a place.
 pub record IsAt (blocks : Blocks) (place : Place) : Type 0 where
   pub chain : blocks.chain.items ≡ place.chain
   pub seq : blocks.seq.items ≡ place.seq
@@ -78,11 +78,11 @@ pub record IsAt (blocks : Blocks) (place : Place) : Type 0 where
   pub lines : blocks.lines ≡ length place.confirmed
   pub whole : blocks.whole ≡ place.whole
 
--- Whether a journal ends here with a confirmed block.
+-- Whether a journal ends at this place with a confirmed block.
 abbrev pub is_confirmed : Place → Bool
 is_confirmed place = place.whole && nat_eq (length (joined place.held)) 0
 
--- The effect of a line, given the places before (`place`) and after it (`place'`).
+-- The effect of a line on a journal reader, given the places before (`place`) and after it (`place'`).
 abbrev pub TookAs : Place → Place → List ℕ → Took → Type 0
 TookAs place place' line Held = place' ≡ held_more place line
 TookAs place place' line (Closed body) = (hash : List ℕ) × (place' ≡ closed place line hash) × (body.items ≡ joined place.held)

@@ -7,13 +7,13 @@ use Rattle.line_reader.specs.Lines.{joined}
 use Rattle.journal_core.specs.Journal.{Confirmed, block_hash, is_sum, sum_line}
 use Rattle.journal_core.specs.declared.seal.Seal.{Seal}
 
--- The number of lines before the first wrong line, after a line that is wrong or not.
+-- The number of lines before the first wrong line of a block, after one more line that is wrong or not.
 abbrev pub wrong_after : Option ℕ → Bool → ℕ → Option ℕ
 wrong_after (Some n) wrong count = Some n
 wrong_after None true count = Some count
 wrong_after None false count = None
 
--- What is stored after these lines of a block.
+-- What is stored after these lines of a block were read.
 pub record IsSealing (chain seq : List ℕ) (lines : List (List ℕ)) (seal : Seal) : Type 0 where
   pub hashed : Holds256 seal.hasher ((chain ++ codes " " ++ seq ++ codes "\n") ++ joined lines)
   pub seq_is : seal.seq.items ≡ seq
@@ -24,13 +24,14 @@ pub record IsSealing (chain seq : List ℕ) (lines : List (List ℕ)) (seal : Se
 abbrev pub Seals : Seal → List ℕ → List ℕ → Seal → Type 0
 Seals old line text new = (text ≡ []) × ((chain seq : List ℕ) (lines : List (List ℕ)) → IsSealing chain seq lines old → IsSealing chain seq (lines ++ line ∷ []) new)
 
--- At the end, the line that ends the block is written, if all lines can be in a block and the last has a line end.
+-- At the end of a block, the line that ends it is written. All lines must be allowed in a block, and the last line must
+-- have a line end.
 abbrev pub EndsSeal : Seal → List ℕ → List ℕ → Seal → Type 0
 EndsSeal old rest text new = new.wrong ≡ None → (rest ≡ []) × ((chain seq : List ℕ) (lines : List (List ℕ)) → IsSealing chain seq lines old
     → All (λ line. is_sum line ≡ false) lines × (text ≡ sum_line (length lines) (block_hash chain seq (joined lines)) seq ++ codes "\n"))
 
--- The input is the lines of a block, and the line that ends the block is written. With that line, the block continues every
--- journal that ends with the hash `chain`.
+-- The input is the lines of a block, and the line that ends the block is written. With this line, the block continues
+-- every journal that ends with the hash `chain`.
 pub record IsSealed (chain seq : List ℕ) (left held held' : Option (List ℕ)) : Type 0 where
   pub lines : List (List ℕ)
   pub gives : Gives left (joined lines)
@@ -38,7 +39,7 @@ pub record IsSealed (chain seq : List ℕ) (left held held' : Option (List ℕ))
   pub continues : (before : List (List ℕ)) (seq' : List ℕ) → Confirmed before chain seq'
       → Confirmed (before ++ (lines ++ sum_line (length lines) (block_hash chain seq (joined lines)) seq ∷ [])) (block_hash chain seq (joined lines)) seq
 
--- The same, unless there is a wrong line.
+-- The input is the lines of a block, and the line that ends the block is written, unless the block has a wrong line.
 abbrev pub SealsBlock : List ℕ → List ℕ → Option (List ℕ) → Option (List ℕ) → Option (List ℕ) → Option ℕ → Type 0
 SealsBlock chain seq left held held' None = IsSealed chain seq left held held'
 SealsBlock chain seq left held held' (Some lines) = ⊤

@@ -15,16 +15,16 @@ doc_view doc = (string_bytes doc.0, texts_of doc.1.keys)
 abbrev pub docs_view : {S T : Type 0} → IndexMap (String Global) (IndexSet (String Global) S) T → DocsView
 docs_view docs = map doc_view docs.entries
 
--- The revisions of a set, or none.
+-- The revisions of an optional set, which are no revisions without a set.
 abbrev pub keys_or_none : {S : Type 0} → Option (IndexSet (String Global) S) → List (String Global)
 keys_or_none None = []
 keys_or_none (Some revs) = revs.keys
 
--- Revisions, and another one if it is new.
+-- A list of revisions with one more, if that is new.
 abbrev pub add_rev : List (List ℕ) → List ℕ → List (List ℕ)
 add_rev revs rev = if list_any (bytes_eq rev) revs then revs else revs ++ rev ∷ []
 
--- The revisions of documents, and another one of this document.
+-- The revisions of each document, with one more revision of document `id`, if that is new.
 abbrev pub add_pair : DocsView → List ℕ → List ℕ → DocsView
 add_pair [] id rev = (id, rev ∷ []) ∷ []
 add_pair (doc ∷ docs) id rev = if bytes_eq id doc.0 then (doc.0, add_rev doc.1 rev) ∷ docs else doc ∷ add_pair docs id rev

@@ -6,7 +6,8 @@ use Rattle.journal_lines.specs.Leafs.{HeadView, head_view, line_head}
 use Rattle.journal_lines.specs.declared.entry.Entry.{Entry}
 use Rattle.journal_lines.specs.declared.entry.Entry.TheVariants as entries
 
--- The leaves of a document, the leaves of which some are lacking, the head of a document, or none of these.
+-- The meaning of a journal line: the leaves of a document, the requested leaves of which some are lacking, the head of
+-- a document, or another line.
 pub data EntryView : Type 0 where
   state : LeavesView → EntryView
   lacks : LeavesView → EntryView
@@ -39,6 +40,6 @@ abbrev pub state_or_other : List ℕ → Option (List ℕ) → EntryView
 state_or_other line (Some rest) = state_or_wrong (leaves_in rest)
 state_or_other line None = lacks_or_leaf line (after (codes "lacks ") line)
 
--- What a line is: it begins with `state ` or `lacks `, or it has a document.
+-- The meaning of a journal line, which begins with `state ` or `lacks `, or has a document.
 abbrev pub entry_in : List ℕ → EntryView
 entry_in line = state_or_other line (after (codes "state ") line)

@@ -8,58 +8,58 @@ use Rattle.journal_lines.specs.Members.{both, items_at, number_at, text_at}
 use Rattle.journal_lines.specs.Lists.{revs_json, texts_of}
 use Rattle.journal_lines.specs.declared.leaf.Leaf.{Leaf}
 
--- A revision, the generation of the first of its names, and the names of the revision and its ancestors.
+-- A revision, the generation of the newest revision in its ancestry, and the names of the revision and its ancestors.
 abbrev pub LeafView : Type 0
 LeafView = List ℕ × ℕ × List (List ℕ)
 
 abbrev pub leaf_view : Leaf → LeafView
 leaf_view leaf = (string_bytes leaf.rev, leaf.start, texts_of leaf.names.items)
 
--- The revision with this generation and this name.
+-- The revision id with the given generation and name.
 abbrev pub rev_at : ℕ → List ℕ → List ℕ
 rev_at generation name = decimal generation ++ codes "-" ++ name
 
--- Whether a revision is one of these names, whose generations go down from `start`.
+-- Whether a revision has one of the given names, whose generations fall by one from `start`.
 abbrev pub knows_at : List ℕ → ℕ → List (List ℕ) → Bool
 knows_at rev start [] = false
 knows_at rev start (name ∷ names) = bytes_eq rev (rev_at start name) || knows_at rev (start - 1) names
 
--- Whether a revision is the leaf or one of its ancestors.
+-- Whether a revision is the leaf or one of the leaf's ancestors.
 abbrev pub knows_rev : LeafView → List ℕ → Bool
 knows_rev leaf rev = bytes_eq rev leaf.0 || knows_at rev leaf.1 leaf.2
 
--- The id of a document, its revision with the ancestry, and whether it is deleted.
+-- The head of a document: its id, its revision with the ancestry, and whether it is deleted.
 abbrev pub HeadView : Type 0
 HeadView = List ℕ × LeafView × Bool
 
 abbrev pub head_view : Leaf → HeadView
 head_view leaf = (string_bytes leaf.id, leaf_view leaf, leaf.deleted)
 
--- The generation and the names of stored ancestors.
+-- The generation and the names of a stored ancestry.
 abbrev pub ancestry_view : ℕ × Vec (String Global) Global → ℕ × List (List ℕ)
 ancestry_view p = (p.0, texts_of p.1.items)
 
--- The generation of a revision, and the names of the revision and its ancestors.
+-- The generation and the names that a JSON value of the member `_revisions` gives.
 abbrev pub ancestry_in : Json → Option (ℕ × List (List ℕ))
 ancestry_in revisions = both (number_at (codes "start") revisions) (option_and_then revs_json (items_at (codes "ids") revisions))
 
--- Without the member `_revisions`, no ancestors are known.
+-- The generation and the names of an optional member `_revisions`. Without this member, no ancestors are known.
 abbrev pub ancestry_by : Option Json → Option (ℕ × List (List ℕ))
 ancestry_by None = Some (0, [])
 ancestry_by (Some revisions) = ancestry_in revisions
 
--- Whether the member `_deleted` is `true`.
+-- Whether the member `_deleted` of a document is `true`.
 abbrev pub is_deleted : Json → Bool
 is_deleted doc = unwrap_or (option_and_then as_bool (get (codes "_deleted") doc)) false
 
 abbrev pub head_by : Bool → List ℕ × (List ℕ × (ℕ × List (List ℕ))) → HeadView
 head_by deleted p = (p.0, (p.1.0, p.1.1.0, p.1.1.1), deleted)
 
--- The head of a document: `_id`, `_rev`, `_revisions` and `_deleted`.
+-- The head of a document, from its members `_id`, `_rev`, `_revisions` and `_deleted`.
 abbrev pub head_in : Json → Option HeadView
 head_in doc = option_map (head_by (is_deleted doc))
     (both (text_at (codes "_id") doc) (both (text_at (codes "_rev") doc) (ancestry_by (get (codes "_revisions") doc))))
 
--- The head of the document of a line: a JSON object whose member `doc` is the document.
+-- The head of the document in a line, which is a JSON object whose member `doc` is the document.
 abbrev pub line_head : List ℕ → Option HeadView
 line_head line = option_and_then (λ j. option_and_then head_in (get (codes "doc") j)) (option_and_then document (text_in line))

@@ -7,7 +7,7 @@ use Rattle.json.specs.Print.{quoted}
 use Rattle.journal_lines.specs.Texts.{cut_at_blank, is_token, text_in}
 use Rattle.journal_lines.specs.declared.leaves.Leaves.{Leaves}
 
--- A sequence, the id of a document, and revisions.
+-- What a line with leaves names: a sequence, the id of a document, and revisions.
 abbrev pub LeavesView : Type 0
 LeavesView = List ℕ × List ℕ × List (List ℕ)
 
@@ -17,23 +17,23 @@ texts_of texts = map string_bytes texts
 abbrev pub leaves_view : Leaves → LeavesView
 leaves_view leaves = (string_bytes leaves.seq, string_bytes leaves.id, texts_of leaves.revs.items)
 
--- An item and a list, if both exist.
+-- The list that begins with an item, if both the item and the list exist.
 abbrev pub with_first : {A : Type 0} → Option A → Option (List A) → Option (List A)
 with_first None xs = None
 with_first (Some x) None = None
 with_first (Some x) (Some xs) = Some (x ∷ xs)
 
--- The results for all items of a list; none if one item has none.
+-- The results for all items of a list, if every item has a result.
 abbrev pub each_item : {A : Type 0} → (Json → Option A) → Items → Option (List A)
 each_item reads no_items = Some []
 each_item reads (item j js) = with_first (reads j) (each_item reads js)
 
--- The results so far, then the others.
+-- The results that were found before, followed by the given ones, if these exist.
 abbrev pub prepend : {A : Type 0} → List A → Option (List A) → Option (List A)
 prepend xs None = None
 prepend xs (Some ys) = Some (xs ++ ys)
 
--- The strings of a list, if all its items are strings.
+-- The strings of a JSON list, if all its items are strings.
 abbrev pub revs_json : Items → Option (List (List ℕ))
 revs_json items = each_item as_str items
 
@@ -55,14 +55,14 @@ named_in seq (string s) = None
 named_in seq (array js) = named_items seq js
 named_in seq (object ms) = None
 
--- The leaves at a sequence that a JSON list names.
+-- The leaves that a JSON list names at a sequence.
 abbrev pub list_in : List ℕ → List ℕ → Option LeavesView
 list_in seq list = option_and_then (named_in seq) (document list)
 
 abbrev pub token : List ℕ → Option (List ℕ)
 token text = if is_token text then Some text else None
 
--- A sequence and what follows it after a blank: a JSON list of an id and revisions.
+-- The leaves of a line with a sequence, a blank, and a JSON list of an id and revisions, if the line has both.
 abbrev pub leaves_at : Option (List ℕ) → Option (List ℕ) → Option LeavesView
 leaves_at None list = None
 leaves_at (Some seq) None = None
@@ -76,7 +76,7 @@ leaves_by (Some parts) = leaves_at (option_and_then token (text_in parts.0)) (te
 abbrev pub leaves_in : List ℕ → Option LeavesView
 leaves_in rest = leaves_by (cut_at_blank rest)
 
--- Revisions as JSON, each after a comma.
+-- The revisions of a list as JSON, each after a comma.
 abbrev pub revs_text : List (List ℕ) → List ℕ
 revs_text revs = flat_map (λ rev. codes "," ++ quoted rev) revs
 

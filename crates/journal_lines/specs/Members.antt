@@ -1,4 +1,4 @@
--- The members of a JSON value. If an object has a name twice, its last member counts.
+-- The members of a JSON value. If an object has a name twice, the last member with this name counts.
 use Rattle.std.specs.Prelude.{ℕ, ◌^◌, Bool, ◌&&◌, nat_lt, if◌then◌else◌, List, length, Option, None, Some, option_and_then}
 use Rattle.std.specs.List.{list_all}
 use Rattle.std.specs.Char.{digit_value}
@@ -6,11 +6,11 @@ use Rattle.std.specs.Str.Parse.{digits_value, without_leading_plus}
 use Rattle.json.specs.Json.{Json, Items}
 use Rattle.json.specs.Find.{get, as_str, as_number, as_array}
 
--- A member that is a string.
+-- The string of a member, if the member is a string.
 abbrev pub text_at : List ℕ → Json → Option (List ℕ)
 text_at name j = option_and_then as_str (get name j)
 
--- A member that is a list.
+-- The items of a member, if the member is a list.
 abbrev pub items_at : List ℕ → Json → Option Items
 items_at name j = option_and_then as_array (get name j)
 
@@ -19,18 +19,18 @@ both (Some x) (Some y) = Some (x, y)
 both None y = None
 both (Some x) None = None
 
--- One or more decimal digits.
+-- Whether a list is one or more decimal digits.
 abbrev pub are_digits : List ℕ → Bool
 are_digits ds = nat_lt 0 (length ds) && list_all (λ c. nat_lt (digit_value c) 10) ds
 
--- The number that digits write, if it has at most 64 bits.
+-- The number that digits write, if the number has at most 64 bits.
 abbrev pub number_of_digits : List ℕ → Option ℕ
 number_of_digits ds = if are_digits ds && nat_lt (digits_value 10 ds) (2 ^ 64) then Some (digits_value 10 ds) else None
 
--- A number without sign, point and exponent, of at most 64 bits.
+-- The number of a JSON value, if it has no sign, point or exponent, and at most 64 bits.
 abbrev pub number_in : Json → Option ℕ
 number_in j = option_and_then (λ s. number_of_digits (without_leading_plus s)) (as_number j)
 
--- A member that is such a number.
+-- The number of a member, if it has no sign, point or exponent, and at most 64 bits.
 abbrev pub number_at : List ℕ → Json → Option ℕ
 number_at name j = option_and_then number_in (get name j)

@@ -1,11 +1,11 @@
--- The members of a JSON value. If an object has a name twice, its last member counts.
+-- The members of a JSON value. If an object has a name twice, the last member with this name counts.
 pub use Rattle.journal_lines.specs.Members.{both, items_at, text_at}
 use Rattle.std.specs.Prelude.{ℕ, List, Option, None, Some, option_and_then}
 use Rattle.json.specs.Json.{Json, null, boolean, number, string, array, object}
 use Rattle.json.specs.Find.{get}
 use Rattle.journal_lines.specs.Lists.{token}
 
--- A sequence: the content of a string, or the text of a number.
+-- The sequence that a JSON value is: the content of a string, or the text of a number.
 abbrev pub seq_in : Json → Option (List ℕ)
 seq_in null = None
 seq_in (boolean b) = None
@@ -14,11 +14,11 @@ seq_in (string s) = token s
 seq_in (array js) = None
 seq_in (object ms) = None
 
--- A member that is a sequence.
+-- The sequence of a member, if the member is a string or a number.
 abbrev pub seq_at : List ℕ → Json → Option (List ℕ)
 seq_at name j = option_and_then seq_in (get name j)
 
--- A text, or another one if it is missing.
+-- A text, or the text `other` if the former is missing.
 abbrev pub text_or : List ℕ → Option (List ℕ) → List ℕ
 text_or other None = other
 text_or other (Some text) = text

@@ -16,23 +16,23 @@ is_plain text = list_all (λ b. nat_le 32 b && not (b == 127)) text
 abbrev pub plain : List ℕ → Option (List ℕ)
 plain text = if is_plain text then Some text else None
 
--- The revision of a change.
+-- The revision of a change in a row, if it has no control character.
 abbrev pub rev_in : Json → Option (List ℕ)
 rev_in change = option_and_then plain (text_at (codes "rev") change)
 
--- Each revision once.
+-- The revisions of a list, each once.
 abbrev pub each_once : List (List ℕ) → List (List ℕ)
 each_once revs = fold add_rev [] revs
 
--- Revisions, if there is one.
+-- A list of revisions, if it is not empty.
 abbrev pub some_revs : List (List ℕ) → Option (List (List ℕ))
 some_revs revs = if nat_eq (length revs) 0 then None else Some revs
 
--- The revisions of a list of changes. A row has at least one: docs/PROFILE.md, "CouchDB's answers".
+-- The revisions of a list of changes. A row has at least one revision: docs/PROFILE.md, "CouchDB's answers".
 abbrev pub changes_in : Items → Option (List (List ℕ))
 changes_in changes = option_and_then some_revs (each_item rev_in changes)
 
--- The sequence of a row: `-` if it is missing or `null`.
+-- The sequence of a row, which is `-` if it is missing or `null`.
 abbrev pub row_seq : Option Json → Option (List ℕ)
 row_seq None = Some (codes "-")
 row_seq (Some null) = Some (codes "-")
@@ -52,7 +52,7 @@ row_in row = option_map row_by (both (text_at (codes "id") row) (both (row_seq (
 abbrev pub rows_in : Json → Option (List LeavesView)
 rows_in page = option_and_then (each_item row_in) (items_at (codes "results") page)
 
--- The number of documents after a page: `-` if it is missing or `null`.
+-- The number of documents after a page, which is `-` if it is missing or `null`.
 abbrev pub pending_in : Option Json → Option (List ℕ)
 pending_in None = Some (codes "-")
 pending_in (Some null) = Some (codes "-")
@@ -62,7 +62,7 @@ pending_in (Some (string s)) = None
 pending_in (Some (array js)) = None
 pending_in (Some (object ms)) = None
 
--- Whether a row is printed: with `several`, only if it has two or more leaves.
+-- Whether a row is printed. With the flag `several`, only rows with two or more leaves are printed.
 abbrev pub is_printed : Bool → LeavesView → Bool
 is_printed several row = if several then nat_le 2 (length row.2) else true
 
@@ -72,13 +72,14 @@ row_text several row = if is_printed several row then leaves_line (codes "state"
 abbrev pub rows_text : Bool → List LeavesView → List ℕ
 rows_text several rows = flat_map (row_text several) rows
 
--- The last line: the number of rows, the last sequence, and the number of documents after the page.
+-- The last line of the output for a page: the number of rows, the last sequence, and the number of documents after the
+-- page.
 abbrev pub last_line : ℕ → List ℕ → List ℕ → List ℕ
 last_line rows last pending = codes "page " ++ decimal rows ++ codes " " ++ last ++ codes " " ++ pending ++ codes "\n"
 
 abbrev pub page_by : Bool → List LeavesView × (List ℕ × List ℕ) → List ℕ
 page_by several p = rows_text several p.0 ++ last_line (length p.0) p.1.0 p.1.1
 
--- The output for a page.
+-- The output for a page of changes.
 abbrev pub page_in : Bool → Json → Option (List ℕ)
 page_in several page = option_map (page_by several) (both (rows_in page) (both (seq_at (codes "last_seq") page) (pending_in (get (codes "pending") page))))

@@ -5,15 +5,15 @@ use Rattle.json.specs.Find.{get}
 use Rattle.json.specs.Print.{quoted}
 use Rattle.journal_responses.specs.Members.{text_at, text_or}
 
--- A member that is a string; the empty text if it is missing.
+-- The string of a member, or the empty text if the member is not a string.
 abbrev pub word_at : List ℕ → Json → List ℕ
 word_at name j = text_or [] (text_at name j)
 
--- Whether an entry says that a document was refused.
+-- Whether an entry of the response says that a document was refused.
 abbrev pub is_refused : Json → Bool
 is_refused entry = is_some (get (codes "error") entry)
 
--- The line of a refused document.
+-- The line of output for a refused document.
 abbrev pub refused_line : Json → List ℕ
 refused_line entry =
     codes "refused " ++ quoted (word_at (codes "id") entry) ++ codes " " ++ quoted (word_at (codes "rev") entry) ++ codes " "

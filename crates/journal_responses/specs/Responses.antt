@@ -1,4 +1,4 @@
--- What a response is, and why one is not the response that was asked for.
+-- What a response is, and why it is not the requested one.
 use Rattle.std.specs.Prelude.{◌≡◌, ℕ, List, Option, None, Some, codes, option_and_then, string_bytes, ⊤}
 use Rattle.json.specs.Json.{Json, document}
 use Rattle.journal_lines.specs.Texts.{text_in}
@@ -6,18 +6,18 @@ use Rattle.journal_responses.specs.Members.{both, text_at}
 use Rattle.journal_responses.specs.declared.said.Said.{Said}
 use Rattle.journal_responses.specs.declared.said.Said.TheVariants.{Error, NotJson, Other, Memory}
 
--- The JSON value of a response, which is UTF-8.
+-- The JSON value of a response, if the response is JSON in UTF-8.
 abbrev pub response_in : List ℕ → Option Json
 response_in body = option_and_then document (text_in body)
 
--- Why a response has no JSON value, or an allocation failed.
+-- A response has no JSON value, or an allocation failed.
 abbrev pub IsUnread : Option Json → Said → Type 0
 IsUnread value (Error error reason) = ⊥
 IsUnread value NotJson = value ≡ None
 IsUnread value Other = ⊥
 IsUnread value Memory = ⊤
 
--- An error of CouchDB: its members `error` and `reason`, if both are strings.
+-- The members `error` and `reason` of an error of CouchDB, if both are strings.
 abbrev pub error_in : Json → Option (List ℕ × List ℕ)
 error_in j = both (text_at (codes "error") j) (text_at (codes "reason") j)
 
@@ -27,14 +27,15 @@ IsErrorOf error reason NotJson = ⊥
 IsErrorOf error reason Other = ⊥
 IsErrorOf error reason Memory = ⊥
 
--- What a value is if it is not the response that was asked for: an error of CouchDB, or another value. Or an allocation failed.
+-- What a JSON value is if it is not the requested response: an error of CouchDB, or another value. A failed allocation
+-- is a further possibility.
 abbrev pub IsSaid : Json → Said → Type 0
 IsSaid j (Error error reason) = error_in j ≡ Some (string_bytes error, string_bytes reason)
 IsSaid j NotJson = ⊥
 IsSaid j Other = error_in j ≡ None
 IsSaid j Memory = ⊤
 
--- The response is not the requested one; otherwise an allocation failed.
+-- A response is not the requested one, or an allocation failed.
 abbrev pub IsOther : Said → Type 0
 IsOther (Error error reason) = ⊤
 IsOther NotJson = ⊤

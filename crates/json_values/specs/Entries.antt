@@ -1,4 +1,4 @@
--- Members while they are read: names with values, in the order of their names.
+-- Members of an object while they are read: names with values, in the order of the names.
 use Rattle.std.specs.Prelude.{◌≡◌, ℕ, List, [], ◌∷◌, ◌++◌, map, take, drop, Some, slice_get, slice_set}
 use Rattle.std.specs.Borrow.{Bor}
 use Rattle.std.specs.BTreeMap.{insert_entry}
@@ -12,26 +12,26 @@ Entry T = Bor (List ℕ) × T
 abbrev pub names_of : {T : Type 0} → List (Entry T) → List (List ℕ)
 names_of es = map (λ e. e.0.now) es
 
--- each name is less than the following ones
+-- Each name in a list of members is less than the following names.
 abbrev pub IsRising : {T : Type 0} → List (Entry T) → Type 0
 IsRising es = IsStrictlySortedBy (slice_cmp nat_cmp) (names_of es)
 
--- the members with one more; a member with the same name keeps its position and gets the value
+-- The members with one more. If the members have the name already, that member keeps its position and gets the value.
 abbrev pub put_entry : {T : Type 0} → Bor (List ℕ) → T → List (Entry T) → List (Entry T)
 put_entry k v es = insert_entry (λ a b. slice_cmp nat_cmp a.now b.now) es k v
 
--- index i is that of the member named k
+-- Index i is that of the member named k.
 abbrev pub IsPlaceOf : {T : Type 0} → List ℕ → List (Entry T) → ℕ → Type 0
 IsPlaceOf {T} k es i = (name : Bor (List ℕ)) → name.now ≡ k → (v : T) → (e : Entry T) → slice_get es i ≡ Some e → put_entry name v es ≡ slice_set es i (e.0, v)
 
--- index i is where a member named k must be inserted
+-- Index i is the one at which a member named k must be inserted.
 abbrev pub IsGapFor : {T : Type 0} → List ℕ → List (Entry T) → ℕ → Type 0
 IsGapFor {T} k es i = (name : Bor (List ℕ)) → name.now ≡ k → (v : T) → put_entry name v es ≡ take i es ++ (name, v) ∷ drop i es
 
--- a member named k must be appended
+-- A member named k must be appended after all other members.
 abbrev pub ComesLast : {T : Type 0} → List ℕ → List (Entry T) → Type 0
 ComesLast {T} k es = (name : Bor (List ℕ)) → name.now ≡ k → (v : T) → put_entry name v es ≡ es ++ (name, v) ∷ []
 
--- the last member has been moved to index i
+-- The last member of the old list has been moved to index i.
 abbrev pub MovesLast : {T : Type 0} → List (Entry T) → ℕ → List (Entry T) → Type 0
 MovesLast {T} old i new = (es : List (Entry T)) (last : Entry T) → old ≡ es ++ last ∷ [] → new ≡ take i es ++ last ∷ drop i es

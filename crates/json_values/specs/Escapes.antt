@@ -1,18 +1,18 @@
--- Escapes, for the content of a string and for the lexer that skips it.
+-- Escapes, both for the content of a string and for the lexer, which skips them.
 use Rattle.std.specs.Prelude.{◌≡◌, ℕ, ◌+◌, ◌-◌, ◌<◌, ◌≤◌, get_or, None, MatchOption, List, length, drop, Option}
 use Rattle.std.specs.Char.{encode_utf8, len_utf8}
 use Rattle.json.specs.Text.{Within, content, plain, after_backslash, after_u, after_high, prepend}
 use Rattle.json.specs.Lex.{Mode, in_string, in_escape, lex}
 
--- the state of the lexer inside a string
+-- The state of the lexer inside a string.
 abbrev pub mode : Within → Mode
 mode plain = in_string
 mode after_backslash = in_escape
 mode after_u = in_string
 mode (after_high h) = in_string
 
--- reading the escape at i gives r: the character r.0, and the index r.1 after it. With its backslash, the escape is at
--- least as long as the character. The lexer skips it
+-- Reading the escape at index i of d gives r: the character r.0, and the index r.1 after the escape. With its
+-- backslash, the escape is at least as long as the character. The lexer skips the escape.
 abbrev pub Escape : List ℕ → Within → ℕ → Option (ℕ × ℕ) → Type 0
 Escape d within i r =
     MatchOption r (content within (drop i d) ≡ None) (λ p.

@@ -1,4 +1,4 @@
--- The remaining tokens, and what is known about the strings read so far.
+-- The tokens that remain to be read, and what is known about the strings that were read.
 use Rattle.std.specs.Prelude.{ℕ, List, refl}
 use Rattle.std.specs.Coded.{Coded, code_by, coded×, coded_list, coded_ℕ}
 use Rattle.json.specs.Token.{Token, tokens_code}

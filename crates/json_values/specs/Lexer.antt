@@ -1,4 +1,4 @@
--- The remaining text from the next lexeme on, and what is known about the strings read so far.
+-- The text that remains from the next lexeme on, and what is known about the strings that were read.
 use Rattle.std.specs.Prelude.{◌≡◌, ◌+◌, ◌≤◌, length, drop, get_or, true}
 use Rattle.std.specs.Str.{IsUtf8}
 use Rattle.json.specs.Lex.{class}
@@ -12,6 +12,6 @@ lexer_view a = record { text = drop a.at a.text.now; plain = a.plain }
 pub record IsLexer (a : Inside) : Type 0 where
   pub utf8 : IsUtf8 a.text.now
   pub within : a.at ≤ length a.text.now
-  -- there is no blank at the current position
+  -- At the current position, the text has no blank.
   pub solid : is_blank (class (get_or a.text.now a.at 32)) ≡ true → a.at ≡ length a.text.now
   pub room : length a.text.now ≤ length a.room.now + a.at

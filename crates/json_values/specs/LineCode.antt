@@ -1,4 +1,4 @@
--- An encoding of the values of lines.
+-- An encoding of the values of lines, by which proofs decide their equality.
 use Rattle.std.specs.Coded.{Coded}
 use denote.Signature.{static_lft}
 use Rattle.json_values.specs.declared.line.LineValue.{LineValue}

@@ -1,4 +1,4 @@
--- Which strings of the data are known to need no escapes.
+-- Which strings of a JSON value are known to need no escapes.
 use Rattle.std.specs.Prelude.{◌≡◌, ℕ, Bool, true, List, length, ⊤, refl}
 use Rattle.std.specs.Coded.{Coded, code_by, coded×, coded_bool}
 use Rattle.std.specs.List.{prefix_len}
@@ -7,11 +7,11 @@ use Rattle.json.specs.Token.{Token}
 use Rattle.serde_json.specs.Data.{Data, null, boolean, number, string, array, object, Items, no_items, item, Members, no_members, member}
 use Rattle.json_values.specs.declared.plain_texts.PlainTexts.{PlainTexts}
 
--- if `known`, the string has no quotation mark, no backslash and no control byte
+-- If `known` is true, the string s has no quotation mark, no backslash and no control byte.
 abbrev pub PlainIf : Bool → List ℕ → Type 0
 PlainIf known s = known ≡ true → prefix_len is_plain s ≡ length s
 
--- at any depth, the strings that are claimed to need no escapes need none
+-- At any depth, the strings that are claimed to need no escapes need no escapes.
 abbrev mutual
   pub ArePlain : PlainTexts → Data → Type 0
   ArePlain known null = ⊤
@@ -29,11 +29,11 @@ abbrev mutual
   AreMembersPlain known no_members = ⊤
   AreMembersPlain known (member k d ms) = PlainIf known.names k × ArePlain known d × AreMembersPlain known ms
 
--- the new flags claim no more than the old ones
+-- The new flags claim no more strings without escapes than the old flags.
 abbrev pub Narrows : PlainTexts → PlainTexts → Type 0
 Narrows old new = (new.names ≡ true → old.names ≡ true) × (new.values ≡ true → old.values ≡ true)
 
--- the string of a token needs no escapes, if that is claimed
+-- The string of a token needs no escapes, if the flags claim this.
 abbrev pub IsPlainToken : PlainTexts → Token → Type 0
 IsPlainToken known Token.begin_object = ⊤
 IsPlainToken known Token.end_object = ⊤

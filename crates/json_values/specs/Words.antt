@@ -1,4 +1,4 @@
--- Numbers and literals, and where they end.
+-- Numbers and literals in JSON, and where they end.
 use Rattle.std.specs.Prelude.{◌≡◌, ℕ, ◌-◌, ◌<◌, ◌≤◌, List, ◌++◌, length, take, drop, true, Some, MatchOption, Option}
 use Rattle.json.specs.Token.{bad}
 use Rattle.json.specs.Token as spec
@@ -10,17 +10,17 @@ use Rattle.json.specs.declared.token.Token.{Token}
 use Rattle.serde_json.specs.Data.{Num}
 use Rattle.serde_json.specs.Read.{number_of}
 
--- reading the word at i gives r: the token r.0, and the index r.1 at which the next lexeme is searched. If there is no
--- r, the word is bad
+-- Reading the number or literal at index i of d gives r: the token r.0, and the index r.1 from which the next lexeme is
+-- searched. If r is `None`, the number or literal is not valid.
 abbrev pub WordAt : List ℕ → ℕ → Option (Token × ℕ) → spec.Token → Type 0
 WordAt d i r w =
     MatchOption r (w ≡ bad) (λ p. (w ≡ token_of p.0) × (is_good w ≡ true) × (i < p.1) × (p.1 ≤ length d) × (lex between (drop p.1 d) ≡ drop 1 (lex between (drop i d))))
 
--- a literal: the lexer reads the name as one word, if a word ends after it
+-- The text of a JSON literal, which the lexer reads as one token if no further character of a literal follows.
 abbrev pub IsLiteral : List ℕ → spec.Token → Type 0
 IsLiteral name t = (0 < length name) × (is_good t ≡ true) × ((r : List ℕ) → ends_word r ≡ true → lex between r ≡ drop 1 (lex between (name ++ r)))
 
--- the number n is written from index i up to index `end`
+-- The number n is written in d from index i up to index `end`.
 pub record IntegerAt (d : List ℕ) (i : ℕ) (n : Num) (end : ℕ) : Type 0 where
   pub within : i < length d
   pub from : i ≤ end

@@ -2,13 +2,13 @@
 use Rattle.std.specs.Prelude.{◌≡◌, ℕ, List, [], ◌∷◌, ◌++◌, false, All}
 use Rattle.script_engine.specs.Lines.{has_line_end}
 
--- Lines in order, each with a line end.
+-- The lines of a list in order, each with a line end.
 abbrev pub joined : List (List ℕ) → List ℕ
 joined [] = []
 joined (line ∷ lines) = line ++ 10 ∷ joined lines
 
--- The input is these lines, each with a line end, and then these bytes; neither the lines nor the bytes contain a line
--- end.
+-- The input is these lines, each with a line end, and then the bytes `rest`. Neither the lines nor these bytes contain
+-- a line end.
 pub record AreLines (input : List ℕ) (lines : List (List ℕ)) (rest : List ℕ) : Type 0 where
   pub whole : input ≡ joined lines ++ rest
   pub lines_whole : All (λ line. has_line_end line ≡ false) lines

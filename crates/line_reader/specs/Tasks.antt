@@ -4,18 +4,20 @@ use Rattle.std.specs.Io.KnownBytes.{Appends}
 use Rattle.script_engine.specs.Device.{Gives}
 use Rattle.line_reader.specs.Lines.{AreLines}
 
--- What a line or the end of the input does: the state before it, its bytes, the text that is written, the state after it.
+-- The effect of a line or of the end of the input: the state before it, its bytes, the text that is written, and the
+-- state after it.
 abbrev pub Steps : Type 0 → Type 1
 Steps S = S → List ℕ → List ℕ → S → Type 0
 
--- The lines, read in this order from the state `start` on, write this text and leave this state.
+-- A task that reads the lines in this order, from the state `start` on, writes this text and leaves this state.
 pub data Runs {S : Type 0} (steps : Steps S) (start : S) : List (List ℕ) → List ℕ → S → Type 0 where
   none : Runs steps start [] [] start
   more : {lines : List (List ℕ)} {text : List ℕ} {mid : S} (line added : List ℕ) (new : S)
       → Runs steps start lines text mid → steps mid line added new → Runs steps start (lines ++ line ∷ []) (text ++ added) new
 
--- The bytes `taken` were read from the state `start` on: their lines were run, and the text is written. `begun` is the
--- line that has no line end yet. `held` and `held'` are what the writer has accepted, before and after.
+-- The bytes `taken` were read from the state `start` on, their lines were run, and the text of these lines is written.
+-- The bytes `begun` are the last line, which has no line end yet. The arguments `held` and `held'` are what the writer
+-- has accepted, before and after.
 pub record HasRun {S : Type 0} (steps : Steps S) (start : S) (held : Option (List ℕ)) (taken : List ℕ) (state : S)
     (begun : List ℕ) (held' : Option (List ℕ)) : Type 0 where
   pub lines : List (List ℕ)
@@ -24,8 +26,8 @@ pub record HasRun {S : Type 0} (steps : Steps S) (start : S) (held : Option (Lis
   pub runs : Runs steps start lines text state
   pub written : Appends held held' text
 
--- The complete input of the reader was run, and the text is written. `left` is what the reader has left before, and `held`
--- and `held'` are what the writer has accepted, before and after.
+-- The complete input of the reader was run, and its text is written. The argument `left` is what the reader had left
+-- before. The arguments `held` and `held'` are what the writer has accepted, before and after.
 pub record IsDone {S : Type 0} (steps ends : Steps S) (start : S) (left held : Option (List ℕ)) (state : S)
     (held' : Option (List ℕ)) : Type 0 where
   pub input : List ℕ

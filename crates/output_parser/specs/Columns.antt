@@ -1,4 +1,4 @@
--- Lines of numbers: docs/PROFILE.md, "Answers".
+-- Lines of numbers in a script's output: docs/PROFILE.md, "Answers".
 use Rattle.std.specs.Prelude.{◌≡◌, ℕ, List, [], ◌∷◌, ◌++◌, true, codes, reverse}
 use Rattle.std.specs.Str.{IsUtf8}
 use Rattle.output_parser.specs.Words.{lacks, named, InTurn, IsNumber}
@@ -7,7 +7,7 @@ use Rattle.output_parser.specs.declared.told.Column.TheVariants as columns
 use Rattle.output_parser.specs.declared.told.Table.{Table}
 use Rattle.output_parser.specs.declared.told.Table.TheVariants as tables
 
--- the text before a column's number, without the blank
+-- The text before a column's number, without the blank.
 abbrev pub column_text : Column → List ℕ
 column_text columns.ComparedDocuments = codes "compared"
 column_text columns.ComparedLeaves = codes " documents"
@@ -30,7 +30,7 @@ column_text columns.Read = codes " read"
 column_text columns.Written = codes " written"
 column_text columns.Failed = codes " failed"
 
--- the columns of a table
+-- The columns of a table, in order.
 abbrev pub columns_of : Table → List Column
 columns_of tables.Compared =
     columns.ComparedDocuments ∷ columns.ComparedLeaves ∷ columns.ComparedMissing ∷ columns.Contradicting ∷ columns.Differing ∷ []
@@ -40,26 +40,27 @@ columns_of tables.Info =
 columns_of tables.Session =
     columns.From ∷ columns.To ∷ columns.Checked ∷ columns.Found ∷ columns.Read ∷ columns.Written ∷ columns.Failed ∷ []
 
--- The text ends with a column of this number; front is the text before it.
+-- The text ends with a column of number n, and `front` is the text before this column.
 pub record EndsIn (column : Column) (n : ℕ) (front text : List ℕ) : Type 0 where
   pub word : List ℕ
   pub lacks_blank : lacks 32 word ≡ true
   pub form : text ≡ front ++ named (column_text column) word
   pub number : IsNumber word n
 
--- The text ends with these columns and numbers, the last one first; front is the text before them.
+-- The text ends with these columns and numbers, listed from the last one, and `front` is the text before them.
 abbrev pub Ends : List Column → List ℕ → List ℕ → List ℕ → Type 0
 Ends columns numbers front text = InTurn EndsIn columns numbers front text
 
--- the text before the columns: `info DB uuid U`, `session S`, or empty
+-- The text before the columns: `info DB uuid U`, `session S`, or empty.
 abbrev pub IsFront : Table → List ℕ → List ℕ → Type 0
 IsFront tables.Compared name front = (front ≡ []) × (name ≡ [])
 IsFront tables.Info name front = (uuid : List ℕ) × (front ≡ (codes "info " ++ name) ++ named (codes " uuid") uuid) × (lacks 32 uuid ≡ true)
 IsFront tables.Session name front = front ≡ codes "session " ++ name
 
--- `compared N documents N leaves missing N contradicting N differing N`,
--- `info DB uuid U seq N life N documents N deleted N leaves N conflicts N revisions N sessions N`, or
--- `session S from N to N checked N found N read N written N failed N`
+-- A line of numbers about a comparison, a database, or a session. A comparison's line is `compared N documents N leaves
+-- missing N contradicting N differing N`. A database's line is `info DB uuid U seq N life N documents N deleted N
+-- leaves N conflicts N revisions N sessions N`. A session's line is `session S from N to N checked N found N read N
+-- written N failed N`.
 pub record IsRow (table : Table) (line name : List ℕ) (numbers : List ℕ) : Type 0 where
   pub front : List ℕ
   pub ends : Ends (reverse (columns_of table)) (reverse numbers) front line

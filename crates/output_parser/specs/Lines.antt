@@ -13,7 +13,7 @@ use Rattle.output_parser.specs.declared.told.Table.{Table}
 use Rattle.output_parser.specs.declared.told.Told.{Told}
 use Rattle.output_parser.specs.declared.told.Told.TheVariants as told
 
--- `doc ID winner REV leaves N revs N`: the id is the text before the last six words
+-- A line `doc ID winner REV leaves N revs N`, in which the id is the text before the last six words.
 pub record IsDocLine (line id : List ℕ) (count : ℕ) : Type 0 where
   pub winner : List ℕ
   pub leaves : List ℕ
@@ -30,17 +30,17 @@ abbrev pub state_text : Bool → List ℕ
 state_text true = codes "live "
 state_text false = codes "deleted "
 
--- `leaf REV live REVS` or `leaf REV deleted REVS`, by its texts
+-- A line `leaf REV live REVS` or `leaf REV deleted REVS`, by its texts.
 pub record LeafParts (line own : List ℕ) (live : Bool) (list : List ℕ) : Type 0 where
   pub word : lacks 32 own ≡ true
   pub form : line ≡ codes "leaf " ++ (own ++ 32 ∷ (state_text live ++ list))
 
--- the first revision has this text
+-- The first revision of the list has this text.
 abbrev pub BeginsWith : List ℕ → List RevId → Type 0
 BeginsWith own [] = ⊥
 BeginsWith own (r ∷ rest) = own ≡ rev_text r
 
--- the list is an ancestry that begins with the leaf
+-- A line about a leaf, in which the list of revisions is an ancestry that begins with the leaf.
 pub record IsLeafLine (line : List ℕ) (live : Bool) (revs : List RevId) : Type 0 where
   pub own : List ℕ
   pub list : List ℕ
@@ -49,7 +49,7 @@ pub record IsLeafLine (line : List ℕ) (live : Bool) (revs : List RevId) : Type
   pub falls : FallsByOne revs
   pub begins : BeginsWith own revs
 
--- a word, an id and a list of revisions, by its texts; the word ends with a blank
+-- A line with a keyword, an id and a list of revisions, by its texts. The keyword ends with a blank.
 pub record ListedParts (word line id list : List ℕ) : Type 0 where
   pub lacks_blank : lacks 32 list ≡ true
   pub form : line ≡ word ++ (id ++ 32 ∷ list)
@@ -60,13 +60,13 @@ pub record IsListed (word line id : List ℕ) (revs : List RevId) : Type 0 where
   pub parts : ListedParts word line id list
   pub listed : IsRevs list revs
 
--- `missing ID REVS`, `contradicts ID REV` or `differs ID REVS`
+-- The first word of a line `missing ID REVS`, `contradicts ID REV` or `differs ID REVS`, with a blank.
 abbrev pub finding_text : Finding → List ℕ
 finding_text findings.Missing = codes "missing "
 finding_text findings.Contradicts = codes "contradicts "
 finding_text findings.Differs = codes "differs "
 
--- the line has no such finding
+-- The line is not about the given kind of finding.
 abbrev pub NoFinding : List ℕ → Finding → Type 0
 NoFinding line finding = (id : List ℕ) (revs : List RevId) → IsListed (finding_text finding) line id revs → ⊥
 
@@ -86,7 +86,7 @@ TellsMore line (told.Row r) = IsRow r.table line (string_bytes r.name) r.numbers
 TellsMore line (told.Log l) = IsLog line (string_bytes l.id) (map logged l.entries.items)
 TellsMore line told.Other = ((finding : Finding) → NoFinding line finding) × ((table : Table) → NoRow line table) × NoLog line
 
--- The contents of a line; `Other` if it has none of the formats.
+-- The contents of a line. The value is `Other` if the line has no known format.
 abbrev pub Tells : List ℕ → Told → Type 0
 Tells line (told.Document id count) = IsDocLine line (string_bytes id) count
 Tells line (told.Leaf live revs) = IsLeafLine line live revs.items

@@ -7,7 +7,8 @@ use Rattle.output_parser.specs.declared.told.Entry.{Entry}
 use Rattle.output_parser.specs.declared.told.Member.{Member}
 use Rattle.output_parser.specs.declared.told.Member.TheVariants as members
 
--- the text before a member's value; and the byte after the value: a comma, or the quotation mark that ends a string
+-- The text of a log before a member's value. The byte after the value is a comma, or the quotation mark that ends a
+-- string.
 abbrev pub member_text : Member → List ℕ
 member_text members.Failed = codes "{\"doc_write_failures\":"
 member_text members.Read = codes "\"docs_read\":"
@@ -27,18 +28,18 @@ member_end members.Session = 34
 member_end members.StartTime = 34
 member_end member = 44
 
--- the members of a session, in order
+-- The members of a log's session, in order.
 abbrev pub all_members : List Member
 all_members =
     members.Failed ∷ members.Read ∷ members.Written ∷ members.End ∷ members.EndTime ∷ members.Checked ∷ members.Found
     ∷ members.Recorded ∷ members.Session ∷ members.Start ∷ members.StartTime ∷ []
 
--- the text begins with a member of this value; after is the text that follows
+-- The text begins with a member of this value, and `after` is the text that follows the member.
 pub record IsMember (member : Member) (value after text : List ℕ) : Type 0 where
   pub form : text ≡ member_text member ++ (value ++ member_end member ∷ after)
   pub lacks_end : lacks (member_end member) value ≡ true
 
--- a session in a log: its id, its start time, and its counts of documents
+-- A session in a log: its id, its start time, and its counts of documents.
 pub record Logged : Type 0 where
   pub session : List ℕ
   pub begun : List ℕ
@@ -52,7 +53,7 @@ logged e = record { session = string_bytes e.session; begun = string_bytes e.beg
 abbrev pub texts_of : List (Bor (List ℕ)) → List (List ℕ)
 texts_of values = map (λ (v : Bor (List ℕ)). v.now) values
 
--- these values of the members describe this session
+-- The values of the members of a log's entry describe session e.
 pub record Values (values : List (List ℕ)) (e : Logged) : Type 0 where
   pub failed : IsNumber (get_or values 0 []) e.failed
   pub read : IsNumber (get_or values 1 []) e.read
@@ -62,13 +63,13 @@ pub record Values (values : List (List ℕ)) (e : Logged) : Type 0 where
   pub session_utf8 : IsUtf8 e.session
   pub begun_utf8 : IsUtf8 e.begun
 
--- the text begins with a session; after is the text after its closing brace
+-- The text begins with session e, and `after` is the text after the session's closing brace.
 pub record IsEntry (e : Logged) (after text : List ℕ) : Type 0 where
   pub values : List (List ℕ)
   pub listed : InTurn IsMember all_members values (125 ∷ after) text
   pub tells : Values values e
 
--- each further session follows a comma
+-- The text begins with a comma and a further session e, and `after` is the text that follows the session.
 pub record IsFurther (e : Logged) (after text : List ℕ) : Type 0 where
   pub begins : List ℕ
   pub comma : text ≡ 44 ∷ begins
@@ -78,23 +79,23 @@ abbrev pub AreFurther : List Logged → List ℕ → List ℕ → Type 0
 AreFurther [] rest text = text ≡ rest
 AreFurther (e ∷ es) rest text = (after : List ℕ) × IsFurther e after text × AreFurther es rest after
 
--- at least one session, and the text after them
+-- The text begins with at least one session, and `rest` is the text after the sessions.
 abbrev pub AreEntries : List Logged → List ℕ → List ℕ → Type 0
 AreEntries [] rest text = ⊥
 AreEntries (e ∷ es) rest text = (after : List ℕ) × IsEntry e after text × AreFurther es rest after
 
--- the list of a log, after its opening bracket
+-- The list of sessions of a log, after the list's opening bracket.
 pub record IsHistory (text : List ℕ) (entries : List Logged) : Type 0 where
   pub tail : List ℕ
   pub listed : AreEntries entries (codes "],\"replication_id_version\":3,\"session_id\":\"" ++ tail) text
 
--- the start of a log, up to the opening bracket of its list
+-- The start of a log, up to the opening bracket of the list of sessions.
 pub record IsHead (line id text : List ℕ) : Type 0 where
   pub form : line ≡ codes "{\"_id\":\"_local/" ++ (id ++ 34 ∷ (codes ",\"history\":[" ++ text))
   pub lacks_mark : lacks 34 id ≡ true
   pub utf8 : IsUtf8 id
 
--- `{"_id":"_local/ID","history":[SESSION,..],"replication_id_version":3,"session_id":"..`
+-- A line that is a log, `{"_id":"_local/ID","history":[SESSION,..],"replication_id_version":3,"session_id":"..`.
 pub record IsLog (line id : List ℕ) (entries : List Logged) : Type 0 where
   pub text : List ℕ
   pub head : IsHead line id text

@@ -1,28 +1,28 @@
--- Words of a line: docs/PROFILE.md, "Answers".
+-- Words of a line of a script's output: docs/PROFILE.md, "Answers".
 use Rattle.std.specs.Prelude.{◌≡◌, ◌==◌, ◌<◌, ◌^◌, ℕ, List, [], ◌∷◌, ◌++◌, Bool, not, map, decimal}
 use Rattle.std.specs.List.{AllByRecursion, list_all, slice_split}
 use Rattle.rev_core.specs.Rev.{IsRev, RevId}
 use Rattle.rev_core.specs.Text.{rev_text}
 
--- the byte does not occur in the text
+-- Whether byte b does not occur in the text.
 abbrev pub lacks : ℕ → List ℕ → Bool
 lacks b text = list_all (λ x. not (x == b)) text
 
--- a name, a blank, and a word
+-- A name, a blank, and a word.
 abbrev pub named : List ℕ → List ℕ → List ℕ
 named name word = name ++ 32 ∷ word
 
--- a number of at most 64 bits, in decimal
+-- The text is the number n of at most 64 bits, in decimal.
 abbrev pub IsNumber : List ℕ → ℕ → Type 0
 IsNumber text n = (text ≡ decimal n) × (n < 2 ^ 64)
 
--- a list of revisions with commas between them
+-- The text is a list of revisions with commas between them.
 pub record IsRevs (text : List ℕ) (revs : List RevId) : Type 0 where
   pub listed : slice_split (λ b. b == 44) text ≡ map rev_text revs
   pub each : AllByRecursion IsRev revs
 
--- A text consists of things in order, each with its value, and a rest. `Step` relates a thing and its value to the text
--- that follows it.
+-- A text consists of items in order, each with its value, and of further text `rest`. The relation `Step` connects an
+-- item and its value with the text that follows the item.
 abbrev pub InTurn : {T V : Type 0} → (T → V → List ℕ → List ℕ → Type 0) → List T → List V → List ℕ → List ℕ → Type 0
 InTurn Step [] [] rest text = text ≡ rest
 InTurn Step [] (v ∷ vs) rest text = ⊥

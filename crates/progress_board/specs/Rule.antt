@@ -4,7 +4,7 @@ use mathlib.Core.Option.{some}
 use lib.ListN.{get_elem?}
 use Rattle.progress_board.specs.declared.rule.SeatView.{SeatView}
 
--- the greatest count
+-- The maximum of each count of the board.
 abbrev pub most : ℕ
 most = 9007199254740991
 
@@ -12,23 +12,23 @@ abbrev pub seat_view : Bool → Bool → ℕ → List ℕ → List ℕ → SeatV
 seat_view deals works number reads settles =
     record { deals = deals; works = works; number = number; reads = reads; settles = settles }
 
--- the seat that creates the seats of k workers, from number n on
+-- The view of the seat that creates the seats of k workers, from worker number n on.
 abbrev pub dealer : ℕ → ℕ → SeatView
 dealer k n = seat_view true false n (replicate k 0) (replicate k 0)
 
--- the creating seat after it created a worker's seat
+-- The view of the creating seat after it created a worker's seat.
 abbrev pub dealt : SeatView → SeatView
 dealt v = seat_view v.deals v.works (v.number + 1) v.reads v.settles
 
--- a new worker's seat
+-- The view of a new worker's seat.
 abbrev pub hired : SeatView → SeatView
 hired v = seat_view false true v.number (replicate (length v.reads) 0) (replicate (length v.reads) 0)
 
--- a new viewer's seat
+-- The view of a new viewer's seat.
 abbrev pub viewer : SeatView → SeatView
 viewer v = seat_view false false 0 (replicate (length v.reads) 0) (replicate (length v.reads) 0)
 
--- a worker's view after it has added to its read, or its settled, counter
+-- A worker's view after the worker has added n to its read counter.
 abbrev pub added_read : SeatView → ℕ → SeatView
 added_read v n =
     seat_view v.deals v.works v.number (slice_set v.reads v.number (slice_index v.reads v.number + n)) v.settles
@@ -37,22 +37,22 @@ abbrev pub added_settled : SeatView → ℕ → SeatView
 added_settled v n =
     seat_view v.deals v.works v.number v.reads (slice_set v.settles v.number (slice_index v.settles v.number + n))
 
--- a load of i's read counter returned n, which is the new bound and not below the old one; a worker sees its own
--- counter exactly
+-- A load of worker i's read counter returned n. The number n is the new bound, and is not below the old one. A worker
+-- sees its own counter exactly.
 abbrev pub SeesRead : SeatView → ℕ → ℕ → SeatView → Type 0
 SeesRead v i n w =
     (w ≡ seat_view v.deals v.works v.number (slice_set v.reads i n) v.settles)
     × (slice_index v.reads i ≤ n) × (n ≤ most) × (v.works ≡ true → v.number ≡ i → n ≡ slice_index v.reads i)
 
--- a load of i's settled counter returned n, which is the new bound and not below the old one, and i has read at least
--- n; a worker sees its own counter exactly
+-- A load of worker i's settled counter returned n. The number n is the new bound and is not below the old one, and
+-- worker i has read at least n. A worker sees its own counter exactly.
 abbrev pub SeesSettled : SeatView → ℕ → ℕ → SeatView → Type 0
 SeesSettled v i n w =
     (w ≡ seat_view v.deals v.works v.number (slice_set v.reads i (max (slice_index v.reads i) n))
     (slice_set v.settles i n))
     × (slice_index v.settles i ≤ n) × (n ≤ most) × (v.works ≡ true → v.number ≡ i → n ≡ slice_index v.settles i)
 
--- what a seat knows about the counters is true
+-- What a seat knows about the board's counters is true.
 pub record Fits (k : ℕ) (words : List ℕ) (v : SeatView) : Type 0 where
   pub read_size : length v.reads ≡ k
   pub settle_size : length v.settles ≡ k
@@ -65,11 +65,12 @@ pub record Fits (k : ℕ) (words : List ℕ) (v : SeatView) : Type 0 where
       → (v.works ≡ false)
       × ((j : ℕ) → v.number ≤ j → j < k → (slice_index words j ≡ 0) × (slice_index words (k + j) ≡ 0))
 
--- each worker's settled counter is at most its read counter
+-- Each worker's settled counter is at most the worker's read counter.
 abbrev pub InOrder : ℕ → List ℕ → Type 0
 InOrder k words = (j : ℕ) → j < k → (slice_index words (k + j) ≤ slice_index words j) × (slice_index words j ≤ most)
 
--- the counters are in order, what each seat knows is true, and the workers' numbers are distinct
+-- The invariant of a board: the counters are in order, what each seat knows is true, and the workers' numbers are
+-- distinct.
 pub record Kept (k : ℕ) (words : List ℕ) (views : List SeatView) : Type 0 where
   pub size : length words ≡ k + k
   pub order : InOrder k words
@@ -83,7 +84,7 @@ pub record Kept (k : ℕ) (words : List ℕ) (views : List SeatView) : Type 0 wh
 
 -- ---- new views
 
--- a view whose bounds are all 0
+-- The view of a new seat, whose bounds are all 0.
 abbrev pub IsFresh : ℕ → Bool → ℕ → SeatView → Type 0
 IsFresh k works number v =
     (v.works ≡ works) × (v.number ≡ number) × (v.reads ≡ replicate k 0) × (v.settles ≡ replicate k 0)

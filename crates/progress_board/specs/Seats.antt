@@ -1,4 +1,4 @@
--- Properties of seats in clauses: docs/PROFILE.md, "The progress board".
+-- Properties of a board's seats in contracts: docs/PROFILE.md, "The progress board".
 use Rattle.std.specs.Prelude.{◌≡◌, ◌+◌, ◌<◌, ◌≤◌, ℕ, Bool, true, not, ◌&&◌, List, Option, Some, None, if◌then◌else◌, length, nat_lt, nat_le, replicate, slice_index, slice_index_or, sum}
 use Rattle.atomic_table.specs.Seated.{TableId}
 use Rattle.progress_board.specs.declared.rule.SeatView.{SeatView}
@@ -8,7 +8,7 @@ use Rattle.progress_board.specs.declared.fault.BoardFault.{BoardFault}
 use Rattle.progress_board.specs.declared.fault.BoardFault.TheVariants as faults
 use Rattle.progress_board.specs.Rule.{most}
 
--- the seat belongs to this board
+-- Seat s belongs to board b.
 abbrev pub CameWith : Board → BoardSeat → Type 0
 CameWith b s = (s.place.table_id ≡ b.table.shared.table_id) × (length s.place.me.0.reads ≡ b.workers)
 
@@ -20,44 +20,44 @@ seen_read s = sum s.place.me.0.reads
 abbrev pub seen_settled : BoardSeat → ℕ
 seen_settled s = sum s.place.me.0.settles
 
--- no bound has fallen
+-- No bound of a seat has fallen between the views v and w.
 abbrev pub IsLater : SeatView → SeatView → Type 0
 IsLater v w =
     ((j : ℕ) → slice_index v.reads j ≤ slice_index w.reads j)
     × ((j : ℕ) → slice_index v.settles j ≤ slice_index w.settles j)
 
--- the seat is of the same worker, with the same own counters
+-- The seats s and t are of the same worker, with the same counters of this worker.
 abbrev pub SameSeat : BoardSeat → BoardSeat → Type 0
 SameSeat s t = (t.works ≡ s.works) × (t.number ≡ s.number) × (t.read ≡ s.read) × (t.settled ≡ s.settled)
 
--- a worker's own counters are at most the returned totals
+-- A worker's own counters are at most the totals that it has read.
 abbrev pub SeesItself : BoardSeat → ℕ → ℕ → Type 0
 SeesItself s settled read = s.works ≡ true → (s.settled ≤ settled) × (s.read ≤ read)
 
 -- ---- errors
 
--- the error of adding to the read counter, if there is one
+-- The error of adding n to the read counter of seat s, if there is one.
 abbrev pub read_refusal : BoardSeat → ℕ → Option BoardFault
 read_refusal s n =
     if not s.works then Some faults.NotWorker else (if nat_lt most (s.read + n) then Some faults.BoardFull else None)
 
--- the error of adding to the settled counter, if there is one
+-- The error of adding n to the settled counter of seat s, if there is one.
 abbrev pub settled_refusal : BoardSeat → ℕ → Option BoardFault
 settled_refusal s n =
     if not s.works then Some faults.NotWorker
     else (if nat_lt s.read (s.settled + n) then Some faults.AheadOfRead else None)
 
--- whether the numbers of workers and viewers are valid
+-- Whether the numbers of workers and viewers are valid: 1 to 64 each.
 abbrev pub are_seats : ℕ → ℕ → Bool
 are_seats workers viewers = nat_le 1 workers && nat_le workers 64 && nat_le 1 viewers && nat_le viewers 64
 
--- the error of creating a board: `Memory` if the numbers are valid, else `BadSeats`
+-- The error of creating a board: `Memory` if the numbers of workers and viewers are valid, else `BadSeats`.
 abbrev pub new_fault : ℕ → ℕ → BoardFault
 new_fault workers viewers = if are_seats workers viewers then faults.Memory else faults.BadSeats
 
 -- ---- new seats
 
--- the i-th new seat of this table, with k workers: that of worker i if i < n, else a viewer's
+-- Seat number i of a new table with counters of k workers. The seat is that of worker i if i < n, else a viewer's.
 abbrev pub IsSeat : TableId → ℕ → ℕ → ℕ → BoardSeat → Type 0
 IsSeat table k n i s =
     (s.place.table_id ≡ table) × (s.works ≡ nat_lt i n) × (i < n → s.number ≡ i) × (s.read ≡ 0) × (s.settled ≡ 0)
@@ -66,8 +66,8 @@ IsSeat table k n i s =
 abbrev pub SeatsAre : TableId → ℕ → ℕ → List BoardSeat → Type 0
 SeatsAre table k n seats = (i : ℕ) (d : BoardSeat) → i < length seats → IsSeat table k n i (slice_index_or seats i d)
 
--- the i-th seat of a new board: the first are the workers', by number, the others are viewers'; no seat has added or
--- seen anything
+-- Seat number i of a new board b. The workers' seats come first, by number, and then the viewers'. No seat has added or
+-- seen any documents.
 pub record IsNew (b : Board) (i : ℕ) (s : BoardSeat) : Type 0 where
   pub came : CameWith b s
   pub works : s.works ≡ nat_lt i b.workers

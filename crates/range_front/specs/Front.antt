@@ -5,13 +5,13 @@ use Rattle.std.specs.List.{list_any, list_all}
 use Rattle.range_front.specs.declared.fault.FrontFault.{FrontFault}
 use Rattle.range_front.specs.declared.fault.FrontFault.TheVariants as faults
 
--- a window of a front, given by its upper bound: it begins at the end of the previous window, the first one at the
--- start
+-- A window of a front, given by its upper bound. The window begins at the end of the previous window, or at the front's
+-- start if it is the first.
 pub record FrontWindow : Type 0 where
   pub hi : ℕ
   pub done : Bool
 
--- adjacent windows from a start
+-- A front: adjacent windows from a start.
 pub record FrontValue : Type 0 where
   pub start : ℕ
   pub windows : List FrontWindow
@@ -26,113 +26,115 @@ coded_front =
     code_by (ℕ × List FrontWindow) (coded× coded_ℕ (coded_list coded_front_window)) (λ f. (f.start, f.windows))
     (λ p. record { start = p.0; windows = p.1 }) (λ _. refl)
 
--- a front as callers see it, with the number of calls of `finish` for which space is reserved
+-- A front as contracts use it, with the number of calls of `finish` for which space is reserved.
 pub record FrontWithRoom : Type 0 where
   pub front : FrontValue
   pub room : ℕ
 
 -- ---- derived values
 
--- a window (lo, hi] with both bounds
+-- A window (lo, hi] with both bounds, and whether it is done.
 pub record Span : Type 0 where
   pub lo : ℕ
   pub hi : ℕ
   pub done : Bool
 
--- adjacent windows that begin at lo
+-- Adjacent windows that begin at `lo`, with both bounds.
 abbrev pub spans_from : ℕ → List FrontWindow → List Span
 spans_from lo [] = []
 spans_from lo (w ∷ ws) = record { lo = lo; hi = w.hi; done = w.done } ∷ spans_from w.hi ws
 
--- the windows in order, with both bounds
+-- The windows of front f in order, with both bounds.
 abbrev pub spans : FrontValue → List Span
 spans f = spans_from f.start f.windows
 
--- the bounds of the windows, lower and upper
+-- The lower and upper bounds of the windows of front f.
 abbrev pub bounds : FrontValue → List (ℕ × ℕ)
 bounds f = map (λ s. (s.lo, s.hi)) (spans f)
 
--- whether (lo, hi] is a window
+-- Whether (lo, hi] is a window of front f.
 abbrev pub is_window : FrontValue → ℕ → ℕ → Bool
 is_window f lo hi = list_any (λ s. (s.lo == lo) && (s.hi == hi)) (spans f)
 
--- whether (lo, hi] is a window that is done
+-- Whether (lo, hi] is a window of front f that is done.
 abbrev pub is_done : FrontValue → ℕ → ℕ → Bool
 is_done f lo hi = list_any (λ s. (s.lo == lo) && ((s.hi == hi) && s.done)) (spans f)
 
--- whether every window is done
+-- Whether every window of front f is done.
 abbrev pub all_done : FrontValue → Bool
 all_done f = list_all (λ w. w.done) f.windows
 
--- the end of windows that begin at `start`
+-- The end of adjacent windows that begin at `start`.
 abbrev pub end_from : ℕ → List FrontWindow → ℕ
 end_from start [] = start
 end_from start (w ∷ ws) = end_from w.hi ws
 
--- the end of the windows; the start if there is none
+-- The end of the last window of front f, or the start if f has no windows.
 abbrev pub end_of : FrontValue → ℕ
 end_of f = end_from f.start f.windows
 
--- the end of the longest prefix of windows that are all done; the start if the first is not done
+-- The end of the longest prefix of windows that are all done, or the start if the first window is not done.
 abbrev pub low_water : FrontValue → ℕ
 low_water f = end_from f.start (take_while (λ w. w.done) f.windows)
 
--- the windows above the low water
+-- The windows above the low water.
 abbrev pub above_low_water : List FrontWindow → List FrontWindow
 above_low_water [] = []
 above_low_water (w ∷ ws) = if w.done then above_low_water ws else w ∷ ws
 
--- the number of maximal runs of adjacent done windows that begin in the list, given whether the previous window is done
+-- The number of maximal runs of adjacent done windows that begin in the list, given whether the window before the list
+-- is done.
 abbrev pub run_count : Bool → List FrontWindow → ℕ
 run_count before [] = 0
 run_count before (w ∷ ws) = (if w.done then (if before then 0 else 1) else 0) + run_count w.done ws
 
--- the number of maximal runs of adjacent done windows above the low water
+-- The number of maximal runs of adjacent done windows above the low water.
 abbrev pub range_count : FrontValue → ℕ
 range_count f = run_count false (above_low_water f.windows)
 
 -- ---- the effect of each call
 
--- a new front
+-- A new front without windows.
 abbrev pub no_windows : ℕ → FrontValue
 no_windows start = record { start = start; windows = [] }
 
--- appends the window from the end to hi, which is not done
+-- Front f after appending the window from its end to `hi`, which is not done.
 abbrev pub appended : FrontValue → ℕ → FrontValue
 appended f hi = record f { windows = f.windows ++ record { hi = hi; done = false } ∷ [] }
 
--- the result of `append` if no allocation fails: only a window that ends above the end is accepted
+-- The result of `append`, if no allocation fails. Only a window that ends above the end of front f is accepted.
 abbrev pub append_answer : FrontValue → ℕ → Result (Unit {0}) FrontFault
 append_answer f hi = if nat_le hi (end_of f) then Err (faults.NotRising (end_of f)) else Ok tt
 
--- marks the window (lo, hi] among windows that begin at `from`
+-- The windows that begin at `from`, after marking the window (lo, hi] as done.
 abbrev pub finished_from : ℕ → List FrontWindow → ℕ → ℕ → List FrontWindow
 finished_from from [] lo hi = []
 finished_from from (w ∷ ws) lo hi =
     (if (from == lo) && (w.hi == hi) then record w { done = true } else w) ∷ finished_from w.hi ws lo hi
 
--- marks the window (lo, hi] as done
+-- Front f after marking the window (lo, hi] as done.
 abbrev pub finished : FrontValue → ℕ → ℕ → FrontValue
 finished f lo hi = record f { windows = finished_from f.start f.windows lo hi }
 
--- the result of `finish` if there is space
+-- The result of `finish`, if space is reserved for the call.
 abbrev pub finish_answer : FrontValue → ℕ → ℕ → Result (Unit {0}) FrontFault
 finish_answer f lo hi =
     if is_window f lo hi then (if is_done f lo hi then Err faults.AlreadyDone else Ok tt) else Err faults.NoSuchWindow
 
 -- ---- the invariant
 
--- each window begins at the end of the previous one, the first at lo, and ends above its beginning
+-- The windows of a list are consecutive. Each begins at the end of the previous one, the first at `lo`, and ends above
+-- its beginning.
 abbrev pub IsConsecutive : ℕ → List Span → Type 0
 IsConsecutive lo [] = Unit {0}
 IsConsecutive lo (s ∷ ss) = (s.lo ≡ lo) × (s.lo < s.hi) × IsConsecutive s.hi ss
 
--- each window ends above its beginning
+-- Each window of a list ends above its beginning.
 abbrev pub Rises : ℕ → List FrontWindow → Type 0
 Rises lo [] = Unit {0}
 Rises lo (w ∷ ws) = (lo < w.hi) × Rises w.hi ws
 
--- the invariant of a front
+-- The invariant of front f.
 pub record IsFront (f : FrontValue) : Type 0 where
   pub rises : Rises f.start f.windows
   pub in_range : end_of f < 2 ^ 64

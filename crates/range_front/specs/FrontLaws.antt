@@ -28,14 +28,14 @@ IsFront-finished f lo hi front =
 
 -- ---- positions of windows
 
--- a window is between the start and the end, and is not empty
+-- A window of a front is between the front's start and end, and is not empty.
 pub is_window-within : (f : FrontValue) (lo hi : ℕ) → IsFront f → is_window f lo hi ≡ true → (f.start ≤ lo) × (lo < hi) × (hi ≤ end_of f)
 is_window-within f lo hi front window = window-within f.start f.windows lo hi front.rises window
 
 pub is_window-is_done : (f : FrontValue) (lo hi : ℕ) → is_done f lo hi ≡ true → is_window f lo hi ≡ true
 is_window-is_done f lo hi done = done-window f.start f.windows lo hi done
 
--- the windows by their bounds only
+-- Whether (lo, hi] is a window depends only on the bounds of the windows.
 pub is_window-bounds : (f : FrontValue) (lo hi : ℕ) → is_window f lo hi ≡ list_any (λ (b : ℕ × ℕ). (b.0 == lo) && (b.1 == hi)) (bounds f)
 is_window-bounds f lo hi = window-bounds f.start f.windows lo hi
 
@@ -47,11 +47,11 @@ start-le-low_water f front = rw low_in-is (from-le-low f.start f.windows front.r
 pub low_water-le-end_of : (f : FrontValue) → IsFront f → low_water f ≤ end_of f
 low_water-le-end_of f front = rw low_in-is (low-le-end f.start f.windows front.rises)
 
--- the low water is the start, or the end of a done window
+-- The low water is the front's start, or the end of a done window.
 pub low_water-is_end : (f : FrontValue) → (low_water f ≡ f.start) ⊎ ((lo : ℕ) × (is_done f lo (low_water f) ≡ true))
 low_water-is_end f = rw low_in-is (low-is-end f.start f.windows)
 
--- a sequence above the start and at or below the low water is in a done window
+-- A sequence above the start and at or below the low water is in a done window.
 pub reached : (f : FrontValue) (q : ℕ) → IsFront f → f.start < q → q ≤ low_water f → (lo : ℕ) × (hi : ℕ) × (lo < q) × (q ≤ hi) × (is_done f lo hi ≡ true)
 reached f q front above under = reached-in f.start f.windows q front.rises above (rw low_in-is at under)
 
@@ -81,11 +81,11 @@ end_of-finished f lo hi = end-finished f.start f.windows lo hi
 pub bounds-finished : (f : FrontValue) (lo hi : ℕ) → bounds (finished f lo hi) ≡ bounds f
 bounds-finished f lo hi = bounds-finished_from f.start f.windows lo hi
 
--- after finishing a window, the done windows are the previous ones and the finished one
+-- After finishing a window, the done windows are those that were done before and the finished one.
 pub is_done-finished : (f : FrontValue) (lo hi a b : ℕ) → is_done (finished f lo hi) a b ≡ (is_done f a b || (is_window f lo hi && ((lo == a) && (hi == b))))
 is_done-finished f lo hi a b = done-finished_from f.start f.windows lo hi a b
 
--- a window that is done afterwards was done before, or is the finished one
+-- A window that is done after a call of `finish` was done before, or is the finished one.
 pub is_done-finished_cases : (f : FrontValue) (lo hi a b : ℕ) → is_done (finished f lo hi) a b ≡ true → (is_done f a b ≡ true) ⊎ ((lo ≡ a) × (hi ≡ b))
 is_done-finished_cases f lo hi a b done =
     elim (or_cases (is_done f a b) (is_window f lo hi && ((lo == a) && (hi == b))) (sym (is_done-finished f lo hi a b) ∙ done)) [

@@ -1,73 +1,73 @@
--- The stored form of a front: the ends of the windows, the low water, and the ranges above it.
+-- The stored form of a front: the ends of the windows, the low water, and the ranges of done windows above it.
 use Rattle.std.specs.Prelude.{◌≡◌, ◌⊎◌, ℕ, ◌<◌, Bool, false, ◌&&◌, ◌||◌, ◌==◌, nat_le, if◌then◌else◌, List, [], ◌∷◌, map}
 use Rattle.range_front.specs.declared.ranges.DoneRange.{DoneRange}
 use Rattle.range_front.specs.Front.{FrontWindow, FrontValue, IsFront}
 
 -- ---- the ends
 
--- each end is above the previous one, the first above `from`
+-- Each end of a window is above the previous one, and the first is above `from`.
 abbrev pub Rising : ℕ → List ℕ → Type 0
 Rising from [] = Unit {0}
 Rising from (e ∷ es) = (from < e) × Rising e es
 
--- (lo, hi] is one of the windows with these ends that begin at `from`
+-- Whether (lo, hi] is one of the windows with these ends that begin at `from`.
 abbrev pub has_window : ℕ → List ℕ → ℕ → ℕ → Bool
 has_window from [] lo hi = false
 has_window from (e ∷ es) lo hi = ((from == lo) && (e == hi)) || has_window e es lo hi
 
--- x is `from` or one of the ends
+-- The bound x is `from` or one of the ends of windows.
 abbrev pub IsBound : ℕ → List ℕ → ℕ → Type 0
 IsBound from [] x = from ≡ x
 IsBound from (e ∷ es) x = (from ≡ x) ⊎ IsBound e es x
 
 -- ---- the ranges
 
--- the ranges rise, and touch neither each other nor the mark
+-- The ranges of done windows rise, and touch neither each other nor `mark`.
 abbrev pub Apart : ℕ → List DoneRange → Type 0
 Apart mark [] = Unit {0}
 Apart mark (r ∷ rs) = (mark < r.lo) × (r.lo < r.hi) × Apart r.hi rs
 
--- each range begins and ends at bounds of windows
+-- Each range of done windows begins and ends at bounds of windows.
 abbrev pub AtBounds : ℕ → List ℕ → List DoneRange → Type 0
 AtBounds from es [] = Unit {0}
 AtBounds from es (r ∷ rs) = IsBound from es r.lo × IsBound from es r.hi × AtBounds from es rs
 
--- whether x is at or below the mark, or in one of the ranges above it
+-- Whether x is at or below `mark`, or in one of the ranges above it.
 abbrev pub covers : ℕ → List DoneRange → ℕ → Bool
 covers mark [] x = nat_le x mark
 covers mark (r ∷ rs) x = if nat_le x r.lo then nat_le x mark else covers r.hi rs x
 
--- the end of what is done from hi on, and the remaining ranges; the first range may begin at hi
+-- The end of what is done from `hi` on, and the remaining ranges. The first range may begin at `hi`.
 abbrev pub absorbed : ℕ → List DoneRange → ℕ × List DoneRange
 absorbed hi [] = (hi, [])
 absorbed hi (r ∷ rs) = if r.lo == hi then (r.hi, rs) else (hi, r ∷ rs)
 
--- adds (lo, hi] at the first range r that ends at or above lo: r ends at lo and grows, or begins at hi and grows, or is
--- unchanged
+-- The ranges after adding (lo, hi] at r, the first range that ends at or above `lo`. If r ends at `lo` or begins at
+-- `hi`, it grows, otherwise it is unchanged.
 abbrev pub put_at : DoneRange → List DoneRange → ℕ → ℕ → List DoneRange
 put_at r rs lo hi =
     if r.hi == lo then record { lo = r.lo; hi = (absorbed hi rs).0 } ∷ (absorbed hi rs).1
     else (if r.lo == hi then record { lo = lo; hi = r.hi } ∷ rs else record { lo = lo; hi = hi } ∷ (r ∷ rs))
 
--- the ranges with (lo, hi] added
+-- The ranges of done windows after adding (lo, hi].
 abbrev pub put_in : List DoneRange → ℕ → ℕ → List DoneRange
 put_in [] lo hi = record { lo = lo; hi = hi } ∷ []
 put_in (r ∷ rs) lo hi = if nat_le lo r.hi then put_at r rs lo hi else r ∷ put_in rs lo hi
 
--- the mark and the ranges with (lo, hi] added
+-- The low water `mark` and the ranges of done windows after adding (lo, hi].
 abbrev pub joined : ℕ → List DoneRange → ℕ → ℕ → ℕ × List DoneRange
 joined mark rs lo hi = if mark == lo then absorbed hi rs else (mark, put_in rs lo hi)
 
 -- ---- the front
 
--- windows with these ends, done if the test is true of the end
+-- The windows with these ends, which are done if the test is true of the end.
 abbrev pub marked : (ℕ → Bool) → List ℕ → List FrontWindow
 marked done es = map (λ hi. record { hi = hi; done = done hi }) es
 
 abbrev pub front_of : ℕ → List ℕ → ℕ → List DoneRange → FrontValue
 front_of start es mark rs = record { start = start; windows = marked (covers mark rs) es }
 
--- the invariant of a stored front
+-- The invariant of a stored front.
 pub record IsKept (start : ℕ) (es : List ℕ) (mark : ℕ) (rs : List DoneRange) : Type 0 where
   pub front : IsFront (front_of start es mark rs)
   pub low : IsBound start es mark

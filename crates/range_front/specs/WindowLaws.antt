@@ -1,4 +1,4 @@
--- Lemmas about fronts by recursion over their windows; specs/FrontLaws.antt states them for complete fronts.
+-- Lemmas about fronts, by recursion over their windows. The module `FrontLaws` states them for complete fronts.
 use Rattle.std.proofs.Common.{◌≡◌, ◌⊎◌, inl, inr, ℕ, ◌+◌, ◌<◌, ◌≤◌, Bool, true, false, cond, ◌&&◌, ◌||◌, eqb, List, [], ◌∷◌, ◌++◌, map, refl, sym, ap, ◌∙◌, arith}
 use Rattle.std.specs.List.{list_any, take_while}
 use Rattle.std.proofs.Math.Bool.{or_assoc}
@@ -76,7 +76,7 @@ low-le-end from [] h = omega arith
 low-le-end from (w ∷ ws) h =
     cond_both w.done (low_in w.hi ws) from (λ n. n ≤ end_from w.hi ws) (λ e. low-le-end w.hi ws h.1) (λ e. omega (arith, h.0, from-le-end w.hi ws h.1))
 
--- the low water is where the windows begin, or the end of a done window
+-- The low water is the beginning of the first window, or the end of a done window.
 pub low-is-end : (from : ℕ) (ws : List FrontWindow) → (low_in from ws ≡ from) ⊎ ((lo : ℕ) × (done_in from ws lo (low_in from ws) ≡ true))
 low-is-end from [] = inl refl
 low-is-end from (w ∷ ws) =
@@ -87,7 +87,7 @@ low-is-end from (w ∷ ws) =
     ])
     (λ e. inl refl)
 
--- a sequence above the start and at or below the low water is in a done window
+-- A sequence above the start and at or below the low water is in a done window.
 pub reached-in : (from : ℕ) (ws : List FrontWindow) (q : ℕ) → Rises from ws → from < q → q ≤ low_in from ws → (lo : ℕ) × (hi : ℕ) × (lo < q) × (q ≤ hi) × (done_in from ws lo hi ≡ true)
 reached-in from [] q h a l = absurd (omega arith)
 reached-in from (w ∷ ws) q h a l =
@@ -148,7 +148,7 @@ done-append from (w ∷ ws) hi a b = ap (λ r. (eqb from a && (eqb w.hi b && w.d
 
 -- ---- a finished window
 
--- only the mark changes
+-- Finishing a window does not change the end of the windows.
 pub end-finished : (from : ℕ) (ws : List FrontWindow) (lo hi : ℕ) → end_from from (finished_from from ws lo hi) ≡ end_from from ws
 end-finished from [] lo hi = refl
 end-finished from (w ∷ ws) lo hi =
@@ -169,7 +169,7 @@ bounds-finished_from from (w ∷ ws) lo hi =
     (λ e. ap (λ bs. (from, w.hi) ∷ bs) (bounds-finished_from w.hi ws lo hi))
     (λ e. ap (λ bs. (from, w.hi) ∷ bs) (bounds-finished_from w.hi ws lo hi))
 
--- a window is done afterwards exactly if it was done before or is the finished one
+-- A window is done after a call of `finish` exactly if it was done before or is the finished one.
 pub done-finished_from : (from : ℕ) (ws : List FrontWindow) (lo hi a b : ℕ) → done_in from (finished_from from ws lo hi) a b ≡ (done_in from ws a b || (window_in from ws lo hi && (eqb lo a && eqb hi b)))
 done-finished_from from [] lo hi a b = refl
 done-finished_from from (w ∷ ws) lo hi a b =
@@ -203,7 +203,7 @@ done-finished_from from (w ∷ ws) lo hi a b =
     now x y d r i m x' y' e s t =
         rw (e, ← s, ← t) (same x y d r i)
 
--- finishing a window does not lower the low water
+-- Finishing a window does not lower the low water.
 pub low-finished : (from : ℕ) (ws : List FrontWindow) (lo hi : ℕ) → Rises from ws → low_in from ws ≤ low_in from (finished_from from ws lo hi)
 low-finished from [] lo hi h = omega arith
 low-finished from (w ∷ ws) lo hi h =
