@@ -21,7 +21,8 @@ use Rattle.read_commands.specs.declared.audit.Audit.{Audit}
 
 -- ---- its parameters
 
--- whether the target covers what the common checkpoint claims, for a selection of documents
+-- The parameters of `audit`, which checks that the target covers what the common checkpoint claims, for a selection of
+-- documents.
 pub record AuditAsk : Type 0 where
   pub source : List ℕ
   pub target : List ℕ
@@ -44,7 +45,7 @@ audit_in d = do
 
 -- ---- its output
 
--- a leaf that is not covered, with its sequence
+-- The line of `audit` for a leaf that is not covered, with the leaf's sequence.
 abbrev pub hole_line : Leaf → List ℕ
 hole_line leaf =
     ended (codes "hole " ++ decimal leaf.seq ++ codes " " ++ quoted leaf.id ++ codes " " ++ rev_text leaf.rev)
@@ -62,7 +63,7 @@ audit_told s ask = do
   chosen ← choice_given ask.doc_ids
   Ok (audit_text (audit_answer source target chosen))
 
--- if the two peers are tied, the audit finds no leaf
+-- If the two peers are consistent, the audit finds no leaf that is not covered.
 abbrev pub FindsNone : State → AuditAsk → Type 0
 FindsNone s ask =
     (p q : PeerValue) (chosen : Choice) → peer_at s ask.source ≡ Some p → peer_at s ask.target ≡ Some q
@@ -73,7 +74,7 @@ Audits old ask told new = Reads (audit_told old ask) old told new × FindsNone o
 
 -- ---- its guarantee: docs/PROFILE.md, "Tied databases"
 
--- an audit prints `clean`, or fails
+-- An audit prints `clean`, or fails.
 abbrev pub IsClean : Told → Type 0
 IsClean (Ok text) = text ≡ codes "clean\n"
 IsClean (Err name) = Unit {0}

@@ -15,7 +15,7 @@ use Rattle.read_commands.specs.declared.changes.Changes.{Changes}
 
 -- ---- its parameters
 
--- the changes after a sequence
+-- The parameters of `changes`, which prints the changes of a database after a sequence.
 pub record ChangesAsk : Type 0 where
   pub db : List ℕ
   pub since : ℕ
@@ -31,13 +31,13 @@ changes_in d = do
 
 -- ---- its output
 
--- the latest change of a document, and its leaves
+-- The line of `changes` for a document: its latest change, and its leaves.
 abbrev pub row_line : RowValue → List ℕ
 row_line r = ended (codes "change " ++ decimal r.seq ++ codes " " ++ quoted r.id ++ codes " " ++ texts_of_revs r.leaves)
 
 -- ---- its result
 
--- the feed after a sequence, and the update sequence
+-- The result of `changes`: the feed after a sequence, and the update sequence.
 abbrev pub changes_told : State → ChangesAsk → Result (List ℕ) Refusal
 changes_told s ask = do
   l ← database_of s ask.db

@@ -26,7 +26,8 @@ use Rattle.read_commands.specs.declared.compare.CompareRest.{CompareRest}
 
 -- ---- its parameters
 
--- what a target lacks of the complete feed of a source, for a selection of documents
+-- The parameters of `compare`, which prints what a target lacks of the complete feed of a source, for a selection of
+-- documents.
 pub record CompareAsk : Type 0 where
   pub source : List ℕ
   pub target : List ℕ
@@ -49,12 +50,12 @@ compare_in d = do
 
 -- ---- its output
 
--- the revision whose parent differs in the target
+-- The line of `compare` for the revision whose parent differs in the target, if there is one.
 abbrev pub contradicts_line : List ℕ → Option Contradiction → List ℕ
 contradicts_line id None = []
 contradicts_line id (Some c) = revs_line (codes "contradicts") id (c.child ∷ [])
 
--- the lines for a document
+-- The lines of `compare` for a document.
 abbrev pub comparison_lines : List ℕ → ComparisonValue → List ℕ
 comparison_lines id c =
     revs_line (codes "missing") id c.missing ++ contradicts_line id c.contradiction ++ revs_line (codes "differs") id c.differing
@@ -62,11 +63,11 @@ comparison_lines id c =
 abbrev pub compared_lines : DatabaseValue → DatabaseValue → RowValue → List ℕ
 compared_lines source target r = comparison_lines r.id (compared_at source target r.id)
 
--- the numbers of compared documents and leaves
+-- The numbers of compared documents and leaves, as `compare` prints them.
 abbrev pub compared_part : Total → List ℕ
 compared_part t = codes "compared " ++ decimal t.documents ++ codes " documents " ++ decimal t.leaves ++ codes " leaves"
 
--- the numbers of differences
+-- The numbers of differences, as `compare` prints them.
 abbrev pub found_part : Total → List ℕ
 found_part t =
     codes " missing " ++ decimal t.missing ++ codes " contradicting " ++ decimal t.contradicting ++ codes " differing "
@@ -75,20 +76,20 @@ found_part t =
 abbrev pub compared_line : Total → List ℕ
 compared_line t = ended (compared_part t ++ found_part t)
 
--- the lines for each document in the source's selected feed, and the totals
+-- The output of `compare`: the lines for each document in the source's selected feed, and the totals.
 abbrev pub compare_text : DatabaseValue → DatabaseValue → Choice → List ℕ
 compare_text source target chosen =
     flat_map (compared_lines source target) (chosen_feed chosen source 0 source.update_seq)
     ++ compared_line (total_of (comparisons source target (chosen_feed chosen source 0 source.update_seq)))
 
--- the remaining output; the totals are those of all rows
+-- The remaining output of `compare`. The totals in it are those of all rows.
 abbrev pub compare_left : State → CompareRest → List ℕ
 compare_left s r =
     left_in (peer_at s (string_bytes r.source)) (λ source. left_in (peer_at s (string_bytes r.target)) (λ target.
     flat_map (compared_lines source.db target.db) (rows_left source.db r.walk)
     ++ compared_line (total_of (comparisons source.db target.db (rows_walked source.db r.walk)))))
 
--- the totals so far are those of the rows that are already printed
+-- The totals that `compare` has counted are those of the rows that it has printed.
 abbrev pub FitsCompare : State → CompareRest → Type 0
 FitsCompare s r =
     holds_in (peer_at s (string_bytes r.source)) (λ source. holds_in (peer_at s (string_bytes r.target)) (λ target.

@@ -22,7 +22,7 @@ use Rattle.read_commands.specs.declared.conflicts.ConflictsRest.{ConflictsRest}
 
 -- ---- its parameters
 
--- the documents in conflict
+-- The parameters of `conflicts`, which prints the documents in conflict.
 pub record ConflictsAsk : Type 0 where
   pub db : List ℕ
 
@@ -36,23 +36,23 @@ conflicts_in d = do
 
 -- ---- its output
 
--- the live leaves of a row's document, if there are two or more
+-- The line of `conflicts` for a row's document: its live leaves, if there are two or more.
 abbrev pub conflict_line : DatabaseValue → RowValue → List ℕ
 conflict_line db r = option_map_or (λ tree. revs_line (codes "conflict") r.id (conflicting tree)) (tree_in db.docs r.id) []
 
--- the number of documents in conflict, and of all documents
+-- The last line of `conflicts`: the number of documents in conflict, and of all documents.
 abbrev pub conflicts_line : Census → List ℕ
 conflicts_line c = ended (codes "conflicts " ++ decimal c.conflicts ++ codes " of " ++ decimal c.documents ++ codes " documents")
 
 abbrev pub conflicts_text : DatabaseValue → List ℕ
 conflicts_text db = flat_map (conflict_line db) (feed db 0 db.update_seq) ++ conflicts_line (census_of (trees db))
 
--- the remaining output; the counts are those of all documents
+-- The remaining output of `conflicts`. The counts in it are those of all documents.
 abbrev pub conflicts_left : State → ConflictsRest → List ℕ
 conflicts_left s r =
     left_in (peer_at s (string_bytes r.db)) (λ l. flat_map (conflict_line l.db) (rows_left l.db r.walk) ++ conflicts_line (census_of (trees l.db)))
 
--- the counts so far are those of the rows that are already printed, and no documents are selected
+-- The counts of `conflicts` are those of the rows that it has printed, and it has no selection of documents.
 abbrev pub FitsConflicts : State → ConflictsRest → Type 0
 FitsConflicts s r =
     holds_in (peer_at s (string_bytes r.db)) (λ l. (earlier : List RowValue)

@@ -23,7 +23,7 @@ use Rattle.read_commands.specs.declared.doc.Doc.{Doc}
 
 -- ---- its parameters
 
--- a revision of a document; the winner if none is named
+-- The parameters of `doc`, which prints a revision of a document, or the winner if no revision is named.
 pub record DocAsk : Type 0 where
   pub db : List ℕ
   pub id : List ℕ
@@ -41,7 +41,7 @@ doc_in d = do
 
 -- ---- its result
 
--- the named revision, or the winner
+-- The revision that `doc` prints: the named revision, or the winner.
 abbrev pub chosen : TreeValue → Option RevId → Option RevId
 chosen tree None = first_of (leaves tree)
 chosen tree (Some r) = Some r

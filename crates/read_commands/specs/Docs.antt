@@ -24,7 +24,7 @@ use Rattle.read_commands.specs.declared.docs.DocsRest.{DocsRest}
 
 -- ---- its parameters
 
--- the documents that changed after a sequence, for a selection of documents
+-- The parameters of `docs`, which prints the documents that changed after a sequence, for a selection of documents.
 pub record DocsAsk : Type 0 where
   pub db : List ℕ
   pub since : ℕ
@@ -50,14 +50,14 @@ docs_in d = do
 abbrev pub doc_line : Document → List ℕ
 doc_line d = ended (doc_text d)
 
--- every leaf of a row's document, the winner first
+-- The lines of `docs` for every leaf of a row's document, the winner first.
 abbrev pub leaf_lines : DatabaseValue → RowValue → List ℕ
 leaf_lines db r = flat_map doc_line (documents_at db r.id)
 
 abbrev pub docs_text : DatabaseValue → ℕ → Choice → List ℕ
 docs_text db since chosen = flat_map (leaf_lines db) (chosen_feed chosen db since db.update_seq) ++ last_line db.update_seq
 
--- the remaining output
+-- The remaining output of `docs`.
 abbrev pub docs_left : State → DocsRest → List ℕ
 docs_left s r = left_in (peer_at s (string_bytes r.db)) (λ l. flat_map (leaf_lines l.db) (rows_left l.db r.walk) ++ last_line l.db.update_seq)
 

@@ -18,7 +18,7 @@ use Rattle.read_commands.specs.declared.info.Info.{Info}
 
 -- ---- its parameters
 
--- the identity and the counts of a database
+-- The parameters of `info`, which prints the identity and the counts of a database.
 pub record InfoAsk : Type 0 where
   pub db : List ℕ
 
@@ -32,7 +32,7 @@ info_in d = do
 
 -- ---- its output
 
--- the name, UUID, update sequence and life of a database
+-- The name, UUID, update sequence and life of a database, as `info` prints them.
 abbrev pub identity_part : List ℕ → DatabaseValue → List ℕ
 identity_part name db =
     codes "info " ++ name ++ codes " uuid " ++ id_digits db.uuid ++ codes " seq " ++ decimal db.update_seq ++ codes " life " ++ decimal db.life

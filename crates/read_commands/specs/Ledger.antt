@@ -21,7 +21,8 @@ use Rattle.read_commands.specs.declared.ledger.Ledger.{Ledger}
 
 -- ---- its parameters
 
--- the documents that a target refused in a session, which is given by the number of its UUID
+-- The parameters of `ledger`, which prints the documents that a target refused in a session. The session is given by
+-- the number of its UUID.
 pub record LedgerAsk : Type 0 where
   pub target : List ℕ
   pub session : ℕ
@@ -38,19 +39,19 @@ ledger_in d = do
 
 -- ---- its output
 
--- a keyword, a document id and a revision
+-- A part of a line of `ledger`: a keyword, a document id and a revision.
 abbrev pub rev_part : List ℕ → List ℕ → List ℕ → List ℕ
 rev_part word id rev = word ++ codes " " ++ quoted id ++ codes " " ++ rev
 
--- the known and the given parent of a revision
+-- A part of a line of `ledger`: the known and the given parent of a revision.
 abbrev pub parents_part : List ℕ → List ℕ → List ℕ
 parents_part known given = codes " known " ++ known ++ codes " given " ++ given
 
--- a document that the write filter refused, with its newest revision
+-- The line of `ledger` for a document that the write filter refused, with its newest revision.
 abbrev pub denied_line : List ℕ → List ℕ → List ℕ
 denied_line id rev = ended (rev_part (codes "denied") id rev)
 
--- a document that gives a revision a different parent
+-- The line of `ledger` for a document that gives a revision a different parent.
 abbrev pub contradicted_line : List ℕ → List ℕ → List ℕ → List ℕ → List ℕ
 contradicted_line id rev known given =
     ended (rev_part (codes "contradicted") id rev ++ parents_part known given)
@@ -71,7 +72,7 @@ ledger_text rows = flat_map refused_line rows ++ ledger_line (length rows)
 
 -- ---- its result
 
--- the ledger of a session, if the peer has the session
+-- The ledger of a session, if the peer has the session.
 abbrev pub ledger_of : PeerValue → ℕ → Option (List RefusedValue)
 ledger_of l session = option_map (λ s. s.ledger) (session_in l.sessions (record { 0 = session }))
 

@@ -25,7 +25,7 @@ use Rattle.read_commands.specs.declared.log.Side.TheVariants.{Source, Target}
 
 -- ---- its parameters
 
--- the log on one side of the replication from one database to another, for a selection of documents
+-- The parameters of `log`, which prints the log on one side of a replication, for a selection of documents.
 pub record LogAsk : Type 0 where
   pub source : List ℕ
   pub target : List ℕ
@@ -59,7 +59,7 @@ log_in d = do
 
 -- ---- its result
 
--- the log of the replication on one side
+-- The log of a replication on one side, the source's or the target's.
 abbrev pub log_held : Side → PeerValue → PeerValue → Choice → List EntryValue
 log_held Source source target chosen = source_log source (rep_between source target chosen)
 log_held Target source target chosen = target_log target (rep_between source target chosen)

@@ -1,4 +1,4 @@
--- The rest of an output that is produced in pieces: docs/PROFILE.md, "Answers".
+-- The remaining part of an output that is produced in pieces: docs/PROFILE.md, "Answers".
 use Rattle.std.specs.Prelude.{ℕ, List, Option, Result, Ok, Err}
 use Rattle.script_engine.specs.Serving.{Told, text_with}
 use Rattle.script_databases.specs.Databases.{State}
@@ -10,24 +10,24 @@ use Rattle.read_commands.specs.Docs.{docs_left}
 use Rattle.read_commands.specs.declared.rest.Rest.{Rest}
 use Rattle.read_commands.specs.declared.rest.Rest.TheVariants.{Compare, Conflicts, Docs}
 
--- the remaining text, in the state in which the output was started
+-- The remaining text of an output, in the state in which the output was started.
 abbrev pub rest_left : State → Rest → List ℕ
 rest_left s (Compare r) = compare_left s r.value
 rest_left s (Conflicts r) = conflicts_left s r.value
 rest_left s (Docs r) = docs_left s r.value
 
--- the rest was started in this state
+-- The remaining part of an output was started in this state.
 abbrev pub FitsRest : State → Rest → Type 0
 FitsRest s (Compare r) = FitsCompare s r.value
 FitsRest s (Conflicts r) = FitsConflicts s r.value
 FitsRest s (Docs r) = Unit {0}
 
--- the result of a line of whose output nothing was produced yet
+-- The result of a line whose output was not started yet.
 abbrev pub told_from : State → Result Rest Refusal → Told
 told_from s (Ok rest) = Ok (rest_left s rest)
 told_from s (Err refusal) = Err (name_of refusal)
 
--- the result of a line of whose output this text was produced
+-- The result of a line whose output begins with the given text.
 abbrev pub told_begun : State → Result (Option Rest) Refusal → List ℕ → Told
 told_begun s (Ok rest) text = Ok (text_with (rest_left s) text rest)
 told_begun s (Err refusal) text = Err (name_of refusal)

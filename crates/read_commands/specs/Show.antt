@@ -22,7 +22,7 @@ use Rattle.read_commands.specs.declared.show.Show.{Show}
 
 -- ---- its parameters
 
--- the leaves of a document
+-- The parameters of `show`, which prints the leaves of a document.
 pub record ShowAsk : Type 0 where
   pub db : List ℕ
   pub id : List ℕ
@@ -43,7 +43,7 @@ head_line id tree =
     ended (codes "doc " ++ quoted id ++ codes " winner " ++ text_of_any (first_of (leaves tree)) ++ codes " leaves "
     ++ decimal (length (leaves tree)) ++ codes " revs " ++ decimal (finmap.len tree.origins))
 
--- a leaf, whether it is deleted, and its known ancestry
+-- The line of `show` for a leaf, with whether the leaf is deleted, and its known ancestry.
 abbrev pub leaf_text : RevId → Bool → List RevId → List ℕ
 leaf_text leaf deleted ancestry =
     ended (codes "leaf " ++ rev_text leaf ++ (if deleted then codes " deleted " else codes " live ") ++ texts_of_revs ancestry)
@@ -51,7 +51,7 @@ leaf_text leaf deleted ancestry =
 abbrev pub leaf_line : TreeValue → RevId → List ℕ
 leaf_line tree leaf = leaf_text leaf (is_deleted tree leaf) (ancestors tree leaf)
 
--- the leaves in order, the winner first
+-- The output of `show`: the document, and its leaves in order, the winner first.
 abbrev pub show_text : List ℕ → TreeValue → List ℕ
 show_text id tree = head_line id tree ++ flat_map (leaf_line tree) (leaves tree)
 

@@ -6,20 +6,20 @@ use Rattle.repl_peer.specs.peer.Peer.{PeerValue}
 use Rattle.script_databases.specs.Databases.{State, peer_at}
 use Rattle.read_commands.specs.declared.feed.Walk.{Walk}
 
--- the remaining rows, up to the update sequence
+-- The rows of the feed after the position, up to the update sequence.
 abbrev pub rows_left : DatabaseValue → Walk → List RowValue
 rows_left db w = chosen_feed w.chosen db w.since db.update_seq
 
--- all rows of the feed
+-- All rows of the feed, before and after the position.
 abbrev pub rows_walked : DatabaseValue → Walk → List RowValue
 rows_walked db w = chosen_feed w.chosen db 0 db.update_seq
 
--- the remaining output about a database; empty if the database does not exist
+-- The remaining output about a database, or the empty text if the database does not exist.
 abbrev pub left_in : Option PeerValue → (PeerValue → List ℕ) → List ℕ
 left_in None text = []
 left_in (Some l) text = text l
 
--- a property of a database; true if the database does not exist
+-- A property of a database, which is true if the database does not exist.
 abbrev pub holds_in : Option PeerValue → (PeerValue → Type 0) → Type 0
 holds_in None holds = Unit {0}
 holds_in (Some l) holds = holds l

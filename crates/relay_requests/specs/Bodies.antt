@@ -7,7 +7,7 @@ abbrev pub strings : List Text → List Token
 strings [] = []
 strings (t ∷ ts) = string t ∷ strings ts
 
--- a document's id, and the list of its leaves
+-- A document's id, and the list of its leaves, as JSON tokens.
 abbrev pub doc_tokens : DocView → List Token
 doc_tokens d = key d.0 ∷ begin_array ∷ (strings d.1 ++ end_array ∷ [])
 
@@ -15,7 +15,7 @@ abbrev pub docs_tokens : List DocView → List Token
 docs_tokens [] = []
 docs_tokens (d ∷ ds) = doc_tokens d ++ docs_tokens ds
 
--- the body that asks which of these leaves are missing
+-- The body of a `_revs_diff` request, which returns which of the given leaves are missing.
 abbrev pub diff_tokens : List DocView → List Token
 diff_tokens docs = begin_object ∷ (docs_tokens docs ++ end_object ∷ [])
 
@@ -32,6 +32,6 @@ abbrev pub all_leaves_tokens : List DocView → List Token
 all_leaves_tokens [] = []
 all_leaves_tokens (d ∷ ds) = leaves_tokens d.0 d.1 ++ all_leaves_tokens ds
 
--- the body that requests these leaves, each as an object with an id and a revision
+-- The body that requests the given leaves, each as an object with an id and a revision.
 abbrev pub carry_tokens : List DocView → List Token
 carry_tokens docs = begin_object ∷ key (codes "docs") ∷ begin_array ∷ (all_leaves_tokens docs ++ end_array ∷ end_object ∷ [])

@@ -1,4 +1,4 @@
--- The entries of a history that are kept, without memory.
+-- The entries of a history that are kept, as values without memory.
 use Rattle.std.specs.Prelude.{List, map}
 use Rattle.relay_requests.specs.declared.logs.Recorded.{Recorded}
 use Rattle.relay_requests.specs.Logs as logs

@@ -8,7 +8,7 @@ use Rattle.json.specs.Print.{print}
 use Rattle.relay_core.specs.declared.messages.Counts.{Counts}
 use Rattle.relay_core.specs.Messages.{Text, EntryView, LogView, CheckpointView}
 
--- the path of both logs: the MD5 of six texts, each but the last followed by a line feed
+-- The path of both logs, from the MD5 of six texts, where each but the last is followed by a line feed.
 abbrev pub log_path : Text → Text → Text → Text → Text → Text → Text
 log_path source target filter query choice salt =
     codes "/_local/sandermauve-" ++ encode_lower (md5 (source ++ 10 ∷ (target ++ 10 ∷ (filter ++ 10 ∷ (query ++ 10 ∷ (choice ++ 10 ∷ salt))))))
@@ -21,7 +21,7 @@ counts_tokens c =
     ∷ key (codes "docs_written") ∷ number (decimal c.docs_written)
     ∷ key (codes "doc_write_failures") ∷ number (decimal c.doc_write_failures) ∷ []
 
--- a session, a sequence, and the version of the log's format
+-- The members of a log with a session, a sequence, and the version of the log's format.
 abbrev pub position_tokens : Text → Text → List Token
 position_tokens session seq =
     key (codes "session_id") ∷ string session ∷ key (codes "source_last_seq") ∷ string seq
@@ -29,7 +29,7 @@ position_tokens session seq =
 
 -- ---- the history
 
--- the entry of a session that records this checkpoint
+-- The entry of a log's history for a session that records checkpoint c.
 abbrev pub entry_tokens : Text → CheckpointView → List Token
 entry_tokens session c =
     begin_object ∷ key (codes "session_id") ∷ string session
@@ -38,7 +38,7 @@ entry_tokens session c =
     ∷ key (codes "end_last_seq") ∷ string c.seq ∷ key (codes "recorded_seq") ∷ string c.seq
     ∷ (counts_tokens c.counts ++ end_object ∷ [])
 
--- a session, and a sequence that it has recorded
+-- A session, and a sequence that the session has recorded.
 abbrev pub Recorded : Type 0
 Recorded = Text × Text
 
@@ -51,17 +51,18 @@ is_of_session session r = bytes_eq r.0 session
 abbrev pub is_recorded : Text → Text → Recorded → Bool
 is_recorded session seq r = bytes_eq r.0 session && bytes_eq r.1 seq
 
--- an entry is kept if fewer than 50 are kept already, of its session fewer than two, and none of its sequence
+-- Whether an entry of the history is kept, given those that are kept before it. Fewer than 50 may be kept before it, of
+-- its session fewer than two, and no entry of this session with its sequence.
 abbrev pub may_keep : List Recorded → EntryView → Bool
 may_keep kept e =
     nat_lt (length kept) 50 && nat_lt (count_by (is_of_session e.session) kept) 2 && not (list_any (is_recorded e.session e.seq) kept)
 
--- the entries that are kept, newest first, if those in `kept` are kept already
+-- The entries of a history that are kept, newest first, if those in `kept` are kept before them.
 abbrev pub thinned : List Recorded → List EntryView → List EntryView
 thinned kept [] = []
 thinned kept (e ∷ es) = if may_keep kept e then e ∷ thinned (kept ++ recorded_of e ∷ []) es else thinned kept es
 
--- each entry by its own JSON text, after a comma
+-- The JSON texts of the entries of a history, each after a comma.
 abbrev pub older_text : List EntryView → Text
 older_text [] = []
 older_text (e ∷ es) = (44 ∷ e.json) ++ older_text es
@@ -72,12 +73,12 @@ abbrev pub rev_tokens : Option Text → List Token
 rev_tokens None = []
 rev_tokens (Some rev) = key (codes "_rev") ∷ string rev ∷ []
 
--- the text of a log before the first entry of its history
+-- The text of a log before the first entry of its history.
 abbrev pub head_tokens : Option Text → Text → Text → List Token
 head_tokens rev session seq =
     begin_object ∷ (rev_tokens rev ++ position_tokens session seq ++ key (codes "history") ∷ begin_array ∷ [])
 
--- the log that a server last returned, with a new entry before its history
+-- The log that a server last returned, with a new entry before its history.
 abbrev pub log_text : Text → LogView → CheckpointView → Text
 log_text session log c =
     print (head_tokens log.rev session c.seq) ++ print (entry_tokens session c)

@@ -31,7 +31,7 @@ abbrev pub ok_tokens : Option FaultView → List Token
 ok_tokens None = key (codes "ok") ∷ boolean true ∷ []
 ok_tokens (Some f) = key (codes "ok") ∷ boolean false ∷ key (codes "error") ∷ string (fault_name f) ∷ key (codes "reason") ∷ string (fault_text f) ∷ []
 
--- whether the run succeeded, the last sequence that both servers recorded, and the counts
+-- The last notice of a run: whether the run succeeded, the last sequence that both servers recorded, and the counts.
 abbrev pub done_tokens : Text → Option FaultView → Counts → Text → List Token
 done_tokens session fault c recorded =
     begin_object ∷ (ok_tokens fault ++ position_tokens session recorded ++ counts_tokens c ++ end_object ∷ [])

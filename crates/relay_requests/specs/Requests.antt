@@ -1,4 +1,5 @@
--- The text of a request: a line that says who does what, and a line with the body. docs/PROFILE.md, "Relay" and "Requests of the relay".
+-- The text of a request: a line that says who does what, and a line with the body. docs/PROFILE.md, "Relay" and
+-- "Requests of the relay".
 use Rattle.std.specs.Prelude.{ℕ, List, [], ◌∷◌, ◌++◌, Option, None, Some, Bool, ◌==◌, length, if◌then◌else◌, codes, decimal, string_bytes}
 use Rattle.json.specs.Print.{print}
 use Rattle.percent_encoding.specs.Percent.{percent_encode}
@@ -10,7 +11,7 @@ use Rattle.relay_requests.specs.Bodies.{diff_tokens, carry_tokens}
 use Rattle.relay_requests.specs.Logs.{log_text}
 use Rattle.relay_requests.specs.Notices.{notice_kind, notice_text, exit_status, done_tokens}
 
--- a percent-encoded text
+-- The percent-encoded form of a text.
 abbrev pub encoded : Text → Text
 encoded s = percent_encode RESERVED s
 
@@ -18,7 +19,7 @@ abbrev pub wait_text : Option ℕ → Text
 wait_text None = []
 wait_text (Some milliseconds) = codes "&feed=longpoll&timeout=" ++ decimal milliseconds
 
--- a parameter, unless its value is empty
+-- The parameter `filter` of a `_changes` request, unless its value is empty.
 abbrev pub filter_text : Text → Text
 filter_text [] = []
 filter_text (c ∷ cs) = codes "&filter=" ++ encoded (c ∷ cs)
@@ -27,12 +28,12 @@ abbrev pub query_text : Text → Text
 query_text [] = []
 query_text (c ∷ cs) = codes "&" ++ (c ∷ cs)
 
--- the method: a selection is sent as a body
+-- The method of a `_changes` request, which is POST if a selection is sent as the body.
 abbrev pub changes_method : Text → Text
 changes_method [] = codes "GET"
 changes_method (c ∷ cs) = codes "POST"
 
--- the path with these parameters, the last three with their names
+-- The path of a `_changes` request with its parameters, of which the last three are given with their names.
 abbrev pub path_with : ℕ → Text → Text → Text → Text → Text
 path_with batch since wait filter query =
     codes "/_changes?style=all_docs&limit=" ++ decimal batch ++ codes "&seq_interval=" ++ decimal batch
@@ -41,7 +42,7 @@ path_with batch since wait filter query =
 abbrev pub changes_path : RequestOptions → Text → Option ℕ → Text
 changes_path o since wait = path_with o.batch (encoded since) (wait_text wait) (filter_text (string_bytes o.filter)) (query_text (string_bytes o.query))
 
--- the head and the body, each with a line feed
+-- The head and the body of a request, each with a line feed.
 abbrev pub two_lines : Text → Text → Text
 two_lines head body = head ++ codes "\n" ++ body ++ codes "\n"
 

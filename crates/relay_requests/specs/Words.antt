@@ -1,4 +1,4 @@
--- The words of requests: docs/PROFILE.md, "Faults of the relay".
+-- The texts of requests and faults: docs/PROFILE.md, "Faults of the relay".
 use Rattle.std.specs.Prelude.{ℕ, List, [], ◌∷◌, ◌++◌, Option, None, Some, codes, decimal}
 use Rattle.json.specs.Token.{string}
 use Rattle.json.specs.Print.{print}
@@ -19,7 +19,7 @@ operation_text RevsDiff = codes "_revs_diff"
 operation_text Carry = codes "_bulk_docs"
 operation_text WriteLog = codes "PUT _local"
 
--- the form that a response to this operation must have
+-- The form that a response to an operation must have, in words of a fault's message.
 abbrev pub expected_text : Operation → Text
 expected_text ReadLog = codes "a replication log"
 expected_text Changes = codes "a page of changes"
@@ -27,7 +27,7 @@ expected_text RevsDiff = codes "an object of missing revisions"
 expected_text Carry = codes "a list"
 expected_text WriteLog = codes "an object with \"ok\":true"
 
--- a text as a JSON string
+-- A text as a JSON string.
 abbrev pub quoted : Text → Text
 quoted s = print (string s ∷ [])
 
@@ -45,7 +45,7 @@ fault_name (refused id side status words) = codes "refused"
 fault_name (unaccounted id rev error count) = codes "unaccounted"
 fault_name log_changed = codes "log_changed"
 
--- the error of a row, if there is one
+-- The error of a row in a fault's message, or the empty text without an error.
 abbrev pub row_error_text : Option (Text × Text) → Text
 row_error_text None = []
 row_error_text (Some e) = codes ", " ++ e.0 ++ codes ": " ++ e.1

@@ -9,7 +9,7 @@ use Rattle.relay_responses.specs.Read.{items_at, each_item, with_first}
 
 -- ---- the leaves that are named
 
--- the members of an object, appended to those found before; each name is listed once, with its last value
+-- The members of an object, appended to those found before. Each name is listed once, with its last value.
 abbrev pub last_members : List (Text × Json) → Members → List (Text × Json)
 last_members found no_members = found
 last_members found (member k j ms) = last_members (insert_entry bytes_eq found k j) ms
@@ -17,11 +17,11 @@ last_members found (member k j ms) = last_members (insert_entry bytes_eq found k
 abbrev pub doc_of : Text → List Text → DocView
 doc_of id revs = (id, revs)
 
--- the document of a member: its name is the id, and its list `missing` has the leaves
+-- The document that a member of the response names. The member's name is the id, and its list `missing` has the leaves.
 abbrev pub missing_at : Text × Json → Option DocView
 missing_at m = option_map (doc_of m.0) (option_and_then (each_item as_str) (items_at (codes "missing") m.1))
 
--- the documents that the members name; none if one member does not name a document
+-- The documents that the members of a response name, or `None` if one member does not name a document.
 abbrev pub each_missing : List (Text × Json) → Option (List DocView)
 each_missing [] = Some []
 each_missing (m ∷ ms) = with_first (missing_at m) (each_missing ms)
@@ -29,9 +29,10 @@ each_missing (m ∷ ms) = with_first (missing_at m) (each_missing ms)
 abbrev pub named_in : Json → Option (List DocView)
 named_in j = option_and_then each_missing (option_map (last_members []) (as_object j))
 
--- ---- those that were requested
+-- ---- the leaves that were requested
 
--- the requested leaves that a response names, in the order of the request; none if the response names another leaf
+-- The requested leaves that a response names, in the order of the request. The result is `None` if the response names
+-- another leaf.
 abbrev pub only_named : List DocView → List DocView → Option (List DocView)
 only_named docs named = if name_all docs named then Some (docs_where (λ id leaf. names named id leaf) docs) else None
 

@@ -8,7 +8,7 @@ use Rattle.json.specs.declared.value.Value.{Value}
 use Rattle.indexmap.specs.IndexSet.{IndexSet}
 use Rattle.relay_core.specs.Messages.{Text, DocView}
 
--- The texts of references.
+-- The texts that a list of references refers to.
 abbrev pub texts_in : List (Bor Text) → List Text
 texts_in keys = map (λ k. k.now) keys
 
@@ -20,7 +20,7 @@ values_in entries = map (λ e. (e.0.now, value_view e.1.now)) entries
 abbrev pub docs_in : {S : Type 0} → List (Bor Text × IndexSet (Bor Text) S) → List DocView
 docs_in entries = map (λ e. (e.0.now, texts_in e.1.keys)) entries
 
--- The leaves of a set, or none.
+-- The leaves of an optional set, which are no leaves without a set.
 abbrev pub texts_or_none : {S : Type 0} → Option (IndexSet (Bor Text) S) → List Text
 texts_or_none None = []
 texts_or_none (Some known) = texts_in known.keys

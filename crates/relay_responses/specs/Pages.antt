@@ -6,24 +6,24 @@ use Rattle.json.specs.Find.{get}
 use Rattle.relay_core.specs.Messages.{Text, DocView, PageView}
 use Rattle.relay_responses.specs.Read.{text_at, items_at, both, sequence_at, each_item}
 
--- whether a byte is not a control character of ASCII
+-- Whether a byte is not a control character of ASCII.
 abbrev pub is_plain_byte : ℕ → Bool
 is_plain_byte b = nat_le 32 b && not (b == 127)
 
--- a text that has no control character
+-- A text, if it has no control character.
 abbrev pub plain : Text → Option Text
 plain s = if list_all is_plain_byte s then Some s else None
 
--- the revision of a change
+-- The revision of a change in a row.
 abbrev pub rev_in : Json → Option Text
 rev_in j = option_and_then plain (text_at (codes "rev") j)
 
--- the leaves of a row; none if the row has no leaf
+-- The leaves of a row, if the row has a leaf.
 abbrev pub some_leaf : List Text → Option (List Text)
 some_leaf [] = None
 some_leaf (r ∷ rs) = Some (r ∷ rs)
 
--- a document's id and its leaves
+-- The id and the leaves of a row's document.
 abbrev pub row_in : Json → Option DocView
 row_in j = both (text_at (codes "id") j) (option_and_then some_leaf (option_and_then (each_item rev_in) (items_at (codes "changes") j)))
 
@@ -32,23 +32,23 @@ rows_in j = option_and_then (each_item row_in) (items_at (codes "results") j)
 
 -- ---- rows of one document
 
--- the known leaves, then those of `more` that are new, in their order
+-- The known leaves of a document, followed by those of `more` that are new, in their order.
 abbrev pub add_revs : List Text → List Text → List Text
 add_revs revs [] = revs
 add_revs revs (r ∷ rs) = add_revs (if list_any (bytes_eq r) revs then revs else revs ++ r ∷ []) rs
 
--- the documents, with the leaves of a row added to the document with its id
+-- The documents after the leaves of a row are added to the document with the row's id.
 abbrev pub add_row : List DocView → DocView → List DocView
 add_row [] row = (row.0, add_revs [] row.1) ∷ []
 add_row (d ∷ ds) row = if bytes_eq row.0 d.0 then (d.0, add_revs d.1 row.1) ∷ ds else d ∷ add_row ds row
 
--- each document once, with the leaves of all its rows, each once
+-- The documents of all rows, each once, with the leaves of all its rows, each once.
 abbrev pub merged : List DocView → List DocView
 merged rows = fold add_row [] rows
 
 -- ---- the page
 
--- the number of documents after the page; none if the member is missing or null
+-- The number of documents after the page, or `None` if the member is missing or null.
 abbrev pub pending_of : Option Json → Option (Option Text)
 pending_of None = Some None
 pending_of (Some null) = Some None

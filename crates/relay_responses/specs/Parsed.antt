@@ -8,12 +8,12 @@ use Rattle.relay_core.specs.Views.{fault_view}
 use Rattle.relay_responses.specs.declared.parsed.Parsed.{Parsed}
 use Rattle.relay_responses.specs.declared.parsed.Parsed.TheVariants as parsed
 
--- f of the value, or the fault
+-- The response that f gives for a parsed value, or a fault if parsing failed.
 abbrev pub response_by : (Json → ResponseView) → Parsed → ResponseView
 response_by f (parsed.Json value) = f (value_view value)
 response_by f (parsed.Fault fault) = fault_response (fault_view fault)
 
--- each number in the value has the text of a JSON number
+-- Each number in the parsed value has the text of a JSON number.
 abbrev pub IsWritable : Parsed → Type 0
 IsWritable (parsed.Json value) = HasNumbers (value_view value)
 IsWritable (parsed.Fault fault) = ⊤

@@ -1,4 +1,4 @@
--- The contents of a JSON response. If an object has a name twice, its last member counts.
+-- The contents of a JSON response. If an object has a name twice, the last member with this name counts.
 use Rattle.std.specs.Prelude.{if◌then◌else◌, List, [], ◌∷◌, ◌++◌, Option, None, Some, option_and_then}
 use Rattle.std.specs.Option.{option_map_or}
 use Rattle.std.specs.List.{list_all}
@@ -8,15 +8,15 @@ use Rattle.json.specs.Json.{Json, Items, no_items, item, document}
 use Rattle.json.specs.Find.{get, as_str, as_array, as_number}
 use Rattle.relay_core.specs.Messages.{Text}
 
--- the JSON value of a body, if the body is one JSON value in UTF-8
+-- The JSON value of a body, if the body is one JSON value in UTF-8.
 abbrev pub json_in : Text → Option Json
 json_in body = if is_utf8 body then document body else None
 
--- a member that is a string
+-- The string of a member, if the member is a string.
 abbrev pub text_at : Text → Json → Option Text
 text_at name j = option_and_then as_str (get name j)
 
--- a member that is a list
+-- The items of a member, if the member is a list.
 abbrev pub items_at : Text → Json → Option Items
 items_at name j = option_and_then as_array (get name j)
 
@@ -27,16 +27,16 @@ both (Some x) None = None
 
 -- ---- sequences
 
--- the digits of an integer without a sign
+-- The digits of an integer, if it has no sign.
 abbrev pub digits_in : Text → Option Text
 digits_in s = if list_all is_ascii_digit s then Some s else None
 
--- the first value if there is one, otherwise the second
+-- The first of two values, if there is one, otherwise the second.
 abbrev pub or_else : Option Text → Option Text → Option Text
 or_else (Some x) o = Some x
 or_else None o = o
 
--- a sequence: the content of a string, or the digits of a non-negative integer
+-- A sequence: the content of a string, or the digits of a non-negative integer.
 abbrev pub sequence_in : Json → Option Text
 sequence_in j = or_else (as_str j) (option_and_then digits_in (as_number j))
 
@@ -50,17 +50,17 @@ with_first None xs = None
 with_first (Some x) None = None
 with_first (Some x) (Some xs) = Some (x ∷ xs)
 
--- the results for all items of a list; none if one item has none
+-- The results for all items of a list, or `None` if one item has no result.
 abbrev pub each_item : {A : Type 0} → (Json → Option A) → Items → Option (List A)
 each_item reads no_items = Some []
 each_item reads (item j js) = with_first (reads j) (each_item reads js)
 
--- the items of a list that can be read
+-- The results for those items of a list that can be read.
 abbrev pub some_items : {A : Type 0} → (Json → Option A) → Items → List A
 some_items reads no_items = []
 some_items reads (item j js) = option_map_or (λ x. x ∷ some_items reads js) (reads j) (some_items reads js)
 
--- the results so far, then the others
+-- The results that were found before, followed by the given ones, if these exist.
 abbrev pub prepend : {A : Type 0} → List A → Option (List A) → Option (List A)
 prepend xs None = None
 prepend xs (Some ys) = Some (xs ++ ys)

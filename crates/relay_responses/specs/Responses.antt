@@ -18,7 +18,7 @@ use Rattle.relay_responses.specs.Logs.{row_errors_in, log_in, no_log, is_stored}
 abbrev pub is_success : ℕ → Bool
 is_success status = status == 200 || status == 201 || status == 202
 
--- whether a carry of fewer documents may have another status
+-- Whether a carry of fewer documents may have another status than this one.
 abbrev pub is_rejection : ℕ → Bool
 is_rejection status =
     nat_le 400 status && nat_lt status 500 && not (status == 401 || status == 403 || status == 404 || status == 408 || status == 429)
@@ -28,24 +28,24 @@ is_rejection status =
 abbrev pub words_of : Text × Text → Text
 words_of p = p.0 ++ codes ": " ++ p.1
 
--- the error and the reason in the body of a response
+-- The error and the reason in the body of a response.
 abbrev pub words_in : Text → Text
 words_in body = option_map_or words_of (option_and_then (λ j. both (text_at (codes "error") j) (text_at (codes "reason") j)) (json_in body)) (codes "no error text")
 
 -- ---- responses
 
--- f of the JSON value of a response, or a fault
+-- The response that f gives for a JSON body, or a fault if the body is not JSON.
 abbrev pub json_response : Operation → Text → (Json → ResponseView) → ResponseView
 json_response operation body f = option_map_or f (json_in body) (fault_response (not_json operation))
 
--- f of the JSON value of a response, if the response has one of three statuses
+-- The response that f gives for a JSON body, if the status is one of three, otherwise a fault.
 abbrev pub read_as : Side → Operation → ℕ → Text → (Json → ResponseView) → ResponseView
 read_as side operation status body f =
     if status == 0 then fault_response (unanswered side operation)
     else if is_success status then json_response operation body f
     else fault_response (bad_status side operation status (words_in body))
 
--- f of the value, or the fault if there is no value
+-- The response that f gives for a value, or the fault if there is no value.
 abbrev pub or_fault : {A : Type 0} → (A → ResponseView) → FaultView → Option A → ResponseView
 or_fault f fault o = option_map_or f o (fault_response fault)
 
@@ -70,7 +70,7 @@ put_response_in from status body =
     if status == 409 then conflict_response
     else read_as from WriteLog status body (λ j. if is_stored j then stored_response else fault_response (bad_answer WriteLog))
 
--- the server that the response names, or the server of the request
+-- The server that the response names, or the server of the request.
 abbrev pub side_or : Option Side → Side → Side
 side_or None side = side
 side_or (Some s) side = s

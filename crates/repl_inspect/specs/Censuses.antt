@@ -8,11 +8,11 @@ use Rattle.repl_inspect.specs.Conflicts.{live, in_conflict}
 use Rattle.repl_inspect.specs.Counting.{counted}
 use Rattle.repl_inspect.specs.declared.census.Census.{Census}
 
--- whether a document is deleted: it has no live leaf
+-- Whether a document is deleted, because its tree has no live leaf.
 abbrev pub is_gone : TreeValue → Bool
 is_gone tree = length (live tree) == 0
 
--- the numbers of documents, of deleted ones, of those in conflict, of leaves and of revisions
+-- The numbers of documents, of deleted ones, of those in conflict, of leaves and of revisions.
 abbrev pub census_of : List TreeValue → Census
 census_of trees = record {
   documents = counted (length trees);
@@ -22,6 +22,6 @@ census_of trees = record {
   revisions = counted (sum_by (λ (t : TreeValue). len t.origins) trees);
 }
 
--- the trees of a database
+-- The trees of a database's documents.
 abbrev pub trees : DatabaseValue → List TreeValue
 trees db = map (λ (d : DocumentValue). d.tree) db.docs

@@ -13,15 +13,16 @@ use Rattle.rev_tree.specs.Content.{ContentValue}
 use Rattle.rev_tree.specs.Tree.{TreeValue, leaves, ancestors, missing, first_contradiction}
 use Rattle.rev_tree.specs.declared.fault.Contradiction.{Contradiction}
 
--- the number of leaves of a source's document; those that the target's tree lacks; the first revision of their
--- ancestries to which the target gives another parent; and the leaves whose contents are known on both sides and differ
+-- The comparison of a document at a source and a target. It has the number of the source's leaves, and those that the
+-- target's tree lacks. It also has the first revision of their ancestries to which the target gives another parent.
+-- Finally it has the leaves whose contents are known on both sides and differ.
 pub record ComparisonValue : Type 0 where
   pub leaves : ℕ
   pub missing : List RevId
   pub contradiction : Option Contradiction
   pub differing : List RevId
 
--- the first contradiction of the ancestries of leaves with the target's tree, leaf by leaf, newest child first
+-- The first contradiction of the leaves' ancestries with the target's tree, leaf by leaf, newest child first.
 abbrev pub contradiction_under : TreeValue → TreeValue → List RevId → Option Contradiction
 contradiction_under source target [] = None
 contradiction_under source target (leaf ∷ leaves) =
@@ -31,13 +32,13 @@ contradiction_under source target (leaf ∷ leaves) =
 abbrev pub same_content : ContentValue → ContentValue → Bool
 same_content b d = beq b.deleted d.deleted && bytes_eq b.body d.body
 
--- whether both trees have a content of a revision, and the contents differ
+-- Whether both trees have a content of revision r, and the two contents differ.
 abbrev pub differs : TreeValue → TreeValue → RevId → Bool
 differs source target r =
     option_map_or (λ b. option_map_or (λ d. not (same_content b d)) (get target.contents r) false)
     (get source.contents r) false
 
--- compares a document's tree at a source with the target's
+-- The comparison of a document's tree at a source with the target's tree.
 abbrev pub compared : TreeValue → TreeValue → ComparisonValue
 compared source target = record {
   leaves = length (leaves source);

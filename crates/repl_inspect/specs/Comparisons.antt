@@ -4,10 +4,10 @@ use Rattle.couch_base.specs.Database.{Id, DatabaseValue, tree_of}
 use Rattle.couch_base.specs.Feed.{RowValue}
 use Rattle.repl_inspect.specs.Comparing.{ComparisonValue, compared}
 
--- compares a document of two databases; a missing document has an empty tree
+-- The comparison of document `id` in two databases, where a missing document has an empty tree.
 abbrev pub compared_at : DatabaseValue → DatabaseValue → Id → ComparisonValue
 compared_at source target id = compared (tree_of source.docs id) (tree_of target.docs id)
 
--- compares each document of some rows of the source's feed
+-- The comparisons of the documents of the given rows of the source's feed.
 abbrev pub comparisons : DatabaseValue → DatabaseValue → List RowValue → List ComparisonValue
 comparisons source target rows = map (λ r. compared_at source target r.id) rows

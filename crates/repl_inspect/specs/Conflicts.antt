@@ -3,14 +3,14 @@ use Rattle.std.specs.Prelude.{Bool, not, nat_le, List, [], filter, length, if◌
 use Rattle.rev_core.specs.Rev.{RevId}
 use Rattle.rev_tree.specs.Tree.{TreeValue, leaves, is_deleted}
 
--- the live leaves, winner first
+-- The live leaves of a tree, winner first.
 abbrev pub live : TreeValue → List RevId
 live tree = filter (λ r. not (is_deleted tree r)) (leaves tree)
 
--- whether a document is in conflict: it has two or more live leaves
+-- Whether a document is in conflict, because its tree has two or more live leaves.
 abbrev pub in_conflict : TreeValue → Bool
 in_conflict tree = nat_le 2 (length (live tree))
 
--- the leaves in conflict: the live ones, if there are two or more
+-- The leaves in conflict: the live leaves of a tree, if there are two or more.
 abbrev pub conflicting : TreeValue → List RevId
 conflicting tree = if in_conflict tree then live tree else []

@@ -10,12 +10,12 @@ use Rattle.couch_base.specs.Feed.{RowValue, chosen_feed}
 use Rattle.repl_peer.specs.peer.Peer.{PeerValue, SessionValue}
 use Rattle.repl_peer.specs.peer.Covered.{in_ledger}
 
--- all ledgers of a peer are empty
+-- All ledgers of a peer are empty.
 abbrev pub HasNoLedger : PeerValue → Type 0
 HasNoLedger p = (s : SessionValue) → Among s p.sessions → s.ledger ≡ []
 
--- each leaf of a source's selected feed that the target's trees lack is in the ancestry of a document that a session of
--- the target refused
+-- Each leaf of the source's selected feed that the target's trees lack is in the ancestry of a document that a session
+-- of the target refused.
 abbrev pub MissingIsRefused : PeerValue → PeerValue → Choice → Type 0
 MissingIsRefused source target chosen =
     (row : RowValue) → Among row (chosen_feed chosen source.db 0 source.db.update_seq) → (leaf : RevId)

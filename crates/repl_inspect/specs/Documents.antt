@@ -5,10 +5,10 @@ use Rattle.doc_json.specs.Document.{Document}
 use Rattle.couch_base.specs.Database.{Id, DatabaseValue, tree_of}
 use Rattle.couch_base.specs.Messages.{leaf_document}
 
--- each leaf of a tree with its ancestors and its content, winner first
+-- Each leaf of a tree as a document with its ancestors and its content, winner first.
 abbrev pub documents_in : Id → TreeValue → List Document
 documents_in id tree = map (leaf_document id tree) (leaves tree)
 
--- the leaves of a database's document
+-- The leaves of document `id` in a database, as documents.
 abbrev pub documents_at : DatabaseValue → Id → List Document
 documents_at db id = documents_in id (tree_of db.docs id)

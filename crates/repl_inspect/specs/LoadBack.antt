@@ -12,22 +12,22 @@ use Rattle.repl_peer.specs.peer.Writing.{after_load}
 use Rattle.repl_target.specs.replication.Replication.{IsEmpty, SameDocuments}
 use Rattle.repl_inspect.specs.Documents.{documents_at}
 
--- the documents of all leaves in a database's selected feed, in its order, winner first
+-- The documents of all leaves in a database's selected feed, in the feed's order, winner first.
 abbrev pub all_documents : Choice → DatabaseValue → List Document
 all_documents chosen db = flat_map (λ r. documents_at db r.id) (chosen_feed chosen db 0 db.update_seq)
 
--- the peer after loading documents in order
+-- The peer after loading the documents of a list in order.
 abbrev pub after_loads : PeerValue → List Document → PeerValue
 after_loads p [] = p
 after_loads p (d ∷ ds) = after_loads (after_load p d) ds
 
--- all documents are accepted
+-- All documents of a list are accepted when they are loaded in order.
 abbrev pub AllTaken : PeerValue → List Document → Type 0
 AllTaken p [] = Unit {0}
 AllTaken p (d ∷ ds) = IsOk (put_answer p.db d) × AllTaken (after_load p d) ds
 
--- an empty peer with enough sequences accepts the documents of all leaves, and then has each selected document as it
--- is: the same revisions, parents, contents of leaves and winner
+-- An empty peer with enough sequences accepts the documents of all selected leaves. After loading them, each selected
+-- document has the same revisions, parents, contents of leaves and winner.
 abbrev pub LoadBack : DatabaseValue → Type 0
 LoadBack db =
     (chosen : Choice) (p : PeerValue) → IsEmpty p → p.db.update_seq + length (all_documents chosen db) ≤ most

@@ -5,8 +5,8 @@ use Rattle.repl_inspect.specs.Comparing.{ComparisonValue}
 use Rattle.repl_inspect.specs.Counting.{counted}
 use Rattle.repl_inspect.specs.declared.total.Total.{Total}
 
--- the numbers of compared documents, of their leaves, of missing leaves, of contradicting documents, and of differing
--- leaves
+-- The totals of comparisons: the numbers of compared documents, of their leaves, of missing leaves, of contradicting
+-- documents, and of differing leaves.
 abbrev pub total_of : List ComparisonValue → Total
 total_of cs = record {
   documents = counted (length cs);

@@ -11,7 +11,7 @@ use Rattle.repl_target.specs.replication.Leaves.{Leaves}
 use Rattle.repl_network.specs.declared.hop.Hop.{Hop}
 use Rattle.repl_network.specs.Nets.{IsAt}
 
--- the effect on the two peers, whatever the result, on one thread or several
+-- The effect of a replication on its two peers, for every result, on one thread or several.
 pub record Carried (refuses : Document → Bool) (source target : PeerValue) (plan : Plan) (source' target' : PeerValue) : Type 0
   where
     pub source_law : LawfulDatabase source.db
@@ -19,7 +19,7 @@ pub record Carried (refuses : Document → Bool) (source target : PeerValue) (pl
     pub target_law : LawfulDatabase target'.db
     pub leaves : Leaves refuses source target plan source' target'
 
--- the effect on the network: all other peers are unchanged
+-- The effect of a replication on the network, in which all other peers are unchanged.
 pub record Hopped (peers : List PeerValue) (hop : Hop) (peers' : List PeerValue) : Type 0 where
   pub refuses : Document → Bool
   pub source : PeerValue
@@ -34,22 +34,23 @@ pub record Hopped (peers : List PeerValue) (hop : Hop) (peers' : List PeerValue)
   pub others : (n : ℕ) → n ≢ hop.from → n ≢ hop.to → slice_get peers' n ≡ slice_get peers n
   pub carried : Carried refuses source target hop.plan source_then target_then
 
--- if it succeeded, the source's complete selected feed is covered
+-- The effect of a successful replication on the network. If the two peers were consistent, the target covers the
+-- source's complete selected feed.
 pub record Ended (peers : List PeerValue) (hop : Hop) (peers' : List PeerValue) : Type 0 where
   pub hopped : Hopped peers hop peers'
   pub whole : IsTiedPair hopped.source hopped.target hop.plan.chosen
       → CoversFeed hopped.source hopped.target_then hop.plan.chosen hopped.source.db.update_seq
 
--- consecutive successful replications
+-- The effect of consecutive successful replications on the network.
 abbrev pub AllHopped : List PeerValue → List Hop → List PeerValue → Type 0
 AllHopped peers [] peers' = peers' ≡ peers
 AllHopped peers (hop ∷ hops) peers' = (mid : List PeerValue) × Ended peers hop mid × AllHopped mid hops peers'
 
--- each database satisfies its invariant
+-- The database of each peer satisfies its invariant.
 abbrev pub AllLawful : List PeerValue → Type 0
 AllLawful peers = (n : ℕ) (p : PeerValue) → IsAt peers n p → LawfulDatabase p.db
 
--- one peer has changed, and no other
+-- The peer at a place has changed by `change`, and no other peer has changed.
 pub record IsChangedAt (place : ℕ) (change : PeerValue → PeerValue) (peers peers' : List PeerValue) : Type 0 where
   pub before : PeerValue
   pub at : IsAt peers place before

@@ -7,12 +7,12 @@ use Rattle.repl_target.specs.declared.replication.Plan.{Plan}
 use Rattle.repl_network.specs.declared.hop.Hop.{Hop}
 use Rattle.repl_network.specs.Nets.{AllAgree, AllWhole, IsRefusedNowhere, IsSameEverywhere}
 
--- the hops from each place after the first into the hub
+-- The hops from each place after the first to the hub.
 abbrev pub gathers : ℕ → List Plan → List Hop
 gathers n [] = []
 gathers n (plan ∷ plans) = record { from = n + 1; to = 0; plan = plan } ∷ gathers (n + 1) plans
 
--- the hops from the hub into each other place
+-- The hops from the hub to each other place.
 abbrev pub spreads : ℕ → List Plan → List Hop
 spreads n [] = []
 spreads n (plan ∷ plans) = record { from = 0; to = n + 1; plan = plan } ∷ spreads (n + 1) plans
@@ -21,7 +21,7 @@ abbrev pub AllPlansChoose : List Plan → Id → Type 0
 AllPlansChoose [] id = Unit {0}
 AllPlansChoose (plan ∷ plans) id = (is_chosen plan.chosen id ≡ true) × AllPlansChoose plans id
 
--- a document in all peers afterwards
+-- A document after synchronization by a hub: it is the same in all peers.
 pub record Shared (peers' : List PeerValue) (id : Id) : Type 0 where
   pub same : IsSameEverywhere peers' id
   pub agree : AllAgree peers' id

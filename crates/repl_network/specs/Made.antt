@@ -12,17 +12,17 @@ use Rattle.couch_base.specs.Edit.{edited}
 use Rattle.repl_peer.specs.peer.Peer.{PeerValue}
 use Rattle.repl_network.specs.Nets.{IsAt, AllAgree, AllWhole}
 
--- an edit: its parent, whether it deletes, and its body
+-- An edit of a document: its parent, whether it deletes, and its body.
 pub record EditValue : Type 0 where
   pub before : Option RevId
   pub deleted : Bool
   pub body : List ℕ
 
--- the edit makes this revision
+-- Edit e gives revision r its revision id.
 abbrev pub Makes : EditValue → RevId → Type 0
 Makes e r = edit_rev e.before e.deleted e.body ≡ Ok r
 
--- each parent and each content in a tree was given by one of the edits, and histories are complete
+-- Each parent and each content in tree t was given by one of a set of edits, and the tree's histories are complete.
 pub record IsMadeBy (among : EditValue → Bool) (t : TreeValue) : Type 0 where
   pub parents : (c p : RevId) → get t.parents c ≡ Some p
       → (e : EditValue) × (among e ≡ true) × Makes e c × (e.before ≡ Some p)
@@ -33,35 +33,36 @@ pub record IsMadeBy (among : EditValue → Bool) (t : TreeValue) : Type 0 where
 abbrev pub AllMadeBy : (EditValue → Bool) → List PeerValue → Id → Type 0
 AllMadeBy among peers id = (n : ℕ) (p : PeerValue) → IsAt peers n p → IsMadeBy among (tree_of p.db.docs id)
 
--- no two different edits have the same MD5
+-- No two different edits of a set have the same MD5.
 abbrev pub HaveNoCollision : (EditValue → Bool) → Type 0
 HaveNoCollision among =
     (e f : EditValue) → among e ≡ true → among f ≡ true
     → edit_sig e.before e.deleted e.body ≡ edit_sig f.before f.deleted f.body → e ≡ f
 
--- an edit at a place is one of the edits, if it does not fail
+-- An edit at a place of the network, if it does not fail, is one of a set of edits.
 abbrev pub IsOneOf : (EditValue → Bool) → List PeerValue → ℕ → Id → Option RevId → Bool → List ℕ → Type 0
 IsOneOf among peers place id parent deleted body =
     (p : PeerValue) → IsAt peers place p → (e : RevId × Option RevId) → edited p.db id parent deleted body ≡ Ok e
     → among (record { before = e.1; deleted = deleted; body = body }) ≡ true
 
--- documents made by edits without a collision agree everywhere and have complete histories
+-- Documents that were made by a set of edits without a collision agree in all peers and have complete histories.
 abbrev pub MadeAgree : List PeerValue → Type 0
 MadeAgree peers =
     (among : EditValue → Bool) → HaveNoCollision among → (id : Id) → AllMadeBy among peers id
     → AllAgree peers id × AllWhole peers id
 
--- documents with another id stay made by the edits, whichever edits made them
+-- Documents with another id stay made by the set of edits that made them.
 abbrev pub StaysMadeExcept : Id → List PeerValue → List PeerValue → Type 0
 StaysMadeExcept id peers peers' =
     (among : EditValue → Bool) (other : Id) → other ≢ id → AllMadeBy among peers other → AllMadeBy among peers' other
 
--- a document made by a set of edits stays so after an edit of `id`; an edit of that same document must be in the set
+-- A document that a set of edits made stays so after an edit of document `id`. If the edit is of the same document, it
+-- must be in the set.
 abbrev pub StaysMadeByEdit : ℕ → Id → Option RevId → Bool → List ℕ → List PeerValue → List PeerValue → Type 0
 StaysMadeByEdit place id parent deleted body peers peers' =
     (among : EditValue → Bool) (at : Id) → (at ≡ id → IsOneOf among peers place id parent deleted body)
     → AllMadeBy among peers at → AllMadeBy among peers' at
 
--- documents made by the edits stay so
+-- Documents that a set of edits made stay so.
 abbrev pub StaysMade : List PeerValue → List PeerValue → Type 0
 StaysMade peers peers' = (among : EditValue → Bool) (id : Id) → AllMadeBy among peers id → AllMadeBy among peers' id

@@ -20,86 +20,87 @@ use Rattle.repl_target.specs.replication.Replication.{SameDocument}
 use Rattle.repl_target.specs.replication.Sync.{HasRefusedNone}
 use Rattle.repl_network.specs.declared.hop.Hop.{Hop}
 
--- the peers without their filters
+-- The peers of a network without their filters.
 abbrev pub peers_of : {F : Type 0} → List (F × PeerValue) → List PeerValue
 peers_of peers = map (λ p. p.1) peers
 
--- the filters
+-- The filters of a network's peers.
 abbrev pub filters_of : {F : Type 0} → List (F × PeerValue) → List F
 filters_of peers = map (λ p. p.0) peers
 
--- the peer at a place
+-- The peer at place n of the network is p.
 abbrev pub IsAt : List PeerValue → ℕ → PeerValue → Type 0
 IsAt peers n p = slice_get peers n ≡ Some p
 
--- no two places have the same UUID, and every two peers are tied in both directions, for every selection
+-- No two places of a network have the same UUID, and every two peers are consistent in both directions, for every
+-- selection.
 pub record AreTied (peers : List PeerValue) : Type 0 where
   pub apart : (m n : ℕ) (p q : PeerValue) → IsAt peers m p → IsAt peers n q → p.db.uuid ≡ q.db.uuid → m ≡ n
   pub tied : (m n : ℕ) (p q : PeerValue) → IsAt peers m p → IsAt peers n q → m ≢ n → (c : Choice) → IsTiedPair p q c
 
--- the peer at a place has this UUID
+-- The peer at place n has this UUID.
 abbrev pub IsHeldAt : List PeerValue → ℕ → ℕ → Type 0
 IsHeldAt peers uuid n = (p : PeerValue) × IsAt peers n p × (p.db.uuid ≡ uuid)
 
--- one of the peers has this UUID
+-- One of the peers has this UUID.
 abbrev pub IsHeld : List PeerValue → ℕ → Type 0
 IsHeld peers uuid = (n : ℕ) × (p : PeerValue) × IsAt peers n p × (p.db.uuid ≡ uuid)
 
--- all sessions and logs are of replications between two of the peers
+-- All sessions and logs are of replications between two of the peers.
 pub record AreClosed (peers : List PeerValue) : Type 0 where
   pub sessions : (n : ℕ) (p : PeerValue) → IsAt peers n p → (s : SessionValue) → Among s p.sessions
       → IsHeld peers s.rep.source
   pub logs : (n : ℕ) (p : PeerValue) → IsAt peers n p → (rep : RepId) (e : EntryValue) → Among e (log_in p.outgoing rep)
       → IsHeld peers rep.target
 
--- the invariant of a network
+-- The invariant of a network.
 pub record IsNet (peers : List PeerValue) : Type 0 where
   pub tied : AreTied peers
   pub closed : AreClosed peers
 
--- ---- a document in all of them
+-- ---- a document in all peers of a network
 
--- no two trees give a revision two parents or two contents
+-- No two peers' trees of a document give a revision two parents or two contents.
 abbrev pub AllAgree : List PeerValue → Id → Type 0
 AllAgree peers id =
     (m n : ℕ) (p q : PeerValue) → IsAt peers m p → IsAt peers n q → Agree (tree_of p.db.docs id) (tree_of q.db.docs id)
 
--- histories are complete everywhere
+-- The trees of a document have complete histories in all peers.
 abbrev pub AllWhole : List PeerValue → Id → Type 0
 AllWhole peers id = (n : ℕ) (p : PeerValue) → IsAt peers n p → IsWhole (tree_of p.db.docs id)
 
--- no peer has refused the document
+-- No peer has refused the document.
 abbrev pub IsRefusedNowhere : List PeerValue → Id → Type 0
 IsRefusedNowhere peers id = (n : ℕ) (p : PeerValue) → IsAt peers n p → HasRefusedNone p id
 
--- the document is the same everywhere
+-- The document is the same in all peers.
 abbrev pub IsSameEverywhere : List PeerValue → Id → Type 0
 IsSameEverywhere peers id =
     (m n : ℕ) (p q : PeerValue) → IsAt peers m p → IsAt peers n q → SameDocument p.db q.db id
 
 -- ---- replications
 
--- each plan selects the document
+-- Each hop's plan selects the document.
 abbrev pub AllChoose : List Hop → Id → Type 0
 AllChoose [] id = Unit {0}
 AllChoose (h ∷ hops) id = (is_chosen h.plan.chosen id ≡ true) × AllChoose hops id
 
--- a chain of replications leads from one place to another: some of them in order, each from where the previous one
--- ended
+-- A chain of hops leads from one place to another: some of the hops in order, each from the place that the previous one
+-- led to.
 abbrev pub Leads : List Hop → ℕ → ℕ → Type 0
 Leads [] from to = from ≡ to
 Leads (h ∷ hops) from to = Leads hops from to ⊎ (from ≡ h.from) × Leads hops h.to to
 
--- a chain leads from every place to every other
+-- A chain of hops leads from every place to every other place.
 abbrev pub LeadsEverywhere : List Hop → ℕ → Type 0
 LeadsEverywhere hops count = (m n : ℕ) → m < count → n < count → Leads hops m n
 
 -- ---- guarantees
 
--- the effect of consecutive replications on a document that each plan selects and no peer has refused, if the peers are
--- tied and its trees agreed and had complete histories: if a chain leads from one place to another, all revisions of
--- the first were brought to the second; if chains lead everywhere, the document is the same everywhere; each revision
--- was somewhere before; and the trees agree again and have complete histories
+-- The effect of consecutive hops on a document that each plan selects and no peer has refused. The peers must be
+-- consistent, and the document's trees must have agreed and had complete histories. If a chain leads from one place to
+-- another, the second has all revisions that the first had. If chains lead everywhere, the document is the same
+-- everywhere. Each revision was somewhere before, and the trees again agree and have complete histories.
 pub record Spreads (peers : List PeerValue) (hops : List Hop) (peers' : List PeerValue) (id : Id) : Type 0 where
   pub along : (m n : ℕ) (p q : PeerValue) → IsAt peers m p → IsAt peers' n q → Leads hops m n
       → (r : RevId) → has (tree_of p.db.docs id) r ≡ true → has (tree_of q.db.docs id) r ≡ true
@@ -116,15 +117,15 @@ Spread peers hops peers' =
 
 -- ---- writes
 
--- a document as a tree of its own
+-- The revision tree that has only the ancestry and content of document d.
 abbrev pub tree_alone : Document → TreeValue
 tree_alone d = merged no_revisions d.ancestry (content_of d.deleted d.body) (Local 0)
 
--- the document gives no revision another parent or content than a peer has
+-- Document d gives no revision another parent or content than a peer of the network has.
 abbrev pub FitsIn : List PeerValue → Document → Type 0
 FitsIn peers d = (n : ℕ) (p : PeerValue) → IsAt peers n p → Agree (tree_of p.db.docs d.id) (tree_alone d)
 
--- the document's history is complete, or ends at a revision that the peer has
+-- The history of document d is complete, or ends at a revision that the peer has.
 abbrev pub IsRooted : DatabaseValue → Document → Type 0
 IsRooted db d =
     (r : RevId) → IsRoot (tree_alone d) r → (r.generation ≡ 1) ⊎ (has (tree_of db.docs d.id) r ≡ true)
@@ -132,13 +133,13 @@ IsRooted db d =
 abbrev pub IsRootedAt : List PeerValue → ℕ → Document → Type 0
 IsRootedAt peers place d = (p : PeerValue) → IsAt peers place p → IsRooted p.db d
 
--- the document of an edit gives no revision another parent or content; this holds if no two different edits have the
--- same MD5
+-- The document of an edit gives no revision another parent or content than a peer has. This holds if no two different
+-- edits have the same MD5.
 abbrev pub EditFits : List PeerValue → ℕ → Id → Option RevId → Bool → List ℕ → Type 0
 EditFits peers place id parent deleted body =
     (p : PeerValue) → IsAt peers place p → (e : RevId × Option RevId) → edited p.db id parent deleted body ≡ Ok e
     → FitsIn peers (edit_document id e deleted body)
 
--- if the trees of a document agreed and had complete histories, they still do
+-- If the trees of a document agreed and had complete histories before, they still do.
 abbrev pub KeepsAgreement : List PeerValue → List PeerValue → Id → Type 0
 KeepsAgreement peers peers' id = AllAgree peers id → AllWhole peers id → AllAgree peers' id × AllWhole peers' id

@@ -19,7 +19,8 @@ use Rattle.repl_network.specs.Hubs.{gathers, spreads}
 
 -- ---- replications
 
--- a hop between two existing places: a replication with its plan, on one thread; all other peers are unchanged
+-- The effect of a hop between two existing places. It is a replication by the hop's plan on one thread, and all other
+-- peers are unchanged.
 pub record IsHop {F : Type 0} (refuses : F → Document → Bool) (peers : List (F × PeerValue)) (hop : Hop)
     (result : Result Report TargetFault) (peers' : List (F × PeerValue)) : Type 0 where
   pub source : F × PeerValue
@@ -34,7 +35,8 @@ pub record IsHop {F : Type 0} (refuses : F → Document → Bool) (peers : List 
   pub others : (n : ℕ) → n ≢ hop.from → n ≢ hop.to → slice_get peers' n ≡ slice_get peers n
   pub replicates : Replicates (refuses target.0) source.1 target.1 hop.plan result source_then target_then
 
--- the result of the hop at an index: first checks that the two places exist and differ; then that of the replication
+-- The result of a hop at an index of the list of hops. The first checks are that the two places exist and differ, and
+-- the replication follows.
 pub data TakesHop {F : Type 0} (refuses : F → Document → Bool) (at : ℕ) (peers : List (F × PeerValue)) (hop : Hop)
     : Result Report NetFault → List (F × PeerValue) → Type 0 where
   no_source : length peers ≤ hop.from → TakesHop refuses at peers hop (Err (faults.NoPeer hop.from)) peers
@@ -47,7 +49,7 @@ pub data TakesHop {F : Type 0} (refuses : F → Document → Bool) (at : ℕ) (p
   taken : {report : Report} {peers' : List (F × PeerValue)} → IsHop refuses peers hop (Ok report) peers'
       → TakesHop refuses at peers hop (Ok report) peers'
 
--- hops from an index on, in order, until one fails
+-- The effect of a list of hops in order, until one fails.
 abbrev pub TakesHops : {F : Type 0} → (F → Document → Bool) → ℕ → List (F × PeerValue) → List Hop
     → Result (Unit {0}) NetFault → List (F × PeerValue) → Type 0
 TakesHops refuses at peers [] result peers' = (result ≡ Ok tt) × (peers' ≡ peers)
@@ -56,11 +58,12 @@ TakesHops {F = F} refuses at peers (hop ∷ hops) result peers' =
     × TakesHops refuses (at + 1) mid hops result peers')
     ⊎ ((why : NetFault) × TakesHop refuses at peers hop (Err why) peers' × (result ≡ Err why))
 
--- there is exactly one plan in each direction for each peer other than the hub
+-- There is exactly one plan in each direction for each peer other than the hub.
 abbrev pub ArePlanned : ℕ → List Plan → List Plan → Type 0
 ArePlanned count there back = (count ≡ length there + 1) × (count ≡ length back + 1)
 
--- otherwise nothing is done; nor if the allocation for the hops fails
+-- The effect of a synchronization by the hub. If the number of plans is wrong, or the allocation for the hops fails,
+-- all peers are unchanged.
 abbrev pub TakesHub : {F : Type 0} → (F → Document → Bool) → List (F × PeerValue) → List Plan → List Plan
     → Result (Unit {0}) NetFault → List (F × PeerValue) → Type 0
 TakesHub refuses peers there back result peers' =
@@ -70,12 +73,12 @@ TakesHub refuses peers there back result peers' =
 
 -- ---- writes
 
--- the error of a peer's call, as an error of the network
+-- The result of a peer's call, with its error converted to one of the network.
 abbrev pub told : {T : Type 0} → Result T BaseFault → Result T NetFault
 told (Ok done) = Ok done
 told (Err why) = Err (faults.Write why)
 
--- the result of a call at a place: that of the peer's call, or `NoPeer`
+-- The result of a call at a place of the network: that of the peer's call, or `NoPeer`.
 abbrev pub AnswersAt : {T : Type 0} → List PeerValue → ℕ → (PeerValue → Result T BaseFault → Type 0) → Result T NetFault
     → Type 0
 AnswersAt {T = T} peers place gives result =
@@ -84,13 +87,14 @@ AnswersAt {T = T} peers place gives result =
 
 -- ---- peers
 
--- why a peer is not added: another peer has its UUID, or an allocation fails
+-- Why a peer is not added to the network: another peer has its UUID, or an allocation fails.
 abbrev pub IsNotAdded : List PeerValue → ℕ → NetFault → Type 0
 IsNotAdded peers uuid why =
     ((place : ℕ) × IsHeldAt peers uuid place × (why ≡ faults.SameUuid place))
     ⊎ (¬ IsHeld peers uuid) × (why ≡ faults.Memory)
 
--- the result of an audit between two places: first checks that they exist; then that of the audit
+-- The result of an audit between two places of the network. The first checks are that the places exist, and the audit
+-- of the two peers follows.
 abbrev pub Audits : List PeerValue → ℕ → ℕ → Choice → Result Audit NetFault → Type 0
 Audits peers source target chosen result =
     (length peers ≤ source) × (result ≡ Err (faults.NoPeer source))

@@ -2,11 +2,11 @@
 use Rattle.std.specs.Prelude.{ℕ, ◌+◌, ◌-◌, ◌/◌, nat_le, min, if◌then◌else◌}
 use Rattle.repl_target.specs.declared.replication.Plan.{Plan}
 
--- the maximum number of windows of a run that has something to read: as many as if each sequence had a row
+-- The maximum number of windows of a run that has something to read, reached if each sequence has a row.
 abbrev pub most_windows : Plan → ℕ → ℕ → ℕ
 most_windows plan start goal = (goal - start - 1) / plan.batch + 1
 
--- the number of workers in each group: that of the plan, but not more than there may be windows; 1 if there is nothing
--- to read
+-- The number of workers in each group: that of the plan, but at most the maximum number of windows. The number is 1 if
+-- there is nothing to read.
 abbrev pub crew_of : Plan → ℕ → ℕ → ℕ
 crew_of plan start goal = if nat_le goal start then 1 else min (most_windows plan start goal) plan.workers

@@ -6,19 +6,19 @@ use Rattle.repl_peer.specs.peer.Peer.{PeerValue, SessionValue, session_in}
 use Rattle.repl_target.specs.declared.replication.Plan.{Plan}
 use Rattle.repl_target.specs.replication.Replication.{start_between, next_window}
 
--- each window is the next one of the source's feed for the plan, from a sequence on
+-- Each window of a list is the next one of the source's feed for the plan, from sequence `since` on.
 abbrev pub ArePages : DatabaseValue → Plan → ℕ → List WindowValue → Type 0
 ArePages source plan since [] = Unit {0}
 ArePages source plan since (w ∷ windows) =
     (since < source.update_seq) × (w ≡ next_window source plan since) × ArePages source plan w.hi windows
 
--- the plan allows n windows
+-- The plan allows n windows.
 abbrev pub AreAllowed : Option ℕ → ℕ → Type 0
 AreAllowed None n = Unit {0}
 AreAllowed (Some stop_after) n = n ≤ stop_after
 
--- the windows of the run's session are consecutive pages of the source's selected feed, of the plan's size, from the
--- common checkpoint on, and no more than the plan allows
+-- The windows of the run's session are consecutive pages of the source's selected feed, from the common checkpoint on.
+-- They have the plan's size, and are no more than the plan allows.
 pub record IsPaged (source target target' : PeerValue) (plan : Plan) : Type 0 where
   pub session : SessionValue
   pub held : session_in target'.sessions plan.session ≡ Some session

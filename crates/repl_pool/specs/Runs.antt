@@ -30,7 +30,7 @@ use Rattle.repl_pool.specs.Pages.{IsPaged}
 
 -- ---- the end of a run whose session has begun
 
--- the session was concluded: nothing failed or stopped, and as much was received as sent
+-- The session of a run was concluded. No worker failed or stopped, and all parcels that were sent were received.
 pub record IsConcluded (plan : Plan) (fault : Option PoolFault) (complete : Bool) (before after : PeerValue)
     (report : Report) : Type 0 where
   pub free : fault ≡ None
@@ -38,12 +38,13 @@ pub record IsConcluded (plan : Plan) (fault : Option PoolFault) (complete : Bool
   pub answer : conclude_answer before plan.session ≡ Ok report
   pub peer : after ≡ after_conclude before plan.session plan.at
 
--- the error for a session that is recorded but not concluded: unfinished at its low water
+-- The error of a run whose session is recorded but not concluded: unfinished at the session's low water.
 abbrev pub unfinished_at : Result ℕ TargetFault → PoolFault
 unfinished_at (Ok low_water) = faults.Refused (refusals.Unfinished low_water)
 unfinished_at (Err why) = faults.Refused why
 
--- the session was recorded: something failed or stopped; or less was received than sent; or it cannot be concluded
+-- The session of a run was recorded, because a worker failed or stopped, fewer parcels were received than sent, or the
+-- session cannot be concluded.
 pub data IsRecorded (plan : Plan) (fault : Option PoolFault) (complete : Bool) (before after : PeerValue) : PoolFault
     → Type 0 where
   stopped : {why : PoolFault} → fault ≡ Some why → after ≡ after_record before plan.session plan.at
@@ -53,13 +54,14 @@ pub data IsRecorded (plan : Plan) (fault : Option PoolFault) (complete : Bool) (
   refused : {why : TargetFault} → fault ≡ None → complete ≡ true → conclude_answer before plan.session ≡ Err why
       → after ≡ closed before plan → IsRecorded plan fault complete before after (faults.Refused why)
 
--- the outcome stays, unless it is Ok and the allocation for the entry at the source fails
+-- The outcome of a run after its last step. The outcome stays, unless it is `Ok` and the allocation for the entry at
+-- the source fails.
 abbrev pub UnlessMemory : Result Report PoolFault → Result Report PoolFault → Type 0
 UnlessMemory (Ok report) result = (result ≡ Ok report) ⊎ (result ≡ Err faults.Memory)
 UnlessMemory (Err why) result = result ≡ Err why
 
--- the entry of the target's session is stored at the source, or skipped if it is older, or the allocation for it fails;
--- it does not fail if the run is Ok
+-- The entry of the target's session is stored at the source, or ignored if it is older, or the allocation for it fails.
+-- If the run succeeded, the allocation did not fail.
 pub record PutsEntry (source target source' : PeerValue) (plan : Plan) (outcome : Result Report PoolFault) : Type 0
   where
     pub entry : EntryValue
@@ -68,7 +70,8 @@ pub record PutsEntry (source target source' : PeerValue) (plan : Plan) (outcome 
     pub puts : PutsOver source (rep_between source target plan.chosen) entry put source'
     pub done : IfOk outcome (λ _. put ≡ Ok tt)
 
--- the session is concluded or recorded at the target that the workers left, and the entry is stored
+-- The end of a run. The session is concluded or recorded at the target that the workers left, and the session's entry
+-- is stored at the source.
 pub data ClosesRun (plan : Plan) (fault : Option PoolFault) (complete : Bool)
     (source before source' after : PeerValue) : Result Report PoolFault → Type 0 where
   concluded : {report : Report} {outcome : Result Report PoolFault}
@@ -80,9 +83,9 @@ pub data ClosesRun (plan : Plan) (fault : Option PoolFault) (complete : Bool)
       → PutsEntry source after source' plan (Err why)
       → ClosesRun plan fault complete source before source' after (Err why)
 
--- with the facts about the workers: the target has grown from the given one, the windows of its session are pages of
--- the source, each halt is allowed by the gate or is the error of a worker's call, and if nothing was stopped and
--- everything was received, the session has read what the fetchers fetched
+-- The end of a run, with what is known about its workers. The target has grown from the given one, and the windows of
+-- its session are pages of the source. Each halt is allowed by the gate or is the error of a worker's call. If no
+-- worker stopped and all parcels were received, the session has read the documents that the fetchers counted.
 pub record EndsRun {F : Type 0} (refuses : F → Document → Bool) (may_fill : Type 0) (may_stop : Place → Type 0)
     (plan : Plan) (source : PeerValue) (given : F × PeerValue) (counts : List ℕ) (source' after : PeerValue)
     (outcome : Result Report PoolFault) : Type 0 where
@@ -98,7 +101,8 @@ pub record EndsRun {F : Type 0} (refuses : F → Document → Bool) (may_fill : 
 
 -- ---- a run
 
--- an early error leaves both peers unchanged, and nothing is fetched; without one, the outcome is not an early error
+-- An error of the plan leaves both peers unchanged, and no document is fetched. If the plan is valid, the outcome is
+-- not such an error.
 abbrev pub EarlyOrLate : {F : Type 0} → Type 0 → (Place → Type 0) → Result (Unit {0}) PoolFault → F × PeerValue
     → F × PeerValue → F × PeerValue → F × PeerValue → List ℕ → Result Report PoolFault → Type 0
 EarlyOrLate may_fill may_stop (Err why) source target source' target' fetched outcome =
@@ -106,26 +110,26 @@ EarlyOrLate may_fill may_stop (Err why) source target source' target' fetched ou
 EarlyOrLate may_fill may_stop (Ok done) source target source' target' fetched outcome =
     IfErr outcome (IsLateOn may_fill may_stop)
 
--- why a session has not begun: an early error, a failed allocation, or an error of beginning
+-- Why the session of a run has not begun: an error of the plan, a failed allocation, or an error of beginning.
 abbrev pub IsUnbegunFor : PeerValue → PeerValue → Plan → PoolFault → Type 0
 IsUnbegunFor source target plan fault =
     (early_answer source target plan ≡ Err fault)
     ⊎ (fault ≡ faults.Refused refusals.Memory)
     ⊎ (why : TargetFault) × (begins_answer source target plan ≡ Err why) × (fault ≡ faults.Refused why)
 
--- the outcome is this error
+-- The outcome is the error for which the session has not begun.
 pub record IsUnbegun (source target : PeerValue) (plan : Plan) (outcome : Result Report PoolFault) : Type 0 where
   pub fault : PoolFault
   pub told : outcome ≡ Err fault
   pub due : IsUnbegunFor source target plan fault
 
--- an unfinished run returns the low water of its session, which is the recorded sequence
+-- An unfinished run returns the low water of its session, which is the recorded sequence.
 abbrev pub TellsLowWater : PeerValue → SessionId → PoolFault → Type 0
 TellsLowWater target run (faults.Refused (refusals.Unfinished n)) =
     (s : SessionValue) × (session_in target.sessions run ≡ Some s) × (n ≡ low_water s.front) × (n ≡ s.recorded)
 TellsLowWater target run fault = Unit {0}
 
--- the session has begun, its windows are pages of the source, and its entry is stored at the source
+-- The session of a run has begun, its windows are pages of the source, and its entry is stored at the source.
 pub record IsBegun (source target source' target' : PeerValue) (plan : Plan) (outcome : Result Report PoolFault) : Type 0
   where
     pub begun : begins_answer source target plan ≡ Ok tt
@@ -133,60 +137,63 @@ pub record IsBegun (source target source' target' : PeerValue) (plan : Plan) (ou
     pub put : PutsEntry source target' source' plan outcome
     pub unfinished : IfErr outcome (TellsLowWater target' plan.session)
 
--- if the session has not begun, both peers are unchanged; otherwise its entry is stored at the source
+-- The effect of a run by whether its session has begun. If the session has not begun, both peers are unchanged,
+-- otherwise its entry is stored at the source.
 abbrev pub LeavesOrPuts : {F : Type 0} → Plan → F × PeerValue → F × PeerValue → F × PeerValue → F × PeerValue
     → Result Report PoolFault → Type 0
 LeavesOrPuts plan source target source' target' outcome =
     (source' ≡ source) × (target' ≡ target) × IsUnbegun source.1 target.1 plan outcome
     ⊎ IsBegun source.1 target.1 source'.1 target'.1 plan outcome
 
--- the guarantees of a successful run: the report is that of the plan's session, which began at the common checkpoint
--- and is recorded at its goal; the source's selected feed above the start is covered; if the target was empty and
--- nothing was refused, each selected document is as it is at the source; and the fetchers' counts add up to the
--- documents read
+-- The guarantees of a successful run. The report is that of the plan's session, which began at the common checkpoint
+-- and has recorded its goal. The target covers the source's selected feed above the start. If the target was empty and
+-- refused no document, each selected document is as it is at the source. The fetchers' counts add up to the documents
+-- read.
 pub record EndsWell (source target target' : PeerValue) (plan : Plan) (n : ℕ) (report : Report) : Type 0 where
   pub reported : IsReported source target target' plan report
   pub covered : CoversFrom source target' plan.chosen (start_between source target plan.chosen)
   pub copied : IsEmpty target → report.counts.failures ≡ 0 → SameDocuments plan.chosen source.db target'.db
   pub sum : n ≡ report.counts.read
 
--- the filter is the given one; the peer is unchanged, or the plan's session has begun and the peer has grown since
+-- The filter is the given one, and the peer is unchanged, or the plan's session has begun and the peer has grown since.
 abbrev pub LeftPeer : {F : Type 0} → (F → Document → Bool) → PeerValue → F × PeerValue → Plan → F × PeerValue → Type 0
 LeftPeer refuses source given plan now = (now.0 ≡ given.0) × IsLeft (refuses given.0) source given.1 plan now.1
 
--- the result of a run of the pool, and the two peers that it returns; a board may be found full if there is one
+-- The result of a run of the pool, and the two peers that it returns. If there is a board, one of its counters may be
+-- full.
 pub record RunsOn {F : Type 0} (refuses : F → Document → Bool) (may_fill : Type 0) (may_stop : Place → Type 0)
     (plan : Plan) (source target source' target' : F × PeerValue) (fetched : List ℕ) (outcome : Result Report PoolFault)
     : Type 0 where
-  -- the four early errors are returned exactly if their conditions hold; later, a halt only if the gate allows it, a
-  -- full board only if possible, and never a hole
+  -- Each of the four errors of a plan is returned exactly if its condition holds. For a valid plan, the error is a halt
+  -- only if the gate allows it, a full board only if possible, and never a hole.
   pub early : EarlyOrLate may_fill may_stop (early_answer source.1 target.1 plan) source target source' target' fetched
       outcome
-  -- only the source's log changes
+  -- Of the source only the log changes.
   pub filter : source'.0 ≡ source.0
   pub log : source'.1 ≡ record source.1 { outgoing = source'.1.outgoing }
-  -- the target is unchanged, or the session has begun and the target has grown by calls with messages of the source
+  -- The target is unchanged, or the session has begun and the target has grown by calls with messages of the source.
   pub grown : LeftPeer refuses source.1 target plan target'
-  -- the target keeps everything it had, and tied peers stay tied, with each backup of the source, for every selection
+  -- The target keeps everything it had, and tied peers stay tied, with each backup of the source, for every selection.
   pub later : IsLaterPeer target.1 target'.1
   pub tied : (chosen : Choice) (backups : List BackupValue) → IsTiedWith backups source.1 target.1 chosen
       → IsTiedWith backups source'.1 target'.1 chosen
-  -- another peer stays tied to the source and to the target; in two of four cases it must have a UUID of its own
+  -- Another peer stays tied to the source and to the target. In two of four cases it must have a UUID of its own.
   pub others : KeepsOthersTied source.1 target.1 source'.1 target'.1
-  -- an audit of the returned peers is clean if they were tied
+  -- An audit of the returned peers is clean if they were tied.
   pub audited : (chosen : Choice) → IsTiedPair source.1 target.1 chosen
       → audit_answer source'.1 target'.1 chosen ≡ None
-  -- both are unchanged and the error says why, or the session has begun and has read pages of the source, and its entry
-  -- is stored there
+  -- If the session has not begun, both peers are unchanged and the error says why. If the session has begun, it has
+  -- read pages of the source, and its entry is stored at the source.
   pub put : LeavesOrPuts plan source target source' target' outcome
-  -- the guarantees on Ok
+  -- The guarantees of a run that succeeded.
   pub well : IfOk outcome (EndsWell source.1 target.1 target'.1 plan (sum fetched))
-  -- if the peers were tied, the source's complete selected feed is covered, including the part at or below the start
+  -- If the peers were tied, the target covers the source's complete selected feed, including the part at or below the
+  -- start.
   pub whole : IfOk outcome
       (λ _. IsTiedPair source.1 target.1 plan.chosen
       → CoversFeed source.1 target'.1 plan.chosen source.1.db.update_seq)
 
--- a run without a board
+-- The result of a run without a progress board, and the two peers that it returns.
 abbrev pub Runs : {F : Type 0} → (F → Document → Bool) → (Place → Type 0) → Plan → F × PeerValue → F × PeerValue
     → F × PeerValue → F × PeerValue → List ℕ → Result Report PoolFault → Type 0
 Runs refuses may_stop plan source target source' target' fetched outcome =

@@ -20,7 +20,7 @@ use Rattle.repl_peer.specs.declared.fault.TargetFault.{TargetFault}
 use Rattle.repl_world.specs.Bags.{IsBag}
 use Rattle.repl_world.specs.Worlds.{WorldValue, rep_of}
 
--- the invariants of the parts of a world, by their types
+-- The invariants that the parts of world w have by their types.
 pub record IsWorld (refuses : Document → Bool) (w : WorldValue) : Type 0 where
   pub source : LawfulDatabase w.source.db
   pub target : Lawful refuses w.target
@@ -28,7 +28,8 @@ pub record IsWorld (refuses : Document → Bool) (w : WorldValue) : Type 0 where
 
 -- ---- tied worlds
 
--- a request, or a parcel, agrees with its own window, which has that index, if the window is from the source's life
+-- A request or a parcel is consistent with its window, which has index `place` in the bag, if the window is from the
+-- source's life.
 pub record OwnAsked (w : WorldValue) (place : ℕ) (a : AskedValue) : Type 0 where
   pub window : WindowValue
   pub own : slice_get w.bag.windows place ≡ Some window
@@ -40,30 +41,31 @@ pub record OwnParcel (w : WorldValue) (place : ℕ) (p : ParcelValue) : Type 0 w
   pub tied : window.life ≡ w.source.db.life → IsTiedParcel w.target.db window p
 
 pub record Tied (w : WorldValue) : Type 0 where
-  -- the two peers are tied, with each backup of the source
+  -- The two peers of the world are consistent, with each backup of the source.
   pub peers : IsTiedWith w.backups w.source w.target w.chosen
-  -- no window or log of the bag is from a later life than the source's database
+  -- No window or log of the bag is from a later life than the source's database.
   pub window_lives : (x : WindowValue) → Among x w.bag.windows → x.life ≤ w.source.db.life
   pub log_lives : (g : ℕ × List EntryValue) → Among g w.bag.logs → g.0 ≤ w.source.db.life
-  -- those of its life, with their requests and parcels, agree with the database as it is now
+  -- The windows of the source's life, with their requests and parcels, are consistent with the database as it is now.
   pub windows : (x : WindowValue) → Among x w.bag.windows → x.life ≡ w.source.db.life
       → IsTiedWindow w.source.db w.chosen x
   pub asked : (a : ℕ × AskedValue) → Among a w.bag.asked → OwnAsked w a.0 a.1
   pub parcels : (p : ℕ × ParcelValue) → Among p w.bag.parcels → OwnParcel w p.0 p.1
   pub logs : (g : ℕ × List EntryValue) → Among g w.bag.logs → g.0 ≡ w.source.db.life
       → AreTiedEntries w.source.db w.target (rep_of w) g.1
-  -- each entry of the bag was the entry of a session of the target
+  -- Each entry of the bag was the entry of a session of the target.
   pub entries : (e : EntryValue) → Among e w.bag.entries → IsSentEntry w.target e
 
--- the target has no session of the replication, and the source no entry of it; they may have some of other selections
+-- The target has no session of the replication, and the source no entry of it. They may have sessions and entries of
+-- other selections.
 pub record HoldNone (source target : PeerValue) (chosen : Choice) : Type 0 where
   pub sessions : (s : SessionValue) → Among s target.sessions → s.rep ≡ rep_between source target chosen → ⊥
   pub log : source_log source (rep_between source target chosen) ≡ []
 
 -- ---- the guarantees of tied worlds
 
--- settling a parcel of the bag never returns `Uncovered`, if the session has the parcel's own window and that is from
--- the source's life
+-- Settling a parcel of the bag never returns `Uncovered`, if the session has the parcel's own window and this window is
+-- from the source's life.
 abbrev pub NeverUncovered : (Document → Bool) → WorldValue → Type 0
 NeverUncovered refuses w =
     (p : ℕ × ParcelValue) → Among p w.bag.parcels
@@ -72,8 +74,9 @@ NeverUncovered refuses w =
     → (result : Result Settled TargetFault) (now : PeerValue) → SettleGives refuses w.target s.id p.1 result now
     → is_uncovered result ≡ false
 
--- for the source's own feed, what both logs claim is covered, and so is the common checkpoint; an audit finds nothing;
--- and settling a parcel for its own window never returns `Uncovered`
+-- The guarantees of a consistent world. For the source's own feed, what both logs claim is covered, and so is the
+-- common checkpoint. An audit finds no leaf that is not covered. Settling a parcel for its own window never returns
+-- `Uncovered`.
 pub record IsTrustworthy (refuses : Document → Bool) (w : WorldValue) : Type 0 where
   pub tied : Tied w
   pub honest : LogsAreHonest w.source w.target w.chosen

@@ -3,10 +3,10 @@
 -- A replication exchanges messages: pages of the source's feed, requests for what the target lacks, parcels of
 -- documents, and log entries. Messages between two databases may be late, repeated, reordered or lost. A world is both
 -- peers with every message that was ever sent and not lost. A step is one call on a peer, with any message of the bag.
--- A message stays in the bag when it is used, so it can be used again, and steps need not follow each other. Backups of
--- the source are beside the bag; one of them may be restored at any time, and the source's database then begins another
--- life. A crash loses all messages, and nothing else. What holds after every list of steps holds for every exchange
--- between the two databases, whoever else writes to them meanwhile.
+-- A message stays in the bag when it is used, so it can be used again, and steps need not follow each other. A world
+-- also has backups of the source. If a backup is restored, the source's database begins another life. A crash loses all
+-- messages, but the peers and the backups stay. What holds after every list of steps holds for every exchange between
+-- the two databases, even if other clients write to them meanwhile.
 use Rattle.std.specs.Prelude.{◌≡◌, ◌⊎◌, ℕ, ◌==◌, ◌≤◌, List, [], ◌∷◌, ◌++◌, Bool, if◌then◌else◌, Option, Some, None, IfSome, Result, Ok, Err, take, slice_get}
 use Rattle.rev_tree.specs.declared.origin.SessionId.{SessionId}
 use Rattle.doc_json.specs.Document.{Document}
@@ -34,7 +34,7 @@ use Rattle.repl_world.specs.declared.step.Step.{Step}
 use Rattle.repl_world.specs.declared.step.Step.TheVariants.{EditSource, EditTarget, LoadSource, ThirdParty, ReadLog, Begin, Page, Append, Diff, Fetch, Settle, Record, Conclude, PutEntry, Backup, Restore, Crash}
 use Rattle.repl_world.specs.Bags.{BagValue, empty_bag, with_window, with_asked, with_parcel, with_log, told, told_where}
 
--- the selection is that of the replication from the source to the target
+-- A world: two peers, the selection of their replication, the messages in transit, and the backups of the source.
 pub record WorldValue : Type 0 where
   pub source : PeerValue
   pub target : PeerValue
@@ -53,17 +53,17 @@ new_world source target chosen = record {
   backups = [];
 }
 
--- a database is not replicated into itself
+-- The result of creating a world, `SamePeer` if source and target have the same UUID.
 abbrev pub new_answer : {F : Type 0} → F × PeerValue → F × PeerValue → Choice → Result ((F × F) × WorldValue) WorldFault
 new_answer source target chosen =
     if source.1.db.uuid == target.1.db.uuid then Err SamePeer
     else Ok ((source.0, target.0), new_world source.1 target.1 chosen)
 
--- the replication from the source to the target
+-- The replication id from the source to the target of world w.
 abbrev pub rep_of : WorldValue → RepId
 rep_of w = rep_between w.source w.target w.chosen
 
--- ---- the effect of each step; an index that is not in the bag changes nothing
+-- ---- the effect of each step; an index that is not in the bag changes no part of the world
 
 abbrev pub paged : WorldValue → Result WindowValue BaseFault → WorldValue
 paged w (Ok x) = record w { bag = with_window w.bag x }
@@ -85,22 +85,23 @@ abbrev pub settles : (Document → Bool) → WorldValue → SessionId → Option
 settles refuses w session None = w
 settles refuses w session (Some p) = record w { target = after_settle refuses w.target session p.1 }
 
--- settling ran out of memory after n documents, or after those that can be settled, if they are fewer
+-- The world after settling ran out of memory after n documents, or after all that can be settled if these are fewer
+-- than n.
 abbrev pub stops : (Document → Bool) → WorldValue → SessionId → ℕ → Option (ℕ × ParcelValue) → WorldValue
 stops refuses w session n None = w
 stops refuses w session n (Some p) = record w { target = after_some refuses w.target session p.1 n }
 
--- the current log entry of a session
+-- The current log entry of a session of the target.
 abbrev pub entry_in : PeerValue → SessionId → Result EntryValue TargetFault
 entry_in p session = session_answer p session (λ (s : SessionValue). Ok (entry_of s))
 
--- records a session, and puts its new entry into the bag
+-- The world after a session is recorded and its new entry is added to the bag.
 abbrev pub records : WorldValue → SessionId → ℕ → WorldValue
 records w session at =
     let now = after_record w.target session at in
     record w { target = now; bag = told w.bag (entry_in now session) }
 
--- concludes a session, and puts its entry into the bag if that succeeds
+-- The world after a session is concluded. If this succeeds, the session's entry is added to the bag.
 abbrev pub concludes : WorldValue → SessionId → ℕ → WorldValue
 concludes w session at =
     let now = after_conclude w.target session at in
@@ -113,18 +114,18 @@ puts w (Some e) = record w { source = after_put_entry w.source (rep_of w) e }
 abbrev pub crashed : WorldValue → WorldValue
 crashed w = record w { bag = empty_bag }
 
--- the source's current log of the replication, with the life in which it is read
+-- The source's current log of the replication, with the life in which it is read.
 abbrev pub log_of_source : WorldValue → ℕ × List EntryValue
 log_of_source w = (w.source.db.life, source_log w.source (rep_of w))
 
 abbrev pub reads_log : WorldValue → WorldValue
 reads_log w = record w { bag = with_log w.bag (log_of_source w) }
 
--- the common checkpoint of a log that was read and the target's log
+-- The common checkpoint of a log that was read and the target's log.
 abbrev pub agreed : WorldValue → List EntryValue → Option (SessionId × ℕ)
 agreed w log = common log (target_log w.target (rep_of w))
 
--- a session begins there, in the life of that log
+-- The parameters of a session that begins at the common checkpoint with a log of the bag, in the life of that log.
 abbrev pub beginning_in : WorldValue → ℕ → ℕ × List EntryValue → Beginning
 beginning_in w goal log = record {
   scope = record { rep = rep_of w; life = log.0; base = base_at (agreed w log.1); goal = goal };
@@ -135,7 +136,7 @@ abbrev pub begins : WorldValue → SessionId → ℕ → ℕ → Option (ℕ × 
 begins w session goal at None = w
 begins w session goal at (Some log) = record w { target = after_begin w.target session (beginning_in w goal log) at }
 
--- adds a backup of the source, if it may be backed up
+-- The world after adding a backup of the source, if making the backup succeeded.
 abbrev pub backs_up : WorldValue → Result BackupValue TargetFault → WorldValue
 backs_up w (Ok b) = record w { backups = w.backups ++ b ∷ [] }
 backs_up w (Err fault) = w
@@ -163,15 +164,15 @@ happens refuses w Backup = backs_up w (backup_answer w.source)
 happens refuses w (Restore backup) = restores w (slice_get w.backups backup)
 happens refuses w Crash = crashed w
 
--- the world after a list of steps
+-- The world after a list of steps.
 abbrev pub run : (Document → Bool) → WorldValue → List Step → WorldValue
 run refuses w [] = w
 run refuses w (step ∷ steps) = run refuses (happens refuses w step) steps
 
 -- ---- steps that run out of memory
 
--- a step that ran out of memory changes nothing, except that settling may have settled some of the documents that it
--- could settle
+-- The effect of a step that ran out of memory. It changes no part of the world, except that settling may have settled a
+-- part of the documents that it could settle.
 abbrev pub IsStopped : (Document → Bool) → WorldValue → SessionId → Option (ℕ × ParcelValue) → WorldValue → Type 0
 IsStopped refuses w session parcel now =
     (now ≡ w)
@@ -182,7 +183,7 @@ abbrev pub CutShort : (Document → Bool) → WorldValue → Step → WorldValue
 CutShort refuses w (Settle session parcel) now = IsStopped refuses w session (slice_get w.bag.parcels parcel) now
 CutShort refuses w step now = now ≡ w
 
--- a run that ran out of memory: the steps before one are done, and that one is partial
+-- The effect of a run that ran out of memory. The steps before one are done, and this one is partial.
 abbrev pub StoppedIn : (Document → Bool) → WorldValue → List Step → WorldValue → Type 0
 StoppedIn refuses w steps now =
     (k : ℕ) × (step : Step) × (slice_get steps k ≡ Some step) × CutShort refuses (run refuses w (take k steps)) step now

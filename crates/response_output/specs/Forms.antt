@@ -1,9 +1,9 @@
--- The text around the items that are written: docs/PROFILE.md, "CouchDB's answers" and "Lines of documents".
+-- The text around the items that the formatter writes: docs/PROFILE.md, "CouchDB's answers" and "Lines of documents".
 use Rattle.std.specs.Prelude.{ℕ, List, [], Bool, true, false, codes}
 use Rattle.response_output.specs.declared.forms.Form.{Form}
 use Rattle.response_output.specs.declared.forms.Form.TheVariants.{Loads, Asked, Diffs, Docs, Bodies}
 
--- the text that opens a body
+-- The text that opens a body of the given form.
 abbrev pub opening : Form → List ℕ
 opening Loads = []
 opening Asked = codes "{\"docs\":["
@@ -11,7 +11,7 @@ opening Diffs = codes "{"
 opening Docs = []
 opening Bodies = codes "{\"new_edits\":false,\"docs\":["
 
--- the text between two items of a body
+-- The text between two items of a body.
 abbrev pub separator : Form → List ℕ
 separator Loads = []
 separator Asked = codes ","
@@ -19,7 +19,7 @@ separator Diffs = codes "],"
 separator Docs = []
 separator Bodies = codes ","
 
--- the text after each item
+-- The text after each item of a body.
 abbrev pub ends : Form → List ℕ
 ends Loads = codes "}\n"
 ends Asked = codes "}"
@@ -27,7 +27,7 @@ ends Diffs = []
 ends Docs = codes "}\n"
 ends Bodies = []
 
--- the text that closes a body
+-- The text that closes a body of the given form.
 abbrev pub closing : Form → List ℕ
 closing Loads = []
 closing Asked = codes "]}\n"
@@ -35,7 +35,7 @@ closing Diffs = codes "]}\n"
 closing Docs = []
 closing Bodies = codes "]}\n"
 
--- the body that is written if there is nothing else to write
+-- The body that is written if there are no items to write.
 abbrev pub empty : Form → List ℕ
 empty Loads = []
 empty Asked = codes "{\"docs\":[]}\n"
@@ -43,7 +43,7 @@ empty Diffs = codes "{}\n"
 empty Docs = []
 empty Bodies = []
 
--- the text between a document id and its revision
+-- The text between a document id and its revision.
 abbrev pub before_rev : Form → List ℕ
 before_rev Loads = codes ",\"rev\":"
 before_rev Asked = codes ",\"rev\":"
@@ -51,7 +51,7 @@ before_rev Diffs = codes ":["
 before_rev Docs = codes ",\"rev\":"
 before_rev Bodies = codes ",\"rev\":"
 
--- the revisions of a document form one list, so a body ends before the next document instead of after a revision
+-- Whether the revisions of a document form one list, so that a body ends before a document instead of after a revision.
 abbrev pub has_lists : Form → Bool
 has_lists Loads = false
 has_lists Asked = false

@@ -1,4 +1,4 @@
--- The values that a stored formatter stands for.
+-- The values that a stored formatter represents.
 use Rattle.std.specs.Prelude.{ℕ, List}
 use Rattle.response_output.specs.Words.{Words}
 use Rattle.response_output.specs.declared.wording.Wording.{Wording}
@@ -6,6 +6,6 @@ use Rattle.response_output.specs.declared.wording.Wording.{Wording}
 abbrev pub words_of_wording : Wording → Words
 words_of_wording w = record { form = w.form; begins = w.begins.items; id = w.id.items; listed = w.listed; count = w.count; size = w.size; told = w.told }
 
--- the text of the last item
+-- The text of the formatter's last item.
 abbrev pub made_of : Wording → List ℕ
 made_of w = w.text.items

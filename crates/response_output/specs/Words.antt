@@ -1,4 +1,4 @@
--- The output for what was found: docs/PROFILE.md, "CouchDB's answers" and "Lines of documents".
+-- The output for the items that the parser found: docs/PROFILE.md, "CouchDB's answers" and "Lines of documents".
 use Rattle.std.specs.Prelude.{ℕ, ◌&&◌, ◌==◌, nat_lt, List, [], ◌∷◌, ◌++◌, Bool, true, false, not, cond, codes}
 use Rattle.doc_envelope.specs.Names.{id_of}
 use Rattle.response_parser.specs.State.{more}
@@ -9,19 +9,19 @@ use Rattle.response_output.specs.Forms.{opening, separator, ends, closing, empty
 use Rattle.response_output.specs.declared.forms.Form.{Form}
 use Rattle.response_output.specs.declared.forms.Form.TheVariants.{Loads, Asked, Diffs, Docs, Bodies}
 
--- the state of a formatter
+-- The state of a formatter between two items.
 pub record Words : Type 0 where
   pub form : Form
-  -- the text before each item
+  -- The text before each item.
   pub begins : List ℕ
-  -- the last id, and whether a revision of it was written
+  -- The last document id, and whether a revision of this document was written.
   pub id : List ℕ
   pub listed : Bool
-  -- the number of items in the open body
+  -- The number of items in the open body.
   pub count : ℕ
-  -- the maximum number of items per body; 0 for no limit
+  -- The maximum number of items per body, or 0 for no limit.
   pub size : ℕ
-  -- whether anything was written
+  -- Whether the formatter has written any text.
   pub told : Bool
 
 -- ---- one item
@@ -29,7 +29,7 @@ pub record Words : Type 0 where
 abbrev pub before : Words → List ℕ
 before w = cond (w.count == 0) (opening w.form) (separator w.form) ++ w.begins
 
--- the body is full after one more item, and is then closed
+-- Whether a body is full after one more item. A full body is then closed.
 abbrev pub is_full : Words → Bool
 is_full w = not (has_lists w.form) && more w.count == w.size
 
@@ -42,25 +42,25 @@ counted_up w = record w { count = cond (is_full w) 0 (more w.count); told = true
 abbrev pub id_kept : Words → List ℕ → Words
 id_kept w id = record w { id = id; listed = false }
 
--- a document, by its text
+-- The text that is written for a document, given the document's text.
 abbrev pub document_text : Words → List ℕ → List ℕ
 document_text w text = before w ++ (text ++ behind w)
 
 abbrev pub with_document : Words → List ℕ → Words
 with_document w text = counted_up (id_kept w (id_of text))
 
--- a body of lists is full
+-- Whether a body of lists is full.
 abbrev pub is_over : Words → Bool
 is_over w = has_lists w.form && (nat_lt 0 w.count && w.count == w.size)
 
--- it is closed before the next document
+-- The text that closes a full body of lists before the next document.
 abbrev pub over_text : Words → List ℕ
 over_text w = cond (is_over w) (closing w.form) []
 
 abbrev pub over : Words → Words
 over w = record w { count = cond (is_over w) 0 w.count }
 
--- the first revision of a document, with its id
+-- The text that is written for the first revision of a document, with the document's id.
 abbrev pub first_rev_text : Words → List ℕ → List ℕ
 first_rev_text w text =
     over_text w ++ (before (over w) ++ (w.id ++ (before_rev w.form ++ (text ++ behind (over w)))))
@@ -68,7 +68,7 @@ first_rev_text w text =
 abbrev pub with_first_rev : Words → Words
 with_first_rev w = record (counted_up (over w)) { listed = true }
 
--- a further revision, in the list of a document
+-- Whether a revision is a further one in the list of a document.
 abbrev pub is_further : Words → Bool
 is_further w = has_lists w.form && w.listed
 
@@ -92,7 +92,7 @@ words_then w Rev text = with_rev w
 
 -- ---- all items
 
--- the texts of items, in order
+-- The texts of items, in order.
 abbrev pub texts : Words → List Piece → List ℕ
 texts w [] = []
 texts w (p ∷ more) = text_for w p.0 p.1 ++ texts (words_then w p.0 p.1) more
@@ -101,7 +101,7 @@ abbrev pub words_behind : Words → List Piece → Words
 words_behind w [] = w
 words_behind w (p ∷ more) = words_behind (words_then w p.0 p.1) more
 
--- at the end
+-- The text that is written at the end.
 abbrev pub last_text : Words → List ℕ
 last_text w = cond (nat_lt 0 w.count) (closing w.form) (cond w.told [] (empty w.form))
 
@@ -110,22 +110,22 @@ last_text w = cond (nat_lt 0 w.count) (closing w.form) (cond w.told [] (empty w.
 abbrev pub words_of : Form → List ℕ → ℕ → Words
 words_of form begins size = record { form = form; begins = begins; id = []; listed = false; count = 0; size = size; told = false }
 
--- `load` lines of a database
+-- The formatter of `load` lines of a database.
 abbrev pub loads_of : List ℕ → Words
 loads_of db = words_of Loads (codes "{\"do\":\"load\",\"db\":\"" ++ (db ++ codes "\",\"doc\":")) 0
 
--- request bodies for `size` leaves
+-- The formatter of request bodies for `size` leaves.
 abbrev pub asked_of : ℕ → Words
 asked_of size = words_of Asked (codes "{\"id\":") size
 
--- request bodies that ask what is missing of `size` documents
+-- The formatter of `_revs_diff` request bodies of `size` documents.
 abbrev pub diffs_of : ℕ → Words
 diffs_of size = words_of Diffs [] size
 
--- `doc` lines of a database
+-- The formatter of `doc` lines of a database.
 abbrev pub docs_of : List ℕ → Words
 docs_of db = words_of Docs (codes "{\"do\":\"doc\",\"db\":\"" ++ (db ++ codes "\",\"id\":")) 0
 
--- request bodies of `size` documents
+-- The formatter of `_bulk_docs` request bodies of `size` documents.
 abbrev pub bodies_of : ℕ → Words
 bodies_of size = words_of Bodies [] size

@@ -1,11 +1,12 @@
--- Characters that are not seen, and their escapes: docs/PROFILE.md, "Pictures".
+-- Characters that a reader does not see, and their escapes: docs/PROFILE.md, "Pictures".
 use Rattle.std.specs.Prelude.{◌≡◌, ℕ, ◌+◌, ◌-◌, ◌/◌, ◌%◌, ◌==◌, ◌||◌, nat_lt, List, [], ◌∷◌, ◌++◌, Bool, true, false, if◌then◌else◌}
 use Rattle.std.specs.Int.{is_in_range}
 use Rattle.std.specs.Char.{digit_char, is_control}
 use Rattle.std.specs.List.{flat_map, list_any}
 
--- Ranges of hidden characters above U+009F: format characters, marks of direction, separators of lines and paragraphs,
--- characters that Unicode 15 calls default-ignorable, and U+FFFE and U+FFFF, which XML forbids.
+-- The ranges of hidden characters above U+009F. They are format characters, marks of direction, separators of lines and
+-- paragraphs, and characters that Unicode 15 calls default-ignorable. The ranges also have U+FFFE and U+FFFF, which XML
+-- forbids.
 abbrev pub hidden_ranges : List (ℕ × ℕ)
 hidden_ranges =
     (0xAD, 0xAD) ∷ (0x34F, 0x34F) ∷ (0x600, 0x605) ∷ (0x61C, 0x61C) ∷ (0x6DD, 0x6DD) ∷ (0x70F, 0x70F) ∷ (0x890, 0x891)
@@ -14,22 +15,22 @@ hidden_ranges =
     ∷ (0xFFFE, 0xFFFF) ∷ (0x110BD, 0x110BD) ∷ (0x110CD, 0x110CD) ∷ (0x13430, 0x1343F) ∷ (0x1BCA0, 0x1BCA3)
     ∷ (0x1D173, 0x1D17A) ∷ (0xE0000, 0xE0FFF) ∷ []
 
--- whether a character is a control character or in one of these ranges
+-- Whether a character is hidden: a control character or in one of the hidden ranges.
 unfoldable pub is_hidden : ℕ → Bool
 is_hidden c = is_control c || list_any (λ r. is_in_range r.0 r.1 c) hidden_ranges
 
--- no character of a text is hidden
+-- No character of a text is hidden.
 abbrev pub IsSeen : List ℕ → Type 0
 IsSeen cs = list_any is_hidden cs ≡ false
 
 -- ---- escapes: RFC 8259, section 7
 
--- `\u` and four hexadecimal digits
+-- An escape of a UTF-16 code unit: `\u` and four hexadecimal digits.
 abbrev pub unit_of : ℕ → List ℕ
 unit_of n =
     92 ∷ 117 ∷ digit_char (n / 4096 % 16) ∷ digit_char (n / 256 % 16) ∷ digit_char (n / 16 % 16) ∷ digit_char (n % 16) ∷ []
 
--- one unit, or the two surrogates of a character above U+FFFF
+-- The escape of a character: one code unit, or the two surrogates of a character above U+FFFF.
 abbrev pub escape_of : ℕ → List ℕ
 escape_of c =
     if nat_lt c 0x10000 then unit_of c else unit_of (0xD800 + (c - 0x10000) / 1024) ++ unit_of (0xDC00 + c % 1024)
@@ -37,17 +38,17 @@ escape_of c =
 abbrev pub visible_char : ℕ → List ℕ
 visible_char c = if is_hidden c then escape_of c else c ∷ []
 
--- a text with each hidden character replaced by its escape
+-- A text with each hidden character replaced by its escape.
 abbrev pub visible : List ℕ → List ℕ
 visible cs = flat_map visible_char cs
 
--- a character of a JSON string
+-- A character as it is written in a JSON string.
 abbrev pub quoted_char : ℕ → List ℕ
 quoted_char c = if c == 34 then 92 ∷ 34 ∷ [] else if c == 92 then 92 ∷ 92 ∷ [] else visible_char c
 
 abbrev pub quoted_chars : List ℕ → List ℕ
 quoted_chars cs = flat_map quoted_char cs
 
--- a JSON string with no hidden character
+-- A text as a JSON string without hidden characters.
 abbrev pub quoted : List ℕ → List ℕ
 quoted cs = 34 ∷ (quoted_chars cs ++ 34 ∷ [])

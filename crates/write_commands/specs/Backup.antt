@@ -13,7 +13,7 @@ use Rattle.write_commands.specs.declared.backup.Backup.{Backup}
 
 -- ---- its parameters
 
--- to save a copy of a database under a name
+-- The parameters of `backup`, which saves a copy of a database under a name.
 pub record BackupAsk : Type 0 where
   pub db : List ℕ
   pub name : List ℕ
@@ -29,13 +29,13 @@ backup_in d = do
 
 -- ---- its output
 
--- the update sequence of the backup
+-- The output of `backup`, with the update sequence of the backup.
 abbrev pub backed_line : List ℕ → List ℕ → ℕ → List ℕ
 backed_line db name seq = ended (codes "backed " ++ db ++ codes " " ++ name ++ codes " at " ++ decimal seq)
 
 -- ---- its result
 
--- the backup is stored with the others
+-- The result of `backup`, and the state with the new backup.
 abbrev pub backup_done : State → BackupAsk → Result (List ℕ × State) Refusal
 backup_done s ask = do
   copy ← backed_answer s ask.db ask.name

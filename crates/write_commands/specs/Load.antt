@@ -25,7 +25,7 @@ use Rattle.write_commands.specs.declared.load.Load.{Load}
 
 -- ---- its parameters
 
--- to load a document, or to create a database if there is no document, with the given UUID, if any
+-- The parameters of `load`, which loads a document, or creates a database if there is no document. A UUID may be given.
 pub record LoadAsk : Type 0 where
   pub db : List ℕ
   pub uuid : Option ℕ
@@ -34,7 +34,7 @@ pub record LoadAsk : Type 0 where
 abbrev pub load_asked : Load → LoadAsk
 load_asked ask = record { db = ask.db.now; uuid = ask.uuid; doc = option_map line_view ask.doc }
 
--- `doc` may be any value
+-- The parameters of a `load` line, of which `doc` may be any value.
 abbrev pub load_in : Data → Result LoadAsk Refusal
 load_in d = do
   db ← needed (name_at (codes "db") d)
@@ -50,7 +50,7 @@ made_line db = ended (codes "made " ++ db)
 abbrev pub there_line : List ℕ → List ℕ
 there_line db = ended (codes "there " ++ db)
 
--- a document's id, and its newest revision as given
+-- A document's id, and its newest revision as given, in the output of `load`.
 abbrev pub document_part : Document → List ℕ
 document_part doc = quoted doc.id ++ codes " " ++ text_of_any (head_of doc.ancestry)
 
@@ -66,36 +66,36 @@ put_line db doc Same = same_line db doc
 
 -- ---- its result
 
--- a document is put into a database
+-- The result of putting a document into a database, and the state after it.
 abbrev pub put_into : State → List ℕ → PeerValue → Document → Result (List ℕ × State) Refusal
 put_into s db l doc = do
   put ← told_as base_refusal (put_answer l.db doc)
   Ok (put_line db doc put, with_peer s db (after_load l doc))
 
--- loading into an existing database
+-- The result of `load` for an existing database, and the state after it.
 abbrev pub load_there : State → List ℕ → PeerValue → Option Document → Result (List ℕ × State) Refusal
 load_there s db l None = Ok (there_line db, s)
 load_there s db l (Some doc) = put_into s db l doc
 
--- loading into a new database with this UUID
+-- The result of `load` for a new database with the given UUID, and the state after it.
 abbrev pub load_new : State → List ℕ → ℕ → Option Document → Result (List ℕ × State) Refusal
 load_new s db uuid None = Ok (made_line db, with_peer s db (new_peer uuid))
 load_new s db uuid (Some doc) = put_into s db (new_peer uuid) doc
 
--- the same, unless another database has the UUID
+-- The result of `load` for a new database with the given UUID, `UuidTaken` if another database has the UUID.
 abbrev pub LoadsUntaken : State → List ℕ → ℕ → Result (Option Document) Refusal → Told → State → Type 0
 LoadsUntaken old db uuid doc told new =
     IsTaken old uuid × Refuses why.UuidTaken old told new
     ⊎ (IsTaken old uuid → ⊥) × Does (doc >>= load_new old db uuid) old told new
 
--- loading with a generated UUID: the document is parsed first; the id is drawn if the document is valid, even if an
--- allocation fails after that
+-- The result of `load` for a new database with a generated UUID. The document is parsed first. If the document is
+-- valid, the id is drawn, even if an allocation fails after that.
 abbrev pub LoadsMade : State → List ℕ → Result (Option Document) Refusal → Told → State → Type 0
 LoadsMade old db (Ok doc) told new =
     LoadsUntaken (drawn_one old) db (next_made old) (Ok doc) told new ⊎ Refuses why.Memory (drawn_one old) told new
 LoadsMade old db (Err refusal) told new = Refuses refusal old told new
 
--- by whether the database exists, and whether a UUID is given
+-- The result of `load`, by whether the database exists, and whether a UUID is given.
 abbrev pub LoadsAt : State → List ℕ → Option PeerValue → Option ℕ → Result (Option Document) Refusal → Told → State
     → Type 0
 LoadsAt old db (Some l) (Some uuid) doc told new = Refuses why.DatabaseExists old told new

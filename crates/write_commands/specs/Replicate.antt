@@ -32,7 +32,7 @@ use Rattle.write_commands.specs.declared.replicate.Replicate.{Replicate}
 
 -- ---- its parameters
 
--- to replicate from one database to another, for a selection of documents
+-- The parameters of `replicate`, which replicates from one database to another, for a selection of documents.
 pub record ReplicateAsk : Type 0 where
   pub source : List ℕ
   pub target : List ℕ
@@ -47,7 +47,8 @@ replicate_asked ask = record {
   options = ask.options;
 }
 
--- absent parameters are None; `alone` and `progress` are false if absent
+-- The optional parameters of a `replicate` line. An absent parameter is `None`, except that `alone` and `progress` are
+-- false if absent.
 abbrev pub options_in : Data → Result Options Refusal
 options_in d = do
   session ← needed (optional as_uuid (codes "session") d)
@@ -87,29 +88,29 @@ replicate_in d = do
 
 -- ---- its output
 
--- the session id, the start and the recorded sequence
+-- The session id, the start and the recorded sequence of a report, in the output of `replicate`.
 abbrev pub session_part : Report → List ℕ
 session_part r =
     codes "session " ++ id_digits r.session.0 ++ codes " from " ++ decimal r.start ++ codes " to " ++ decimal r.recorded
 
--- the number of checked leaves, and of missing leaves among them
+-- The number of checked leaves, and of missing leaves among these, in the output of `replicate`.
 abbrev pub checked_part : Report → List ℕ
 checked_part r = codes " checked " ++ decimal r.counts.checked ++ codes " found " ++ decimal r.counts.found
 
--- the numbers of documents that were read, written and refused
+-- The numbers of documents that were read, written and refused, in the output of `replicate`.
 abbrev pub documents_part : Report → List ℕ
 documents_part r =
     codes " read " ++ decimal r.counts.read ++ codes " written " ++ decimal r.counts.written ++ codes " failed " ++ decimal r.counts.failures
 
--- the report of a session
+-- The line of `replicate` with the report of a session.
 abbrev pub report_line : Report → List ℕ
 report_line r = ended (session_part r ++ checked_part r ++ documents_part r)
 
--- the board's counters of settled and of read documents
+-- The line of `replicate` with the board's counts of settled and of read documents.
 abbrev pub progress_line : Watched → List ℕ
 progress_line w = ended (codes "progress " ++ decimal w.settled ++ codes " of " ++ decimal w.read)
 
--- the low water of a session that its plan stopped
+-- The line of `replicate` with the low water of a session that its plan stopped.
 abbrev pub stopped_line : SessionId → ℕ → List ℕ
 stopped_line session low_water = ended (codes "stopped " ++ id_digits session.0 ++ codes " at " ++ decimal low_water)
 
@@ -120,15 +121,15 @@ ending_line session (Stopped low_water) = stopped_line session low_water
 
 -- ---- its plan
 
--- the last valid timestamp
+-- The last valid timestamp, at the end of the year 9999.
 abbrev pub last_second : ℕ
 last_second = 253402300799
 
--- the timestamp of the line, or the program's
+-- The timestamp of the line, or the program's if the line has none.
 abbrev pub moment_of : Program → Options → ℕ
 moment_of program options = unwrap_or options.at program.at
 
--- the given session id, or the next generated one
+-- The session id that the line gives, or the next generated one.
 abbrev pub session_of : State → Options → ℕ
 session_of s options = unwrap_or options.session (next_made s)
 
@@ -139,7 +140,7 @@ with_drawn s None = drawn_one s
 abbrev pub with_session : State → Options → State
 with_session s options = with_drawn s options.session
 
--- the plan, with the program's settings for absent parameters
+-- The plan of a replication, with the program's settings for absent parameters.
 abbrev pub plan_with : Program → Options → ℕ → Choice → Plan
 plan_with program options session chosen = record {
   session = record { 0 = session };
@@ -150,33 +151,33 @@ plan_with program options session chosen = record {
   chosen = chosen;
 }
 
--- the plan of a line
+-- The plan of a `replicate` line.
 abbrev pub plan_of : State → Options → Choice → Plan
 plan_of s options chosen = plan_with s.program options (session_of s options) chosen
 
 -- ---- its result
 
--- by one thread: a replication that its plan stopped has not failed
+-- The ending of a replication by one thread. A replication that its plan stopped has not failed.
 abbrev pub ending_of : Result Report TargetFault → Result Ending Refusal
 ending_of (Ok report) = Ok (Done report)
 ending_of (Err fault) = do
   low_water ← stop_of fault
   Ok (Stopped low_water)
 
--- by the pool
+-- The ending of a replication by the pool. A replication that its plan stopped has not failed.
 abbrev pub ending_of_run : Result Report PoolFault → Result Ending Refusal
 ending_of_run (Ok report) = Ok (Done report)
 ending_of_run (Err fault) = do
   low_water ← run_stop_of fault
   Ok (Stopped low_water)
 
--- by the pool, watched
+-- The ending of a replication by the pool with a progress board.
 abbrev pub ending_of_watched : Result Watched PoolFault → Result Ending Refusal
 ending_of_watched (Ok watched) = Ok (Shown watched)
 ending_of_watched (Err fault) = ending_of_run (Err fault)
 
--- the ending of a replication: by one thread if the line says so; otherwise by the pool, with a board if the line asks
--- for progress
+-- The ending of a replication: by one thread if the line says so, otherwise by the pool, with a board if the line
+-- requests progress.
 abbrev pub EndsBy : Bool → Bool → State → List ℕ → List ℕ → PeerValue → PeerValue → Plan → Result Ending Refusal → State
     → Type 0
 EndsBy true progress old source target s t plan ending new =
@@ -194,7 +195,7 @@ replicated_text session ended = do
   ending ← ended
   Ok (ending_line session ending)
 
--- for a selection of documents of two existing databases
+-- The result of `replicate` for a selection of documents of two existing databases.
 abbrev pub ReplicatesChosen : State → ReplicateAsk → PeerValue × PeerValue → Result Choice Refusal → Told → State
     → Type 0
 ReplicatesChosen old ask both (Ok chosen) told new =
@@ -205,7 +206,8 @@ ReplicatesChosen old ask both (Ok chosen) told new =
     × (told ≡ told_of (replicated_text (plan_of old ask.options chosen).session ending))
 ReplicatesChosen old ask both (Err refusal) told new = Refuses refusal (with_session old ask.options) told new
 
--- the session id is drawn before the selection is built, and building it may run out of memory
+-- The result of `replicate` for two existing databases. The session id is drawn before the selection is built, and
+-- building it may run out of memory.
 abbrev pub ReplicatesBoth : State → ReplicateAsk → PeerValue × PeerValue → Told → State → Type 0
 ReplicatesBoth old ask both told new =
     (chosen : Result Choice Refusal) × GivesOrMemory chosen (choice_given ask.doc_ids)
@@ -226,14 +228,14 @@ ReportsReplication old ask told new = ReplicatesFound old ask (both_of old ask) 
 
 -- ---- its guarantee: docs/PROFILE.md, "Tied databases"
 
--- if a session was not stopped and printed the recorded sequence n: n is the source's update sequence, and the target
--- covers each leaf of the source's selected feed
+-- The guarantee of a session that was not stopped and printed the recorded sequence n. The number n is the source's
+-- update sequence, and the target covers each leaf of the source's selected feed.
 abbrev pub CoversIfDone : State → List ℕ → List ℕ → Choice → Ending → Type 0
 CoversIfDone s source target chosen (Done report) = CoversUpTo s source target chosen report.recorded
 CoversIfDone s source target chosen (Shown watched) = CoversUpTo s source target chosen watched.report.recorded
 CoversIfDone s source target chosen (Stopped low_water) = Unit {0}
 
--- the line prints an ending for which this holds, or fails
+-- The guarantee for a `replicate` line: it fails, or prints an ending that satisfies `CoversIfDone`.
 abbrev pub IsCovered : State → ReplicateAsk → Told → Type 0
 IsCovered s ask (Ok text) =
     (session : SessionId) × (ending : Ending) × (chosen : Choice) × (text ≡ ending_line session ending)

@@ -14,7 +14,7 @@ use Rattle.write_commands.specs.declared.restore.Restore.{Restore}
 
 -- ---- its parameters
 
--- to replace a database by its backup of a name
+-- The parameters of `restore`, which replaces a database by its backup of a name.
 pub record RestoreAsk : Type 0 where
   pub db : List ℕ
   pub name : List ℕ
@@ -30,7 +30,7 @@ restore_in d = do
 
 -- ---- its output
 
--- the update sequence and the life of the restored database
+-- The update sequence and the life of the restored database, in the output of `restore`.
 abbrev pub left_part : PutBack → List ℕ
 left_part back = codes " at " ++ decimal back.seq ++ codes " life " ++ decimal back.life
 

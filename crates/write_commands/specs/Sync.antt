@@ -16,7 +16,7 @@ use Rattle.write_commands.specs.declared.sync.Shared.{Shared}
 
 -- ---- its parameters
 
--- a replication in each direction
+-- The parameters of `sync`: those of a replication in each direction.
 pub record SyncAsk : Type 0 where
   pub there : ReplicateAsk
   pub back : ReplicateAsk
@@ -24,7 +24,8 @@ pub record SyncAsk : Type 0 where
 abbrev pub sync_asked : BothWays → SyncAsk
 sync_asked ask = record { there = replicate_asked ask.there; back = replicate_asked ask.back }
 
--- the parameters of both directions: absent ones are None; `alone` is false if absent
+-- The parameters that both directions of a `sync` line have. An absent parameter is `None`, except that `alone` is
+-- false if absent.
 abbrev pub shared_in : Data → Result Shared Refusal
 shared_in d = do
   workers ← needed (optional as_whole (codes "workers") d)
@@ -33,7 +34,7 @@ shared_in d = do
   alone ← needed (optional as_bool (codes "alone") d)
   Ok (record { workers = workers; batch = batch; at = at; alone = unwrap_or alone false })
 
--- the parameters of one direction: its plan does not stop it, and it prints no counters
+-- The parameters of one direction of `sync`. The plan does not stop a direction, and a direction prints no progress.
 abbrev pub way_options : Shared → Option ℕ → Options
 way_options shared session = record {
   session = session;
@@ -45,7 +46,7 @@ way_options shared session = record {
   progress = false;
 }
 
--- one direction
+-- The parameters of one direction of `sync` as those of a `replicate` line.
 abbrev pub way : List ℕ → List ℕ → Option (List (List ℕ)) → Options → ReplicateAsk
 way source target doc_ids options = record { source = source; target = target; doc_ids = doc_ids; options = options }
 
@@ -69,25 +70,27 @@ sync_in d = do
 
 -- ---- its result
 
--- both outputs in order, or the second direction's error
+-- The result of `sync` after the first direction: both outputs in order, or the second direction's error.
 abbrev pub both_told : List ℕ → Told → Told
 both_told text (Ok more) = Ok (text ++ more)
 both_told text (Err name) = Err name
 
--- after the result of the forward direction: the reverse direction, unless the forward direction failed
+-- The result of `sync` after that of the forward direction. The reverse direction follows, unless the forward direction
+-- failed.
 abbrev pub SyncsBack : State → SyncAsk → Told → Told → State → Type 0
 SyncsBack mid ask (Ok text) told new =
     (second : Told) × MayTell ReportsReplication mid ask.back second new × (told ≡ both_told text second)
 SyncsBack mid ask (Err name) told new = (told ≡ Err name) × (new ≡ mid)
 
--- the possible results of two `replicate` lines, in order
+-- The possible results of `sync`, which are those of two `replicate` lines in order.
 abbrev pub Syncs : Answering State SyncAsk
 Syncs old ask told new =
     (first : Told) × (mid : State) × MayTell ReportsReplication old ask.there first mid × SyncsBack mid ask first told new
 
 -- ---- its guarantee: docs/PROFILE.md, "Tied databases"
 
--- between the two directions all databases are tied, and each direction has the guarantee of a replication
+-- The guarantee for a `sync` line. Between the two directions all databases are consistent, and each direction has the
+-- guarantee of a replication.
 abbrev pub IsMet : State → SyncAsk → Told → Type 0
 IsMet new ask (Ok text) =
     (mid : State) × (first : List ℕ) × (second : List ℕ) × (text ≡ first ++ second) × AllTied mid
