@@ -1,5 +1,5 @@
--- The exit status of a program whose command line gives nothing to run: docs/PROFILE.md, "Options" and "Options of
--- `couch_lines`".
+-- The exit status of a program whose command line gives nothing to run, as specified in docs/PROFILE.md, "Options" and
+-- "Options of `couch_lines`".
 use Rattle.std.specs.Prelude.{ℕ}
 use Rattle.clap.specs.declared.error.kind.ErrorKind.{ErrorKind}
 use Rattle.clap.specs.declared.error.kind.ErrorKind.TheVariants.{DisplayHelp, DisplayVersion, OutOfMemory}

@@ -1,4 +1,4 @@
--- Checks in sequence: docs/PROFILE.md, "Order of checks".
+-- Checks in sequence, as specified in docs/PROFILE.md, "Order of checks".
 use Rattle.std.specs.Prelude.{Option, Result, Ok, Err}
 use Rattle.rev_core.specs.Checks.{or_refused}
 use Rattle.script_databases.specs.declared.refusal.Refusal.{Refusal}

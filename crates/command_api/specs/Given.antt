@@ -1,4 +1,4 @@
--- What the values of a line give, and why they are invalid: docs/PROFILE.md, "Order of checks".
+-- What the values of a line give, and why they are invalid, as specified in docs/PROFILE.md, "Order of checks".
 use Rattle.std.specs.Prelude.{ℕ, List, [], ◌∷◌, Option, Some, None, unwrap_or, Result, Ok, Err}
 use Rattle.serde_json.specs.Data.{Data, object, no_members}
 use Rattle.rev_core.specs.Rev.{RevId}

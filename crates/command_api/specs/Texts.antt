@@ -1,4 +1,4 @@
--- Text that several commands print: docs/PROFILE.md, "Answers".
+-- Text that several commands print, as specified in docs/PROFILE.md, "Answers".
 use Rattle.std.specs.Prelude.{ℕ, ◌==◌, List, [], ◌∷◌, ◌++◌, length, codes, decimal, map, if◌then◌else◌, Option}
 use Rattle.std.specs.List.{join_with_byte}
 use Rattle.std.specs.Option.{option_map_or}

@@ -1,4 +1,4 @@
--- What a program that runs a script prints: docs/PROFILE.md, "Answers".
+-- What a program that runs a script prints, as specified in docs/PROFILE.md, "Answers".
 use Rattle.std.specs.Prelude.{◌≡◌, ℕ, List, Bool, Result, Ok, Err}
 use Rattle.script_engine.specs.Script.{AnswersEnded, IsAnswered}
 use Rattle.script_engine.specs.Faults.{IsToldUntil}

@@ -1,4 +1,4 @@
--- The guarantees for the output of a script, independent of its lines: docs/PROFILE.md, "Tied databases".
+-- The guarantees for the output of every script, as specified in docs/PROFILE.md, "Tied databases".
 use Rattle.std.specs.Prelude.{ℕ, List, Result, IfOk}
 use Rattle.script_engine.specs.Serving.{Told, Answering}
 use Rattle.script_databases.specs.AllTied.{AllTied}

@@ -1,4 +1,4 @@
--- Running the program over any reader and writer: docs/PROFILE.md, "CouchDB's answers".
+-- Running the program `couch_lines` over any reader and writer, as specified in docs/PROFILE.md, "CouchDB's answers".
 use Rattle.std.specs.Prelude.{◌≡◌, ◌⊎◌, ◌++◌, [], ℕ, List, OnOk, Bool, true, false, Option, Some, Result, Ok, Err, String, string_bytes, option_map, ⊤}
 use Rattle.std.specs.declared.alloc.Global.{Global}
 use Rattle.response_parser.specs.Reading.{Piece}

@@ -1,4 +1,4 @@
--- The task of a command line: docs/PROFILE.md, "Options of `couch_lines`".
+-- The task that a command line of `couch_lines` names, as specified in docs/PROFILE.md, "Options of `couch_lines`".
 use Rattle.std.specs.Prelude.{◌≡◌, ◌^◌, ◌<◌, ℕ, ◌&&◌, ◌||◌, ◌==◌, nat_lt, nat_le, length, List, Bool, Option, Some, None, option_map, codes, string_bytes, true, false}
 use Rattle.std.specs.List.{list_all}
 use Rattle.std.specs.Str.Parse.{without_leading_plus, IsNumeral, digits_value}

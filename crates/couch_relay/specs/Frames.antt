@@ -1,4 +1,5 @@
--- A response as bytes: a head, a line feed, and the bytes of the body. docs/PROFILE.md, "Responses to the relay".
+-- A response as bytes, which are a head, a line feed, and the bytes of the body, as specified in docs/PROFILE.md,
+-- "Responses to the relay".
 use Rattle.std.specs.Prelude.{◌≡◌, ◌==◌, ◌<◌, ◌^◌, ℕ, Bool, false, if◌then◌else◌, List, [], ◌∷◌, ◌++◌, Option, None, Some, codes, length, bytes_eq}
 use Rattle.std.specs.List.{before_first, after_first}
 use Rattle.std.specs.Str.{IsUtf8, trim}

@@ -1,4 +1,4 @@
--- The bytes that the relay has read and not yet used: docs/PROFILE.md, "Responses to the relay".
+-- The bytes that the relay has read and not yet used, as specified in docs/PROFILE.md, "Responses to the relay".
 use Rattle.std.specs.Prelude.{◌≡◌, ◌+◌, ◌<◌, ◌≤◌, ℕ, false, List, ◌∷◌, ◌++◌, Option, length, take, drop, string_bytes, MatchOption}
 use Rattle.std.specs.Io.KnownBytes.{Appends}
 use Rattle.script_engine.specs.Lines.{has_line_end}

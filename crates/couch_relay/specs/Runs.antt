@@ -1,4 +1,4 @@
--- A run of the program: what was read, what was written, and the exit status.
+-- A run of the program `couch_relay`: what was read, what was written, and the exit status.
 use Rattle.std.specs.Prelude.{◌≡◌, ◌==◌, ◌||◌, ◌⊎◌, ℕ, true, false, if◌then◌else◌, List, [], ◌∷◌, ◌++◌, Option, None, Some, map, string_bytes, Result, Ok, Err, MatchOption}
 use Rattle.std.specs.Io.KnownBytes.{Appends}
 use Rattle.std.specs.Str.{IsUtf8, trim}

@@ -1,5 +1,5 @@
--- How a run ends, over any reader and writer, and over standard input and output: docs/PROFILE.md, "Options" and
--- "Answers".
+-- How a run of `couch_replicate` ends, over any reader and writer, and over standard input and output, as specified in
+-- docs/PROFILE.md, "Options" and "Answers".
 use Rattle.std.specs.Prelude.{◌≡◌, ℕ, List, [], Bool, Option, Result, Ok, Err, OnOk}
 use Rattle.std.specs.Io.KnownBytes.{Appends, Consumes}
 use Rattle.script_engine.specs.Device.{Gives}

@@ -1,4 +1,4 @@
--- The pictures of a script's output: docs/PROFILE.md, "Pictures".
+-- The pictures of a script's output, as specified in docs/PROFILE.md, "Pictures".
 use Rattle.std.specs.Prelude.{◌≡◌, ℕ, ◌<◌, ◌≤◌, Bool, true, false, List, [], ◌∷◌, ◌++◌, Option, Some, None, Result, Ok, Err, IsPermutation, map, codes, option_map, String, string_bytes, Vec, vec_len, chars, ⊤}
 use Rattle.std.specs.declared.alloc.Global.{Global}
 use Rattle.std.specs.Borrow.{Bor}

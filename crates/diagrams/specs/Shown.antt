@@ -1,4 +1,5 @@
--- Escaping an input text, so that it has no markup and no hidden characters: docs/PROFILE.md, "Pictures".
+-- Escaping an input text, so that it has no markup and no hidden characters, as specified in docs/PROFILE.md,
+-- "Pictures".
 use Rattle.std.specs.Prelude.{◌≡◌, ℕ, ◌==◌, ◌||◌, List, [], ◌∷◌, ◌++◌, Bool, true, false, if◌then◌else◌, codes}
 use Rattle.std.specs.List.{flat_map}
 use Rattle.visible_text.specs.Visible.{IsSeen, escape_of, is_hidden}

@@ -1,4 +1,4 @@
--- Wrapping and unwrapping a document, over texts: docs/PROFILE.md, "Documents in envelopes".
+-- Wrapping and unwrapping a document, in terms of texts, as specified in docs/PROFILE.md, "Documents in envelopes".
 use Rattle.std.specs.Prelude.{◌≡◌, ℕ, ◌+◌, ◌&&◌, ◌||◌, ◌==◌, List, [], ◌∷◌, ◌++◌, true, false, Some}
 use Rattle.std.specs.List.{filter}
 use Rattle.doc_envelope.specs.Texts.{EndsString}

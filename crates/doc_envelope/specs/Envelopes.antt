@@ -1,4 +1,4 @@
--- Documents in envelopes: docs/PROFILE.md, "Documents in envelopes".
+-- Documents in envelopes, as specified in docs/PROFILE.md, "Documents in envelopes".
 use Rattle.std.specs.Prelude.{ℕ, ◌&&◌, ◌||◌, List, [], ◌∷◌, ◌++◌, Bool, true, false, not, cond, codes, Option, Some, None, option_map, option_and_then, is_some}
 use Rattle.std.specs.List.{filter}
 use Rattle.std.specs.Str.{is_utf8, bytes_eq}

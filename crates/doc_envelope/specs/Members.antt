@@ -1,4 +1,4 @@
--- The members of an object, by their texts: docs/PROFILE.md, "Documents in envelopes".
+-- The members of a JSON object as texts, as specified in docs/PROFILE.md, "Documents in envelopes".
 use Rattle.std.specs.Prelude.{ℕ, ◌+◌, ◌-◌, ◌&&◌, ◌||◌, ◌==◌, length, drop, List, [], ◌∷◌, ◌++◌, Bool, false, not, cond}
 use Rattle.std.specs.List.{list_all, filter}
 

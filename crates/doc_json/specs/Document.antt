@@ -1,4 +1,4 @@
--- Documents: docs/PROFILE.md, "Documents".
+-- Documents, as specified in docs/PROFILE.md, "Documents".
 use Rattle.std.specs.Prelude.{◌≡◌, ℕ, Bool, List, Ok, refl}
 use Rattle.std.specs.Coded.{Coded, code_by, coded×, coded_ℕ, coded_bool, coded_list}
 use Rattle.rev_core.specs.Rev.{RevId}

@@ -1,5 +1,5 @@
--- The members `_rev` and `_revisions`: docs/PROFILE.md, "What `read_doc` accepts" and "Ancestries"; CouchDB,
--- "Replication Protocol".
+-- The members `_rev` and `_revisions`, as specified in docs/PROFILE.md, "What `read_doc` accepts" and "Ancestries", and
+-- in CouchDB, "Replication Protocol".
 use Rattle.std.specs.Prelude.{ℕ, ◌^◌, Bool, true, false, List, [], ◌∷◌, nat_lt, codes, Option, Some, None, option_and_then, option_map, Result, Ok, Err, if◌then◌else◌}
 use Rattle.std.specs.Ordering.{eq_by_cmp}
 use Rattle.serde_json.specs.Data.{Data, Items, no_items, item}

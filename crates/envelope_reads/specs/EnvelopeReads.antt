@@ -1,5 +1,5 @@
--- The result of reading the envelope of a document: docs/PROFILE.md, "Documents in envelopes" and "What `read_doc`
--- accepts".
+-- The result of reading the envelope of a document, as specified in docs/PROFILE.md, "Documents in envelopes" and "What
+-- `read_doc` accepts".
 use Rattle.std.specs.Prelude.{ℕ, List, Option, Some, None, option_and_then, Result, Ok}
 use Rattle.rev_core.specs.{◌>>=◌}
 use Rattle.serde_json.specs.Data.{Data}

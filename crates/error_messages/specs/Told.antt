@@ -1,4 +1,4 @@
--- The explanation of a failed line: docs/PROFILE.md, "Options".
+-- The explanation of a failed line, as specified in docs/PROFILE.md, "Options".
 use Rattle.std.specs.Prelude.{◌≡◌, ℕ, List, ◌++◌, codes, decimal, encode_utf8_all}
 use Rattle.visible_text.specs.Visible.{IsSeen}
 

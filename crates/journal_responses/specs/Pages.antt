@@ -28,7 +28,8 @@ each_once revs = fold add_rev [] revs
 abbrev pub some_revs : List (List ℕ) → Option (List (List ℕ))
 some_revs revs = if nat_eq (length revs) 0 then None else Some revs
 
--- The revisions of a list of changes. A row has at least one revision: docs/PROFILE.md, "CouchDB's answers".
+-- The revisions of a list of changes. A row has at least one revision, as specified in docs/PROFILE.md, "CouchDB's
+-- answers".
 abbrev pub changes_in : Items → Option (List (List ℕ))
 changes_in changes = option_and_then some_revs (each_item rev_in changes)
 

@@ -1,4 +1,4 @@
--- Lines of numbers in a script's output: docs/PROFILE.md, "Answers".
+-- Lines of numbers in a script's output, as specified in docs/PROFILE.md, "Answers".
 use Rattle.std.specs.Prelude.{◌≡◌, ℕ, List, [], ◌∷◌, ◌++◌, true, codes, reverse}
 use Rattle.std.specs.Str.{IsUtf8}
 use Rattle.output_parser.specs.Words.{lacks, named, InTurn, IsNumber}

@@ -1,4 +1,4 @@
--- The contents of the lines of a script's output: docs/PROFILE.md, "Answers" and "Pictures".
+-- The contents of the lines of a script's output, as specified in docs/PROFILE.md, "Answers" and "Pictures".
 use Rattle.std.specs.Prelude.{◌≡◌, ℕ, List, [], ◌∷◌, ◌++◌, Bool, true, false, codes, map, string_bytes}
 use Rattle.std.specs.Str.{IsUtf8}
 use Rattle.rev_core.specs.Rev.{RevId}

@@ -1,4 +1,4 @@
--- What a run shows on a board: docs/PROFILE.md, "The pool".
+-- What a run of the pool shows on a progress board, as specified in docs/PROFILE.md, "The pool".
 use Rattle.std.specs.Prelude.{◌≡◌, ◌+◌, ◌<◌, ◌≤◌, ℕ, true, List, [], ◌∷◌, ◌++◌, Option, None, Some, Result, Ok, Err, length, option_to_list}
 use Rattle.std.specs.List.{All}
 use Rattle.progress_board.specs.Seats.{CameWith, seen_read, seen_settled}

@@ -1,4 +1,4 @@
--- The state that the lock protects: docs/PROFILE.md, "The pool".
+-- The target that the lock of a run protects, as specified in docs/PROFILE.md, "The pool".
 use Rattle.std.specs.Prelude.{◌≡◌, ℕ, Bool, Option, Some}
 use Rattle.rev_tree.specs.declared.origin.SessionId.{SessionId}
 use Rattle.doc_json.specs.Document.{Document}

@@ -1,4 +1,4 @@
--- The windows of a run of the pool, while it runs: docs/PROFILE.md, "Goal and windows" and "The pool".
+-- The windows of a run of the pool, while it runs, as specified in docs/PROFILE.md, "Goal and windows" and "The pool".
 use Rattle.std.specs.Prelude.{◌≡◌, ℕ, ◌+◌, ◌<◌, Bool, true, List, [], length, Option, Some, None}
 use Rattle.rev_tree.specs.declared.origin.SessionId.{SessionId}
 use Rattle.couch_base.specs.Lists.{Among}

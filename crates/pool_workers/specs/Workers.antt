@@ -1,4 +1,4 @@
--- What a worker knows between two messages: docs/PROFILE.md, "The pool".
+-- What a worker of a run knows between two messages, as specified in docs/PROFILE.md, "The pool".
 use Rattle.std.specs.Prelude.{◌≡◌, ◌+◌, ℕ, List, [], ◌∷◌, ◌++◌, map, length, Option, None, option_to_list}
 use Rattle.crossbeam_channel.specs.Claims.{view}
 use Rattle.progress_board.specs.declared.board.Board.{Board}

@@ -1,4 +1,4 @@
--- Properties of a board's seats in contracts: docs/PROFILE.md, "The progress board".
+-- Properties of a board's seats in contracts, as specified in docs/PROFILE.md, "The progress board".
 use Rattle.std.specs.Prelude.{◌≡◌, ◌+◌, ◌<◌, ◌≤◌, ℕ, Bool, true, not, ◌&&◌, List, Option, Some, None, if◌then◌else◌, length, nat_lt, nat_le, replicate, slice_index, slice_index_or, sum}
 use Rattle.atomic_table.specs.Seated.{TableId}
 use Rattle.progress_board.specs.declared.rule.SeatView.{SeatView}

@@ -1,4 +1,4 @@
--- Fronts of windows and their low water: docs/PROFILE.md, "Windows and low water".
+-- Fronts of windows and their low water, as specified in docs/PROFILE.md, "Windows and low water".
 use Rattle.std.specs.Prelude.{◌≡◌, ℕ, ◌<◌, ◌^◌, ◌+◌, Bool, false, true, ◌&&◌, ◌==◌, nat_le, if◌then◌else◌, List, [], ◌∷◌, ◌++◌, Result, Ok, Err, map, take_while, refl}
 use Rattle.std.specs.Coded.{Coded, code_by, coded×, coded_ℕ, coded_bool, coded_list}
 use Rattle.std.specs.List.{list_any, list_all}

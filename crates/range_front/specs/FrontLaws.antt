@@ -1,4 +1,4 @@
--- Lemmas about fronts, for dependent crates: docs/PROFILE.md, "Windows and low water".
+-- Lemmas for dependent crates about fronts, which are specified in docs/PROFILE.md, "Windows and low water".
 use Rattle.std.proofs.Common.{◌≡◌, ◌⊎◌, inl, inr, ℕ, ◌<◌, ◌≤◌, ◌^◌, true, false, ◌&&◌, ◌||◌, ◌==◌, [], ◌∷◌, ◌++◌, map, Ok, Err, sym, ap, ◌∙◌, arith}
 use Rattle.std.proofs.lemmas.Bool.{eqb-true, and_parts, or_cases}
 use Rattle.std.specs.List.{list_any}

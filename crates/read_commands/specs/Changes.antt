@@ -1,4 +1,4 @@
--- `changes`: docs/PROFILE.md, "Command lines" and "Answers".
+-- The command `changes`, as specified in docs/PROFILE.md, "Command lines" and "Answers".
 use Rattle.std.specs.Prelude.{ℕ, List, [], ◌∷◌, ◌++◌, codes, decimal, unwrap_or, Result, Ok}
 use Rattle.std.specs.List.{flat_map}
 use Rattle.serde_json.specs.Data.{Data}

@@ -1,4 +1,4 @@
--- `conflicts`: docs/PROFILE.md, "Command lines" and "Answers".
+-- The command `conflicts`, as specified in docs/PROFILE.md, "Command lines" and "Answers".
 use Rattle.std.specs.Prelude.{◌≡◌, ℕ, List, map, [], ◌∷◌, ◌++◌, codes, decimal, None, Result, Ok, string_bytes}
 use Rattle.std.specs.List.{flat_map}
 use Rattle.std.specs.Option.{option_map_or}

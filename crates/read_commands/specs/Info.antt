@@ -1,4 +1,4 @@
--- `info`: docs/PROFILE.md, "Command lines" and "Answers".
+-- The command `info`, as specified in docs/PROFILE.md, "Command lines" and "Answers".
 use Rattle.std.specs.Prelude.{ℕ, List, [], ◌∷◌, ◌++◌, codes, decimal, length, Result, Ok}
 use Rattle.serde_json.specs.Data.{Data}
 use Rattle.couch_base.specs.Database.{DatabaseValue}

@@ -1,4 +1,4 @@
--- `ledger`: docs/PROFILE.md, "Command lines" and "Answers".
+-- The command `ledger`, as specified in docs/PROFILE.md, "Command lines" and "Answers".
 use Rattle.std.specs.Prelude.{ℕ, List, [], ◌∷◌, ◌++◌, codes, decimal, length, Option, Result, Ok, option_map}
 use Rattle.std.specs.List.{flat_map}
 use Rattle.serde_json.specs.Data.{Data}

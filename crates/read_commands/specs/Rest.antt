@@ -1,4 +1,4 @@
--- The remaining part of an output that is produced in pieces: docs/PROFILE.md, "Answers".
+-- The remaining part of an output that is produced in pieces, as specified in docs/PROFILE.md, "Answers".
 use Rattle.std.specs.Prelude.{ℕ, List, Option, Result, Ok, Err}
 use Rattle.script_engine.specs.Serving.{Told, text_with}
 use Rattle.script_databases.specs.Databases.{State}

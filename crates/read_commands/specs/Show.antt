@@ -1,4 +1,4 @@
--- `show`: docs/PROFILE.md, "Command lines" and "Answers".
+-- The command `show`, as specified in docs/PROFILE.md, "Command lines" and "Answers".
 use Rattle.std.specs.Prelude.{ℕ, Bool, List, [], ◌∷◌, ◌++◌, length, if◌then◌else◌, codes, decimal, Result, Ok}
 use Rattle.std.specs.List.{flat_map}
 use Rattle.std.specs.FinMap as finmap

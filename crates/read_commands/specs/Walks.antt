@@ -1,4 +1,4 @@
--- Positions in a changes feed: docs/PROFILE.md, "Changes feed".
+-- Positions in a changes feed, as specified in docs/PROFILE.md, "Changes feed".
 use Rattle.std.specs.Prelude.{ℕ, List, [], Option, Some, None}
 use Rattle.couch_base.specs.Database.{DatabaseValue}
 use Rattle.couch_base.specs.Feed.{RowValue, chosen_feed}

@@ -1,4 +1,4 @@
--- The text of a replication log: docs/PROFILE.md, "Logs of the relay".
+-- The text of a replication log, as specified in docs/PROFILE.md, "Logs of the relay".
 use Rattle.std.specs.Prelude.{List, [], ◌∷◌, ◌++◌, length, Option, None, Some, Bool, not, ◌&&◌, nat_lt, if◌then◌else◌, codes, decimal, count_by, bytes_eq}
 use Rattle.std.specs.List.{list_any}
 use Rattle.hex.specs.Hex.{encode_lower}

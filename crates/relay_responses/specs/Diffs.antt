@@ -1,4 +1,4 @@
--- The missing leaves that a response to `_revs_diff` names: docs/PROFILE.md, "Responses to the relay".
+-- The missing leaves that a response to `_revs_diff` names, as specified in docs/PROFILE.md, "Responses to the relay".
 use Rattle.std.specs.Prelude.{if◌then◌else◌, List, [], ◌∷◌, Option, None, Some, option_map, option_and_then, codes, bytes_eq}
 use Rattle.indexmap.specs.IndexMap.{insert_entry}
 use Rattle.json.specs.Json.{Json, Members, no_members, member}

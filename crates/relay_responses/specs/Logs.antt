@@ -1,4 +1,4 @@
--- Rows with errors, and replication logs: docs/PROFILE.md, "Responses to the relay".
+-- Rows with errors, and replication logs, as specified in docs/PROFILE.md, "Responses to the relay".
 use Rattle.std.specs.Prelude.{List, [], Option, None, Some, option_map, option_and_then, codes, Bool, false}
 use Rattle.std.specs.Option.{option_map_or}
 use Rattle.json.specs.Json.{Json, null, boolean, number, string, array, object}

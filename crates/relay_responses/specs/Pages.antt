@@ -1,4 +1,4 @@
--- A page of changes: docs/PROFILE.md, "Responses to the relay".
+-- A page of changes, as specified in docs/PROFILE.md, "Responses to the relay".
 use Rattle.std.specs.Prelude.{ℕ, ◌==◌, ◌&&◌, not, nat_le, Bool, false, if◌then◌else◌, List, [], ◌∷◌, ◌++◌, Option, None, Some, option_map, option_and_then, codes, fold, bytes_eq}
 use Rattle.std.specs.List.{list_any, list_all}
 use Rattle.json.specs.Json.{Json, null, boolean, number, string, array, object}

@@ -1,5 +1,5 @@
--- What a target lacks of a source's document: docs/PROFILE.md, "Missing revisions" and "Merging"; CouchDB, "Replication
--- Protocol", `_revs_diff`.
+-- What a target lacks of a source's document, as specified in docs/PROFILE.md, "Missing revisions" and "Merging", and
+-- in CouchDB, "Replication Protocol", `_revs_diff`.
 --
 -- Comparisons use the two trees of the document, not logs.
 use Rattle.std.specs.Prelude.{ℕ, Bool, false, not, ◌&&◌, List, [], ◌∷◌, filter, length, Option, None}

@@ -1,4 +1,4 @@
--- Comparing documents of two databases: docs/PROFILE.md, "Missing revisions" and "Changes feed".
+-- Comparing documents of two databases, as specified in docs/PROFILE.md, "Missing revisions" and "Changes feed".
 use Rattle.std.specs.Prelude.{List, map}
 use Rattle.couch_base.specs.Database.{Id, DatabaseValue, tree_of}
 use Rattle.couch_base.specs.Feed.{RowValue}

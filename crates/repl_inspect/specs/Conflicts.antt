@@ -1,4 +1,5 @@
--- Documents in conflict: docs/PROFILE.md, "Leaves and the winner"; CouchDB, "Replication and conflict model".
+-- Documents in conflict, as specified in docs/PROFILE.md, "Leaves and the winner", and in CouchDB, "Replication and
+-- conflict model".
 use Rattle.std.specs.Prelude.{Bool, not, nat_le, List, [], filter, length, if◌then◌else◌}
 use Rattle.rev_core.specs.Rev.{RevId}
 use Rattle.rev_tree.specs.Tree.{TreeValue, leaves, is_deleted}

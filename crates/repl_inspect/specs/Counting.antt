@@ -1,4 +1,4 @@
--- Counts of documents and revisions: docs/PROFILE.md, "Sequences".
+-- Counts of documents and revisions, as specified in docs/PROFILE.md, "Sequences".
 use Rattle.std.specs.Prelude.{ℕ, min}
 use Rattle.couch_base.specs.Database.{most}
 

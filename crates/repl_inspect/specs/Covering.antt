@@ -1,4 +1,4 @@
--- Missing leaves and covered leaves: docs/PROFILE.md, "Covered leaves".
+-- Missing leaves and covered leaves, as specified in docs/PROFILE.md, "Covered leaves".
 use Rattle.std.specs.Prelude.{◌≡◌, true, []}
 use Rattle.std.specs.List.{list_any}
 use Rattle.rev_core.specs.Rev.{RevId}

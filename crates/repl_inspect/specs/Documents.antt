@@ -1,4 +1,4 @@
--- The leaves of a document, each as a document with its known ancestry: docs/PROFILE.md, "Fetching".
+-- The leaves of a document, each as a document with its known ancestry, as specified in docs/PROFILE.md, "Fetching".
 use Rattle.std.specs.Prelude.{List, map}
 use Rattle.rev_tree.specs.Tree.{TreeValue, leaves}
 use Rattle.doc_json.specs.Document.{Document}

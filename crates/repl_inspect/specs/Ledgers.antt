@@ -1,4 +1,4 @@
--- Rows of a session's ledger: docs/PROFILE.md, "Settling".
+-- Rows of a session's ledger, as specified in docs/PROFILE.md, "Settling".
 use Rattle.std.specs.Prelude.{◌≡◌}
 use Rattle.rev_core.specs.Ancestry.{head_of}
 use Rattle.std.specs.Prelude.{Some}

@@ -1,4 +1,4 @@
--- Loading documents into an empty database: docs/PROFILE.md, "Local writes", "Fetching" and "Merging".
+-- Loading documents into an empty database, as specified in docs/PROFILE.md, "Local writes", "Fetching" and "Merging".
 use Rattle.std.specs.Prelude.{◌+◌, ◌≤◌, List, [], ◌∷◌, length}
 use Rattle.std.specs.List.{flat_map}
 use Rattle.std.specs.Result.{IsOk}

@@ -1,4 +1,4 @@
--- Totals of comparisons: docs/PROFILE.md, "Missing revisions" and "Merging".
+-- Totals of comparisons, as specified in docs/PROFILE.md, "Missing revisions" and "Merging".
 use Rattle.std.specs.Prelude.{List, length, is_some}
 use Rattle.std.specs.List.{sum_by, count_by}
 use Rattle.repl_inspect.specs.Comparing.{ComparisonValue}

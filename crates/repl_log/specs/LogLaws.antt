@@ -1,4 +1,5 @@
--- Lemmas about logs, for dependent crates: docs/PROFILE.md, "Replication ids and logs" and "Common checkpoint".
+-- Lemmas for dependent crates about logs, which are specified in docs/PROFILE.md, "Replication ids and logs" and
+-- "Common checkpoint".
 use Rattle.std.proofs.Common.{◌≡◌, ℕ, ◌+◌, ◌≤◌, drop, slice_get, true, false, ◌||◌, nat_eq, eqb, cond, min, List, [], ◌∷◌, Option, Some, None, is_some, option_and_then, refl, sym, ap, ◌∙◌, subst, arith}
 use Rattle.std.specs.List.{list_any, IsDistinct, AllByRecursion}
 use Rattle.std.specs.Option.{option_map}

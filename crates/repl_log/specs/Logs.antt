@@ -1,4 +1,4 @@
--- Logs by replication: docs/PROFILE.md, "Replication ids and logs".
+-- Logs by replication, as specified in docs/PROFILE.md, "Replication ids and logs".
 use Rattle.std.specs.Prelude.{List, [], ◌∷◌, Result, if◌then◌else◌}
 use Rattle.repl_log.specs.declared.replication.RepId.{RepId}
 use Rattle.repl_log.specs.declared.fault.LogFault.{LogFault}

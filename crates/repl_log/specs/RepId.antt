@@ -1,4 +1,4 @@
--- Replication ids: docs/PROFILE.md, "Replication ids and logs".
+-- Replication ids, as specified in docs/PROFILE.md, "Replication ids and logs".
 use Rattle.std.specs.Prelude.{Bool, ◌==◌, ◌&&◌, nat_eq}
 use Rattle.std.specs.Option.{option_eq}
 use Rattle.std.specs.Cmp.Lexicographic.{pointwise}

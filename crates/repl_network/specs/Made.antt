@@ -1,4 +1,4 @@
--- Documents that were made only by edits: docs/PROFILE.md, "Nets" and "Ids of local edits".
+-- Documents that were made only by edits, as specified in docs/PROFILE.md, "Nets" and "Ids of local edits".
 use Rattle.std.specs.Prelude.{◌≡◌, ◌≢◌, ℕ, Bool, true, List, Option, Some, Ok}
 use Rattle.std.specs.FinMap.{get}
 use Rattle.rev_core.specs.Rev.{RevId}

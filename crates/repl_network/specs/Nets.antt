@@ -1,5 +1,5 @@
--- Networks: any number of peers, each at its place, and replications between any two of them, in any order:
--- docs/PROFILE.md, "Nets"; CouchDB, "Replication and conflict model".
+-- Networks: any number of peers, each at its place, and replications between any two of them, in any order, as
+-- specified in docs/PROFILE.md, "Nets", and in CouchDB, "Replication and conflict model".
 use Rattle.std.specs.Prelude.{◌≡◌, ◌≢◌, ◌⊎◌, ℕ, ◌<◌, Bool, true, List, [], ◌∷◌, map, length, Option, Some, Ok, slice_get}
 use Rattle.rev_core.specs.Rev.{RevId}
 use Rattle.rev_tree.specs.Tree.{TreeValue, has, merged, no_revisions}

@@ -1,4 +1,4 @@
--- The results and effects of calls on a network: docs/PROFILE.md, "Nets".
+-- The results and effects of calls on a network, as specified in docs/PROFILE.md, "Nets".
 use Rattle.std.specs.Prelude.{◌≡◌, ◌≢◌, ◌⊎◌, ℕ, ◌+◌, ◌<◌, ◌≤◌, Bool, List, [], ◌∷◌, ◌++◌, length, Some, Result, Ok, Err, MatchResult, slice_get}
 use Rattle.doc_json.specs.Document.{Document}
 use Rattle.doc_json.specs.Chosen.{Choice}

@@ -1,4 +1,4 @@
--- The number of workers of a run: docs/PROFILE.md, "The pool".
+-- The number of workers of a run of the pool, as specified in docs/PROFILE.md, "The pool".
 use Rattle.std.specs.Prelude.{ℕ, ◌+◌, ◌-◌, ◌/◌, nat_le, min, if◌then◌else◌}
 use Rattle.repl_target.specs.declared.replication.Plan.{Plan}
 

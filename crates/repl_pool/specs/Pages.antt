@@ -1,4 +1,4 @@
--- The windows of a run: docs/PROFILE.md, "Goal and windows" and "The pool".
+-- The windows of a run of the pool, as specified in docs/PROFILE.md, "Goal and windows" and "The pool".
 use Rattle.std.specs.Prelude.{◌≡◌, ℕ, ◌<◌, ◌≤◌, List, [], ◌∷◌, length, Option, Some, None}
 use Rattle.couch_base.specs.Database.{DatabaseValue}
 use Rattle.couch_base.specs.Feed.{WindowValue}

@@ -1,4 +1,4 @@
--- A run of the pool: docs/PROFILE.md, "The pool".
+-- A run of the pool, as specified in docs/PROFILE.md, "The pool".
 use Rattle.std.specs.Prelude.{◌≡◌, ◌⊎◌, ℕ, Bool, true, false, List, [], Option, Some, None, Result, Ok, Err, IfOk, IfErr, IfSome, sum}
 use Rattle.std.specs.declared.alloc.AllocError.{AllocError}
 use Rattle.doc_json.specs.Document.{Document}

@@ -1,4 +1,4 @@
--- Replication in both directions by the pool: docs/PROFILE.md, "Both ways"; PouchDB, `sync`.
+-- Replication in both directions by the pool, as specified in docs/PROFILE.md, "Both ways", and in PouchDB, `sync`.
 use Rattle.std.specs.Prelude.{ℕ, Bool, List, Result, Ok, Err}
 use Rattle.doc_json.specs.Document.{Document}
 use Rattle.repl_peer.specs.peer.Peer.{PeerValue}

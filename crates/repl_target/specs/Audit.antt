@@ -1,4 +1,4 @@
--- The audit of a replication: docs/PROFILE.md, "Audit" and "Covered leaves".
+-- The audit of a replication, as specified in docs/PROFILE.md, "Audit" and "Covered leaves".
 use Rattle.std.specs.Prelude.{◌≡◌, ℕ, true, Option, Some, None}
 use Rattle.rev_core.specs.Rev.{RevId}
 use Rattle.rev_tree.specs.declared.origin.SessionId.{SessionId}

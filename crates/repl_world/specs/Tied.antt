@@ -1,5 +1,5 @@
--- Worlds whose messages and stored windows are the source's own: docs/PROFILE.md, "Worlds" and "Tied windows and
--- messages".
+-- Worlds whose messages and stored windows are the source's own, as specified in docs/PROFILE.md, "Worlds" and "Tied
+-- windows and messages".
 use Rattle.std.specs.Prelude.{◌≡◌, ℕ, ◌≤◌, List, [], Bool, false, Some, None, Result, slice_get}
 use Rattle.doc_json.specs.Document.{Document}
 use Rattle.doc_json.specs.Chosen.{Choice}

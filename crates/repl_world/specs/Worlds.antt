@@ -1,4 +1,4 @@
--- Two peers and a bag of messages, and the effect of each step: docs/PROFILE.md, "Worlds".
+-- Two peers and a bag of messages, and the effect of each step, as specified in docs/PROFILE.md, "Worlds".
 --
 -- A replication exchanges messages: pages of the source's feed, requests for what the target lacks, parcels of
 -- documents, and log entries. Messages between two databases may be late, repeated, reordered or lost. A world is both

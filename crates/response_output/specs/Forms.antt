@@ -1,4 +1,5 @@
--- The text around the items that the formatter writes: docs/PROFILE.md, "CouchDB's answers" and "Lines of documents".
+-- The text around the items that the formatter writes, as specified in docs/PROFILE.md, "CouchDB's answers" and "Lines
+-- of documents".
 use Rattle.std.specs.Prelude.{ℕ, List, [], Bool, true, false, codes}
 use Rattle.response_output.specs.declared.forms.Form.{Form}
 use Rattle.response_output.specs.declared.forms.Form.TheVariants.{Loads, Asked, Diffs, Docs, Bodies}

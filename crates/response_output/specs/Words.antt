@@ -1,4 +1,5 @@
--- The output for the items that the parser found: docs/PROFILE.md, "CouchDB's answers" and "Lines of documents".
+-- The output for the items that the parser found, as specified in docs/PROFILE.md, "CouchDB's answers" and "Lines of
+-- documents".
 use Rattle.std.specs.Prelude.{ℕ, ◌&&◌, ◌==◌, nat_lt, List, [], ◌∷◌, ◌++◌, Bool, true, false, not, cond, codes}
 use Rattle.doc_envelope.specs.Names.{id_of}
 use Rattle.response_parser.specs.State.{more}

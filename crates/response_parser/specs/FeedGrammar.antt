@@ -1,5 +1,5 @@
--- Responses to `_changes` and `_revs_diff`, with the leaves in them: docs/PROFILE.md, "CouchDB's answers"; CouchDB's
--- API, "/{db}/_changes" and "/{db}/_revs_diff".
+-- Responses to `_changes` and `_revs_diff`, with the leaves in them, as specified in docs/PROFILE.md, "CouchDB's
+-- answers", and in CouchDB's API, "/{db}/_changes" and "/{db}/_revs_diff".
 --
 -- In this file, k is a name after its opening quotation mark, and s is white space. A value is t up to the comma or
 -- brace after it, and u is the same value on one line. The number of open lists and objects is d.

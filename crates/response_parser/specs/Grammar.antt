@@ -1,5 +1,5 @@
--- CouchDB's responses in terms of the JSON grammar, with the documents in them: docs/PROFILE.md, "CouchDB's answers".
--- The grammar of the kit's JSON library decides whether a text is JSON (`is_json`).
+-- CouchDB's responses in terms of the JSON grammar, with the documents in them, as specified in docs/PROFILE.md,
+-- "CouchDB's answers". The grammar of the kit's JSON library decides whether a text is JSON (`is_json`).
 use Rattle.std.specs.Prelude.{◌≡◌, ℕ, ◌+◌, ◌<◌, ◌==◌, slice_index, List, [], ◌∷◌, ◌++◌, Bool, true, false, codes, Some}
 use Rattle.doc_envelope.specs.Texts.{Spaces, EndsString, Closed, is_space, is_json}
 use Rattle.doc_envelope.specs.Names.{is_log}

@@ -1,4 +1,4 @@
--- The output of a script, with the documents in it: docs/PROFILE.md, "Lines of documents".
+-- The output of a script, with the documents in it, as specified in docs/PROFILE.md, "Lines of documents".
 use Rattle.std.specs.Prelude.{◌≡◌, ℕ, ◌==◌, List, [], ◌∷◌, ◌++◌, true, false, not}
 use Rattle.std.specs.List.{list_all}
 use Rattle.doc_envelope.specs.Texts.{is_space}

@@ -1,4 +1,4 @@
--- The meaning of a member's name: docs/PROFILE.md, "CouchDB's answers".
+-- The meaning of a member's name, as specified in docs/PROFILE.md, "CouchDB's answers".
 use Rattle.std.specs.Prelude.{ℕ, ◌||◌, ◌&&◌, ◌==◌, List, Bool, true, false, cond, codes, Option, Some, None}
 use Rattle.std.specs.Str.{bytes_eq}
 use Rattle.response_parser.specs.declared.place.Wanted.{Wanted}

@@ -1,4 +1,4 @@
--- The items that the parser finds in a list of bytes: docs/PROFILE.md, "CouchDB's answers".
+-- The items that the parser finds in a list of bytes, as specified in docs/PROFILE.md, "CouchDB's answers".
 use Rattle.std.specs.Prelude.{ℕ, List, [], ◌∷◌, ◌++◌, Bool, true, false, cond, ◌||◌, Result, Ok, Err}
 use Rattle.response_parser.specs.State.{State}
 use Rattle.response_parser.specs.Steps.{step, is_refused}

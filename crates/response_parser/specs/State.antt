@@ -1,4 +1,4 @@
--- The state of the parser: docs/PROFILE.md, "CouchDB's answers".
+-- The state of the parser, as specified in docs/PROFILE.md, "CouchDB's answers".
 use Rattle.std.specs.Prelude.{ℕ, ◌+◌, ◌++◌, nat_lt, List, [], ◌∷◌, Bool, false, cond}
 use Rattle.response_parser.specs.Wanted.{first_place}
 use Rattle.response_parser.specs.declared.place.Place.{Place}

@@ -1,4 +1,4 @@
--- The effect of one byte: docs/PROFILE.md, "CouchDB's answers" and "Lines of documents".
+-- The effect of one byte, as specified in docs/PROFILE.md, "CouchDB's answers" and "Lines of documents".
 use Rattle.std.specs.Prelude.{ℕ, Bool, true, false, cond}
 use Rattle.response_parser.specs.State.{State, more}
 use Rattle.response_parser.specs.Signs.{in_sign}

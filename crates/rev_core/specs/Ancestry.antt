@@ -1,4 +1,5 @@
--- Ancestries: docs/PROFILE.md, "Ancestries"; the member `_revisions` of CouchDB, "Replication Protocol".
+-- Ancestries, as specified in docs/PROFILE.md, "Ancestries", and in the member `_revisions` of CouchDB, "Replication
+-- Protocol".
 use Rattle.std.specs.Prelude.{◌≡◌, ℕ, ◌+◌, ◌-◌, ◌<◌, Bool, List, [], ◌∷◌, length, Option, Some, None, Result, Ok, Err, if◌then◌else◌, nat_lt, ◌==◌}
 use Rattle.std.specs.List.{AllByRecursion, list_any}
 use Rattle.std.specs.Ordering.{eq_by_cmp}

@@ -1,4 +1,5 @@
--- Revision ids of local edits: docs/PROFILE.md, "Ids of local edits"; MD5 is RFC 1321.
+-- Revision ids of local edits, as specified in docs/PROFILE.md, "Ids of local edits". The hash MD5 is specified in RFC
+-- 1321.
 use Rattle.std.specs.Prelude.{ℕ, ◌+◌, ◌^◌, Bool, true, false, List, [], ◌∷◌, ◌++◌, Option, Some, None, Result, Ok, Err, if◌then◌else◌, nat_lt, codes}
 use Rattle.md5.specs.Md5.{md5}
 use Rattle.hex.specs.Hex.{encode_lower}

@@ -1,4 +1,4 @@
--- The syntax of signatures: docs/PROFILE.md, "Revision id text".
+-- The syntax of signatures, as specified in docs/PROFILE.md, "Revision id text".
 use Rattle.std.specs.Prelude.{◌≡◌, ℕ, ◌-◌, ◌≤◌, Bool, true, ◌&&◌, ◌||◌, List, ◌++◌, length, take, replicate, ◌==◌, nat_le, Result, Ok, Err, if◌then◌else◌}
 use Rattle.std.specs.List.{list_all}
 use Rattle.rev_core.specs.declared.fault.RevFault.{RevFault}

@@ -1,4 +1,4 @@
--- The syntax of revision ids: docs/PROFILE.md, "Revision id text".
+-- The syntax of revision ids, as specified in docs/PROFILE.md, "Revision id text".
 use Rattle.std.specs.Prelude.{ℕ, ◌+◌, ◌-◌, ◌*◌, ◌^◌, Bool, ◌&&◌, List, ◌∷◌, ◌++◌, ◌==◌, nat_le, nat_lt, slice_index, take, drop, fold, Option, Some, None, Result, Ok, Err, if◌then◌else◌}
 use Rattle.std.specs.List.{list_all, position}
 use Rattle.std.specs.Fmt.{decimal}

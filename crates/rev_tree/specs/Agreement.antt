@@ -1,4 +1,5 @@
--- Trees of one document in two databases: docs/PROFILE.md, "Both ways"; CouchDB, "Replication and conflict model".
+-- Trees of one document in two databases, as specified in docs/PROFILE.md, "Both ways", and in CouchDB, "Replication
+-- and conflict model".
 use Rattle.std.specs.Prelude.{◌≡◌, ◌⊎◌, true, None, Some}
 use Rattle.std.specs.FinMap.{get}
 use Rattle.rev_core.specs.Rev.{RevId}

@@ -1,4 +1,4 @@
--- Databases that are all tied to each other, for every selection: docs/PROFILE.md, "Tied databases".
+-- Databases that are all tied to each other, for every selection, as specified in docs/PROFILE.md, "Tied databases".
 use Rattle.std.specs.Prelude.{◌≡◌, ℕ, List, Some}
 use Rattle.doc_json.specs.Chosen.{Choice}
 use Rattle.couch_base.specs.Lists.{Among}

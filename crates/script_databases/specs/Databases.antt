@@ -1,4 +1,4 @@
--- The databases of a script: docs/PROFILE.md, "Command lines".
+-- The databases of a script, as specified in docs/PROFILE.md, "Command lines".
 use Rattle.std.specs.Prelude.{◌≡◌, ℕ, Bool, ◌&&◌, List, [], ◌∷◌, ◌++◌, Option, Some, None, option_map, Result, Ok, Err, refl}
 use Rattle.std.specs.List.{find}
 use Rattle.std.specs.Str.{bytes_eq}

@@ -1,4 +1,4 @@
--- Replications between two of the databases: docs/PROFILE.md, "Command lines".
+-- Replications between two of the databases, as specified in docs/PROFILE.md, "Command lines".
 use Rattle.std.specs.Prelude.{◌≡◌, ◌⊎◌, ℕ, Bool, false, nat_eq, List, Option, Some, Result, Ok, Err, IfOk, OnOk, ◌≤◌}
 use Rattle.std.specs.List.{starts_with}
 use Rattle.std.specs.Option.{option_map_or}
@@ -31,7 +31,8 @@ with_both old source target s t = with_peer (with_peer old source s) target t
 
 -- ---- by one thread
 
--- What holds after a replication by one thread: docs/PROFILE.md, "Replication by one thread" and "Tied peers".
+-- What holds after a replication by one thread, as specified in docs/PROFILE.md, "Replication by one thread" and "Tied
+-- peers".
 --
 -- Only the source's log changed, and the target is a later one. Peers that were tied are still tied, with all backups
 -- of the source, for every selection. If the replication succeeded, the report is that of its session. If the two peers

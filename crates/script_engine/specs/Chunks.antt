@@ -1,4 +1,4 @@
--- Reading a script in chunks: docs/PROFILE.md, "Limits".
+-- Reading a script in chunks, as specified in docs/PROFILE.md, "Limits".
 use Rattle.std.specs.Prelude.{◌≡◌, ◌<◌, ◌≤◌, ◌⊎◌, ℕ, length, List, [], Bool, true, false, Option}
 use Rattle.std.specs.Io.KnownBytes.{Consumes, IsAtEnd, Keeps}
 use Rattle.script_engine.specs.Device.{FailsOnce, counted}

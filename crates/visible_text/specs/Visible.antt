@@ -1,4 +1,4 @@
--- Characters that a reader does not see, and their escapes: docs/PROFILE.md, "Pictures".
+-- Characters that a reader does not see, and their escapes, as specified in docs/PROFILE.md, "Pictures".
 use Rattle.std.specs.Prelude.{◌≡◌, ℕ, ◌+◌, ◌-◌, ◌/◌, ◌%◌, ◌==◌, ◌||◌, nat_lt, List, [], ◌∷◌, ◌++◌, Bool, true, false, if◌then◌else◌}
 use Rattle.std.specs.Int.{is_in_range}
 use Rattle.std.specs.Char.{digit_char, is_control}

@@ -1,4 +1,4 @@
--- `replicate`: docs/PROFILE.md, "Command lines", "Order of checks" and "Answers".
+-- The command `replicate`, as specified in docs/PROFILE.md, "Command lines", "Order of checks" and "Answers".
 use Rattle.std.specs.Prelude.{◌≡◌, ◌⊎◌, ◌<◌, ◌≤◌, ℕ, Bool, true, false, List, [], ◌∷◌, ◌++◌, codes, decimal, Option, Some, None, unwrap_or, option_map, Result, Ok, Err}
 use Rattle.serde_json.specs.Data.{Data}
 use Rattle.serde_json.specs.Find.{as_bool}

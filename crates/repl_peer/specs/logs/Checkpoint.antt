@@ -1,5 +1,5 @@
--- The replication between two peers, and its common checkpoint: docs/PROFILE.md, "Replication ids and logs" and "Common
--- checkpoint".
+-- The replication between two peers, and its common checkpoint, as specified in docs/PROFILE.md, "Replication ids and
+-- logs" and "Common checkpoint".
 use Rattle.std.specs.Prelude.{ℕ, Option}
 use Rattle.rev_tree.specs.declared.origin.SessionId.{SessionId}
 use Rattle.doc_json.specs.Chosen.{Choice}

@@ -1,4 +1,4 @@
--- The logs of a peer: docs/PROFILE.md, "Replication ids and logs".
+-- The logs of a peer, as specified in docs/PROFILE.md, "Replication ids and logs".
 use Rattle.std.specs.Prelude.{◌==◌, List, map, filter, Result, Ok, Err, if◌then◌else◌}
 use Rattle.repl_log.specs.declared.replication.RepId.{RepId}
 use Rattle.repl_log.specs.declared.fault.LogFault.{LogFault}

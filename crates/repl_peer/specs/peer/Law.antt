@@ -1,4 +1,4 @@
--- The invariant of a peer: docs/PROFILE.md, "The peer's law".
+-- The invariant of a peer, as specified in docs/PROFILE.md, "The peer's law".
 use Rattle.std.specs.Prelude.{◌≡◌, ◌⊎◌, ℕ, ◌≤◌, Bool, true, List, [], ◌∷◌, map, length, Some, None, nat_eq}
 use Rattle.std.specs.List.{IsDistinct, AllByRecursion}
 use Rattle.rev_core.specs.Rev.{RevId}

@@ -1,4 +1,4 @@
--- Origins of the revisions of a peer: docs/PROFILE.md, "Revision trees" and "The peer's law".
+-- Origins of the revisions of a peer, as specified in docs/PROFILE.md, "Revision trees" and "The peer's law".
 use Rattle.std.specs.Prelude.{◌≡◌, ℕ, true, Some, slice_get}
 use Rattle.std.specs.FinMap.{get}
 use Rattle.rev_core.specs.Rev.{RevId}

@@ -1,4 +1,4 @@
--- Peers and their sessions: docs/PROFILE.md, "Sessions of a peer".
+-- Peers and their sessions, as specified in docs/PROFILE.md, "Sessions of a peer".
 --
 -- A peer is a database with the state that replication needs. A target has a session for each replication into it. A
 -- session has the windows of the source's changes feed, and which of them are done. For each document that came, the

@@ -1,4 +1,4 @@
--- The revisions of a write in the tree of its document: docs/PROFILE.md, "The peer's law".
+-- The revisions of a write in the tree of its document, as specified in docs/PROFILE.md, "The peer's law".
 use Rattle.std.specs.Prelude.{◌≡◌, List, [], ◌∷◌, Some}
 use Rattle.std.specs.FinMap.{FinMap, get}
 use Rattle.rev_core.specs.Rev.{RevId, rev_cmp}

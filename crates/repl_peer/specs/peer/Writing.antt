@@ -1,4 +1,4 @@
--- Local writes of a peer: docs/PROFILE.md, "Local writes".
+-- Local writes of a peer, as specified in docs/PROFILE.md, "Local writes".
 use Rattle.std.specs.Prelude.{ℕ, Bool, List, [], ◌∷◌, ◌++◌, length, Option, Result, Ok, Err, if◌then◌else◌}
 use Rattle.rev_core.specs.Rev.{RevId}
 use Rattle.rev_tree.specs.declared.origin.Origin.{Origin}

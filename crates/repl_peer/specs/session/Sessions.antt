@@ -1,4 +1,4 @@
--- Sessions: docs/PROFILE.md, "Sessions of a peer" and "Goal and windows".
+-- Sessions, as specified in docs/PROFILE.md, "Sessions of a peer" and "Goal and windows".
 use Rattle.std.specs.Prelude.{◌≡◌, ℕ, ◌==◌, ◌&&◌, nat_lt, if◌then◌else◌, List, [], ◌∷◌, ◌++◌, Option, Some, None, Result, Ok, Err, IsOk}
 use Rattle.std.specs.List.{find}
 use Rattle.rev_tree.specs.declared.origin.SessionId.{SessionId}

@@ -1,5 +1,5 @@
--- Sequences of calls on a target, and their effect: docs/PROFILE.md, "Sessions of a peer" and "Tied windows and
--- messages".
+-- Sequences of calls on a target, and their effect, as specified in docs/PROFILE.md, "Sessions of a peer" and "Tied
+-- windows and messages".
 use Rattle.std.specs.Prelude.{◌≡◌, ◌⊎◌, ℕ, ◌<◌, ◌≤◌, min, Bool, List, [], ◌∷◌, Option, Result, Ok, Err}
 use Rattle.rev_core.specs.Rev.{RevId}
 use Rattle.rev_tree.specs.declared.origin.SessionId.{SessionId}

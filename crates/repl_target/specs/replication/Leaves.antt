@@ -1,5 +1,5 @@
--- The effect of a replication on both peers, on one thread or several: docs/PROFILE.md, "Replication by one thread",
--- "The pool" and "Tied peers".
+-- The effect of a replication on both peers, on one thread or several, as specified in docs/PROFILE.md, "Replication by
+-- one thread", "The pool" and "Tied peers".
 use Rattle.std.specs.Prelude.{◌≡◌, ◌⊎◌, Bool, List}
 use Rattle.rev_tree.specs.Agreement.{IsGrownBy}
 use Rattle.doc_json.specs.Document.{Document}

@@ -1,4 +1,4 @@
--- Replication in both directions: docs/PROFILE.md, "Both ways"; PouchDB, `sync`.
+-- Replication in both directions, as specified in docs/PROFILE.md, "Both ways", and in PouchDB, `sync`.
 use Rattle.std.specs.Prelude.{◌≡◌, Bool, true, Result, Ok, Err}
 use Rattle.rev_core.specs.Rev.{RevId}
 use Rattle.rev_tree.specs.Tree.{has, is_leaf}
