@@ -6,7 +6,8 @@ use Rattle.std.proofs.lemmas.Slice.Eq.{bytes_eq-Decides}
 use Rattle.std.proofs.lemmas.List.Folds.{list_any-append, list_all-append}
 use Rattle.std.specs.Str.{bytes_eq}
 use Rattle.std.specs.List.{list_any, list_all, AllByRecursion}
--- `both_false`, `some_is` and `none_some` are the names by which higher crates cite these lemmas.
+-- The names `both_false`, `some_is` and `none_some` are those by which higher crates cite lemmas of the standard
+-- library.
 pub use Rattle.std.proofs.lemmas.Bool.{or_parts as both_false}
 pub use Rattle.std.proofs.lemmas.Option.{same_Some as some_is, none-some as none_some}
 use Rattle.rev_core.specs.Rev.{RevId}

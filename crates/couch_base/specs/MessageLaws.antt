@@ -53,7 +53,7 @@ all_wanted ds (r ∷ rows) h = wanted_first r.id (missing (tree_of ds r.id) r.le
 pub IsAsked-revs_diff : (db : DatabaseValue) (w : WindowValue) → IsWindow w → IsAsked (revs_diff db w)
 IsAsked-revs_diff db w window = record { distinct = each_wanted db.docs w.rows window.distinct; docs = all_wanted db.docs w.rows window.rows }
 
--- ---- each requested revision is in the parcel
+-- ---- every requested revision is in the parcel, or gone
 
 any_opened : (id : Id) (t : TreeValue) (leaf r : RevId) (xs : List RevId) → is_among leaf xs ≡ true → is_among r (ancestors t leaf) ≡ true → list_any (brings id r) (map (leaf_document id t) xs) ≡ true
 any_opened id t leaf r [] h above = absurd (false≢true h)
@@ -111,7 +111,7 @@ all_answered db law (w ∷ ws) =
     (all_weaker (is_answered (fetched db.docs ws) (gone_of db.docs ws)) (is_answered (docs ++ fetched db.docs ws) (gone ++ gone_of db.docs ws))
     (λ x. answered_right docs (fetched db.docs ws) gone (gone_of db.docs ws) x) ws (all_answered db law ws))
 
--- ---- each fetched document is requested
+-- ---- every fetched document of a parcel was requested
 
 opened_wanted : (w : WantedValue) (ws : List WantedValue) (t : TreeValue) → list_all (is_wanted (w ∷ ws)) (opened w.id t w.revs) ≡ true
 opened_wanted w ws t =
@@ -126,7 +126,7 @@ fetched_wanted ds (w ∷ ws) =
     (opened_wanted w ws (tree_of ds w.id))
     (all_weaker (is_wanted ws) (is_wanted (w ∷ ws)) (λ d k. or_right _ _ k) (fetched ds ws) (fetched_wanted ds ws))
 
--- ---- no id and newest revision occurs twice
+-- ---- no two documents of a parcel have the same id and newest revision
 
 heads : (m : FinMap rev_cmp RevId) (n k : ℕ) (a b : RevId) → same_head (walk m n a) (walk m k b) ≡ eq_by_cmp rev_cmp a b
 heads m zero zero a b = refl

@@ -104,7 +104,7 @@ gone_of ds (w ∷ ws) = map (λ r. (w.id, r)) (missing (tree_of ds w.id) w.revs)
 abbrev pub open_revs : DatabaseValue → AskedValue → ParcelValue
 open_revs db a = record { asked = a; docs = fetched db.docs a.docs; gone = gone_of db.docs a.docs }
 
--- ---- invariants of requests and parcels
+-- ---- invariants
 
 -- The revisions requested of a document are not empty, and have no duplicates.
 pub record IsWanted (w : WantedValue) : Type 0 where

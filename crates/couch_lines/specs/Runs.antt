@@ -53,8 +53,8 @@ abbrev pub form_of : Bool → Form
 form_of true = Svg
 form_of false = Text
 
--- A task was run with this result. The arguments are the reader's remaining bytes, and what the writer has accepted,
--- before and after.
+-- A task was run with the given result. The arguments of `IsDone` are the reader's remaining bytes, and what the writer
+-- has accepted, before and after.
 abbrev pub IsDone : Task → Option (List ℕ) → Option (List ℕ) → Option (List ℕ) → Result ℕ AnswerFault → Type 0
 IsDone task left held held' result = Converts result (wanted_of task) (words_of_task task) left held held'
 
@@ -74,8 +74,8 @@ Makes (Bulk n whole) left held held' result = (answers : List ℕ) → (document
     → IsScript (wanted_of (Bulk n whole)) answers documents → ReadsAnswers (bodies_of n) documents held held' result
 Makes (Trees db svg) left held held' result = ⊥
 
--- The effect of a run with these arguments. If the arguments have no task, or an allocation fails, the run reads and
--- writes no byte. Otherwise the task is run, and only `trees` draws.
+-- The effect of a run with the given command line. If the command line has no task, or an allocation fails, the run
+-- reads and writes no byte. If the command line has a task, the task is run, and only `trees` draws.
 abbrev pub RunsWords : List (List ℕ) → Option (List ℕ) → Option (List ℕ) → Option (List ℕ) → Option (List ℕ) → Ended → Type 0
 RunsWords words left left' held held' (NotRun why) = Refuses words why × (left' ≡ left) × (held' ≡ held)
 RunsWords words left left' held held' (Ran run) =
@@ -84,8 +84,8 @@ RunsWords words left left' held held' (Drawn ended) =
     (db : Option (String Global)) × (svg : Bool) × Says words (Trees db svg)
     × PicturedBy ended (form_of svg) (option_map string_bytes db) left held held'
 
--- The device that an error names failed in this run, and the other device did not. The arguments are the reader's
--- counts of reads, before and after, then the failure counts of the reader and of the writer.
+-- The device that an error names failed in the run, and the other device did not. The arguments of `RunCounts` are the
+-- reader's counts of reads, before and after, then the failure counts of the reader and of the writer.
 abbrev pub RunCounts : Result ℕ AnswerFault → ℕ → ℕ → ℕ → ℕ → ℕ → ℕ → Type 0
 RunCounts (Ok passed) reads reads' reader reader' writer writer' = (reader' ≡ reader) × (writer' ≡ writer)
 RunCounts (Err fault) reads reads' reader reader' writer writer' = CountsOf fault reads reads' reader reader' writer writer'
@@ -106,9 +106,10 @@ IfDone (NotRun why) holds = ⊤
 IfDone (Ran run) holds = OnOk run.ended holds
 IfDone (Drawn ended) holds = OnOk ended holds
 
--- A run of the program on its standard streams. The arguments are the command line, the bytes that the reads returned,
--- and whether they came to the end of the input. Further arguments are the bytes that the output has accepted, and how
--- the run ended. If the last output cannot be flushed, a part of it is missing, and the run ends as `unflushed` says.
+-- A run of the program on its standard streams. The arguments of `RunsStandard` are the command line, the bytes that
+-- the reads returned, and whether they came to the end of the input. Further arguments of `RunsStandard` are the bytes
+-- that the output has accepted, and how the run ended. If the last output cannot be flushed, a part of it is missing,
+-- and the run ends as `unflushed` says.
 abbrev pub RunsStandard : List (List ℕ) → List ℕ → Type 0 → List ℕ → Ended → Type 0
 RunsStandard words input all text ended =
     (first : Ended) × (rest : List ℕ) × RunsWords words (Some input) (Some []) (Some []) (Some (text ++ rest)) first

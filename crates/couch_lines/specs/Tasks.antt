@@ -45,7 +45,7 @@ abbrev pub IsNamedOrNone : Option (List ℕ) → Option (List ℕ) → Type 0
 IsNamedOrNone word None = word ≡ None
 IsNamedOrNone word (Some db) = IsNamed word db
 
--- The task of this name, with this argument and these flags.
+-- The task with a given name, an argument and flags.
 abbrev pub Fits : Named → Option (List ℕ) → Bool → Bool → Task → Type 0
 Fits named.Load word whole svg (Load db w) = IsNamed word (string_bytes db) × (w ≡ whole) × (svg ≡ false)
 Fits named.Load word whole svg (Ids n) = ⊥
@@ -84,7 +84,8 @@ Fits named.Trees word whole svg (Leaves db) = ⊥
 Fits named.Trees word whole svg (Bulk n w) = ⊥
 Fits named.Trees word whole svg (Trees db s) = IsNamedOrNone word (option_map string_bytes db) × (whole ≡ false) × (s ≡ svg)
 
--- The task of the arguments. The first argument names the task, and there is no third one.
+-- The task that the arguments of a command line name. The first argument of a command line names the task, and there is
+-- no third one.
 abbrev pub Asks : Option (List ℕ) → Option (List ℕ) → Option (List ℕ) → Bool → Bool → Task → Type 0
 Asks word second third whole svg task = (n : Named) × (word ≡ Some (word_of n)) × (third ≡ None) × Fits n second whole svg task
 
@@ -97,14 +98,15 @@ FitsNone n word whole svg Unknown = ⊥
 FitsNone n word whole svg (Wrong m) = (m ≡ n) × ((t : Task) → Fits n word whole svg t → ⊥)
 FitsNone n word whole svg Memory = Unit {0}
 
--- The argument is not a database name, or an allocation failed.
+-- The argument of a task is not a database name, or an allocation failed.
 abbrev pub NamesNone : Named → Option (List ℕ) → NoTask → Type 0
 NamesNone n word (Words error) = ⊥
 NamesNone n word Unknown = ⊥
 NamesNone n word (Wrong m) = (m ≡ n) × ((db : List ℕ) → IsNamed word db → ⊥)
 NamesNone n word Memory = Unit {0}
 
--- The first argument is not a task, or the task does not take the other arguments, or an allocation failed.
+-- The first argument of a command line is not a task, or the task does not take the other arguments, or an allocation
+-- failed.
 abbrev pub AskNothing : Option (List ℕ) → Option (List ℕ) → Option (List ℕ) → Bool → Bool → NoTask → Type 0
 AskNothing word second third whole svg (Words error) = ⊥
 AskNothing word second third whole svg Unknown = (n : Named) → word ≡ Some (word_of n) → ⊥
@@ -148,14 +150,15 @@ text_said words id = first_of id (matches_of command_line words)
 abbrev pub flag_said : List (List ℕ) → List ℕ → Option (List ℕ)
 flag_said words id = one_of id (matches_of command_line words)
 
--- The arguments of the command line name this task.
+-- The arguments of the command line name the given task.
 abbrev pub Says : List (List ℕ) → Task → Type 0
 Says words task = SaysBy (text_said words) (flag_said words (codes "whole")) (flag_said words (codes "svg")) task
 
 abbrev pub Refused : List (List ℕ) → NoTask → Type 0
 Refused words why = RefusesBy (text_said words) (flag_said words (codes "whole")) (flag_said words (codes "svg")) why
 
--- Why the program has no task: `clap`'s error for the arguments, or they name no task, or an allocation failed.
+-- Why the program has no task. The reason is `clap`'s error for the command line, that the command line names no task,
+-- or that an allocation failed.
 abbrev pub Refuses : List (List ℕ) → NoTask → Type 0
 Refuses words (Words error) = HasKind (fault_of command_line words) error
 Refuses words Unknown = Refused words Unknown

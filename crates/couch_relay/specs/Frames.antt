@@ -9,7 +9,7 @@ use Rattle.relay_core.specs.declared.messages.Side.{Side}
 use Rattle.relay_core.specs.declared.messages.Side.TheVariants.{Source, Target}
 use Rattle.relay_core.specs.Messages.{Text}
 
--- ---- the head of a response
+-- ---- head of a response
 
 pub record HeadView : Type 0 where
   pub status : ℕ

@@ -39,8 +39,8 @@ Receives q old new ended before after dated =
     (bytes : List ℕ) × Appends old new bytes
     × MatchOption dated (NoFrame ended (before ++ bytes)) (λ d. BeginsWithResponse q (before ++ bytes) after d)
 
--- Exchange e follows the earlier exchanges. Its request was written after theirs, and its response was read after
--- theirs.
+-- Exchange e follows the earlier exchanges. The request of e was written after the earlier requests, and the response
+-- to e was read after the earlier responses.
 pub record IsNext (o : RequestOptions) (e : Exchange) (earlier : List ℕ → List ℕ → Type 0) (read written : List ℕ) : Type 0 where
   pub read_before : List ℕ
   pub written_before : List ℕ
@@ -56,14 +56,15 @@ abbrev pub Exchanged : RequestOptions → List Exchange → List ℕ → List �
 Exchanged o [] read written = (read ≡ []) × (written ≡ [])
 Exchanged o (e ∷ h) read written = IsNext o e (Exchanged o h) read written
 
--- These bytes were read and written in exchanges that were all allowed, and after which the next request is allowed.
+-- The bytes `read` and `written` are those of exchanges that were all allowed, and after which the next request is
+-- allowed.
 pub record IsRun (o : RequestOptions) (read written : List ℕ) (next : RequestView) : Type 0 where
   pub history : List Exchange
   pub exchanged : Exchanged o history read written
   pub justified : IsJustified history
   pub allowed : MayAsk history next
 
--- ---- the end of a run
+-- ---- end of a run
 
 -- The exit status after a request, if no response follows the request.
 abbrev pub status_after : RequestView → Option ℕ
@@ -106,7 +107,7 @@ pub record RanUntil (o : RequestOptions) (input text : List ℕ) : Type 0 where
   pub text_is : text ≡ written ++ front
   pub request_is : request_text o next ≡ front ++ back
 
--- ---- the command line and the selection of documents
+-- ---- command line and selection
 
 -- The request options o are those of the command line and this selection.
 pub record AreOptions (options : Options) (choice : Text) (o : RequestOptions) : Type 0 where

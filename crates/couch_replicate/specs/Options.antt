@@ -51,7 +51,7 @@ AreOptions text number o = AreSettings text number o.settings
 abbrev pub Says : List (List ℕ) → Options → Type 0
 Says words o = AreOptions (λ id. first_of id (matches_of options words)) (λ id. one_of id (matches_of options words)) o
 
--- ---- arguments that give no settings
+-- ---- arguments without settings
 
 -- No settings match the options' texts, for example because there is a positional argument, or an allocation failed.
 abbrev pub SetNothing : (List ℕ → Option (List ℕ)) → (List ℕ → Option (List ℕ)) → NoSettings → Type 0
@@ -60,7 +60,8 @@ SetNothing text number NoNumber = (s : Settings) → AreSettings text number s �
 SetNothing text number File = text (codes "file") ≡ None → ⊥
 SetNothing text number Memory = Unit {0}
 
--- Why the arguments give no options: `clap`'s error for them, or no options match them, or an allocation failed.
+-- Why the arguments give no options. The reason is `clap`'s error for the arguments, that no options match them, or
+-- that an allocation failed.
 abbrev pub Refuses : List (List ℕ) → NoSettings → Type 0
 Refuses words (Words error) = HasKind (fault_of options words) error
 Refuses words NoNumber = (o : Options) → Says words o → ⊥

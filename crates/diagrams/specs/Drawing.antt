@@ -128,9 +128,9 @@ Pictures old line (Err name) new =
 abbrev pub first_sketch : Form → Option (List ℕ) → Sketch
 first_sketch form db = record { form = form; db = db; begun = None }
 
--- A picture of a script's output: a start, the drawings for its lines, and an end. The flag says whether memory was
--- sufficient for every line. No character of an input text is hidden in the picture, and in SVG no such character is
--- markup.
+-- A picture of a script's output, which has a start, the drawings for the output's lines, and an end. The flag `clean`
+-- says whether memory was sufficient for every line. No character of an input text is hidden in the picture, and in SVG
+-- no such character is markup.
 pub record IsPictureOf (form : Form) (db : Option (List ℕ)) (input : List ℕ) (clean : Bool) (picture : List ℕ) : Type 0 where
   pub head : List ℕ
   pub head_drawn : Draws [] head []
@@ -142,8 +142,8 @@ pub record IsPictureOf (form : Form) (db : Option (List ℕ)) (input : List ℕ)
   pub parts : picture ≡ (head ++ text) ++ tail
   pub safe : (shows : List ℕ) → IsSafe form (shown form (chars shows))
 
--- A picture of the reader's remaining bytes is written. The last arguments are the reader's remaining bytes, and what
--- the writer has accepted, before and after.
+-- A picture of the reader's remaining bytes is written. The last arguments of `IsPictured` are the reader's remaining
+-- bytes, and what the writer has accepted, before and after.
 pub record IsPictured (form : Form) (db : Option (List ℕ)) (clean : Bool) (left held held' : Option (List ℕ)) : Type 0 where
   pub input : List ℕ
   pub gives : Gives left input
@@ -163,8 +163,8 @@ IsDrawnUntil Write form db input text = ⊤
 IsDrawnUntil Memory form db input text = BeginsPicture (AnswersFirst Pictures (first_sketch form db) input) text
 IsDrawnUntil Cut form db input text = BeginsPicture (AnswersCut Pictures (first_sketch form db) input) text
 
--- After an error, a prefix of a picture of the reader's remaining bytes is written. The last arguments are the reader's
--- remaining bytes, and what the writer has accepted, before and after.
+-- After an error, a prefix of a picture of the reader's remaining bytes is written. The last arguments of
+-- `IsPicturedUntil` are the reader's remaining bytes, and what the writer has accepted, before and after.
 pub record IsPicturedUntil (fault : ScriptFault) (form : Form) (db : Option (List ℕ)) (left held held' : Option (List ℕ)) : Type 0 where
   pub input : List ℕ
   pub gives : Gives left input

@@ -55,7 +55,7 @@ markup_text own.Numbers = codes "</text>\n<text x=\"20\" y=\"40\">"
 abbrev pub short_text : RevId → List ℕ
 short_text r = decimal r.generation ++ 45 ∷ take 6 r.sig
 
--- ---- the signs of a picture
+-- ---- signs
 
 -- The label of a leaf, which says whether the leaf is the winner, and whether it is live.
 abbrev pub label_text : Bool → Bool → List ℕ
@@ -189,7 +189,7 @@ sign_ink (log form id) = codes "log " ++ shown_text form id
 sign_ink (moment form text) = shown_text form text
 sign_ink (chart form written read most) = chart_ink form written read most
 
--- ---- the pieces of a picture
+-- ---- pieces
 
 -- A piece of a picture: markup, a number, an ancestor, or a sign.
 pub data Piece : Type 0 where
@@ -221,7 +221,7 @@ pub record Draws (old new : List ℕ) (signs : List Sign) : Type 0 where
   pub ink : new ≡ old ++ flat_map ink_of pieces
   pub drawn : flat_map sign_in pieces ≡ signs
 
--- ---- the signs of a document
+-- ---- signs of a document
 
 abbrev pub leaf_sign : Form → Leaf → Sign
 leaf_sign form l = leaf form l.rev l.wins l.live
@@ -240,7 +240,7 @@ abbrev pub signs_of : Form → Option (List ℕ) → List ℕ → List Leaf → 
 signs_of forms.Text db id leaves = title forms.Text id ∷ (map (leaf_sign forms.Text) leaves ++ edits_of db id leaves)
 signs_of forms.Svg db id leaves = title forms.Svg id ∷ map (leaf_sign forms.Svg) leaves
 
--- ---- the signs of other lines
+-- ---- signs of other lines
 
 -- The signs of a finding of `compare`: the finding, and its revisions.
 abbrev pub signs_of_found : Form → Finding → List ℕ → List RevId → List Sign

@@ -51,7 +51,7 @@ pub record EndsIn (column : Column) (n : ℕ) (front text : List ℕ) : Type 0 w
 abbrev pub Ends : List Column → List ℕ → List ℕ → List ℕ → Type 0
 Ends columns numbers front text = InTurn EndsIn columns numbers front text
 
--- The text before the columns: `info DB uuid U`, `session S`, or empty.
+-- The text before the columns of a line of numbers, which is `info DB uuid U`, `session S`, or empty.
 abbrev pub IsFront : Table → List ℕ → List ℕ → Type 0
 IsFront tables.Compared name front = (front ≡ []) × (name ≡ [])
 IsFront tables.Info name front = (uuid : List ℕ) × (front ≡ (codes "info " ++ name) ++ named (codes " uuid") uuid) × (lacks 32 uuid ≡ true)

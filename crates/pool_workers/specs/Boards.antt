@@ -37,7 +37,7 @@ settled_on seats = total (λ (s : BoardSeat). s.settled) seats
 abbrev pub HaveRisenBy : ℕ → List BoardSeat → List BoardSeat → Type 0
 HaveRisenBy n given now = (read_on now ≡ read_on given + n) × (settled_on now ≡ settled_on given + n)
 
--- ---- with or without a board
+-- ---- an optional board
 
 -- A read counter of the board may become full, so there must be a board.
 abbrev pub MayFill : Option Board → Type 0
@@ -66,7 +66,7 @@ HaveShown None n stopped given now = Unit {0}
 HaveShown (Some b) n stopped given now =
     (settled_on now ≡ settled_on given + n) × (stopped ≡ None → read_on now ≡ read_on given + n)
 
--- ---- the seat of one writer
+-- ---- a writer's seat
 
 abbrev pub IsSeated : Option Board → Option BoardSeat → Type 0
 IsSeated None None = Unit {0}

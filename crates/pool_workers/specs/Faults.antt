@@ -20,7 +20,7 @@ IsLateOn may_fill may_stop (faults.Halted place) = may_stop place
 IsLateOn may_fill may_stop faults.BoardFull = may_fill
 IsLateOn may_fill may_stop fault = Unit {0}
 
--- ---- errors from the halts of workers
+-- ---- errors from workers' halts
 
 -- A possible error of a worker's call on the target, which is any error except `Unfinished`.
 abbrev pub IsStepFault : TargetFault → Type 0

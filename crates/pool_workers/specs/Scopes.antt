@@ -17,8 +17,9 @@ use Rattle.pool_workers.specs.Parcels.{parcel_view}
 use Rattle.pool_workers.specs.Windows.{window_view}
 use Rattle.pool_workers.specs.Workers.{FetcherKnows, WriterKnows}
 
--- What the caller's thread has before it starts the workers. It has capacity for each fetcher's count, all parts of
--- both unused channels, and all parts of the ledger, which is at 0. It has a seat for each writer if there is a board.
+-- What the caller's thread has before it starts the workers. The thread has capacity for each fetcher's count, all
+-- parts of both unused channels, and all parts of the ledger, which is at 0. If there is a board, the thread has a seat
+-- for each writer.
 pub record IsReady {S L : Type 0} (channels : Channels S) (board : Option Board) (workers : ℕ) (o : Owned S L) : Type 0
   where
     pub counts : (o.counts.items ≡ []) × (workers ≤ vec_capacity o.counts)

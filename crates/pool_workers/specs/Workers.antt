@@ -19,7 +19,7 @@ abbrev pub names : List (ℕ × ℕ) → List ℕ
 names xs = map (λ (x : ℕ × ℕ). x.0) xs
 
 -- What a fetcher knows between two messages. If the fetcher was not stopped, its count is that of the parcels that it
--- sent. It then sent a parcel for each window that it took, except for those in progress.
+-- sent. If the fetcher was not stopped, it sent a parcel for each window that it took, except for those in progress.
 abbrev pub FetcherKnows : {S : Type 0} → List ℕ → Fetcher S → Type 0
 FetcherKnows in_hand f =
     (view f.windows ≡ window_view 1 0 0 (view f.windows).taken)

@@ -12,7 +12,7 @@ use Rattle.progress_board.specs.Rule.{most}
 abbrev pub CameWith : Board → BoardSeat → Type 0
 CameWith b s = (s.place.table_id ≡ b.table.shared.table_id) × (length s.place.me.0.reads ≡ b.workers)
 
--- ---- what a seat has seen: the sums of its bounds
+-- ---- what a seat has seen
 
 abbrev pub seen_read : BoardSeat → ℕ
 seen_read s = sum s.place.me.0.reads
@@ -51,7 +51,8 @@ settled_refusal s n =
 abbrev pub are_seats : ℕ → ℕ → Bool
 are_seats workers viewers = nat_le 1 workers && nat_le workers 64 && nat_le 1 viewers && nat_le viewers 64
 
--- The error of creating a board: `Memory` if the numbers of workers and viewers are valid, else `BadSeats`.
+-- The error of creating a board. The error is `Memory` if the numbers of workers and viewers are valid, else
+-- `BadSeats`.
 abbrev pub new_fault : ℕ → ℕ → BoardFault
 new_fault workers viewers = if are_seats workers viewers then faults.Memory else faults.BadSeats
 

@@ -92,7 +92,7 @@ run_count before (w ∷ ws) = (if w.done then (if before then 0 else 1) else 0) 
 abbrev pub range_count : FrontValue → ℕ
 range_count f = run_count false (above_low_water f.windows)
 
--- ---- the effect of each call
+-- ---- effects of calls
 
 -- A new front without windows.
 abbrev pub no_windows : ℕ → FrontValue

@@ -99,7 +99,7 @@ pub low_water-finished : (f : FrontValue) (lo hi : ℕ) → IsFront f → low_wa
 low_water-finished f lo hi front =
     omega (arith, low_in-is f.start f.windows, low_in-is f.start (finished_from f.start f.windows lo hi), low-finished f.start f.windows lo hi front.rises)
 
--- ---- the meaning of the results
+-- ---- meaning of the results
 
 pub finish_answer-no_window : (f : FrontValue) (lo hi : ℕ) → is_window f lo hi ≡ false → finish_answer f lo hi ≡ Err faults.NoSuchWindow
 finish_answer-no_window f lo hi none = rw none
@@ -110,4 +110,4 @@ finish_answer-done f lo hi done = rw (is_window-is_done f lo hi done, done)
 pub finish_answer-ok : (f : FrontValue) (lo hi : ℕ) → is_window f lo hi ≡ true → is_done f lo hi ≡ false → finish_answer f lo hi ≡ Ok tt
 finish_answer-ok f lo hi window open_yet = rw (window, open_yet)
 
--- ---- the meaning of a front: theorems for readers, which no proof cites
+-- ---- theorems about the meaning of a front, which no proof cites

@@ -6,7 +6,7 @@ use Rattle.std.proofs.lemmas.Bool.{eqb-true, eq-eqb, both_ways, and_parts, and_f
 use Rattle.std.proofs.lemmas.List.Sums.{take_while-cons}
 use Rattle.range_front.specs.Front.{FrontWindow, Span, spans_from, end_from, finished_from, above_low_water, run_count, Rises}
 
--- ---- the windows from a bound on
+-- ---- windows from a bound
 
 abbrev pub window_in : ℕ → List FrontWindow → ℕ → ℕ → Bool
 window_in from ws lo hi = list_any (λ s. eqb s.lo lo && eqb s.hi hi) (spans_from from ws)
@@ -24,7 +24,7 @@ low_in-is from (w ∷ ws) =
     ap (end_from from) (take_while-cons (λ (v : FrontWindow). v.done) w ws)
     ∙ elim w.done as (λ b. end_from from (cond b (w ∷ take_while (λ (v : FrontWindow). v.done) ws) []) ≡ cond b (low_in w.hi ws) from) [ true ↦ low_in-is w.hi ws | false ↦ refl ]
 
--- ---- tests of one window and of the others
+-- ---- tests of windows
 
 window_here : (x y r : Bool) → x ≡ true → y ≡ true → ((x && y) || r) ≡ true
 window_here x y r a b = or_left (x && y) r (and_from x y a b)

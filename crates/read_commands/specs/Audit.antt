@@ -72,7 +72,7 @@ FindsNone s ask =
 abbrev pub Audits : Answering State AuditAsk
 Audits old ask told new = Reads (audit_told old ask) old told new × FindsNone old ask
 
--- ---- its guarantee: docs/PROFILE.md, "Tied databases"
+-- ---- the guarantee of `audit`, as specified in docs/PROFILE.md, "Tied databases"
 
 -- An audit prints `clean`, or fails.
 abbrev pub IsClean : Told → Type 0

@@ -73,7 +73,7 @@ abbrev pub seq_of : Option (Text × Text) → Text
 seq_of None = codes "0"
 seq_of (Some pair) = pair.1
 
--- ---- how far a run has come
+-- ---- progress of a run
 
 -- Pages lead from sequence `begin` to sequence s. After each page, the target had each leaf of the page, or refused it.
 -- The number n counts the leaves of these pages that the target refused and does not have.
@@ -87,7 +87,8 @@ abbrev pub log_of : Side → LogView → LogView → LogView
 log_of Target target source = target
 log_of Source target source = source
 
--- Both logs were read after some pages, and the pages lead from the newest common pair of both logs to sequence s.
+-- The replication logs of both sides were read after some pages, and the pages lead from the newest common pair of both
+-- logs to sequence s.
 pub record AreReady (h : List Exchange) (target source : LogView) (s : Text) (failures : ℕ) : Type 0 where
   pub before : List Exchange
   pub later : List Exchange
@@ -98,8 +99,8 @@ pub record AreReady (h : List Exchange) (target source : LogView) (s : Text) (fa
   pub reached : Reached (seq_of (newest_common target.history source.history)) before s rejected
   pub counted : min rejected (2 ^ 64 - 1) ≤ failures
 
--- A log may be requested to record the sequence s that the pages reached. Its history is then the new entry and the
--- history that the log had when it was last read.
+-- A log may be requested to record the sequence s that the pages reached. The log's history is then the new entry and
+-- the history that the log had when it was last read.
 pub record IsReady (h : List Exchange) (side : Side) (log : LogView) (s : Text) (failures : ℕ) : Type 0 where
   pub target : LogView
   pub source : LogView

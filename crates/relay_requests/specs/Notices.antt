@@ -21,7 +21,7 @@ notice_text (leaf_refused id rev error reason) = codes "refused " ++ quoted id +
 notice_text restarted = codes "the replication logs have changed; starting again from their newest common checkpoint"
 notice_text (progress c pending) = decimal c.missing_checked ++ codes " leaves seen, " ++ decimal c.docs_written ++ codes " written, " ++ decimal c.doc_write_failures ++ codes " refused" ++ pending_text pending
 
--- ---- the end of a run
+-- ---- end of a run
 
 abbrev pub exit_status : Option FaultView → Counts → Text
 exit_status None c = if c.doc_write_failures == 0 then codes "0" else codes "1"

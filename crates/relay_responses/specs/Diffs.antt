@@ -7,7 +7,7 @@ use Rattle.relay_core.specs.Messages.{Text, DocView}
 use Rattle.relay_core.specs.Leaves.{names, name_all, docs_where}
 use Rattle.relay_responses.specs.Read.{items_at, each_item, with_first}
 
--- ---- the leaves that are named
+-- ---- named leaves
 
 -- The members of an object, appended to those found before. Each name is listed once, with its last value.
 abbrev pub last_members : List (Text × Json) → Members → List (Text × Json)
@@ -29,7 +29,7 @@ each_missing (m ∷ ms) = with_first (missing_at m) (each_missing ms)
 abbrev pub named_in : Json → Option (List DocView)
 named_in j = option_and_then each_missing (option_map (last_members []) (as_object j))
 
--- ---- the leaves that were requested
+-- ---- requested leaves
 
 -- The requested leaves that a response names, in the order of the request. The result is `None` if the response names
 -- another leaf.

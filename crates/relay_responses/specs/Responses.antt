@@ -23,7 +23,7 @@ abbrev pub is_rejection : ℕ → Bool
 is_rejection status =
     nat_le 400 status && nat_lt status 500 && not (status == 401 || status == 403 || status == 404 || status == 408 || status == 429)
 
--- ---- a server's error and reason
+-- ---- errors and reasons
 
 abbrev pub words_of : Text × Text → Text
 words_of p = p.0 ++ codes ": " ++ p.1

@@ -13,9 +13,9 @@ use Rattle.rev_tree.specs.Content.{ContentValue}
 use Rattle.rev_tree.specs.Tree.{TreeValue, leaves, ancestors, missing, first_contradiction}
 use Rattle.rev_tree.specs.declared.fault.Contradiction.{Contradiction}
 
--- The comparison of a document at a source and a target. It has the number of the source's leaves, and those that the
--- target's tree lacks. It also has the first revision of their ancestries to which the target gives another parent.
--- Finally it has the leaves whose contents are known on both sides and differ.
+-- The comparison of a document at a source and a target. A comparison has the number of the source's leaves, and those
+-- that the target's tree lacks. A comparison also has the first revision of the lacking leaves' ancestries to which the
+-- target gives another parent. Finally, a comparison has the leaves whose contents are known on both sides and differ.
 pub record ComparisonValue : Type 0 where
   pub leaves : ℕ
   pub missing : List RevId

@@ -78,7 +78,7 @@ pub record IsCommon (source target : List EntryValue) (s : SessionId) (n : ℕ) 
   -- No newer session of the target's log is in the source's log.
   pub target_is : target ≡ newer ++ at_target ∷ older
   pub none_newer : list_any (λ t. holds source t.session) newer ≡ false
-  -- Both logs have the session of the checkpoint.
+  -- The logs of source and target both have the session of the checkpoint.
   pub target_has : entry_for target s ≡ Some at_target
   pub source_has : entry_for source s ≡ Some at_source
   -- The checkpoint's sequence n is the lesser of the two recorded sequences.

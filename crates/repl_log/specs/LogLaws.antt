@@ -10,7 +10,7 @@ use Rattle.rev_tree.specs.declared.origin.SessionId.{SessionId}
 use Rattle.repl_log.specs.Entry.{EntryValue, IsSound}
 use Rattle.repl_log.specs.Log.{is_of, holds, entry_for, recorded_of, replaced, with_entry, shared, lesser_of, checkpoint_at, common, session_numbers, IsLog, ChangesOnly, IsCommon, IsUnshared}
 
--- ---- the entry of a session
+-- ---- entries of sessions
 
 pub is_of-own : (e : EntryValue) → is_of e.session e ≡ true
 is_of-own e = eq-eqb e.session.0 e.session.0 refl
@@ -168,7 +168,7 @@ is_some-common source (t ∷ target) =
 pub common-none : (source target : List EntryValue) → common source target ≡ None → IsUnshared source target
 common-none source target h = sym (is_some-common source target) ∙ ap is_some h
 
--- ---- the first step: whether the source's log has the target's newest session
+-- ---- the target's newest session
 
 common-here : (source log : List EntryValue) (t : EntryValue) (found : Option EntryValue) (recorded : ℕ) → entry_for source t.session ≡ found → option_map (λ (e : EntryValue). e.recorded) found ≡ Some recorded → common source (t ∷ log) ≡ Some (t.session, min recorded t.recorded)
 common-here source log t None recorded is h = cc h
@@ -188,7 +188,7 @@ common-passed : (source log : List EntryValue) (t : EntryValue) → recorded_of 
 common-passed source log t h =
     ap (option_and_then (checkpoint_at source)) (cond-false (holds source t.session) (Some t) (shared source log) (sym (is_some-entry_for source t.session) ∙ none_recorded (entry_for source t.session) h))
 
--- ---- a scan of the target's log: the remaining entries begin with the one at the index
+-- ---- scanning the target's log
 
 turned : (source target : List EntryValue) (i : ℕ) (x : EntryValue) → slice_get target i ≡ Some x → common source (drop i target) ≡ common source (x ∷ drop (i + 1) target)
 turned source target i x is =

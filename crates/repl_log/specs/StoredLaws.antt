@@ -134,7 +134,7 @@ module _ {X V : Type 0} (value : X → V) (session : V → SessionId) where
   pub newest_first-set : (s : SessionId) (x : X) (es : List (SessionId × X)) → IsKeyed own es → EachSessionOnce es → newest_first value (set_value (at_session s) es x) ≡ map (put_over s x) (newest_first value es)
   newest_first-set s x es keyed once = ap reverse (put_over-set s x es keyed once) ∙ sym (map-reverse (put_over s x) (map (λ e. value e.1) es))
 
-  -- ---- each value stays under its own session
+  -- ---- values under their sessions
 
   pub IsKeyed-push : (s : SessionId) (x : X) (es : List (SessionId × X)) → IsKeyed own es → own x ≡ s → IsKeyed own (es ++ (s, x) ∷ [])
   IsKeyed-push s x [] keyed here = (here, tt)

@@ -20,7 +20,8 @@ id_digits n = encode_lower (to_be_bytes w128 n)
 
 -- ---- replication ids
 
--- The text of a selection in a replication id: `-`, and the lower-case hexadecimal digits of the JSON array of its ids.
+-- The text of a selection in a replication id, which is `-`, and the lower-case hexadecimal digits of the JSON array of
+-- its ids.
 abbrev pub choice_digits : Choice → List ℕ
 choice_digits None = []
 choice_digits (Some ids) = 45 ∷ encode_lower (ids_text ids)

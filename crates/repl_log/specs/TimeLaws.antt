@@ -10,7 +10,7 @@ use Rattle.httpdate.specs.Text.{imf_fixdate}
 use Rattle.httpdate.proofs.CalendarLemmas.{days_from_civil_year, days_from_civil_month}
 use Rattle.repl_log.specs.Time.{place_from, year_of, day_of_year, month_of, day_of_month, parts_of, time_text}
 
--- ---- positions in a rising sequence
+-- ---- rising sequences
 
 rises_by : (f : ℕ → ℕ) → ((n : ℕ) → f n ≤ f (suc n)) → (a k : ℕ) → f a ≤ f (k + a)
 rises_by f step a zero = let same : 0 + a ≡ a = omega arith in rw same (omega arith)
@@ -49,7 +49,7 @@ months_rise : (year n : ℕ) → days_of_months year n ≤ days_of_months year (
 unfolding days_of_months
 months_rise year n = omega arith
 
--- ---- the day of a date
+-- ---- day of a date
 
 year_of-civil : (y m d : ℕ) → IsCivilDate y m d → year_of (days_from_civil y m d) ≡ y
 unfolding year_of days_of_months

@@ -133,8 +133,8 @@ IsRooted db d =
 abbrev pub IsRootedAt : List PeerValue → ℕ → Document → Type 0
 IsRootedAt peers place d = (p : PeerValue) → IsAt peers place p → IsRooted p.db d
 
--- The document of an edit gives no revision another parent or content than a peer has. This holds if no two different
--- edits have the same MD5.
+-- The document of an edit gives no revision another parent or content than a peer has. An edit satisfies `EditFits` if
+-- no two different edits have the same MD5.
 abbrev pub EditFits : List PeerValue → ℕ → Id → Option RevId → Bool → List ℕ → Type 0
 EditFits peers place id parent deleted body =
     (p : PeerValue) → IsAt peers place p → (e : RevId × Option RevId) → edited p.db id parent deleted body ≡ Ok e

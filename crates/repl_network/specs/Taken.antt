@@ -19,7 +19,7 @@ use Rattle.repl_network.specs.Hubs.{gathers, spreads}
 
 -- ---- replications
 
--- The effect of a hop between two existing places. It is a replication by the hop's plan on one thread, and all other
+-- The effect of a hop between two existing places. The hop is a replication by its plan on one thread, and all other
 -- peers are unchanged.
 pub record IsHop {F : Type 0} (refuses : F → Document → Bool) (peers : List (F × PeerValue)) (hop : Hop)
     (result : Result Report TargetFault) (peers' : List (F × PeerValue)) : Type 0 where
@@ -58,7 +58,7 @@ TakesHops {F = F} refuses at peers (hop ∷ hops) result peers' =
     × TakesHops refuses (at + 1) mid hops result peers')
     ⊎ ((why : NetFault) × TakesHop refuses at peers hop (Err why) peers' × (result ≡ Err why))
 
--- There is exactly one plan in each direction for each peer other than the hub.
+-- For each peer other than the hub, there is exactly one plan in each direction.
 abbrev pub ArePlanned : ℕ → List Plan → List Plan → Type 0
 ArePlanned count there back = (count ≡ length there + 1) × (count ≡ length back + 1)
 

@@ -28,7 +28,7 @@ use Rattle.pool_workers.specs.declared.fault.PoolFault.TheVariants as faults
 use Rattle.repl_pool.specs.Early.{early_answer}
 use Rattle.repl_pool.specs.Pages.{IsPaged}
 
--- ---- the end of a run whose session has begun
+-- ---- end of a run
 
 -- The session of a run was concluded. No worker failed or stopped, and all parcels that were sent were received.
 pub record IsConcluded (plan : Plan) (fault : Option PoolFault) (complete : Bool) (before after : PeerValue)

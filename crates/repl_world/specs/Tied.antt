@@ -56,13 +56,13 @@ pub record Tied (w : WorldValue) : Type 0 where
   -- Each entry of the bag was the entry of a session of the target.
   pub entries : (e : EntryValue) → Among e w.bag.entries → IsSentEntry w.target e
 
--- The target has no session of the replication, and the source no entry of it. They may have sessions and entries of
--- other selections.
+-- The target has no session of the replication, and the source no entry of it. The peers may have sessions and entries
+-- of other selections.
 pub record HoldNone (source target : PeerValue) (chosen : Choice) : Type 0 where
   pub sessions : (s : SessionValue) → Among s target.sessions → s.rep ≡ rep_between source target chosen → ⊥
   pub log : source_log source (rep_between source target chosen) ≡ []
 
--- ---- the guarantees of tied worlds
+-- ---- guarantees of tied worlds
 
 -- Settling a parcel of the bag never returns `Uncovered`, if the session has the parcel's own window and this window is
 -- from the source's life.

@@ -63,7 +63,7 @@ new_answer source target chosen =
 abbrev pub rep_of : WorldValue → RepId
 rep_of w = rep_between w.source w.target w.chosen
 
--- ---- the effect of each step; an index that is not in the bag changes no part of the world
+-- ---- effects of steps
 
 abbrev pub paged : WorldValue → Result WindowValue BaseFault → WorldValue
 paged w (Ok x) = record w { bag = with_window w.bag x }
@@ -169,10 +169,10 @@ abbrev pub run : (Document → Bool) → WorldValue → List Step → WorldValue
 run refuses w [] = w
 run refuses w (step ∷ steps) = run refuses (happens refuses w step) steps
 
--- ---- steps that run out of memory
+-- ---- failed allocations
 
--- The effect of a step that ran out of memory. It changes no part of the world, except that settling may have settled a
--- part of the documents that it could settle.
+-- The effect of a step that ran out of memory. Such a step changes no part of the world, except that settling may have
+-- settled a part of the documents that it could settle.
 abbrev pub IsStopped : (Document → Bool) → WorldValue → SessionId → Option (ℕ × ParcelValue) → WorldValue → Type 0
 IsStopped refuses w session parcel now =
     (now ≡ w)

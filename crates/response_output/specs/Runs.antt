@@ -16,7 +16,7 @@ use Rattle.response_output.specs.declared.run.AnswerFault.TheVariants.{Refused, 
 
 -- ---- some bytes
 
--- The given bytes were read, and the items in them are written. The last two arguments are what the writer has
+-- The given bytes were read, and the items in them are written. The last two arguments of `Fed` are what the writer has
 -- accepted, before and after.
 pub record Fed (s : State) (w : Words) (bytes : List ℕ) (s' : State) (w' : Words) (held held' : Option (List ℕ)) : Type 0 where
   pub state : s' ≡ after s bytes
@@ -93,14 +93,14 @@ IsFront wanted left read =
     (rest : List ℕ) × Gives left (read ++ rest) × (is_refused (after (start wanted) read).place ≡ true)
 
 -- The input consists of complete responses, `passed` documents were skipped, and the items in it are written. The
--- arguments are what the reader has left, and what the writer has accepted, before and after.
+-- arguments of `Answered` are what the reader has left, and what the writer has accepted, before and after.
 abbrev pub Answered : Wanted → Words → Option (List ℕ) → Option (List ℕ) → Option (List ℕ) → ℕ → Type 0
 Answered wanted w left held held' passed =
     (read : List ℕ) × IsAll wanted left read × Appends held held' (all_text w (pieces (start wanted) read))
     × (end_of (after (start wanted) read).place ≡ Ok tt) × (passed ≡ (after (start wanted) read).passed)
 
--- The effect of a run that failed. Either the input is invalid at its last byte, and the items before that byte are
--- written. Or a device or an allocation failed, and what is written is a prefix of the output for the complete input.
+-- The effect of a run that failed. If the input is invalid at its last byte, the items before that byte are written. If
+-- a device or an allocation failed, what is written is a prefix of the output for the complete input.
 abbrev pub Stopped : Wanted → Words → Option (List ℕ) → Option (List ℕ) → Option (List ℕ) → AnswerFault → Type 0
 Stopped wanted w left held held' (Refused why at) =
     (read : List ℕ) × (IsFront wanted left read ⊎ IsAll wanted left read)
@@ -121,14 +121,14 @@ ReadsAnswers w all held held' (Ok passed) = Appends held held' (all_text w all)
 ReadsAnswers w all held held' (Err (Refused why at)) = ⊥
 ReadsAnswers w all held held' (Err (Device fault)) = ⊤
 
--- The device that an error names failed, and the other device did not. The arguments are the reader's counts of reads,
--- before and after, then the failure counts of reader and writer.
+-- The device that an error names failed, and the other device did not. The arguments of `CountsOf` are the reader's
+-- counts of reads, before and after, then the failure counts of reader and writer.
 abbrev pub CountsOf : AnswerFault → ℕ → ℕ → ℕ → ℕ → ℕ → ℕ → Type 0
 CountsOf (Refused why at) reads reads' reader reader' writer writer' = (reader' ≡ reader) × (writer' ≡ writer)
 CountsOf (Device fault) reads reads' reader reader' writer writer' = IsFaultOf fault reads reads' reader reader' writer writer'
 
--- The writer failed exactly if the error names the writer. The arguments are the writer's failure counts, before and
--- after.
+-- The writer failed exactly if the error names the writer. The arguments of `CountsOfWriter` are the writer's failure
+-- counts, before and after.
 abbrev pub CountsOfWriter : Result ℕ AnswerFault → ℕ → ℕ → Type 0
 CountsOfWriter (Ok passed) writer writer' = writer' ≡ writer
 CountsOfWriter (Err (Refused why at)) writer writer' = writer' ≡ writer

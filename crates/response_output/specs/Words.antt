@@ -106,7 +106,7 @@ words_behind w (p ∷ more) = words_behind (words_then w p.0 p.1) more
 abbrev pub last_text : Words → List ℕ
 last_text w = cond (nat_lt 0 w.count) (closing w.form) (cond w.told [] (empty w.form))
 
--- ---- formatters that have written nothing
+-- ---- new formatters
 
 abbrev pub words_of : Form → List ℕ → ℕ → Words
 words_of form begins size = record { form = form; begins = begins; id = []; listed = false; count = 0; size = size; told = false }

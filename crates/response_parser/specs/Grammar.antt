@@ -11,7 +11,7 @@ use Rattle.response_parser.specs.declared.place.Name.{Name}
 use Rattle.response_parser.specs.declared.place.Name.TheVariants.{Document, Passed, Last, Other, List as ListName}
 use Rattle.response_parser.specs.declared.place.Found.TheVariants as found
 
--- ---- values and names, by their texts
+-- ---- values and names
 
 -- A JSON value t, up to the comma or brace after it, and the same value u on one line.
 pub record IsValue (t u : List ℕ) : Type 0 where
@@ -19,8 +19,8 @@ pub record IsValue (t u : List ℕ) : Type 0 where
   pub first : is_space (slice_index t 0) ≡ false
   pub json : is_json u ≡ true
 
--- A name after its opening quotation mark. The other parameters are the flag of a first name, the number d of open
--- lists and objects, and the meaning of the name.
+-- A name after its opening quotation mark. The other parameters of `IsNamed` are the flag of a first name, the number d
+-- of open lists and objects, and the meaning of the name.
 pub record IsNamed (wanted : Wanted) (first : Bool) (d : ℕ) (k : List ℕ) (name : Name) : Type 0 where
   pub string : EndsString k
   pub json : is_json (34 ∷ k) ≡ true
@@ -50,7 +50,7 @@ pub data IsDocument (wanted : Wanted) : List ℕ → List Piece → Type 0 where
   document : {o u v : List ℕ} → IsPlainDocument o u → is_log u ≡ false → covered wanted u ≡ Some v → IsDocument wanted o ((found.Document, v) ∷ [])
   log : {o u : List ℕ} → IsPlainDocument o u → is_log u ≡ true → IsDocument wanted o []
 
--- ---- lists and objects that are searched, within d open lists and objects
+-- ---- searched lists and objects
 
 mutual
   pub data IsObject (wanted : Wanted) : ℕ → List ℕ → List Piece → Type 0 where

@@ -10,7 +10,7 @@ use Rattle.response_parser.specs.declared.place.Refusal.TheVariants.{NoAnswer, C
 use Rattle.response_parser.specs.declared.place.Found.{Found}
 use Rattle.response_parser.specs.declared.place.Found.TheVariants as found
 
--- ---- of a name with its quotation marks
+-- ---- names with quotation marks
 
 -- The meaning of a name t if documents are requested. The flag `first` says whether the name is the first one of its
 -- object.
@@ -23,8 +23,8 @@ document_name first t =
     (cond (bytes_eq t (codes "\"last_seq\"")) Last Other))))
 
 -- The meaning of a name t if leaves are requested. In a document's list of revisions, only the name `rev` has a
--- meaning. In the entry of a document, only the name `missing` has a meaning. Two flags say whether the name is in such
--- a list or entry.
+-- meaning. In the entry of a document, only the name `missing` has a meaning. The flags `inner` and `entry` say whether
+-- the name is in such a list or entry.
 abbrev pub leaf_name : Bool → Bool → List ℕ → Name
 leaf_name inner entry t =
     cond entry (cond (bytes_eq t (codes "\"missing\"")) Missing Other)

@@ -140,7 +140,7 @@ in_key s b = cond (b == 34) (named (added b s)) (cond (b == 92) (at KeyEscape (a
 abbrev pub in_key_escape : State → ℕ → State
 in_key_escape s b = at Key (added b s)
 
--- ---- from a name to its value
+-- ---- names and values
 
 abbrev pub value_place : Name → Place
 value_place names.Plain = Value names.Plain

@@ -65,7 +65,7 @@ start wanted = record {
 abbrev pub more : ℕ → ℕ
 more n = cond (nat_lt n 18446744073709551615) (n + 1) n
 
--- ---- possible effects of a byte
+-- ---- effects of a byte
 
 abbrev pub at : Place → State → State
 at place s = record s { place = place }

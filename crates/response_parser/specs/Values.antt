@@ -57,7 +57,7 @@ plain_found s = cond (wants_documents s.wanted && not (is_log s.text)) (document
 abbrev pub plain_ended : State → State
 plain_ended s = cond (is_json s.text) (plain_found (object_closed (record s { known = true }))) (refused NotJson s)
 
--- ---- a byte of a value
+-- ---- bytes of a value
 
 -- The parser's state after an opening bracket in a value. A value that is nested too deep is rejected.
 abbrev pub deeper : State → ℕ → State
@@ -92,7 +92,7 @@ in_quoted name s b =
 abbrev pub in_escaped : Name → State → ℕ → State
 in_escaped name s b = at (Quoted name) (added b s)
 
--- ---- a value that may be the entry of a document
+-- ---- entries of documents
 
 -- The parser's state after the first byte of a value, given the parser's place.
 abbrev pub in_begun : Place → State → ℕ → State

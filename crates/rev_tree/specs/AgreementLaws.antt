@@ -179,7 +179,7 @@ same_by_leaves s t ours theirs agree whole_s whole_t there back = record {
           | inr none ↦ none
         ]
 
--- ---- the leaves of equal trees
+-- ---- leaves of equal trees
 
 -- If two orders agree on element k and the elements of a list, both insert k at the same position.
 same_placed : {K : Type 0} (R S : K → K → Ordering) → IsTotalOrder R → (k : K) (ys : List K) → ((y : K) → list_any (eq_by_cmp R y) ys ≡ true → R k y ≡ S k y) → placed R k ys ≡ placed S k ys

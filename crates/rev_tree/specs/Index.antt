@@ -27,8 +27,8 @@ falls [] = true
 falls (r ∷ []) = true
 falls (r ∷ (s ∷ revs)) = nat_eq r.generation (s.generation + 1) && falls (s ∷ revs)
 
--- The index of nodes whose revisions are `revs`. The index is empty if the nodes are few enough to be scanned. It is
--- also empty if each revision is one generation below the previous one, because the generation then determines the
--- position.
+-- The index of nodes whose revisions are `revs`. The index is empty if the nodes are few enough to be scanned. The
+-- index is also empty if each revision is one generation below the previous one, because the generation then determines
+-- the position.
 abbrev pub index_for : List RevId → List (ℕ × ℕ)
 index_for revs = if nat_lt MOST_WALKED (length revs) && not (falls revs) then noted_from [] 0 revs else []

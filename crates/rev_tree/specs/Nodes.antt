@@ -101,8 +101,8 @@ pub record NodesValue : Type 0 where
   pub capacity : ℕ
   pub index_capacity : ℕ
 
--- `more` nodes can be added without allocating. Their index entries fit, too, if all the nodes together are too many to
--- be scanned.
+-- A number `more` of nodes can be added without allocating. The index entries of all nodes fit, too, if there are too
+-- many nodes to be scanned.
 pub record HasRoom (v : NodesValue) (more : ℕ) : Type 0 where
   pub few : length v.items + more < 2 ^ 32
   pub nodes : length v.items + more ≤ v.capacity

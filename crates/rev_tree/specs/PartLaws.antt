@@ -41,7 +41,7 @@ some_told (Some x) h = (x, refl)
 pub told_some : {X : Type 0} (o : Option X) (x : X) → o ≡ Some x → is_some o ≡ true
 told_some o x h = ap is_some h
 
--- ---- the edges of a traversal
+-- ---- edges of a traversal
 
 pub walk_begins : (m : FinMap rev_cmp RevId) (n : ℕ) (p : RevId) → (rest : List RevId) × (walk m n p ≡ p ∷ rest)
 walk_begins m zero p = ([], refl)

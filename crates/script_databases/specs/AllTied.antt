@@ -10,7 +10,7 @@ use Rattle.repl_target.specs.Audit.{CoversFeed}
 use Rattle.repl_target.specs.ties.Ties.{IsTiedWith}
 use Rattle.script_databases.specs.Databases.{State, NamedBackupValue, IsTaken, peer_at}
 
--- ---- databases that are known to each other
+-- ---- known databases
 
 -- A database of script state s has the UUID `uuid`, and this is not the UUID `own`.
 abbrev pub IsOther : State → ℕ → ℕ → Type 0
@@ -40,7 +40,7 @@ pub record IsKnown (s : State) : Type 0 where
   pub logs : (n : List ℕ) (p : PeerValue) → peer_at s n ≡ Some p → LeadToOthers s p.db.uuid p.outgoing
   pub sessions : (n : List ℕ) (p : PeerValue) → peer_at s n ≡ Some p → ComeFromOthers s p.db.uuid p.sessions
 
--- ---- databases that are all tied
+-- ---- tied databases
 
 -- The peers of the list `backups` are backups of the database with name n.
 abbrev pub AreCopiesOf : State → List ℕ → List BackupValue → Type 0

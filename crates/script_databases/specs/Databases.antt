@@ -134,7 +134,7 @@ edited_answer (Some l) id parent deleted body =
 abbrev pub edited_at : State → List ℕ → List ℕ → Option RevId → Bool → List ℕ → State
 edited_at s name id parent deleted body = changed_at s name (λ l. after_edit l id parent deleted body)
 
--- ---- backing up a database: docs/PROFILE.md, "Backup and restore"
+-- ---- backing up a database, as specified in docs/PROFILE.md, "Backup and restore"
 
 abbrev pub is_named : List ℕ → List ℕ → NamedBackupValue → Bool
 is_named db name k = bytes_eq k.db db && bytes_eq k.name name

@@ -20,7 +20,7 @@ abbrev pub GivesOrMemory : {A : Type 0} → Result A Refusal → Result A Refusa
 GivesOrMemory (Ok x) expected = expected ≡ Ok x
 GivesOrMemory (Err e) expected = (expected ≡ Err e) ⊎ (e ≡ why.Memory)
 
--- ---- the errors of the lower crates
+-- ---- errors of lower crates
 
 abbrev pub doc_refusal : DocFault → Refusal
 doc_refusal doc.NotObject = why.NotObject

@@ -69,7 +69,7 @@ ReplicatesByPool old source target s t plan result new =
     (old.program.deny, t') fetched result
     × (new ≡ with_both old source target s' t')
 
--- ---- by the pool, with a progress board
+-- ---- with a progress board
 
 -- The result of a run with a progress board, without the board's counts.
 abbrev pub unwatched : Result Watched PoolFault → Result Report PoolFault
@@ -87,7 +87,7 @@ ReplicatesWatched old source target s t plan result new =
     (old.program.deny, t') fetched (unwatched result)
     × (new ≡ with_both old source target s' t')
 
--- ---- between the peers of two names, in one of these ways
+-- ---- between two named databases
 
 abbrev pub ReplicatesBetween : {R : Type 0} → (State → List ℕ → List ℕ → PeerValue → PeerValue → Plan → R → State → Type 0)
     → State → List ℕ → List ℕ → Plan → R → State → Type 0

@@ -4,9 +4,9 @@ use Rattle.std.specs.Int.{is_in_range}
 use Rattle.std.specs.Char.{digit_char, is_control}
 use Rattle.std.specs.List.{flat_map, list_any}
 
--- The ranges of hidden characters above U+009F. They are format characters, marks of direction, separators of lines and
--- paragraphs, and characters that Unicode 15 calls default-ignorable. The ranges also have U+FFFE and U+FFFF, which XML
--- forbids.
+-- The ranges of hidden characters above U+009F. The hidden characters are format characters, marks of direction,
+-- separators of lines and paragraphs, and characters that Unicode 15 calls default-ignorable. The ranges also have
+-- U+FFFE and U+FFFF, which XML forbids.
 abbrev pub hidden_ranges : List (ℕ × ℕ)
 hidden_ranges =
     (0xAD, 0xAD) ∷ (0x34F, 0x34F) ∷ (0x600, 0x605) ∷ (0x61C, 0x61C) ∷ (0x6DD, 0x6DD) ∷ (0x70F, 0x70F) ∷ (0x890, 0x891)
@@ -25,7 +25,7 @@ IsSeen cs = list_any is_hidden cs ≡ false
 
 -- ---- escapes: RFC 8259, section 7
 
--- An escape of a UTF-16 code unit: `\u` and four hexadecimal digits.
+-- The escape of a UTF-16 code unit, which is `\u` and four hexadecimal digits.
 abbrev pub unit_of : ℕ → List ℕ
 unit_of n =
     92 ∷ 117 ∷ digit_char (n / 4096 % 16) ∷ digit_char (n / 256 % 16) ∷ digit_char (n / 16 % 16) ∷ digit_char (n % 16) ∷ []

@@ -109,7 +109,7 @@ LoadsLoud old ask told new = LoadsAt old ask.db (peer_at old ask.db) ask.uuid (d
 abbrev pub Loads : Answering State LoadAsk
 Loads old ask told new = UnlessQuiet LoadsLoud old ask told new
 
--- ---- the part after the document is parsed, without a given UUID
+-- ---- loading without a UUID
 
 pub record NamedLoad : Type 0 where
   pub db : List ℕ
@@ -118,7 +118,7 @@ pub record NamedLoad : Type 0 where
 abbrev pub LoadsNamed : Answering State NamedLoad
 LoadsNamed old ask told new = LoadsAt old ask.db (peer_at old ask.db) None (Ok ask.doc) told new
 
--- ---- the part after the UUID is known
+-- ---- loading with a UUID
 
 pub record NewLoad : Type 0 where
   pub db : List ℕ

@@ -226,7 +226,7 @@ both_of s ask = do
 abbrev pub ReportsReplication : Answering State ReplicateAsk
 ReportsReplication old ask told new = ReplicatesFound old ask (both_of old ask) told new
 
--- ---- its guarantee: docs/PROFILE.md, "Tied databases"
+-- ---- the guarantee of `replicate`, as specified in docs/PROFILE.md, "Tied databases"
 
 -- The guarantee of a session that was not stopped and printed the recorded sequence n. The number n is the source's
 -- update sequence, and the target covers each leaf of the source's selected feed.

@@ -87,7 +87,7 @@ abbrev pub Syncs : Answering State SyncAsk
 Syncs old ask told new =
     (first : Told) × (mid : State) × MayTell ReportsReplication old ask.there first mid × SyncsBack mid ask first told new
 
--- ---- its guarantee: docs/PROFILE.md, "Tied databases"
+-- ---- the guarantee of `sync`, as specified in docs/PROFILE.md, "Tied databases"
 
 -- The guarantee for a `sync` line. Between the two directions all databases are consistent, and each direction has the
 -- guarantee of a replication.

@@ -5,7 +5,8 @@ use Rattle.couch_base.specs.WriteLaws.{IsLater}
 use Rattle.couch_base.specs.Feed.{WindowValue}
 use Rattle.repl_peer.specs.peer.Peer.{PeerValue, SessionValue, WrittenValue, RefusedValue}
 
--- A session after calls keeps its scope and start. Its windows, arrivals, ledger and recorded sequence only grow.
+-- A session after calls keeps its scope and start. The windows, arrivals, ledger and recorded sequence of a session
+-- only grow.
 pub record Keeps (old new : SessionValue) : Type 0 where
   pub id : new.id ≡ old.id
   pub scope : new.scope ≡ old.scope

@@ -74,11 +74,12 @@ pub record Steps (refuses : Document → Bool) (o : Origin) (d : Document) (befo
   pub goes : stops_at refuses before d ≡ false
   pub step : (w : WindowValue) → o ≡ fed w before.session.id d → after ≡ settle_one refuses w before d
 
--- The cause if settling a document failed: `SeqFull` if no sequence was left for the document, else `Memory`.
+-- The cause if settling a document failed. The cause is `SeqFull` if no sequence was left for the document, else
+-- `Memory`.
 abbrev pub cause_at : Bool → Cause
 cause_at full = if full then causes.SeqFull else causes.Memory
 
--- ---- the documents of a parcel
+-- ---- documents of a parcel
 
 -- The first n documents of a parcel are settled, and the remaining documents are `others`.
 pub record Reached (refuses : Document → Bool) (w : WindowValue) (before : Settling) (docs : List Document) (n : ℕ)

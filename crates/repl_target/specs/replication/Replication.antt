@@ -56,8 +56,8 @@ checkpoint_of source target chosen = checkpoint_between source target (rep_betwe
 abbrev pub start_between : PeerValue → PeerValue → Choice → ℕ
 start_between source target chosen = start_at (checkpoint_of source target chosen)
 
--- The scope of a new session. Its base is the session of the common checkpoint, and its goal is the source's update
--- sequence.
+-- The scope of a new session. The base of the session is that of the common checkpoint, and its goal is the source's
+-- update sequence.
 abbrev pub scope_between : PeerValue → PeerValue → Choice → Scope
 scope_between source target chosen = record {
   rep = rep_between source target chosen;
@@ -161,13 +161,13 @@ abbrev pub PutsOver : PeerValue → RepId → EntryValue → Result (Unit {0}) A
 PutsOver source rep entry (Ok done) source' = source' ≡ after_put_entry source rep entry
 PutsOver source rep entry (Err refused) source' = source' ≡ source
 
--- The result of recording at both sides. It is the result of concluding, or `Memory` if the allocation at the source
+-- The result of recording at both sides. The result is that of concluding, or `Memory` if the allocation at the source
 -- fails.
 abbrev pub told_by : Result Report TargetFault → Result (Unit {0}) AllocError → Result Report TargetFault
 told_by concluded (Ok done) = concluded
 told_by concluded (Err refused) = Err faults.Memory
 
--- Both sides record: the target first, then the source, which stores the entry of the target's session.
+-- The target records first, and then the source stores the entry of the target's session.
 pub record Closes (source target : PeerValue) (plan : Plan) (result : Result Report TargetFault)
     (source' target' : PeerValue) : Type 0 where
   pub at_target : target' ≡ closed target plan
