@@ -116,7 +116,7 @@ pub record IsAsked (a : AskedValue) : Type 0 where
   pub distinct : EachOnce bytes_eq (map (λ w. w.id) a.docs)
   pub docs : AllByRecursion IsWanted a.docs
 
--- Whether document d has this id, and the ancestry of d has revision r.
+-- Whether document d has the id `id`, and the ancestry of d has revision r.
 abbrev pub brings : Id → RevId → Document → Bool
 brings id r d = bytes_eq d.id id && is_among r d.ancestry
 

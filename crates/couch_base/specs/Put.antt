@@ -13,7 +13,7 @@ use Rattle.couch_base.specs.declared.fault.Put.TheVariants as answers
 use Rattle.couch_base.specs.declared.fault.BaseFault.{BaseFault}
 use Rattle.couch_base.specs.declared.fault.BaseFault.TheVariants as faults
 
--- Whether a merge with this result changes the tree.
+-- Whether a merge with the given result changes the tree.
 abbrev pub is_change : Result Merged Contradiction → Bool
 is_change (Ok merges.Changed) = true
 is_change (Ok merges.Same) = false
@@ -30,7 +30,7 @@ abbrev pub put_answer : DatabaseValue → Document → Result Put BaseFault
 put_answer db d =
     put_told (merge_answer (tree_of db.docs d.id) d.ancestry) (nat_lt db.update_seq most) (db.update_seq + 1)
 
--- Whether a put with this result changes the database and so takes a sequence.
+-- Whether a put with the given result changes the database and so takes a sequence.
 abbrev pub is_changed : Result Put BaseFault → Bool
 is_changed (Ok (answers.Changed seq)) = true
 is_changed (Ok answers.Same) = false

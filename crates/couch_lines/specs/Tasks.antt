@@ -91,7 +91,7 @@ Asks word second third whole svg task = (n : Named) × (word ≡ Some (word_of n
 
 -- ---- arguments without a task
 
--- The named task does not take these arguments, or an allocation failed.
+-- The named task does not take the given arguments, or an allocation failed.
 abbrev pub FitsNone : Named → Option (List ℕ) → Bool → Bool → NoTask → Type 0
 FitsNone n word whole svg (Words error) = ⊥
 FitsNone n word whole svg Unknown = ⊥

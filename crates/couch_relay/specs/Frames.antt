@@ -55,14 +55,14 @@ pub record IsLine (bytes line rest : List ℕ) : Type 0 where
   pub is : bytes ≡ line ++ 10 ∷ rest
   pub one : has_line_end line ≡ false
 
--- The bytes are a response with this head and this body.
+-- The given bytes are a response with the given head and body.
 pub record IsFrame (bytes : List ℕ) (head : HeadView) (body : List ℕ) : Type 0 where
   pub line : Text
   pub parts : IsLine bytes line body
   pub head_is : IsHead line head
   pub size_is : length body ≡ head.size
 
--- No response is read from these bytes, because the input ended in a head or in a body, or the first line is not a
+-- No response is read from the given bytes, because the input ended in a head or in a body, or the first line is not a
 -- head.
 pub data NoFrame (ended : Type 0) (bytes : List ℕ) : Type 0 where
   cut_head : ended → has_line_end bytes ≡ false → NoFrame ended bytes

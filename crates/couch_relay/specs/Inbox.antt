@@ -24,7 +24,7 @@ Took old new = (bytes : List ℕ) × Appends old new bytes
 abbrev pub Filled : Option (List ℕ) → Option (List ℕ) → List ℕ → List ℕ → Type 0
 Filled old new before after = (bytes : List ℕ) × Appends old new bytes × (after ≡ before ++ bytes)
 
--- The bytes begin with a line of this length.
+-- The bytes begin with a line of length `size`.
 abbrev pub HasLine : List ℕ → ℕ → Type 0
 HasLine bytes size = IsLine bytes (take size bytes) (drop (size + 1) bytes) × (size < length bytes)
 

@@ -19,7 +19,7 @@ use Rattle.couch_relay.specs.Options.{Says, Refuses}
 
 -- ---- an exchange
 
--- The bytes are the head and the body of a response to request q. The response has this meaning and this date.
+-- The bytes are the head and the body of a response to request q. The response to q has the given meaning and date.
 pub record IsResponse (q : RequestView) (bytes : List ℕ) (response : ResponseView) (date : Text) : Type 0 where
   pub head : HeadView
   pub body : List ℕ
@@ -51,7 +51,7 @@ pub record IsNext (o : RequestOptions) (e : Exchange) (earlier : List ℕ → Li
   pub read_is : read ≡ read_before ++ frame
   pub written_is : written ≡ written_before ++ request_text o e.request
 
--- The bytes that were read and written in these exchanges, the last exchange first.
+-- The bytes that were read and written in the given exchanges, the last exchange first.
 abbrev pub Exchanged : RequestOptions → List Exchange → List ℕ → List ℕ → Type 0
 Exchanged o [] read written = (read ≡ []) × (written ≡ [])
 Exchanged o (e ∷ h) read written = IsNext o e (Exchanged o h) read written
@@ -77,7 +77,7 @@ status_after (tell notice) = None
 status_after (done None counts recorded) = Some (if counts.doc_write_failures == 0 then 0 else 1)
 status_after (done (Some fault) counts recorded) = Some 3
 
--- The run is over with this status, because of `done`, or because the remaining bytes have no response to the last
+-- A run is over with the given status, because of `done`, or because the remaining bytes have no response to the last
 -- request.
 abbrev pub EndsWith : Type 0 → RequestView → List ℕ → ℕ → Type 0
 EndsWith ended next left status =
@@ -109,7 +109,7 @@ pub record RanUntil (o : RequestOptions) (input text : List ℕ) : Type 0 where
 
 -- ---- command line and selection
 
--- The request options o are those of the command line and this selection.
+-- The request options o are those of the command line and the given selection.
 pub record AreOptions (options : Options) (choice : Text) (o : RequestOptions) : Type 0 where
   pub path : string_bytes o.log_path
       ≡ log_path options.source.now options.target.now options.filter.now options.query.now choice options.salt.now
@@ -137,7 +137,7 @@ pub record IsChoice (input : List ℕ) (choice : Text) (rest : List ℕ) : Type 
   pub text : IsUtf8 body
   pub choice_is : choice ≡ on_one_line body
 
--- No selection of documents is read from these bytes.
+-- No selection of documents is read from the given bytes.
 abbrev pub NoChoice : Type 0 → List ℕ → Type 0
 NoChoice ended input =
     NoFrame ended input
@@ -162,8 +162,8 @@ FindsChoice options old new ended before after choice =
     × MatchOption choice ((options.choice ≡ true) × NoChoice ended (before ++ bytes))
     (λ text. TakesChoice options (before ++ bytes) text after)
 
--- A run of the program with these options: the requests and their responses, and the exit status. If no selection of
--- documents could be read, the output is empty. The statement `ended` says that the input has ended.
+-- A run of the program with the given options, which consists of the requests and their responses, and the exit status.
+-- If no selection of documents could be read, the output is empty. The statement `ended` says that the input has ended.
 abbrev pub Runs : Options → Type 0 → List ℕ → List ℕ → ℕ → Type 0
 Runs options ended input text status =
     ((choice rest : List ℕ) × (o : RequestOptions) × TakesChoice options input choice rest × AreOptions options choice o

@@ -46,7 +46,7 @@ abbrev pub with_all : List State → List RevId → List State
 with_all leaves [] = leaves
 with_all leaves (r ∷ revs) = with_all (with_leaf leaves r true) revs
 
--- Document d has this id and these leaves.
+-- Document d has the id `id` and the leaves `leaves`.
 pub record Holds (d : Document) (id : List ℕ) (leaves : List State) : Type 0 where
   pub named : string_bytes d.id ≡ id
   pub read : states d ≡ leaves

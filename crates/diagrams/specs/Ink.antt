@@ -215,7 +215,7 @@ sign_in (whole r) = []
 sign_in (short r) = []
 sign_in (sign s) = s ∷ []
 
--- The new text is the old text followed by pieces of a picture, which have these signs, in order.
+-- The new text is the old text followed by pieces of a picture, and the signs of the pieces are `signs`, in order.
 pub record Draws (old new : List ℕ) (signs : List Sign) : Type 0 where
   pub pieces : List Piece
   pub ink : new ≡ old ++ flat_map ink_of pieces
@@ -251,8 +251,8 @@ abbrev pub counts_of : List Column → List ℕ → List Sign
 counts_of (c ∷ cs) (n ∷ ns) = count c n ∷ counts_of cs ns
 counts_of cs ns = []
 
--- The bar of a line of numbers. For `compare`, its filled part is the leaves that the target has. For a session, the
--- filled part is the documents written among those read.
+-- The bar of a line of numbers. In a line of `compare`, the bar's filled part is the leaves that the target has. In a
+-- line of a session, the bar's filled part is the documents written among those read.
 abbrev pub bars_of : Form → Table → List ℕ → List Sign
 bars_of form tables.Compared ns = bar form (get_or ns 1 0 - get_or ns 2 0) (get_or ns 1 0) ∷ []
 bars_of form tables.Info ns = []
@@ -262,7 +262,7 @@ bars_of form tables.Session ns = bar form (get_or ns 5 0) (get_or ns 4 0) ∷ []
 abbrev pub signs_of_row : Form → Table → List ℕ → List ℕ → List Sign
 signs_of_row form table name ns = heading form table name ∷ (counts_of (columns_of table) ns ++ bars_of form table ns)
 
--- The largest number of documents that one of these sessions read, but at least `most`.
+-- The largest number of documents that one of the given sessions read, but at least `most`.
 abbrev pub most_from : ℕ → List Entry → ℕ
 most_from most [] = most
 most_from most (e ∷ es) = most_from (max most e.read) es

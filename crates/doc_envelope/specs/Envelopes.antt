@@ -33,7 +33,8 @@ whole_of (m ∷ ms) = (whole_name ++ 58 ∷ quoted (joined (m ∷ ms))) ∷ []
 abbrev pub envelope_of : List ℕ → List ℕ
 envelope_of x = object_of (filter stays (members_of x) ++ whole_of (filter goes (members_of x)))
 
--- Whether an envelope may have a member with this name and value. Only the types of `_deleted` and `whole` are checked.
+-- Whether an envelope may have a member with the given name and value. Of an envelope's members, only the types of
+-- `_deleted` and `whole` are checked.
 abbrev pub may_stand : List ℕ → Json → Bool
 may_stand name j =
     cond (bytes_eq name (codes "_id") || bytes_eq name (codes "_rev") || bytes_eq name (codes "_revisions")) true

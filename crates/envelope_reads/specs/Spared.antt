@@ -21,7 +21,7 @@ looks_into faults.NoneChosen = false
 looks_into faults.TooManyChosen = false
 looks_into faults.Memory = false
 
--- Whether an envelope may have a member with this name and value.
+-- Whether an envelope may have a member with the given name and value.
 abbrev pub may_be : List ℕ → Data → Bool
 may_be k d =
     cond (bytes_eq k (codes "_id") || bytes_eq k (codes "_rev") || bytes_eq k (codes "_revisions")) true

@@ -78,7 +78,7 @@ pub record IsAt (blocks : Blocks) (place : Place) : Type 0 where
   pub lines : blocks.lines ≡ length place.confirmed
   pub whole : blocks.whole ≡ place.whole
 
--- Whether a journal ends at this place with a confirmed block.
+-- Whether a journal ends at the given place with a confirmed block.
 abbrev pub is_confirmed : Place → Bool
 is_confirmed place = place.whole && nat_eq (length (joined place.held)) 0
 

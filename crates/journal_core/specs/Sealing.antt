@@ -13,7 +13,7 @@ wrong_after (Some n) wrong count = Some n
 wrong_after None true count = Some count
 wrong_after None false count = None
 
--- What is stored after these lines of a block were read.
+-- What is stored after the given lines of a block were read.
 pub record IsSealing (chain seq : List ℕ) (lines : List (List ℕ)) (seal : Seal) : Type 0 where
   pub hashed : Holds256 seal.hasher ((chain ++ codes " " ++ seq ++ codes "\n") ++ joined lines)
   pub seq_is : seal.seq.items ≡ seq
@@ -30,8 +30,8 @@ abbrev pub EndsSeal : Seal → List ℕ → List ℕ → Seal → Type 0
 EndsSeal old rest text new = new.wrong ≡ None → (rest ≡ []) × ((chain seq : List ℕ) (lines : List (List ℕ)) → IsSealing chain seq lines old
     → All (λ line. is_sum line ≡ false) lines × (text ≡ sum_line (length lines) (block_hash chain seq (joined lines)) seq ++ codes "\n"))
 
--- The input is the lines of a block, and the line that ends the block is written. With this line, the block continues
--- every journal that ends with the hash `chain`.
+-- The input is the lines of a block, and the line that ends the block is written. With the written line, the block
+-- continues every journal that ends with the hash `chain`.
 pub record IsSealed (chain seq : List ℕ) (left held held' : Option (List ℕ)) : Type 0 where
   pub lines : List (List ℕ)
   pub gives : Gives left (joined lines)

@@ -43,7 +43,8 @@ ancestry_view p = (p.0, texts_of p.1.items)
 abbrev pub ancestry_in : Json → Option (ℕ × List (List ℕ))
 ancestry_in revisions = both (number_at (codes "start") revisions) (option_and_then revs_json (items_at (codes "ids") revisions))
 
--- The generation and the names of an optional member `_revisions`. Without this member, no ancestors are known.
+-- The generation and the names of an optional member `_revisions`. If a document has no member `_revisions`, no
+-- ancestors are known.
 abbrev pub ancestry_by : Option Json → Option (ℕ × List (List ℕ))
 ancestry_by None = Some (0, [])
 ancestry_by (Some revisions) = ancestry_in revisions

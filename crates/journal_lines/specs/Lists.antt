@@ -28,7 +28,7 @@ abbrev pub each_item : {A : Type 0} → (Json → Option A) → Items → Option
 each_item reads no_items = Some []
 each_item reads (item j js) = with_first (reads j) (each_item reads js)
 
--- The results that were found before, followed by the given ones, if these exist.
+-- The list xs followed by a second list, if the second list exists.
 abbrev pub prepend : {A : Type 0} → List A → Option (List A) → Option (List A)
 prepend xs None = None
 prepend xs (Some ys) = Some (xs ++ ys)

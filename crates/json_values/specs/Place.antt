@@ -55,7 +55,7 @@ ends_object (Token.boolean b ∷ ts) = false
 ends_object (Token.null ∷ ts) = false
 ends_object (Token.bad ∷ ts) = false
 
--- Whether reading a string may give this token.
+-- Whether reading a string may give the given token.
 abbrev pub of_string : Token → Bool
 of_string Token.begin_object = false
 of_string Token.end_object = false

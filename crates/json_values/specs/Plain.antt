@@ -33,7 +33,7 @@ abbrev mutual
 abbrev pub Narrows : PlainTexts → PlainTexts → Type 0
 Narrows old new = (new.names ≡ true → old.names ≡ true) × (new.values ≡ true → old.values ≡ true)
 
--- The string of a token needs no escapes, if the flags claim this.
+-- The string of a token needs no escapes, if the flags claim that it needs no escapes.
 abbrev pub IsPlainToken : PlainTexts → Token → Type 0
 IsPlainToken known Token.begin_object = ⊤
 IsPlainToken known Token.end_object = ⊤

@@ -7,8 +7,8 @@ abbrev pub joined : List (List ℕ) → List ℕ
 joined [] = []
 joined (line ∷ lines) = line ++ 10 ∷ joined lines
 
--- The input is these lines, each with a line end, and then the bytes `rest`. Neither the lines nor these bytes contain
--- a line end.
+-- The input is the given lines, each with a line end, and then the bytes `rest`. Neither the lines nor the bytes `rest`
+-- contain a line end.
 pub record AreLines (input : List ℕ) (lines : List (List ℕ)) (rest : List ℕ) : Type 0 where
   pub whole : input ≡ joined lines ++ rest
   pub lines_whole : All (λ line. has_line_end line ≡ false) lines

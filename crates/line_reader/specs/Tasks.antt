@@ -9,7 +9,8 @@ use Rattle.line_reader.specs.Lines.{AreLines}
 abbrev pub Steps : Type 0 → Type 1
 Steps S = S → List ℕ → List ℕ → S → Type 0
 
--- A task that reads the lines in this order, from the state `start` on, writes this text and leaves this state.
+-- A task that reads the given lines in order, from the state `start` on, writes the given text and leaves the given
+-- state.
 pub data Runs {S : Type 0} (steps : Steps S) (start : S) : List (List ℕ) → List ℕ → S → Type 0 where
   none : Runs steps start [] [] start
   more : {lines : List (List ℕ)} {text : List ℕ} {mid : S} (line added : List ℕ) (new : S)

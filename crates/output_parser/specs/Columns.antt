@@ -47,7 +47,7 @@ pub record EndsIn (column : Column) (n : ℕ) (front text : List ℕ) : Type 0 w
   pub form : text ≡ front ++ named (column_text column) word
   pub number : IsNumber word n
 
--- The text ends with these columns and numbers, listed from the last one, and `front` is the text before them.
+-- The text ends with the given columns and numbers, listed from the last one, and `front` is the text before them.
 abbrev pub Ends : List Column → List ℕ → List ℕ → List ℕ → Type 0
 Ends columns numbers front text = InTurn EndsIn columns numbers front text
 

@@ -35,7 +35,7 @@ pub record LeafParts (line own : List ℕ) (live : Bool) (list : List ℕ) : Typ
   pub word : lacks 32 own ≡ true
   pub form : line ≡ codes "leaf " ++ (own ++ 32 ∷ (state_text live ++ list))
 
--- The first revision of the list has this text.
+-- The first revision of the list has the text `own`.
 abbrev pub BeginsWith : List ℕ → List RevId → Type 0
 BeginsWith own [] = ⊥
 BeginsWith own (r ∷ rest) = own ≡ rev_text r

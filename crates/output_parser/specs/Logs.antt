@@ -34,7 +34,7 @@ all_members =
     members.Failed ∷ members.Read ∷ members.Written ∷ members.End ∷ members.EndTime ∷ members.Checked ∷ members.Found
     ∷ members.Recorded ∷ members.Session ∷ members.Start ∷ members.StartTime ∷ []
 
--- The text begins with a member of this value, and `after` is the text that follows the member.
+-- The text begins with a member of the given value, and `after` is the text that follows the member.
 pub record IsMember (member : Member) (value after text : List ℕ) : Type 0 where
   pub form : text ≡ member_text member ++ (value ++ member_end member ∷ after)
   pub lacks_end : lacks (member_end member) value ≡ true

@@ -44,12 +44,12 @@ abbrev pub MayFill : Option Board → Type 0
 MayFill None = ⊥
 MayFill (Some b) = Unit {0}
 
--- With a board, all seats are worker seats of this board. Without a board there are no seats.
+-- With a board, all seats are the board's worker seats. Without a board there are no seats.
 abbrev pub AreSeated : Option Board → List BoardSeat → Type 0
 AreSeated None seats = seats ≡ []
 AreSeated (Some b) seats = All (WorksAt b) seats
 
--- With a board, all seats are worker seats of this board, and with `out` further seats there is at least one for each
+-- With a board, all seats are the board's worker seats, and with `out` further seats there is at least one for each
 -- worker. Without a board there are no seats.
 abbrev pub AreSeats : Option Board → ℕ → ℕ → List BoardSeat → Type 0
 AreSeats None out workers seats = seats ≡ []
@@ -85,7 +85,7 @@ abbrev pub IsFullFor : ℕ → Option BoardSeat → Type 0
 IsFullFor n None = ⊥
 IsFullFor n (Some s) = most < s.read + n
 
--- The seat may show n more documents as settled without exceeding those read.
+-- The seat may show n more documents as settled without exceeding the number that it shows as read.
 abbrev pub HasRoom : Option Board → ℕ → Option BoardSeat → Type 0
 HasRoom (Some b) n (Some s) = s.settled + n ≤ s.read
 HasRoom board n seat = Unit {0}
@@ -98,7 +98,7 @@ HasSettled (Some b) a z (Some s) (Some t) =
 HasSettled (Some b) a z s t = ⊥
 
 -- With a board, the seat's settled counter has grown by the difference between a and z. If no writer was stopped, the
--- read counter has grown by this difference, too.
+-- read counter has grown by the difference between a and z, too.
 abbrev pub HasWritten : Option Board → ℕ → ℕ → Option Halt → Option BoardSeat → Option BoardSeat → Type 0
 HasWritten None a z stopped s t = t ≡ s
 HasWritten (Some b) a z stopped (Some s) (Some t) =

@@ -10,7 +10,7 @@ abbrev pub Rising : ℕ → List ℕ → Type 0
 Rising from [] = Unit {0}
 Rising from (e ∷ es) = (from < e) × Rising e es
 
--- Whether (lo, hi] is one of the windows with these ends that begin at `from`.
+-- Whether (lo, hi] is one of the windows that begin at `from` and end at `es`.
 abbrev pub has_window : ℕ → List ℕ → ℕ → ℕ → Bool
 has_window from [] lo hi = false
 has_window from (e ∷ es) lo hi = ((from == lo) && (e == hi)) || has_window e es lo hi
@@ -60,7 +60,7 @@ joined mark rs lo hi = if mark == lo then absorbed hi rs else (mark, put_in rs l
 
 -- ---- the front
 
--- The windows with these ends, which are done if the test is true of the end.
+-- The windows that end at `es`, which are done if the test is true of the end.
 abbrev pub marked : (ℕ → Bool) → List ℕ → List FrontWindow
 marked done es = map (λ hi. record { hi = hi; done = done hi }) es
 

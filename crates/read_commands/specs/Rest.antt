@@ -16,7 +16,7 @@ rest_left s (Compare r) = compare_left s r.value
 rest_left s (Conflicts r) = conflicts_left s r.value
 rest_left s (Docs r) = docs_left s r.value
 
--- The remaining part of an output was started in this state.
+-- The remaining part of an output was started in the given state.
 abbrev pub FitsRest : State → Rest → Type 0
 FitsRest s (Compare r) = FitsCompare s r.value
 FitsRest s (Conflicts r) = FitsConflicts s r.value

@@ -8,8 +8,8 @@ use Rattle.relay_core.specs.Leaves.{names, are_distinct, leaf_count, docs_where,
 
 -- ---- what settles a leaf
 
--- Whether a `_revs_diff` request of documents with distinct ids names this leaf, and the target's response does not
--- name the leaf as missing.
+-- Whether a `_revs_diff` request of documents with distinct ids names the given leaf, and the target's response does
+-- not name the leaf as missing.
 abbrev pub finds : RequestView → ResponseView → Text → Text → Bool
 finds (revs_diff docs) (missing_response missing) id leaf = are_distinct docs && (names docs id leaf && not (names missing id leaf))
 finds q r id leaf = false
@@ -19,7 +19,7 @@ abbrev pub is_too_large : Side → ℕ → Bool
 is_too_large Target status = status == 413
 is_too_large Source status = false
 
--- Whether the response to a carry has a row that refuses this leaf, or the target refused a carry of this document
+-- Whether the response to a carry has a row that refuses the given leaf, or the target refused a carry of the document
 -- alone as too large.
 abbrev pub rejects : RequestView → ResponseView → Text → Text → Bool
 rejects (carry_docs docs) (row_errors_response rows) id leaf = refuses rows id leaf
@@ -58,7 +58,7 @@ abbrev pub last_log : Side → List Exchange → Option LogView
 last_log side [] = None
 last_log side (e ∷ h) = log_after side e.request e.response (last_log side h)
 
--- Whether one of the entries has this session and this sequence.
+-- Whether one of the log entries has the given session and sequence.
 abbrev pub has_pair : List EntryView → Text → Text → Bool
 has_pair entries session seq = list_any (λ e. bytes_eq e.session session && bytes_eq e.seq seq) entries
 
@@ -76,7 +76,7 @@ seq_of (Some pair) = pair.1
 -- ---- progress of a run
 
 -- Pages lead from sequence `begin` to sequence s. After each page, the target had each leaf of the page, or refused it.
--- The number n counts the leaves of these pages that the target refused and does not have.
+-- The number n counts the leaves of the pages up to s that the target refused and does not have.
 pub data Reached : Text → List Exchange → Text → ℕ → Type 0 where
   begun : {begin : Text} {h : List Exchange} {s : Text} {n : ℕ} → begin ≡ s → n ≡ 0 → Reached begin h s n
   paged : {begin : Text} {h : List Exchange} {s : Text} {n : ℕ} (before after rest : List Exchange) (since : Text) (wait : Option ℕ) (page : PageView) (m : ℕ) → h ≡ rest ++ (after ++ exchange_of (get_changes since wait) (page_response page) ∷ before) → Reached begin before since m → AreSettled after page.rows → page.last_seq ≡ s → n ≡ m + leaf_count (not_found after page.rows) → Reached begin h s n
@@ -107,8 +107,8 @@ pub record IsReady (h : List Exchange) (side : Side) (log : LogView) (s : Text) 
   pub ready : AreReady h target source s failures
   pub own : log ≡ log_of side target source
 
--- The target stored its log in this exchange, with the recorded sequence s. If the exchange is a notice, the exchanges
--- before it decide.
+-- The target stored its log in the given exchange, with the recorded sequence s. If the exchange is a notice, the
+-- exchanges before it decide.
 abbrev pub IsStoring : RequestView → ResponseView → Text → Type 0 → Type 0
 IsStoring (put_log Target log checkpoint) stored_response s before = checkpoint.seq ≡ s
 IsStoring (tell notice) r s before = before

@@ -90,7 +90,7 @@ too_large_row id leaf = record { id = id; rev = Some leaf; error = codes "too_la
 abbrev pub too_large_rows : Text → List Text → List RowErrorView
 too_large_rows id revs = map (λ r. too_large_row id r) revs
 
--- Whether the list has exactly one document, and this is document `id`.
+-- Whether the list has exactly one document, and its id is `id`.
 abbrev pub is_alone : List DocView → Text → Bool
 is_alone [] id = false
 is_alone (d ∷ []) id = bytes_eq d.0 id

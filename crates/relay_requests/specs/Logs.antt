@@ -51,13 +51,13 @@ is_of_session session r = bytes_eq r.0 session
 abbrev pub is_recorded : Text → Text → Recorded → Bool
 is_recorded session seq r = bytes_eq r.0 session && bytes_eq r.1 seq
 
--- Whether an entry of the history is kept, given those that are kept before it. Fewer than 50 may be kept before it, of
--- its session fewer than two, and no entry of this session with its sequence.
+-- Whether an entry of the history is kept, given the entries that are kept before it. Fewer than 50 entries may be kept
+-- before it. Of the entry's session, fewer than two entries may be kept before it, and no entry with its sequence.
 abbrev pub may_keep : List Recorded → EntryView → Bool
 may_keep kept e =
     nat_lt (length kept) 50 && nat_lt (count_by (is_of_session e.session) kept) 2 && not (list_any (is_recorded e.session e.seq) kept)
 
--- The entries of a history that are kept, newest first, if those in `kept` are kept before them.
+-- The entries of a history that are kept, newest first, if the entries in `kept` are kept before them.
 abbrev pub thinned : List Recorded → List EntryView → List EntryView
 thinned kept [] = []
 thinned kept (e ∷ es) = if may_keep kept e then e ∷ thinned (kept ++ recorded_of e ∷ []) es else thinned kept es

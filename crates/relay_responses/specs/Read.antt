@@ -60,7 +60,7 @@ abbrev pub some_items : {A : Type 0} → (Json → Option A) → Items → List 
 some_items reads no_items = []
 some_items reads (item j js) = option_map_or (λ x. x ∷ some_items reads js) (reads j) (some_items reads js)
 
--- The results that were found before, followed by the given ones, if these exist.
+-- The list xs followed by a second list, if the second list exists.
 abbrev pub prepend : {A : Type 0} → List A → Option (List A) → Option (List A)
 prepend xs None = None
 prepend xs (Some ys) = Some (xs ++ ys)

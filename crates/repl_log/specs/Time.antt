@@ -13,7 +13,7 @@ place_from (suc left) n f x = if nat_lt x (f (n + 1)) then n else place_from lef
 unfoldable pub year_of : ℕ → ℕ
 year_of day = 1970 + place_from 8029 0 days_of_years day
 
--- The number of days in the same year that are before this day.
+-- The number of days that are before a day in the same year.
 unfoldable pub day_of_year : ℕ → ℕ
 day_of_year day = day - days_of_years (year_of day - 1970)
 

@@ -1,5 +1,5 @@
--- Networks: any number of peers, each at its place, and replications between any two of them, in any order, as
--- specified in docs/PROFILE.md, "Nets", and in CouchDB, "Replication and conflict model".
+-- Networks of any number of peers, each at its place, as specified in docs/PROFILE.md, "Nets", and in CouchDB,
+-- "Replication and conflict model". Any two peers of a network may be replicated, in any order.
 use Rattle.std.specs.Prelude.{◌≡◌, ◌≢◌, ◌⊎◌, ℕ, ◌<◌, Bool, true, List, [], ◌∷◌, map, length, Option, Some, Ok, slice_get}
 use Rattle.rev_core.specs.Rev.{RevId}
 use Rattle.rev_tree.specs.Tree.{TreeValue, has, merged, no_revisions}
@@ -38,11 +38,11 @@ pub record AreTied (peers : List PeerValue) : Type 0 where
   pub apart : (m n : ℕ) (p q : PeerValue) → IsAt peers m p → IsAt peers n q → p.db.uuid ≡ q.db.uuid → m ≡ n
   pub tied : (m n : ℕ) (p q : PeerValue) → IsAt peers m p → IsAt peers n q → m ≢ n → (c : Choice) → IsTiedPair p q c
 
--- The peer at place n has this UUID.
+-- The peer at place n has the UUID `uuid`.
 abbrev pub IsHeldAt : List PeerValue → ℕ → ℕ → Type 0
 IsHeldAt peers uuid n = (p : PeerValue) × IsAt peers n p × (p.db.uuid ≡ uuid)
 
--- One of the peers has this UUID.
+-- One of the network's peers has the UUID `uuid`.
 abbrev pub IsHeld : List PeerValue → ℕ → Type 0
 IsHeld peers uuid = (n : ℕ) × (p : PeerValue) × IsAt peers n p × (p.db.uuid ≡ uuid)
 

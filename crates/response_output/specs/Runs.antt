@@ -115,7 +115,7 @@ abbrev pub Converts : Result ℕ AnswerFault → Wanted → Words → Option (Li
 Converts (Ok passed) wanted w left held held' = Answered wanted w left held held' passed
 Converts (Err fault) wanted w left held held' = Stopped wanted w left held held' fault
 
--- The effect of a run on responses with these items. The items are written, and the input is not rejected.
+-- The effect of a run on responses with the given items. The items are written, and the input is not rejected.
 abbrev pub ReadsAnswers : Words → List Piece → Option (List ℕ) → Option (List ℕ) → Result ℕ AnswerFault → Type 0
 ReadsAnswers w all held held' (Ok passed) = Appends held held' (all_text w all)
 ReadsAnswers w all held held' (Err (Refused why at)) = ⊥

@@ -37,7 +37,7 @@ pub data IsListOf (Item : List ℕ → List Piece → Type 0) : List ℕ → Lis
 
 -- ---- members
 
--- Whether a member with this kind of name is skipped.
+-- Whether a member whose name has the given meaning is skipped.
 abbrev pub is_skipped : Name → Bool
 is_skipped names.Plain = false
 is_skipped names.Document = false

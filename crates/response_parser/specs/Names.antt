@@ -129,8 +129,8 @@ is_error Reason = false
 is_error Other = false
 is_error Foreign = false
 
--- The kind of item that is found if a name has a value with this first byte. A document begins with a brace, an id and
--- a revision with a quotation mark.
+-- The kind of item that is found if a name has a value with the given first byte. A document begins with a brace, an id
+-- and a revision with a quotation mark.
 abbrev pub found_of : Name → ℕ → Found
 found_of Plain first = found.Nothing
 found_of Document first = cond (first == 123) found.Document found.Nothing

@@ -1,4 +1,4 @@
--- How a compact revision is stored. No public contract uses this module.
+-- How a compact revision is stored. No public contract uses the definitions of the module `KeptForm`.
 use Rattle.rev_core.specs.Rev.{RevId}
 use Rattle.rev_core.specs.ShortSig.{text_in}
 use Rattle.rev_core.specs.declared.kept_rev.Form.{Form}

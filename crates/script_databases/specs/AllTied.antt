@@ -12,7 +12,7 @@ use Rattle.script_databases.specs.Databases.{State, NamedBackupValue, IsTaken, p
 
 -- ---- known databases
 
--- A database of script state s has the UUID `uuid`, and this is not the UUID `own`.
+-- A database of script state s has the UUID `uuid`, which is not the UUID `own`.
 abbrev pub IsOther : State → ℕ → ℕ → Type 0
 IsOther s own uuid = IsTaken s uuid × (uuid ≡ own → ⊥)
 

@@ -90,7 +90,7 @@ next_made s = made_id s.program.seed s.drawn
 abbrev pub drawn_one : State → State
 drawn_one s = record s { drawn = next_place s.drawn }
 
--- The peer with this name, if there is one.
+-- The peer with the given name, if there is one.
 abbrev pub peer_at : State → List ℕ → Option PeerValue
 peer_at s name = finmap.get s.peers name
 
@@ -98,7 +98,7 @@ peer_at s name = finmap.get s.peers name
 abbrev pub with_peer : State → List ℕ → PeerValue → State
 with_peer s name p = record s { peers = finmap.insert s.peers name p }
 
--- A database of state s has this UUID.
+-- A database of state s has the UUID `uuid`.
 abbrev pub IsTaken : State → ℕ → Type 0
 IsTaken s uuid = (name : List ℕ) × (p : PeerValue) × (peer_at s name ≡ Some p) × (p.db.uuid ≡ uuid)
 
@@ -139,7 +139,7 @@ edited_at s name id parent deleted body = changed_at s name (λ l. after_edit l 
 abbrev pub is_named : List ℕ → List ℕ → NamedBackupValue → Bool
 is_named db name k = bytes_eq k.db db && bytes_eq k.name name
 
--- The backup of database `db` with this name, if there is one.
+-- The backup of database `db` with the given name, if there is one.
 abbrev pub backup_among : List NamedBackupValue → List ℕ → List ℕ → Option BackupValue
 backup_among backups db name = option_map (λ k. k.backup) (find (is_named db name) backups)
 

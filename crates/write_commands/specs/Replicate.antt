@@ -93,7 +93,7 @@ abbrev pub session_part : Report → List ℕ
 session_part r =
     codes "session " ++ id_digits r.session.0 ++ codes " from " ++ decimal r.start ++ codes " to " ++ decimal r.recorded
 
--- The number of checked leaves, and of missing leaves among these, in the output of `replicate`.
+-- The number of checked leaves, and of missing leaves among the checked ones, in the output of `replicate`.
 abbrev pub checked_part : Report → List ℕ
 checked_part r = codes " checked " ++ decimal r.counts.checked ++ codes " found " ++ decimal r.counts.found
 

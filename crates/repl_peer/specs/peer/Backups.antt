@@ -26,7 +26,7 @@ pub record IsBackup (b : BackupValue) : Type 0 where
   pub origins : HasOrigins (peer_of b)
   pub locals : (a : WrittenValue) → Among a b.locals → StandsIn b.db a
 
--- Whether a peer with these incoming sessions has been a replication target.
+-- Whether a peer with the given incoming sessions has been a replication target.
 abbrev pub is_target : List SessionValue → Bool
 is_target [] = false
 is_target (s ∷ sessions) = true

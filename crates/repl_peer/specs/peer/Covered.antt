@@ -29,7 +29,7 @@ refusal_of refuses db d =
 abbrev pub rightly_refused : (Document → Bool) → DatabaseValue → Document → Bool
 rightly_refused refuses db d = refuses d || is_some (contradiction_of db d)
 
--- Whether a ledger has a document with this id and with revision r in its ancestry.
+-- Whether a ledger has a document with the id `id` and with revision r in its ancestry.
 abbrev pub in_ledger : List RefusedValue → Id → RevId → Bool
 in_ledger ledger id r = list_any (λ x. bytes_eq x.doc.id id && is_among r x.doc.ancestry) ledger
 

@@ -12,7 +12,7 @@ use Rattle.repl_peer.specs.peer.Peer.{PeerValue, SessionValue, RefusedValue}
 use Rattle.repl_peer.specs.peer.Covered.{rightly_refused}
 use Rattle.repl_peer.specs.peer.Origins.{HasOrigins}
 
--- A ledger of peer p has a rightly refused document with this id whose ancestry has revision r.
+-- A ledger of peer p has a rightly refused document with the id `id` whose ancestry has revision r.
 pub record IsRightlyRefused (refuses : Document → Bool) (p : PeerValue) (id : Id) (r : RevId) : Type 0 where
   pub by : SessionValue
   pub held : Among by p.sessions
@@ -22,13 +22,13 @@ pub record IsRightlyRefused (refuses : Document → Bool) (p : PeerValue) (id : 
   pub holds : is_among r refused.doc.ancestry ≡ true
   pub rightly : rightly_refused refuses p.db refused.doc ≡ true
 
--- Revision r is in the tree of document `id`, or in the ancestry of a rightly refused document with this id.
+-- Revision r is in the tree of document `id`, or in the ancestry of a rightly refused document with the id `id`.
 abbrev pub IsAccounted : (Document → Bool) → PeerValue → Id → RevId → Type 0
 IsAccounted refuses p id r = (has (tree_of p.db.docs id) r ≡ true) ⊎ IsRightlyRefused refuses p id r
 
--- The guarantees of peer p. Every leaf of a session's rows at or below the recorded sequence is in its tree, or was
--- rightly refused. Every revision comes from a window row or a local write. The documents read are those written plus
--- those refused.
+-- The guarantees of peer p. Every leaf of a session's rows at or below the recorded sequence is in its document's tree,
+-- or was rightly refused. Every revision comes from a window row or a local write. The number of documents read is the
+-- number of those written plus those refused.
 pub record IsTrusted (refuses : Document → Bool) (p : PeerValue) : Type 0 where
   pub recorded : (s : SessionValue) → Among s p.sessions → (w : WindowValue) → Among w s.windows → (row : RowValue)
       → Among row w.rows → row.seq ≤ s.recorded → (leaf : RevId) → Among leaf row.leaves

@@ -34,7 +34,7 @@ use Rattle.repl_target.specs.declared.replication.Plan.{Plan}
 abbrev pub is_batch : ℕ → Bool
 is_batch n = nat_le 1 n && nat_le n 10000
 
--- The result of checking a replication's plan, for databases with these UUIDs.
+-- The result of checking a replication's plan, for databases with the UUIDs `source` and `target`.
 abbrev pub plan_answer : ℕ → ℕ → Plan → Result (Unit {0}) TargetFault
 plan_answer source target plan =
     if is_batch plan.batch then (if source == target then Err faults.SamePeer else Ok tt)
@@ -91,7 +91,7 @@ next_window source plan since = page source since source.update_seq plan.batch p
 abbrev pub parcel_for : DatabaseValue → PeerValue → WindowValue → ParcelValue
 parcel_for source p w = open_revs source (revs_diff p.db w)
 
--- The session stores window w, and settling the missing documents has this result.
+-- The session stores window w, and settling the missing documents has the given result.
 abbrev pub StoresAndSettles : (Document → Bool) → Plan → PeerValue → WindowValue → ParcelValue
     → Result Settled TargetFault → PeerValue → Type 0
 StoresAndSettles refuses plan p w parcel result q =
@@ -186,7 +186,7 @@ first_reading source target plan =
 -- The result of a replication by one thread, and the source and target after it.
 pub data Replicates (refuses : Document → Bool) (source target : PeerValue) (plan : Plan) : Result Report TargetFault
     → PeerValue → PeerValue → Type 0 where
-  -- The plan is not valid for these two peers.
+  -- The plan is not valid for the source and the target.
   not_planned : {why : TargetFault} → plan_answer source.db.uuid target.db.uuid plan ≡ Err why
       → Replicates refuses source target plan (Err why) source target
   -- An allocation fails before the session begins, or the session cannot begin.
