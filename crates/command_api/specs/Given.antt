@@ -20,7 +20,7 @@ abbrev pub some_of : {A : Type 0} → Result A Refusal → Result (Option A) Ref
 some_of (Ok x) = Ok (Some x)
 some_of (Err refusal) = Err refusal
 
--- The document ids that a list of strings gives, in order. The first invalid string gives the error.
+-- The document ids that a list of strings gives, in order, or the error of the first invalid string.
 abbrev pub ids_given : List (List ℕ) → Result (List (List ℕ)) Refusal
 ids_given [] = Ok []
 ids_given (text ∷ texts) = do
@@ -32,7 +32,7 @@ ids_given (text ∷ texts) = do
 abbrev pub chosen_given : List (List ℕ) → Result Choice Refusal
 chosen_given ids = some_of (told_as doc_refusal (chosen_answer ids))
 
--- The selection that an optional list of strings gives. Without a list, all documents are selected.
+-- The selection that an optional list of strings gives, which is all documents without a list.
 abbrev pub choice_given : Option (List (List ℕ)) → Result Choice Refusal
 choice_given None = Ok None
 choice_given (Some texts) = do

@@ -21,8 +21,8 @@ told_of (Err refusal) = Err (name_of refusal)
 abbrev pub Refuses : Refusal → State → Told → State → Type 0
 Refuses refusal old told new = (told ≡ Err (name_of refusal)) × (new ≡ old)
 
--- The results of a line. A valid request has one of its results, and an invalid one fails and leaves the state
--- unchanged.
+-- The possible results of a line, whose request is valid or not. If a line's request is invalid, the line fails and
+-- leaves the state unchanged.
 abbrev pub AnswersIn : {L : Type 0} → Answering State L → Answering State (Result L Refusal)
 AnswersIn answers old (Ok ask) told new = answers old ask told new
 AnswersIn answers old (Err refusal) told new = Refuses refusal old told new

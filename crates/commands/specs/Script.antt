@@ -24,8 +24,8 @@ abbrev pub Asks : List ℕ → Result Asked Refusal → Type 0
 Asks line asked =
     ((ms : Members) × IsObject line ms × (asked ≡ asked_in (object ms))) ⊎ (IsNoObject line × (asked ≡ Err why.BadLine))
 
--- The results of a parsed line. A valid request has one of its results, and an invalid one fails and leaves the state
--- unchanged.
+-- The possible results of a parsed line, whose request is valid or not. If a line's request is invalid, the line fails
+-- and leaves the state unchanged.
 abbrev pub AnswersAsked : Answering State (Result Asked Refusal)
 AnswersAsked old asked told new = AnswersIn WordsAnswer old asked told new
 

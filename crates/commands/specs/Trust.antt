@@ -17,8 +17,8 @@ IsTrusted (replicate ask) told new = IsCovered new ask told
 IsTrusted (sync ask) told new = IsMet new ask told
 IsTrusted ask told new = Unit {0}
 
--- The possible results of a line, with the guarantees of a script. All databases are consistent with each other before
--- and after the line, and the line's output has its guarantee.
+-- The possible results of a script's line, with the guarantees of a script. All databases of a script are consistent
+-- with each other before and after a line, and the line's output has its guarantee.
 abbrev pub TrustedLines : Answering State (List ℕ)
 TrustedLines old line told new =
     (asked : Result Asked Refusal) × Asks line asked × AnswersAsked old asked told new × AllTied old × AllTied new

@@ -31,7 +31,7 @@ edit_id before deleted body = named faults.GenerationFull (edit_rev before delet
 abbrev pub edit_revs : Option RevId → Bool → List ℕ → Result (List RevId) BaseFault
 edit_revs before deleted body = edit_id before deleted body >>= λ rev. Ok (rev ∷ option_to_list before)
 
--- The new revision of an edit and its parent, or the error. Whether a sequence is left is not checked.
+-- The new revision of an edit and its parent, or the error, without checking whether a sequence is left.
 abbrev pub edited : DatabaseValue → Id → Option RevId → Bool → List ℕ → Result (RevId × Option RevId) BaseFault
 edited db id parent deleted body = do
   before ← parent_answer (tree_in db.docs id) parent
@@ -51,7 +51,7 @@ abbrev pub edit_document : Id → (RevId × Option RevId) → Bool → List ℕ 
 edit_document id e deleted body =
     record { id = id; ancestry = e.0 ∷ option_to_list e.1; deleted = deleted; body = body }
 
--- The database after an edit, given the edit's revision and parent. An error leaves the database unchanged.
+-- The database after an edit, given the edit's revision and parent, or the unchanged database if the edit failed.
 abbrev pub after_edited : DatabaseValue → Id → Bool → List ℕ → Origin → Result (RevId × Option RevId) BaseFault
     → DatabaseValue
 after_edited db id deleted body o (Ok e) = after_put db (edit_document id e deleted body) o

@@ -45,8 +45,8 @@ PutGives result expected = result ≡ expected
 abbrev pub content_of : Bool → List ℕ → ContentValue
 content_of deleted body = record { deleted = deleted; body = body }
 
--- The database after a put of document d. If the merge is a change and a sequence is left, the document has the merged
--- tree.
+-- The database after a put of document d. If the merge of a put changes the tree and a sequence is left, the document
+-- has the merged tree.
 abbrev pub after_put : DatabaseValue → Document → Origin → DatabaseValue
 after_put db d o =
     if is_changed (put_answer db d) then with_tree db d.id

@@ -1,6 +1,6 @@
 -- The stored form of a database: a table of documents by id, and an index of their positions by sequence. Each change
--- of a document appends a row to the index. A row of the index is live if its document has no later change. The live
--- rows are the feed.
+-- of a document appends a row to the index of a database. A row of a database's index is live if its document has no
+-- later change. The live rows of a database's index are the changes feed.
 use Rattle.std.specs.Prelude.{◌≡◌, ℕ, ◌+◌, ◌*◌, ◌/◌, ◌<◌, ◌≤◌, ◌==◌, nat_lt, nat_le, Bool, false, not, List, [], ◌∷◌, cond, if◌then◌else◌, map, filter, length, slice_get, unwrap_or, Option, Some, None, IfSome, refl}
 use Rattle.std.specs.Coded.{Coded, code_by, coded×, coded_ℕ, coded_list}
 use Rattle.std.specs.Option.{option_map, option_map_or}
@@ -59,8 +59,8 @@ above a rows = filter (λ e. nat_lt a e.0) rows
 abbrev pub live_upto : List (Id × Kept) → ℕ → List (ℕ × ℕ) → List (ℕ × ℕ)
 live_upto docs b rows = filter (λ e. nat_le e.0 b) (live docs rows)
 
--- The index rows after a change of one of n documents. All rows are kept if there are at most 2 n + 1, otherwise only
--- the live ones.
+-- The index rows after a change of one of n documents. The index keeps all rows if there are at most 2 n + 1 for n
+-- documents, otherwise only the live ones.
 abbrev pub swept : List (Id × Kept) → List (ℕ × ℕ) → List (ℕ × ℕ)
 swept docs rows = if nat_lt (length docs) (length rows / 2) then live docs rows else rows
 

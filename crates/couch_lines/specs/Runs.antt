@@ -58,9 +58,9 @@ form_of false = Text
 abbrev pub IsDone : Task → Option (List ℕ) → Option (List ℕ) → Option (List ℕ) → Result ℕ AnswerFault → Type 0
 IsDone task left held held' result = Converts result (wanted_of task) (words_of_task task) left held held'
 
--- The guarantees of a task for input with known contents. Each document in CouchDB responses gives a `load` line, in
--- order, by its text or in its envelope. The documents in a script's output are written into bodies, and each leaf of
--- its changes into a `doc` line. The input is not rejected.
+-- The guarantees of a task for input with known contents. A `load` task writes a `load` line for each document in
+-- CouchDB responses, in order, by its text or in its envelope. The documents in a script's output are written into
+-- bodies, and each leaf of its changes into a `doc` line. Input with known contents is not rejected.
 abbrev pub Makes : Task → Option (List ℕ) → Option (List ℕ) → Option (List ℕ) → Result ℕ AnswerFault → Type 0
 Makes (Load db whole) left held held' result = (answers : List ℕ) → (documents : List Piece) → left ≡ Some answers
     → IsAnswered (wanted_of (Load db whole)) answers documents → ReadsAnswers (loads_of (string_bytes db)) documents held held' result
@@ -106,10 +106,10 @@ IfDone (NotRun why) holds = ⊤
 IfDone (Ran run) holds = OnOk run.ended holds
 IfDone (Drawn ended) holds = OnOk ended holds
 
--- A run of the program on its standard streams. The arguments of `RunsStandard` are the command line, the bytes that
--- the reads returned, and whether they came to the end of the input. Further arguments of `RunsStandard` are the bytes
--- that the output has accepted, and how the run ended. If the last output cannot be flushed, a part of it is missing,
--- and the run ends as `unflushed` says.
+-- A run of the program `couch_lines` on its standard streams. The arguments of `RunsStandard` are the command line, the
+-- bytes that the reads returned, and whether they came to the end of the input. Further arguments of `RunsStandard` are
+-- the bytes that the output has accepted, and how the run ended. If the last output of a run cannot be flushed, a part
+-- of it is missing, and the run ends as `unflushed` says.
 abbrev pub RunsStandard : List (List ℕ) → List ℕ → Type 0 → List ℕ → Ended → Type 0
 RunsStandard words input all text ended =
     (first : Ended) × (rest : List ℕ) × RunsWords words (Some input) (Some []) (Some []) (Some (text ++ rest)) first

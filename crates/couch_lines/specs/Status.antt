@@ -34,7 +34,7 @@ ended_status (NotRun why) = words_status why
 ended_status (Ran run) = status_of run.ended
 ended_status (Drawn ended) = drawn_status ended
 
--- The result of a conversion whose last output could not be flushed. An earlier error stays.
+-- The result of a conversion whose last output could not be flushed, which is `Write`, or an earlier error.
 abbrev pub unwritten : Result ℕ AnswerFault → Result ℕ AnswerFault
 unwritten (Ok passed) = Err (Device faults.Write)
 unwritten (Err fault) = Err fault

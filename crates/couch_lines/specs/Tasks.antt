@@ -84,8 +84,8 @@ Fits named.Trees word whole svg (Leaves db) = ⊥
 Fits named.Trees word whole svg (Bulk n w) = ⊥
 Fits named.Trees word whole svg (Trees db s) = IsNamedOrNone word (option_map string_bytes db) × (whole ≡ false) × (s ≡ svg)
 
--- The task that the arguments of a command line name. The first argument of a command line names the task, and there is
--- no third one.
+-- The task that the arguments of a command line name, with the first argument as its name, and without a third
+-- argument.
 abbrev pub Asks : Option (List ℕ) → Option (List ℕ) → Option (List ℕ) → Bool → Bool → Task → Type 0
 Asks word second third whole svg task = (n : Named) × (word ≡ Some (word_of n)) × (third ≡ None) × Fits n second whole svg task
 
@@ -124,7 +124,7 @@ task_word = record (new_rule (codes "task")) { action = Some Set; value_names = 
 abbrev pub second_word : Rule
 second_word = record (new_rule (codes "of")) { action = Some Set; value_names = 1 }
 
--- The command line of the program. A third argument is accepted, so that the program can reject it with its own
+-- The command line of `couch_lines`, which accepts a third argument, so that the program can reject it with its own
 -- message.
 abbrev pub command_line : App
 command_line =
@@ -157,8 +157,8 @@ Says words task = SaysBy (text_said words) (flag_said words (codes "whole")) (fl
 abbrev pub Refused : List (List ℕ) → NoTask → Type 0
 Refused words why = RefusesBy (text_said words) (flag_said words (codes "whole")) (flag_said words (codes "svg")) why
 
--- Why the program has no task. The reason is `clap`'s error for the command line, that the command line names no task,
--- or that an allocation failed.
+-- Why the program has no task, which is `clap`'s error for the command line, that the command line names no task, or
+-- that an allocation failed.
 abbrev pub Refuses : List (List ℕ) → NoTask → Type 0
 Refuses words (Words error) = HasKind (fault_of command_line words) error
 Refuses words Unknown = Refused words Unknown

@@ -19,7 +19,7 @@ use Rattle.couch_relay.specs.Options.{Says, Refuses}
 
 -- ---- an exchange
 
--- The bytes are the head and the body of a response to request q. The response to q has the given meaning and date.
+-- The bytes are the head and the body of a response to request q, and the response has the given meaning and date.
 pub record IsResponse (q : RequestView) (bytes : List ℕ) (response : ResponseView) (date : Text) : Type 0 where
   pub head : HeadView
   pub body : List ℕ
@@ -163,7 +163,8 @@ FindsChoice options old new ended before after choice =
     (λ text. TakesChoice options (before ++ bytes) text after)
 
 -- A run of the program with the given options, which consists of the requests and their responses, and the exit status.
--- If no selection of documents could be read, the output is empty. The statement `ended` says that the input has ended.
+-- If a run could not read a selection of documents, its output is empty. The statement `ended` says that the input of a
+-- run has ended.
 abbrev pub Runs : Options → Type 0 → List ℕ → List ℕ → ℕ → Type 0
 Runs options ended input text status =
     ((choice rest : List ℕ) × (o : RequestOptions) × TakesChoice options input choice rest × AreOptions options choice o

@@ -60,8 +60,8 @@ SetNothing text number NoNumber = (s : Settings) → AreSettings text number s �
 SetNothing text number File = text (codes "file") ≡ None → ⊥
 SetNothing text number Memory = Unit {0}
 
--- Why the arguments give no options. The reason is `clap`'s error for the arguments, that no options match them, or
--- that an allocation failed.
+-- Why the arguments give no options, which is `clap`'s error for the arguments, that no options match them, or that an
+-- allocation failed.
 abbrev pub Refuses : List (List ℕ) → NoSettings → Type 0
 Refuses words (Words error) = HasKind (fault_of options words) error
 Refuses words NoNumber = (o : Options) → Says words o → ⊥

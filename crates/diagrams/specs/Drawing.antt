@@ -67,7 +67,7 @@ pub data IsNext : Option Document → Told → Option Document → Option Whole 
       → IsNext (Some d) (told.Leaf live revs) None (Some (wholes.Tree e))
   -- A line with a leaf, if no document is open.
   loose : {live : Bool} {revs : Vec RevId Global} → IsNext None (told.Leaf live revs) None None
-  -- A line with a leaf and an empty list of revisions. No line is parsed as one.
+  -- A line of a script's output with a leaf and an empty list of revisions, which does not occur when lines are parsed.
   empty : {old : Option Document} {live : Bool} {revs : Vec RevId Global} → head_of revs.items ≡ None → IsNext old (told.Leaf live revs) None None
   -- A line with a document and its live leaves.
   conflict : {old : Option Document} {id : String Global} {revs : Vec RevId Global} {e : Document} → Holds e (string_bytes id) (with_all [] revs.items)
@@ -116,7 +116,7 @@ pub record Takes (old : Sketch) (line : List ℕ) (new : Sketch) (text : List �
   pub db : new.db ≡ old.db
 
 -- The result of a line of a script's output: the drawing of what it completes, or an error. After a failed allocation
--- no document is open.
+-- no document of the picture is open.
 abbrev pub Pictures : Answering Sketch (List ℕ)
 Pictures old line (Ok text) new = Takes old line new text
 Pictures old line (Err name) new =
@@ -129,8 +129,8 @@ abbrev pub first_sketch : Form → Option (List ℕ) → Sketch
 first_sketch form db = record { form = form; db = db; begun = None }
 
 -- A picture of a script's output, which has a start, the drawings for the output's lines, and an end. The flag `clean`
--- says whether memory was sufficient for every line. No character of an input text is hidden in the picture, and in SVG
--- no such character is markup.
+-- of a picture says whether memory was sufficient for every line. No character of an input text is hidden in the
+-- picture, and in SVG no such character is markup.
 pub record IsPictureOf (form : Form) (db : Option (List ℕ)) (input : List ℕ) (clean : Bool) (picture : List ℕ) : Type 0 where
   pub head : List ℕ
   pub head_drawn : Draws [] head []
@@ -155,8 +155,8 @@ pub record IsPictured (form : Form) (db : Option (List ℕ)) (clean : Bool) (lef
 abbrev pub BeginsPicture : (List ℕ → Type 0) → List ℕ → Type 0
 BeginsPicture holds text = (head : List ℕ) × Draws [] head [] × (drawn : List ℕ) × holds drawn × (text ≡ head ++ drawn)
 
--- The text that is written before an error. After `Read` and `Memory` each drawing in the text is complete, and after
--- `Cut` the text ends within a drawing.
+-- The text of a picture that is written before an error. After the errors `Read` and `Memory` each drawing is complete,
+-- and after `Cut` the text ends within a drawing.
 abbrev pub IsDrawnUntil : ScriptFault → Form → Option (List ℕ) → List ℕ → List ℕ → Type 0
 IsDrawnUntil Read form db input text = BeginsPicture (AnswersFirst Pictures (first_sketch form db) input) text
 IsDrawnUntil Write form db input text = ⊤

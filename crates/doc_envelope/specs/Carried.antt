@@ -36,8 +36,8 @@ pub record HasMembers (x : List ℕ) (ms : List (List ℕ)) : Type 0 where
   pub members : AreMembers ms
   pub text : x ≡ object_of ms
 
--- One member `whole` holds the given other members with commas between them, in any spelling of its string. If there
--- are no other members, there is no member `whole`.
+-- One member `whole` holds the given other members with commas between them, in any spelling of its string. If an
+-- envelope wraps no members, it has no member `whole`.
 pub data Carries : List (List ℕ) → List (List ℕ) → Type 0 where
   none : Carries [] []
   whole : {w : List ℕ} (o : List ℕ) (os : List (List ℕ)) → has_name w whole_name ≡ true
@@ -48,8 +48,8 @@ abbrev pub AreOthers : List (List ℕ) → Type 0
 AreOthers [] = Unit {0}
 AreOthers (m ∷ ms) = (has_name m whole_name ≡ false) × AreOthers ms
 
--- The text t is an envelope of a document with the members ms. The members that stay outside come first, unchanged and
--- in order, and then the member that holds the others.
+-- The text t is an envelope of a document with the members ms. In an envelope, the members that stay outside come
+-- first, unchanged and in order, and then the member that holds the others.
 pub record Envelops (ms : List (List ℕ)) (t : List ℕ) : Type 0 where
   pub carrier : List (List ℕ)
   pub members : HasMembers t (filter stays ms ++ carrier)

@@ -16,8 +16,7 @@ opens b = b == 123 || b == 91
 abbrev pub closes : ℕ → Bool
 closes b = b == 125 || b == 93
 
--- Whether a byte ends a member in which n brackets are open. A comma and the bracket that closes the object end a
--- member.
+-- Whether a byte ends a member in which n brackets are open, as a comma does, and the bracket that closes the object.
 abbrev pub ends_member : Mode → ℕ → ℕ → Bool
 ends_member Outside n b = n == 0 && (b == 44 || closes b)
 ends_member Quoted n b = false

@@ -1,5 +1,5 @@
 -- The result of reading a value as a document, as specified in docs/PROFILE.md, "What `read_doc` accepts". If several
--- checks fail, the error of the first one is returned.
+-- checks of a document fail, the error of the first one is returned.
 use Rattle.std.specs.Prelude.{ℕ, Bool, false, List, codes, Option, Some, None, option_and_then, is_some, Result, Ok}
 use Rattle.serde_json.specs.Data.{Data}
 use Rattle.serde_json.specs.Find.{get, as_str, as_bool, as_object}

@@ -32,8 +32,8 @@ abbrev pub sigs_of : Items → Option (List (List ℕ))
 sigs_of no_items = Some []
 sigs_of (item d ds) = option_and_then (λ sig. option_map (λ sigs. sig ∷ sigs) (sigs_of ds)) (sig_of (as_str d))
 
--- The ancestry of a start and signatures, or `BadRevisions`. The start must be a generation, and there must be 1 to
--- `start` signatures.
+-- The ancestry of a start and signatures, or `BadRevisions`. The start of an ancestry must be a generation, and there
+-- must be 1 to `start` signatures.
 abbrev pub numbered_from : Option ℕ → Option (List (List ℕ)) → Result (List RevId) DocFault
 numbered_from None sigs = Err faults.BadRevisions
 numbered_from (Some start) None = Err faults.BadRevisions

@@ -7,7 +7,7 @@ use Rattle.journal_core.specs.declared.blocks.Took.{Took}
 use Rattle.journal_core.specs.declared.blocks.Took.TheVariants.{Held, Closed, Damaged}
 
 -- The place of a reader in a journal: the hash and the sequence of the last confirmed block, the confirmed lines, and
--- the lines after these. The place is complete (`whole`) if no wrong checksum was read.
+-- the lines after them. The place of a reader is complete (`whole`) if no wrong checksum was read.
 pub record Place : Type 0 where
   pub chain : List ℕ
   pub seq : List ℕ

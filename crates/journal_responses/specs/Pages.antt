@@ -28,8 +28,8 @@ each_once revs = fold add_rev [] revs
 abbrev pub some_revs : List (List ℕ) → Option (List (List ℕ))
 some_revs revs = if nat_eq (length revs) 0 then None else Some revs
 
--- The revisions of a list of changes. A row has at least one revision, as specified in docs/PROFILE.md, "CouchDB's
--- answers".
+-- The revisions of a list of changes. A row of changes has at least one revision, as specified in docs/PROFILE.md,
+-- "CouchDB's answers".
 abbrev pub changes_in : Items → Option (List (List ℕ))
 changes_in changes = option_and_then some_revs (each_item rev_in changes)
 
@@ -63,7 +63,7 @@ pending_in (Some (string s)) = None
 pending_in (Some (array js)) = None
 pending_in (Some (object ms)) = None
 
--- Whether a row is printed. With the flag `several`, only rows with two or more leaves are printed.
+-- Whether a row of changes is printed. With the flag `several`, only rows with two or more leaves are printed.
 abbrev pub is_printed : Bool → LeavesView → Bool
 is_printed several row = if several then nat_le 2 (length row.2) else true
 

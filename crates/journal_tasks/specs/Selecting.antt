@@ -1,12 +1,12 @@
 -- Which documents of a journal are selected.
 use Rattle.std.specs.Prelude.{ℕ, Bool, true, ◌&&◌, nat_le, if◌then◌else◌, List, Option, None, Some, bytes_eq}
 
--- Whether a document is requested. If no id is requested, every document is.
+-- Whether a document is requested, which every document is if no id is given.
 abbrev pub is_asked : Option (List ℕ) → List ℕ → Bool
 is_asked None id = true
 is_asked (Some only) id = bytes_eq only id
 
--- Whether a document with `count` leaves is selected. With the flag `several`, the document must have two or more
--- leaves.
+-- Whether a document with `count` leaves is selected. With the flag `several`, a selected document must have two or
+-- more leaves.
 abbrev pub is_selected : Bool → Option (List ℕ) → List ℕ → ℕ → Bool
 is_selected several only id count = (if several then nat_le 2 count else true) && is_asked only id

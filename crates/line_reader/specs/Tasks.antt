@@ -16,7 +16,7 @@ pub data Runs {S : Type 0} (steps : Steps S) (start : S) : List (List ℕ) → L
   more : {lines : List (List ℕ)} {text : List ℕ} {mid : S} (line added : List ℕ) (new : S)
       → Runs steps start lines text mid → steps mid line added new → Runs steps start (lines ++ line ∷ []) (text ++ added) new
 
--- The bytes `taken` were read from the state `start` on, their lines were run, and the text of these lines is written.
+-- The bytes `taken` were read from the state `start` on, their lines were run, and the text of the lines is written.
 -- The bytes `begun` are the last line, which has no line end yet. The arguments `held` and `held'` are what the writer
 -- has accepted, before and after.
 pub record HasRun {S : Type 0} (steps : Steps S) (start : S) (held : Option (List ℕ)) (taken : List ℕ) (state : S)
@@ -28,7 +28,7 @@ pub record HasRun {S : Type 0} (steps : Steps S) (start : S) (held : Option (Lis
   pub written : Appends held held' text
 
 -- The complete input of the reader was run, and its text is written. The argument `left` is what the reader had left
--- before. The arguments `held` and `held'` are what the writer has accepted, before and after.
+-- before the run. The arguments `held` and `held'` are what the writer has accepted, before and after.
 pub record IsDone {S : Type 0} (steps ends : Steps S) (start : S) (left held : Option (List ℕ)) (state : S)
     (held' : Option (List ℕ)) : Type 0 where
   pub input : List ℕ

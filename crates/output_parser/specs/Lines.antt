@@ -49,7 +49,7 @@ pub record IsLeafLine (line : List ℕ) (live : Bool) (revs : List RevId) : Type
   pub falls : FallsByOne revs
   pub begins : BeginsWith own revs
 
--- A line with a keyword, an id and a list of revisions, by its texts. The keyword ends with a blank.
+-- A line with a keyword, a blank, an id, a blank and a list of revisions, by its texts.
 pub record ListedParts (word line id list : List ℕ) : Type 0 where
   pub lacks_blank : lacks 32 list ≡ true
   pub form : line ≡ word ++ (id ++ 32 ∷ list)
@@ -86,7 +86,7 @@ TellsMore line (told.Row r) = IsRow r.table line (string_bytes r.name) r.numbers
 TellsMore line (told.Log l) = IsLog line (string_bytes l.id) (map logged l.entries.items)
 TellsMore line told.Other = ((finding : Finding) → NoFinding line finding) × ((table : Table) → NoRow line table) × NoLog line
 
--- The contents of a line. The value is `Other` if the line has no known format.
+-- The contents of a line of a script's output, which is `Other` if the line has no known format.
 abbrev pub Tells : List ℕ → Told → Type 0
 Tells line (told.Document id count) = IsDocLine line (string_bytes id) count
 Tells line (told.Leaf live revs) = IsLeafLine line live revs.items

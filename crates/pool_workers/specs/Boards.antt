@@ -44,13 +44,13 @@ abbrev pub MayFill : Option Board → Type 0
 MayFill None = ⊥
 MayFill (Some b) = Unit {0}
 
--- With a board, all seats are the board's worker seats. Without a board there are no seats.
+-- With a board, all seats are the board's worker seats, and without a board there are no seats.
 abbrev pub AreSeated : Option Board → List BoardSeat → Type 0
 AreSeated None seats = seats ≡ []
 AreSeated (Some b) seats = All (WorksAt b) seats
 
 -- With a board, all seats are the board's worker seats, and with `out` further seats there is at least one for each
--- worker. Without a board there are no seats.
+-- worker. If a run has no board, it has no seats.
 abbrev pub AreSeats : Option Board → ℕ → ℕ → List BoardSeat → Type 0
 AreSeats None out workers seats = seats ≡ []
 AreSeats (Some b) out workers seats = (workers ≤ length seats + out) × All (WorksAt b) seats
@@ -60,7 +60,8 @@ abbrev pub AreBack : Option Board → List BoardSeat → List BoardSeat → Type
 AreBack None given now = (given ≡ []) × (now ≡ [])
 AreBack (Some b) given now = AreRisen b given now
 
--- With a board, n documents are shown as settled. If no writer was stopped, n documents are also shown as read.
+-- With a board, n documents are shown as settled. If a board exists and no writer was stopped, n documents are also
+-- shown as read.
 abbrev pub HaveShown : Option Board → ℕ → Option Halt → List BoardSeat → List BoardSeat → Type 0
 HaveShown None n stopped given now = Unit {0}
 HaveShown (Some b) n stopped given now =
@@ -98,7 +99,7 @@ HasSettled (Some b) a z (Some s) (Some t) =
 HasSettled (Some b) a z s t = ⊥
 
 -- With a board, the seat's settled counter has grown by the difference between a and z. If no writer was stopped, the
--- read counter has grown by the difference between a and z, too.
+-- seat's read counter has grown by the difference between a and z, too.
 abbrev pub HasWritten : Option Board → ℕ → ℕ → Option Halt → Option BoardSeat → Option BoardSeat → Type 0
 HasWritten None a z stopped s t = t ≡ s
 HasWritten (Some b) a z stopped (Some s) (Some t) =

@@ -8,8 +8,8 @@ use Rattle.pool_workers.specs.declared.fault.Halt.TheVariants as halts
 use Rattle.pool_workers.specs.declared.fault.PoolFault.{PoolFault}
 use Rattle.pool_workers.specs.declared.fault.PoolFault.TheVariants as faults
 
--- A possible error of a run whose plan was valid. The error is `Halted` only if the gate allows the halt, `BoardFull`
--- only if a board can be full, and never `Hole`.
+-- A possible error of a run whose plan was valid. The error of a valid run is `Halted` only if the gate allows the
+-- halt, `BoardFull` only if a board can be full, and never `Hole`.
 abbrev pub IsLateOn : Type 0 → (Place → Type 0) → PoolFault → Type 0
 IsLateOn may_fill may_stop faults.NoWorkers = ⊥
 IsLateOn may_fill may_stop faults.TooManyWorkers = ⊥
@@ -41,8 +41,8 @@ fault_of halts.BoardFull = faults.BoardFull
 fault_of halts.Memory = faults.Memory
 fault_of halts.Lost = faults.Memory
 
--- A possible halt of a worker. A halt by the gate must be allowed, a halt by a full board must be possible, and any
--- other error must be one of a worker's call.
+-- A possible halt of a worker. A worker's halt must be allowed by the gate, come from a board that can be full, or be
+-- the error of a worker's call.
 abbrev pub AllowsOn : Type 0 → (Place → Type 0) → Halt → Type 0
 AllowsOn may_fill may_stop (halts.Stopped place) = may_stop place
 AllowsOn may_fill may_stop (halts.Refused fault) = IsStepFault fault

@@ -21,8 +21,9 @@ module _ {F : Type 0} (refuses : F → Document → Bool) where
   abbrev pub GrownPeer : DatabaseValue → Choice → SessionId → F × PeerValue → F × PeerValue → Type 0
   GrownPeer source chosen run given now = (now.0 ≡ given.0) × IsGrown (refuses given.0) source chosen run given.1 now.1
 
-  -- The target while a run is in progress. The target has grown from the given peer by calls of the run. The run's
-  -- session has read `total` documents, its windows are pages of the source, and the plan allows `more` windows.
+  -- The target while a run is in progress. During a run, the target has grown from the given peer by calls of the run.
+  -- During a run, the run's session has read `total` documents, its windows are pages of the source, and the plan
+  -- allows `more` windows.
   abbrev pub TargetKeeps : DatabaseValue → Plan → Option ((F × PeerValue) × SessionId) → SessionId → ℕ → Option ℕ
       → F × PeerValue → Type 0
   TargetKeeps source plan given session total more now =

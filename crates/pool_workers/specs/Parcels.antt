@@ -28,8 +28,8 @@ module _ {S : Type 0} where
   abbrev pub has_got : ParcelView → ParcelMessage S → ParcelView
   has_got v x = parcel_view v.parts v.sent (v.got ++ parcels (x ∷ []))
 
-  -- The parcels that were sent are those received and those queued. Each number with its number of documents occurs
-  -- equally often on both sides.
+  -- The parcels that were sent are those received and those queued. Each number of a parcel occurs, with its number of
+  -- documents, as often among the sent parcels as among the received and queued ones.
   abbrev pub Balanced : List (ParcelMessage S) → List ParcelView → Type 0
   Balanced items views =
       (total (λ (v : ParcelView). v.parts) views ≡ 1024)

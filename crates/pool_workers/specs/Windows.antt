@@ -10,7 +10,8 @@ use Rattle.pool_workers.specs.declared.windows.WindowMessage.TheVariants.{Window
 abbrev pub window_view : ℕ → ℕ → ℕ → List ℕ → WindowView
 window_view parts reads count taken = record { parts = parts; reads = reads; count = count; taken = taken }
 
--- Only the page reader's pass has sent windows. A pass without parts is not the reader's, and has taken no windows.
+-- Only the page reader's pass to the channel has sent windows. A thread's pass without parts is not the page reader's,
+-- and has taken no windows.
 abbrev pub KeepsRole : List WindowView → Type 0
 KeepsRole views =
     (port : ℕ) (v : WindowView) → get_elem? views port ≡ some v

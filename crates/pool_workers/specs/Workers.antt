@@ -18,8 +18,8 @@ amounts xs = weigh (λ n a. a) xs
 abbrev pub names : List (ℕ × ℕ) → List ℕ
 names xs = map (λ (x : ℕ × ℕ). x.0) xs
 
--- What a fetcher knows between two messages. If the fetcher was not stopped, its count is that of the parcels that it
--- sent. If the fetcher was not stopped, it sent a parcel for each window that it took, except for those in progress.
+-- What a fetcher knows between two messages. If a fetcher was not stopped, its count is that of the parcels that it
+-- sent. If a fetcher was not stopped, it sent a parcel for each window that it took, except for those in progress.
 abbrev pub FetcherKnows : {S : Type 0} → List ℕ → Fetcher S → Type 0
 FetcherKnows in_hand f =
     (view f.windows ≡ window_view 1 0 0 (view f.windows).taken)
@@ -38,7 +38,7 @@ HasCounted x f =
     × (f.fetched ≡ amounts (view f.parcels).sent + x.1)
     × ((view f.windows).taken ≡ names (view f.parcels).sent ++ x.0 ∷ [])
 
--- What a writer knows between two messages. If the writer was not stopped, its count and its share are those of the
+-- What a writer knows between two messages. If a writer was not stopped, its count and its share are those of the
 -- parcels that it received, except for those in progress.
 abbrev pub WriterKnows : {S L : Type 0} → List (ℕ × ℕ) → Writer S L → Type 0
 WriterKnows in_hand w =

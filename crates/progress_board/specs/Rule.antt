@@ -38,15 +38,15 @@ abbrev pub added_settled : SeatView → ℕ → SeatView
 added_settled v n =
     seat_view v.deals v.works v.number v.reads (slice_set v.settles v.number (slice_index v.settles v.number + n))
 
--- A load of worker i's read counter returned n. The number n is the new bound, and is not below the old one. A worker
--- sees its own counter exactly.
+-- A load of worker i's read counter returned n. The number n that a seat loads is its new bound, and is not below the
+-- old one. A worker sees its own counter on the board exactly.
 abbrev pub SeesRead : SeatView → ℕ → ℕ → SeatView → Type 0
 SeesRead v i n w =
     (w ≡ seat_view v.deals v.works v.number (slice_set v.reads i n) v.settles)
     × (slice_index v.reads i ≤ n) × (n ≤ most) × (v.works ≡ true → v.number ≡ i → n ≡ slice_index v.reads i)
 
--- A load of worker i's settled counter returned n. The number n is the new bound and is not below the old one, and
--- worker i has read at least n. A worker sees its own counter exactly.
+-- A load of worker i's settled counter returned n. The number n that a seat loads is its new bound and is not below the
+-- old one, and worker i has read at least n. A worker sees its own counter on the board exactly.
 abbrev pub SeesSettled : SeatView → ℕ → ℕ → SeatView → Type 0
 SeesSettled v i n w =
     (w ≡ seat_view v.deals v.works v.number (slice_set v.reads i (max (slice_index v.reads i) n))

@@ -51,14 +51,13 @@ settled_refusal s n =
 abbrev pub are_seats : ℕ → ℕ → Bool
 are_seats workers viewers = nat_le 1 workers && nat_le workers 64 && nat_le 1 viewers && nat_le viewers 64
 
--- The error of creating a board. The error is `Memory` if the numbers of workers and viewers are valid, else
--- `BadSeats`.
+-- The error of creating a board, which is `Memory` if the numbers of workers and viewers are valid, else `BadSeats`.
 abbrev pub new_fault : ℕ → ℕ → BoardFault
 new_fault workers viewers = if are_seats workers viewers then faults.Memory else faults.BadSeats
 
 -- ---- new seats
 
--- Seat number i of a new table with counters of k workers. The seat is that of worker i if i < n, else a viewer's.
+-- Seat number i of a new table with counters of k workers, which is that of worker i if i < n, else a viewer's.
 abbrev pub IsSeat : TableId → ℕ → ℕ → ℕ → BoardSeat → Type 0
 IsSeat table k n i s =
     (s.place.table_id ≡ table) × (s.works ≡ nat_lt i n) × (i < n → s.number ≡ i) × (s.read ≡ 0) × (s.settled ≡ 0)
@@ -67,8 +66,8 @@ IsSeat table k n i s =
 abbrev pub SeatsAre : TableId → ℕ → ℕ → List BoardSeat → Type 0
 SeatsAre table k n seats = (i : ℕ) (d : BoardSeat) → i < length seats → IsSeat table k n i (slice_index_or seats i d)
 
--- Seat number i of a new board b. The workers' seats come first, by number, and then the viewers'. No seat has added or
--- seen any documents.
+-- Seat number i of a new board b. The seats of a new board are first the workers', by number, and then the viewers'. No
+-- seat of a new board has added or seen any documents.
 pub record IsNew (b : Board) (i : ℕ) (s : BoardSeat) : Type 0 where
   pub came : CameWith b s
   pub works : s.works ≡ nat_lt i b.workers

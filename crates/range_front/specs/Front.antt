@@ -5,8 +5,8 @@ use Rattle.std.specs.List.{list_any, list_all}
 use Rattle.range_front.specs.declared.fault.FrontFault.{FrontFault}
 use Rattle.range_front.specs.declared.fault.FrontFault.TheVariants as faults
 
--- A window of a front, given by its upper bound. The window begins at the end of the previous window, or at the front's
--- start if it is the first.
+-- A window of a front, given by its upper bound. A window of a front begins at the end of the previous window, or at
+-- the front's start if it is the first.
 pub record FrontWindow : Type 0 where
   pub hi : ℕ
   pub done : Bool
@@ -102,7 +102,8 @@ no_windows start = record { start = start; windows = [] }
 abbrev pub appended : FrontValue → ℕ → FrontValue
 appended f hi = record f { windows = f.windows ++ record { hi = hi; done = false } ∷ [] }
 
--- The result of `append`, if no allocation fails. Only a window that ends above the end of front f is accepted.
+-- The result of appending a window to front f, if no allocation fails. Only a window that ends above the end of front f
+-- is accepted.
 abbrev pub append_answer : FrontValue → ℕ → Result (Unit {0}) FrontFault
 append_answer f hi = if nat_le hi (end_of f) then Err (faults.NotRising (end_of f)) else Ok tt
 
@@ -123,8 +124,8 @@ finish_answer f lo hi =
 
 -- ---- the invariant
 
--- The windows of a list are consecutive. Each begins at the end of the previous one, the first at `lo`, and ends above
--- its beginning.
+-- The windows of a list are consecutive. Each window begins at the end of the previous one, the first at `lo`, and ends
+-- above its beginning.
 abbrev pub IsConsecutive : ℕ → List Span → Type 0
 IsConsecutive lo [] = Unit {0}
 IsConsecutive lo (s ∷ ss) = (s.lo ≡ lo) × (s.lo < s.hi) × IsConsecutive s.hi ss

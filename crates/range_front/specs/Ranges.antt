@@ -37,13 +37,14 @@ abbrev pub covers : ℕ → List DoneRange → ℕ → Bool
 covers mark [] x = nat_le x mark
 covers mark (r ∷ rs) x = if nat_le x r.lo then nat_le x mark else covers r.hi rs x
 
--- The end of what is done from `hi` on, and the remaining ranges. The first range may begin at `hi`.
+-- The end of the done windows from `hi` on, and the remaining ranges. If the first range begins at `hi`, it is not
+-- among the remaining ranges.
 abbrev pub absorbed : ℕ → List DoneRange → ℕ × List DoneRange
 absorbed hi [] = (hi, [])
 absorbed hi (r ∷ rs) = if r.lo == hi then (r.hi, rs) else (hi, r ∷ rs)
 
--- The ranges after adding (lo, hi] at r, the first range that ends at or above `lo`. If r ends at `lo` or begins at
--- `hi`, it grows, otherwise it is unchanged.
+-- The ranges after adding (lo, hi] at r, the first range that ends at or above `lo`. If range r ends at `lo` or begins
+-- at `hi`, it grows, otherwise it is unchanged.
 abbrev pub put_at : DoneRange → List DoneRange → ℕ → ℕ → List DoneRange
 put_at r rs lo hi =
     if r.hi == lo then record { lo = r.lo; hi = (absorbed hi rs).0 } ∷ (absorbed hi rs).1

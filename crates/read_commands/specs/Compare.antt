@@ -82,7 +82,7 @@ compare_text source target chosen =
     flat_map (compared_lines source target) (chosen_feed chosen source 0 source.update_seq)
     ++ compared_line (total_of (comparisons source target (chosen_feed chosen source 0 source.update_seq)))
 
--- The remaining output of `compare`. The totals in it are those of all rows.
+-- The remaining output of `compare`, whose totals are those of all rows.
 abbrev pub compare_left : State → CompareRest → List ℕ
 compare_left s r =
     left_in (peer_at s (string_bytes r.source)) (λ source. left_in (peer_at s (string_bytes r.target)) (λ target.

@@ -47,7 +47,7 @@ conflicts_line c = ended (codes "conflicts " ++ decimal c.conflicts ++ codes " o
 abbrev pub conflicts_text : DatabaseValue → List ℕ
 conflicts_text db = flat_map (conflict_line db) (feed db 0 db.update_seq) ++ conflicts_line (census_of (trees db))
 
--- The remaining output of `conflicts`. The counts in it are those of all documents.
+-- The remaining output of `conflicts`, whose counts are those of all documents.
 abbrev pub conflicts_left : State → ConflictsRest → List ℕ
 conflicts_left s r =
     left_in (peer_at s (string_bytes r.db)) (λ l. flat_map (conflict_line l.db) (rows_left l.db r.walk) ++ conflicts_line (census_of (trees l.db)))

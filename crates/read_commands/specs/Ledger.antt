@@ -21,8 +21,8 @@ use Rattle.read_commands.specs.declared.ledger.Ledger.{Ledger}
 
 -- ---- its parameters
 
--- The parameters of `ledger`, which prints the documents that a target refused in a session. The session is given by
--- the number of its UUID.
+-- The parameters of `ledger`, which prints the documents that a target refused in a session, given by the number of its
+-- UUID.
 pub record LedgerAsk : Type 0 where
   pub target : List ℕ
   pub session : ℕ

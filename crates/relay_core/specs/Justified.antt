@@ -1,4 +1,5 @@
--- When a replication log may be requested to record a sequence. A history of exchanges has its last exchange first.
+-- When the relay may request a replication log to record a sequence. A history of the relay has its last exchange
+-- first.
 use Rattle.std.specs.Prelude.{ℕ, ◌≡◌, ◌+◌, ◌-◌, ◌^◌, ◌≤◌, ◌==◌, codes, Bool, true, false, ◌&&◌, ◌||◌, not, if◌then◌else◌, List, [], ◌∷◌, ◌++◌, Option, None, Some, min, bytes_eq}
 use Rattle.std.specs.List.{list_any}
 use Rattle.relay_core.specs.declared.messages.Side.{Side}
@@ -75,8 +76,8 @@ seq_of (Some pair) = pair.1
 
 -- ---- progress of a run
 
--- Pages lead from sequence `begin` to sequence s. After each page, the target had each leaf of the page, or refused it.
--- The number n counts the leaves of the pages up to s that the target refused and does not have.
+-- Pages lead from sequence `begin` to sequence s. After each page of a run, the target had each leaf of the page, or
+-- refused it. The number n counts the leaves of the pages up to s that the target refused and does not have.
 pub data Reached : Text → List Exchange → Text → ℕ → Type 0 where
   begun : {begin : Text} {h : List Exchange} {s : Text} {n : ℕ} → begin ≡ s → n ≡ 0 → Reached begin h s n
   paged : {begin : Text} {h : List Exchange} {s : Text} {n : ℕ} (before after rest : List Exchange) (since : Text) (wait : Option ℕ) (page : PageView) (m : ℕ) → h ≡ rest ++ (after ++ exchange_of (get_changes since wait) (page_response page) ∷ before) → Reached begin before since m → AreSettled after page.rows → page.last_seq ≡ s → n ≡ m + leaf_count (not_found after page.rows) → Reached begin h s n
@@ -99,16 +100,16 @@ pub record AreReady (h : List Exchange) (target source : LogView) (s : Text) (fa
   pub reached : Reached (seq_of (newest_common target.history source.history)) before s rejected
   pub counted : min rejected (2 ^ 64 - 1) ≤ failures
 
--- A log may be requested to record the sequence s that the pages reached. The log's history is then the new entry and
--- the history that the log had when it was last read.
+-- A log may be requested to record the sequence s that the pages reached. The history of a log that is put is the new
+-- entry and the history that the log had when it was last read.
 pub record IsReady (h : List Exchange) (side : Side) (log : LogView) (s : Text) (failures : ℕ) : Type 0 where
   pub target : LogView
   pub source : LogView
   pub ready : AreReady h target source s failures
   pub own : log ≡ log_of side target source
 
--- The target stored its log in the given exchange, with the recorded sequence s. If the exchange is a notice, the
--- exchanges before it decide.
+-- The target stored its log in the given exchange, with the recorded sequence s. If an exchange is a notice, the
+-- exchanges before it decide whether the target has just stored its log.
 abbrev pub IsStoring : RequestView → ResponseView → Text → Type 0 → Type 0
 IsStoring (put_log Target log checkpoint) stored_response s before = checkpoint.seq ≡ s
 IsStoring (tell notice) r s before = before

@@ -63,8 +63,8 @@ pub record IsRead (h : List Exchange) (begin since : Text) (failures : ℕ) (tar
   pub target_is : last_log Target later ≡ Some target
   pub reached : IsReachedFrom before begin since failures
 
--- The source returned a page that is not complete at the target. The documents `missing` are the page's leaves that the
--- target did not have since then, and the target refused each leaf that the rows name.
+-- The source returned a page, and its transfer is in progress. The documents `missing` are the leaves that the target
+-- did not have when it was asked after the page. The target refused each leaf that the error rows of a transfer name.
 pub record IsOpen (h : List Exchange) (begin since last : Text) (failures : ℕ) (missing : List DocView) (rows : List RowErrorView) : Type 0 where
   pub before : List Exchange
   pub after : List Exchange

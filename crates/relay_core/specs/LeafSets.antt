@@ -1,4 +1,5 @@
--- What sets of leaves and of ids contain. A key is a reference to a text, or two references: to an id and a leaf.
+-- What sets of leaves and of ids contain. A key of a set is a reference to a text, or two references, to an id and a
+-- leaf.
 use Rattle.std.specs.Prelude.{Bool, ◌&&◌, List, bytes_eq}
 use Rattle.std.specs.Borrow.{Bor}
 use Rattle.std.specs.List.{list_any, list_all}

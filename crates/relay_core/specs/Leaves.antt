@@ -1,4 +1,4 @@
--- What lists of documents and of rows say about a leaf of a document.
+-- What lists of documents and of error rows say about a leaf of a document.
 use Rattle.std.specs.Prelude.{ℕ, ◌+◌, Bool, true, false, ◌&&◌, ◌||◌, not, List, [], ◌∷◌, ◌++◌, Option, None, Some, codes, filter, map, length, bytes_eq}
 use Rattle.std.specs.List.{list_any, list_all}
 use Rattle.relay_core.specs.Messages.{Text, DocView, RowErrorView}
@@ -48,7 +48,7 @@ abbrev pub doc_if_any : Text → List Text → List DocView
 doc_if_any id [] = []
 doc_if_any id (r ∷ revs) = (id, r ∷ revs) ∷ []
 
--- The leaves that pass a test, in order. Documents without such a leaf are left out.
+-- The leaves of the documents that pass a test, in order, without documents that have no such leaf.
 abbrev pub docs_where : (Text → Text → Bool) → List DocView → List DocView
 docs_where p [] = []
 docs_where p (d ∷ ds) = doc_if_any d.0 (filter (λ r. p d.0 r) d.1) ++ docs_where p ds
@@ -58,35 +58,35 @@ docs_where p (d ∷ ds) = doc_if_any d.0 (filter (λ r. p d.0 r) d.1) ++ docs_wh
 abbrev pub is_refusal : RowErrorView → Bool
 is_refusal row = bytes_eq row.error (codes "forbidden") || bytes_eq row.error (codes "unauthorized")
 
--- Whether a row about revision `rev`, or about all revisions, is about the given leaf.
+-- Whether an error row about revision `rev`, or about all revisions, is about the given leaf.
 abbrev pub is_about : Option Text → Text → Bool
 is_about None leaf = true
 is_about (Some rev) leaf = bytes_eq rev leaf
 
--- Whether one of the rows is about the given leaf of document `id`.
+-- Whether one of the error rows is about the given leaf of document `id`.
 abbrev pub are_about : List RowErrorView → Text → Text → Bool
 are_about rows id leaf = list_any (λ r. bytes_eq r.id id && is_about r.rev leaf) rows
 
 abbrev pub refusals_in : List RowErrorView → List RowErrorView
 refusals_in rows = filter (λ r. is_refusal r) rows
 
--- Whether one of the rows refuses the given leaf of document `id`.
+-- Whether one of the error rows refuses the given leaf of document `id`.
 abbrev pub refuses : List RowErrorView → Text → Text → Bool
 refuses rows id leaf = are_about (refusals_in rows) id leaf
 
--- Whether the rows are about each of the given leaves of document `id`.
+-- Whether the error rows are about each of the given leaves of document `id`.
 abbrev pub are_all_about : List RowErrorView → Text → List Text → Bool
 are_all_about rows id revs = list_all (λ r. are_about rows id r) revs
 
--- Whether the rows are about each leaf of the documents.
+-- Whether the error rows are about each leaf of the documents.
 abbrev pub cover : List RowErrorView → List DocView → Bool
 cover rows docs = list_all (λ d. are_all_about rows d.0 d.1) docs
 
--- The row of a leaf whose document is too large for the target.
+-- The error row of a leaf whose document is too large for the target.
 abbrev pub too_large_row : Text → Text → RowErrorView
 too_large_row id leaf = record { id = id; rev = Some leaf; error = codes "too_large"; reason = codes "status 413" }
 
--- The rows of a document that is too large for the target, one for each leaf.
+-- The error rows of a document that is too large for the target, one for each leaf.
 abbrev pub too_large_rows : Text → List Text → List RowErrorView
 too_large_rows id revs = map (λ r. too_large_row id r) revs
 

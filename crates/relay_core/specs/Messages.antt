@@ -1,4 +1,4 @@
--- The messages between the relay and the two servers, as values without memory. A text is a list of bytes.
+-- The messages between the relay and the two servers, as values without memory. A text in a message is a list of bytes.
 use Rattle.std.specs.Prelude.{ℕ, Bool, List, Option}
 use Rattle.relay_core.specs.declared.messages.Side.{Side}
 use Rattle.relay_core.specs.declared.messages.Operation.{Operation}
@@ -41,8 +41,8 @@ pub data FaultView : Type 0 where
   bad_answer : Operation → FaultView
   bad_log : Side → FaultView
   refused : Text → Side → ℕ → Text → FaultView
-  -- The fault of leaves that the target's response to a carry does not account for. The fault has the id, revision,
-  -- error and reason of one such leaf, and the number of these leaves.
+  -- The fault of leaves that the target's response to a carry does not account for. The fault `unaccounted` has the id,
+  -- revision, error and reason of one such leaf, and the number of these leaves.
   unaccounted : Text → Text → Option (Text × Text) → ℕ → FaultView
   log_changed : FaultView
 

@@ -51,8 +51,8 @@ is_of_session session r = bytes_eq r.0 session
 abbrev pub is_recorded : Text → Text → Recorded → Bool
 is_recorded session seq r = bytes_eq r.0 session && bytes_eq r.1 seq
 
--- Whether an entry of the history is kept, given the entries that are kept before it. Fewer than 50 entries may be kept
--- before it. Of the entry's session, fewer than two entries may be kept before it, and no entry with its sequence.
+-- Whether an entry of the history is kept, given the entries that are kept before it. A history keeps at most 50
+-- entries, at most two of a session, and of a session none twice with the same sequence.
 abbrev pub may_keep : List Recorded → EntryView → Bool
 may_keep kept e =
     nat_lt (length kept) 50 && nat_lt (count_by (is_of_session e.session) kept) 2 && not (list_any (is_recorded e.session e.seq) kept)

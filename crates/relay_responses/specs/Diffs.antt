@@ -9,7 +9,7 @@ use Rattle.relay_responses.specs.Read.{items_at, each_item, with_first}
 
 -- ---- named leaves
 
--- The members of an object, appended to the members `found`. Each name is listed once, with its last value.
+-- The members of an object, appended to the members `found`, where each name is listed once, with its last value.
 abbrev pub last_members : List (Text × Json) → Members → List (Text × Json)
 last_members found no_members = found
 last_members found (member k j ms) = last_members (insert_entry bytes_eq found k j) ms
@@ -17,7 +17,8 @@ last_members found (member k j ms) = last_members (insert_entry bytes_eq found k
 abbrev pub doc_of : Text → List Text → DocView
 doc_of id revs = (id, revs)
 
--- The document that a member of the response names. The member's name is the id, and its list `missing` has the leaves.
+-- The document that a member of the response names. The name of the member is the document's id, and its list `missing`
+-- has the leaves.
 abbrev pub missing_at : Text × Json → Option DocView
 missing_at m = option_map (doc_of m.0) (option_and_then (each_item as_str) (items_at (codes "missing") m.1))
 
@@ -31,8 +32,8 @@ named_in j = option_and_then each_missing (option_map (last_members []) (as_obje
 
 -- ---- requested leaves
 
--- The requested leaves that a response names, in the order of the request. The result is `None` if the response names
--- another leaf.
+-- The requested leaves that a response names, in the order of the request, or `None` if the response names another
+-- leaf.
 abbrev pub only_named : List DocView → List DocView → Option (List DocView)
 only_named docs named = if name_all docs named then Some (docs_where (λ id leaf. names named id leaf) docs) else None
 

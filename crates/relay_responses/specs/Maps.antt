@@ -1,4 +1,4 @@
--- The values of the maps of a response. A key is a reference to a text.
+-- The values of the maps of a response. A key of such a map is a reference to a text.
 use Rattle.std.specs.Prelude.{List, [], Option, None, Some, map}
 use Rattle.std.specs.Borrow.{Bor}
 use Rattle.std.specs.Global.{Global}

@@ -1,4 +1,4 @@
--- The contents of a JSON response. If an object has a name twice, the last member with this name counts.
+-- The contents of a JSON response. If a JSON object has a name twice, the last member with this name counts.
 use Rattle.std.specs.Prelude.{if◌then◌else◌, List, [], ◌∷◌, ◌++◌, Option, None, Some, option_and_then}
 use Rattle.std.specs.Option.{option_map_or}
 use Rattle.std.specs.List.{list_all}

@@ -1,7 +1,5 @@
 -- What a target lacks of a source's document, as specified in docs/PROFILE.md, "Missing revisions" and "Merging", and
--- in CouchDB, "Replication Protocol", `_revs_diff`.
---
--- Comparisons use the two trees of the document, not logs.
+-- in CouchDB, "Replication Protocol", `_revs_diff`. A comparison of a document uses its two trees, not logs.
 use Rattle.std.specs.Prelude.{ℕ, Bool, false, not, ◌&&◌, List, [], ◌∷◌, filter, length, Option, None}
 use Rattle.std.proofs.Math.Bool.{beq}
 use Rattle.std.specs.Option.{option_map_or, option_or}

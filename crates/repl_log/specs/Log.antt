@@ -30,13 +30,13 @@ recorded_of log s = option_map (λ e. e.recorded) (entry_for log s)
 abbrev pub replaced : List EntryValue → EntryValue → List EntryValue
 replaced log e = map (λ x. if is_of e.session x then e else x) log
 
--- The log after a put of entry e. The entry of a new session becomes the first, and that of a known session is replaced
--- in place.
+-- The log after a put of entry e. A put makes the entry of a new session the first, and replaces the entry of a known
+-- session in place.
 abbrev pub with_entry : List EntryValue → EntryValue → List EntryValue
 with_entry log e = if holds log e.session then replaced log e else e ∷ log
 
--- The result of a put of entry e, given the stored entry of its session. The recorded sequence of a session must not
--- fall.
+-- The result of a put of entry e, given the stored entry of its session. In a log, the recorded sequence of a session
+-- must not fall.
 abbrev pub put_beside : EntryValue → Option EntryValue → Result (Unit {0}) LogFault
 put_beside e None = Ok tt
 put_beside e (Some stored) = if nat_lt e.recorded stored.recorded then Err (faults.Older stored.recorded) else Ok tt
@@ -65,7 +65,7 @@ abbrev pub checkpoint_at : List EntryValue → EntryValue → Option (SessionId 
 checkpoint_at source t = option_map (lesser_of t) (entry_for source t.session)
 
 -- The newest session of the target's log that is also in the source's log, with the lesser of its two recorded
--- sequences. The result is `None` if no session is in both logs.
+-- sequences. If no session is in both logs, there is no common checkpoint.
 abbrev pub common : List EntryValue → List EntryValue → Option (SessionId × ℕ)
 common source target = option_and_then (checkpoint_at source) (shared source target)
 

@@ -81,7 +81,7 @@ entry_with e session_id start_time end_time =
 abbrev pub entry_json : EntryValue → Data
 entry_json e = entry_with e (id_digits e.session.0) (time_text e.start_time) (time_text e.end_time)
 
--- The texts of log entries, separated by commas. A comma also comes before the first if `later` is true.
+-- The texts of log entries, separated by commas, with a comma before the first if `later` is true.
 abbrev pub listed : Bool → List EntryValue → List ℕ
 listed later [] = []
 listed later (e ∷ es) = comma_if later ++ (compact_text (entry_json e) ++ listed true es)
@@ -102,7 +102,7 @@ abbrev pub log_json : RepId → EntryValue → List EntryValue → Data
 log_json id newest log =
     log_with (rep_text id) (items_of (map entry_json log)) (id_digits newest.session.0) newest.recorded
 
--- The text of a log: its JSON object in compact form. A log without entries has no text, so the result is `EmptyLog`.
+-- The text of a log, which is its JSON object in compact form, or `EmptyLog` for a log without entries.
 abbrev pub log_text : RepId → List EntryValue → Result (List ℕ) LogFault
 log_text id [] = Err faults.EmptyLog
 log_text id (newest ∷ older) = Ok (compact_text (log_json id newest (newest ∷ older)))

@@ -34,8 +34,8 @@ pub record Hopped (peers : List PeerValue) (hop : Hop) (peers' : List PeerValue)
   pub others : (n : ℕ) → n ≢ hop.from → n ≢ hop.to → slice_get peers' n ≡ slice_get peers n
   pub carried : Carried refuses source target hop.plan source_then target_then
 
--- The effect of a successful replication on the network. If the two peers were consistent, the target covers the
--- source's complete selected feed.
+-- The effect of a successful replication on the network. If two peers were consistent before a successful replication,
+-- the target covers the source's complete selected feed.
 pub record Ended (peers : List PeerValue) (hop : Hop) (peers' : List PeerValue) : Type 0 where
   pub hopped : Hopped peers hop peers'
   pub whole : IsTiedPair hopped.source hopped.target hop.plan.chosen

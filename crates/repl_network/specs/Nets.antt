@@ -97,10 +97,11 @@ LeadsEverywhere hops count = (m n : ℕ) → m < count → n < count → Leads h
 
 -- ---- guarantees
 
--- The effect of consecutive hops on a document that each plan selects and no peer has refused. The peers must be
--- consistent, and the document's trees must have agreed and had complete histories. If a chain leads from one place to
--- another, the second has all revisions that the first had. If chains lead everywhere, the document is the same
--- everywhere. Each revision was somewhere before, and the trees again agree and have complete histories.
+-- The effect of consecutive hops on a document that each plan selects and no peer has refused. The peers of the network
+-- must be consistent, and the document's trees must have agreed and had complete histories. If a chain of hops leads
+-- from one place to another, the second has all revisions that the first had. If chains of hops lead everywhere, the
+-- document is the same in all peers. Each revision was at a peer before the hops, and the document's trees again agree
+-- and have complete histories.
 pub record Spreads (peers : List PeerValue) (hops : List Hop) (peers' : List PeerValue) (id : Id) : Type 0 where
   pub along : (m n : ℕ) (p q : PeerValue) → IsAt peers m p → IsAt peers' n q → Leads hops m n
       → (r : RevId) → has (tree_of p.db.docs id) r ≡ true → has (tree_of q.db.docs id) r ≡ true

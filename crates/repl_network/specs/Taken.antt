@@ -19,8 +19,8 @@ use Rattle.repl_network.specs.Hubs.{gathers, spreads}
 
 -- ---- replications
 
--- The effect of a hop between two existing places. The hop is a replication by its plan on one thread, and all other
--- peers are unchanged.
+-- The effect of a hop between two existing places, which is a replication by the hop's plan on one thread. A hop leaves
+-- all other peers unchanged.
 pub record IsHop {F : Type 0} (refuses : F → Document → Bool) (peers : List (F × PeerValue)) (hop : Hop)
     (result : Result Report TargetFault) (peers' : List (F × PeerValue)) : Type 0 where
   pub source : F × PeerValue
@@ -35,8 +35,8 @@ pub record IsHop {F : Type 0} (refuses : F → Document → Bool) (peers : List 
   pub others : (n : ℕ) → n ≢ hop.from → n ≢ hop.to → slice_get peers' n ≡ slice_get peers n
   pub replicates : Replicates (refuses target.0) source.1 target.1 hop.plan result source_then target_then
 
--- The result of a hop at an index of the list of hops. The first checks are that the two places exist and differ, and
--- the replication follows.
+-- The result of a hop at an index of the list of hops. A hop first checks that its two places exist and differ, and the
+-- replication follows.
 pub data TakesHop {F : Type 0} (refuses : F → Document → Bool) (at : ℕ) (peers : List (F × PeerValue)) (hop : Hop)
     : Result Report NetFault → List (F × PeerValue) → Type 0 where
   no_source : length peers ≤ hop.from → TakesHop refuses at peers hop (Err (faults.NoPeer hop.from)) peers
@@ -62,8 +62,8 @@ TakesHops {F = F} refuses at peers (hop ∷ hops) result peers' =
 abbrev pub ArePlanned : ℕ → List Plan → List Plan → Type 0
 ArePlanned count there back = (count ≡ length there + 1) × (count ≡ length back + 1)
 
--- The effect of a synchronization by the hub. If the number of plans is wrong, or the allocation for the hops fails,
--- all peers are unchanged.
+-- The effect of a synchronization by the hub. If the number of plans for a hub is wrong, or the allocation for the hops
+-- fails, all peers are unchanged.
 abbrev pub TakesHub : {F : Type 0} → (F → Document → Bool) → List (F × PeerValue) → List Plan → List Plan
     → Result (Unit {0}) NetFault → List (F × PeerValue) → Type 0
 TakesHub refuses peers there back result peers' =
@@ -93,8 +93,8 @@ IsNotAdded peers uuid why =
     ((place : ℕ) × IsHeldAt peers uuid place × (why ≡ faults.SameUuid place))
     ⊎ (¬ IsHeld peers uuid) × (why ≡ faults.Memory)
 
--- The result of an audit between two places of the network. The first checks are that the places exist, and the audit
--- of the two peers follows.
+-- The result of an audit between two places of the network. An audit first checks that its two places exist, and the
+-- audit of the two peers follows.
 abbrev pub Audits : List PeerValue → ℕ → ℕ → Choice → Result Audit NetFault → Type 0
 Audits peers source target chosen result =
     (length peers ≤ source) × (result ≡ Err (faults.NoPeer source))
