@@ -56,8 +56,8 @@ abbrev pub StaysMadeExcept : Id → List PeerValue → List PeerValue → Type 0
 StaysMadeExcept id peers peers' =
     (among : EditValue → Bool) (other : Id) → other ≢ id → AllMadeBy among peers other → AllMadeBy among peers' other
 
--- A document that a set of edits made stays so after an edit of document `id`, which must be in the set if the two
--- documents are the same.
+-- A document that a set of edits made stays so after an edit of document `id`. If the edit is of the same document, it
+-- must be in the set of edits that made the document.
 abbrev pub StaysMadeByEdit : ℕ → Id → Option RevId → Bool → List ℕ → List PeerValue → List PeerValue → Type 0
 StaysMadeByEdit place id parent deleted body peers peers' =
     (among : EditValue → Bool) (at : Id) → (at ≡ id → IsOneOf among peers place id parent deleted body)

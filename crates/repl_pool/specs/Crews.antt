@@ -6,7 +6,7 @@ use Rattle.repl_target.specs.declared.replication.Plan.{Plan}
 abbrev pub most_windows : Plan → ℕ → ℕ → ℕ
 most_windows plan start goal = (goal - start - 1) / plan.batch + 1
 
--- The number of workers in each group: that of the plan, but at most the maximum number of windows. The number is 1 if
--- there is nothing to read.
+-- The number of workers in each group: that of the plan, but at most the maximum number of windows. If a run has
+-- nothing to read, each group has 1 worker.
 abbrev pub crew_of : Plan → ℕ → ℕ → ℕ
 crew_of plan start goal = if nat_le goal start then 1 else min (most_windows plan start goal) plan.workers

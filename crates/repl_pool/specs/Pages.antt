@@ -18,7 +18,7 @@ AreAllowed None n = Unit {0}
 AreAllowed (Some stop_after) n = n ≤ stop_after
 
 -- The windows of the run's session are consecutive pages of the source's selected feed, from the common checkpoint on.
--- The windows have the plan's size, and are no more than the plan allows.
+-- The windows of the run's session have the plan's size, and are no more than the plan allows.
 pub record IsPaged (source target target' : PeerValue) (plan : Plan) : Type 0 where
   pub session : SessionValue
   pub held : session_in target'.sessions plan.session ≡ Some session

@@ -30,7 +30,8 @@ use Rattle.repl_pool.specs.Pages.{IsPaged}
 
 -- ---- end of a run
 
--- The session of a run was concluded. No worker failed or stopped, and all parcels that were sent were received.
+-- The session of a run was concluded, because no worker failed or stopped, and all parcels that were sent were
+-- received.
 pub record IsConcluded (plan : Plan) (fault : Option PoolFault) (complete : Bool) (before after : PeerValue)
     (report : Report) : Type 0 where
   pub free : fault ≡ None
@@ -54,14 +55,14 @@ pub data IsRecorded (plan : Plan) (fault : Option PoolFault) (complete : Bool) (
   refused : {why : TargetFault} → fault ≡ None → complete ≡ true → conclude_answer before plan.session ≡ Err why
       → after ≡ closed before plan → IsRecorded plan fault complete before after (faults.Refused why)
 
--- The outcome of a run after its last step. The outcome stays, unless it is `Ok` and the allocation for the entry at
--- the source fails.
+-- The outcome of a run after its last step, which is the outcome before, or `Memory` if that is `Ok` and the allocation
+-- for the entry at the source fails.
 abbrev pub UnlessMemory : Result Report PoolFault → Result Report PoolFault → Type 0
 UnlessMemory (Ok report) result = (result ≡ Ok report) ⊎ (result ≡ Err faults.Memory)
 UnlessMemory (Err why) result = result ≡ Err why
 
 -- The entry of the target's session is stored at the source, or ignored if it is older, or the allocation for it fails.
--- If the run succeeded, the allocation did not fail.
+-- If a run succeeded, the allocation for the entry at the source did not fail.
 pub record PutsEntry (source target source' : PeerValue) (plan : Plan) (outcome : Result Report PoolFault) : Type 0
   where
     pub entry : EntryValue
@@ -70,8 +71,8 @@ pub record PutsEntry (source target source' : PeerValue) (plan : Plan) (outcome 
     pub puts : PutsOver source (rep_between source target plan.chosen) entry put source'
     pub done : IfOk outcome (λ _. put ≡ Ok tt)
 
--- The end of a run. The session is concluded or recorded at the target that the workers left, and the session's entry
--- is stored at the source.
+-- The end of a run of the pool. At the end of a run, the session is concluded or recorded at the target, and the
+-- session's entry is stored at the source.
 pub data ClosesRun (plan : Plan) (fault : Option PoolFault) (complete : Bool)
     (source before source' after : PeerValue) : Result Report PoolFault → Type 0 where
   concluded : {report : Report} {outcome : Result Report PoolFault}
@@ -83,9 +84,10 @@ pub data ClosesRun (plan : Plan) (fault : Option PoolFault) (complete : Bool)
       → PutsEntry source after source' plan (Err why)
       → ClosesRun plan fault complete source before source' after (Err why)
 
--- The end of a run, with what is known about its workers. The target has grown from the given one, and the windows of
--- its session are pages of the source. Each halt is allowed by the gate or is the error of a worker's call. If no
--- worker stopped and all parcels were received, the session has read the documents that the fetchers counted.
+-- The end of a run of the pool, with what is known about its workers. At the end of a run, the target has grown from
+-- the given one, and the windows of its session are pages of the source. Each halt of a worker is allowed by the gate
+-- or is the error of a worker's call. If no worker stopped and all parcels were received, the session has read the
+-- documents that the fetchers counted.
 pub record EndsRun {F : Type 0} (refuses : F → Document → Bool) (may_fill : Type 0) (may_stop : Place → Type 0)
     (plan : Plan) (source : PeerValue) (given : F × PeerValue) (counts : List ℕ) (source' after : PeerValue)
     (outcome : Result Report PoolFault) : Type 0 where
@@ -101,8 +103,8 @@ pub record EndsRun {F : Type 0} (refuses : F → Document → Bool) (may_fill : 
 
 -- ---- a run
 
--- An error of the plan leaves both peers unchanged, and no document is fetched. If the plan is valid, the outcome is
--- not such an error.
+-- An error of the plan leaves both peers unchanged, and no document is fetched. If the plan of a run is valid, the
+-- outcome is not an error of the plan.
 abbrev pub EarlyOrLate : {F : Type 0} → Type 0 → (Place → Type 0) → Result (Unit {0}) PoolFault → F × PeerValue
     → F × PeerValue → F × PeerValue → F × PeerValue → List ℕ → Result Report PoolFault → Type 0
 EarlyOrLate may_fill may_stop (Err why) source target source' target' fetched outcome =
@@ -137,18 +139,18 @@ pub record IsBegun (source target source' target' : PeerValue) (plan : Plan) (ou
     pub put : PutsEntry source target' source' plan outcome
     pub unfinished : IfErr outcome (TellsLowWater target' plan.session)
 
--- The effect of a run by whether its session has begun. If the session has not begun, both peers are unchanged,
--- otherwise its entry is stored at the source.
+-- The effect of a run by whether its session has begun. If a run's session has not begun, both peers are unchanged,
+-- otherwise the session's entry is stored at the source.
 abbrev pub LeavesOrPuts : {F : Type 0} → Plan → F × PeerValue → F × PeerValue → F × PeerValue → F × PeerValue
     → Result Report PoolFault → Type 0
 LeavesOrPuts plan source target source' target' outcome =
     (source' ≡ source) × (target' ≡ target) × IsUnbegun source.1 target.1 plan outcome
     ⊎ IsBegun source.1 target.1 source'.1 target'.1 plan outcome
 
--- The guarantees of a successful run. The report is that of the plan's session, which began at the common checkpoint
--- and has recorded its goal. The target covers the source's selected feed above the start. If the target was empty and
--- refused no document, each selected document is as it is at the source. The fetchers' counts add up to the documents
--- read.
+-- The guarantees of a successful run. The report of a successful run is that of the plan's session, which began at the
+-- common checkpoint and has recorded its goal. After a successful run, the target covers the source's selected feed
+-- above the start. If the target was empty and refused no document, each selected document is as it is at the source.
+-- After a successful run, the fetchers' counts add up to the documents read.
 pub record EndsWell (source target target' : PeerValue) (plan : Plan) (n : ℕ) (report : Report) : Type 0 where
   pub reported : IsReported source target target' plan report
   pub covered : CoversFrom source target' plan.chosen (start_between source target plan.chosen)
@@ -159,31 +161,34 @@ pub record EndsWell (source target target' : PeerValue) (plan : Plan) (n : ℕ) 
 abbrev pub LeftPeer : {F : Type 0} → (F → Document → Bool) → PeerValue → F × PeerValue → Plan → F × PeerValue → Type 0
 LeftPeer refuses source given plan now = (now.0 ≡ given.0) × IsLeft (refuses given.0) source given.1 plan now.1
 
--- The result of a run of the pool, and the two peers that it returns. If there is a board, one of its counters may be
--- full.
+-- The result of a run of the pool, and the two peers that it returns, where a counter of the run's board may be full if
+-- there is one.
 pub record RunsOn {F : Type 0} (refuses : F → Document → Bool) (may_fill : Type 0) (may_stop : Place → Type 0)
     (plan : Plan) (source target source' target' : F × PeerValue) (fetched : List ℕ) (outcome : Result Report PoolFault)
     : Type 0 where
-  -- Each of the four errors of a plan is returned exactly if its condition holds. For a valid plan, the error is a halt
-  -- only if the gate allows it, a full board only if possible, and never a hole.
+  -- Each of the four errors of a plan is returned exactly if its condition holds. For a valid plan, the error of a run
+  -- is a halt only if the gate allows it, a full board only if possible, and never a hole.
   pub early : EarlyOrLate may_fill may_stop (early_answer source.1 target.1 plan) source target source' target' fetched
       outcome
   -- Of the source only the log changes.
   pub filter : source'.0 ≡ source.0
   pub log : source'.1 ≡ record source.1 { outgoing = source'.1.outgoing }
-  -- The target is unchanged, or the session has begun and the target has grown by calls with messages of the source.
+  -- The target of a run is unchanged, or the session has begun and the target has grown by calls with messages of the
+  -- source.
   pub grown : LeftPeer refuses source.1 target plan target'
-  -- The target keeps everything it had, and tied peers stay tied, with each backup of the source, for every selection.
+  -- A run's target keeps everything it had, and tied peers stay tied, with each backup of the source, for every
+  -- selection.
   pub later : IsLaterPeer target.1 target'.1
   pub tied : (chosen : Choice) (backups : List BackupValue) → IsTiedWith backups source.1 target.1 chosen
       → IsTiedWith backups source'.1 target'.1 chosen
-  -- Another peer stays tied to the source and to the target. In two of four cases it must have a UUID of its own.
+  -- A third peer stays tied to the source and to the target of a run. In two of four cases, a third peer must have a
+  -- UUID of its own to stay tied.
   pub others : KeepsOthersTied source.1 target.1 source'.1 target'.1
   -- An audit of the returned peers is clean if they were tied.
   pub audited : (chosen : Choice) → IsTiedPair source.1 target.1 chosen
       → audit_answer source'.1 target'.1 chosen ≡ None
-  -- If the session has not begun, both peers are unchanged and the error says why. If the session has begun, it has
-  -- read pages of the source, and its entry is stored at the source.
+  -- If a run's session has not begun, both peers are unchanged and the error says why. If a run's session has begun, it
+  -- has read pages of the source, and its entry is stored at the source.
   pub put : LeavesOrPuts plan source target source' target' outcome
   -- The guarantees of a run that succeeded.
   pub well : IfOk outcome (EndsWell source.1 target.1 target'.1 plan (sum fetched))

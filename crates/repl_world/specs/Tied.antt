@@ -56,8 +56,8 @@ pub record Tied (w : WorldValue) : Type 0 where
   -- Each entry of the bag was the entry of a session of the target.
   pub entries : (e : EntryValue) → Among e w.bag.entries → IsSentEntry w.target e
 
--- The target has no session of the replication, and the source no entry of it. The peers may have sessions and entries
--- of other selections.
+-- The target has no session of the replication, and the source no entry of it. The two peers may have sessions and
+-- entries of other selections.
 pub record HoldNone (source target : PeerValue) (chosen : Choice) : Type 0 where
   pub sessions : (s : SessionValue) → Among s target.sessions → s.rep ≡ rep_between source target chosen → ⊥
   pub log : source_log source (rep_between source target chosen) ≡ []
@@ -74,9 +74,9 @@ NeverUncovered refuses w =
     → (result : Result Settled TargetFault) (now : PeerValue) → SettleGives refuses w.target s.id p.1 result now
     → is_uncovered result ≡ false
 
--- The guarantees of a consistent world. For the source's own feed, what both logs claim is covered, and so is the
--- common checkpoint. An audit finds no leaf that is not covered. Settling a parcel for its own window never returns
--- `Uncovered`.
+-- The guarantees of a consistent world. In a consistent world, what both logs claim is covered for the source's own
+-- feed, and so is the common checkpoint. An audit in a consistent world finds no leaf that is not covered. Settling a
+-- parcel for its own window never returns `Uncovered` in a consistent world.
 pub record IsTrustworthy (refuses : Document → Bool) (w : WorldValue) : Type 0 where
   pub tied : Tied w
   pub honest : LogsAreHonest w.source w.target w.chosen

@@ -101,7 +101,7 @@ records w session at =
     let now = after_record w.target session at in
     record w { target = now; bag = told w.bag (entry_in now session) }
 
--- The world after a session is concluded. If concluding succeeds, the session's entry is added to the bag.
+-- The world after a session is concluded. If concluding a session succeeds, its entry is added to the bag.
 abbrev pub concludes : WorldValue → SessionId → ℕ → WorldValue
 concludes w session at =
     let now = after_conclude w.target session at in
@@ -171,8 +171,8 @@ run refuses w (step ∷ steps) = run refuses (happens refuses w step) steps
 
 -- ---- failed allocations
 
--- The effect of a step that ran out of memory. Such a step changes no part of the world, except that settling may have
--- settled a part of the documents that it could settle.
+-- The effect of a step that ran out of memory, which is no change, except that settling may have settled a part of the
+-- documents that it could settle.
 abbrev pub IsStopped : (Document → Bool) → WorldValue → SessionId → Option (ℕ × ParcelValue) → WorldValue → Type 0
 IsStopped refuses w session parcel now =
     (now ≡ w)
@@ -183,8 +183,8 @@ abbrev pub CutShort : (Document → Bool) → WorldValue → Step → WorldValue
 CutShort refuses w (Settle session parcel) now = IsStopped refuses w session (slice_get w.bag.parcels parcel) now
 CutShort refuses w step now = now ≡ w
 
--- The effect of a run that ran out of memory in one of its steps. The steps before that step are done, and that step is
--- partial.
+-- The effect of a run that ran out of memory in one of its steps. If a run runs out of memory, the steps before the
+-- current one are done, and the current one is partial.
 abbrev pub StoppedIn : (Document → Bool) → WorldValue → List Step → WorldValue → Type 0
 StoppedIn refuses w steps now =
     (k : ℕ) × (step : Step) × (slice_get steps k ≡ Some step) × CutShort refuses (run refuses w (take k steps)) step now

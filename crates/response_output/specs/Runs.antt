@@ -23,7 +23,8 @@ pub record Fed (s : State) (w : Words) (bytes : List ℕ) (s' : State) (w' : Wor
   pub words : w' ≡ words_behind w (pieces s bytes)
   pub written : Appends held held' (texts w (pieces s bytes))
 
--- Only a failed write leaves an incomplete item. Output is not produced in pieces, so `Cut` does not occur.
+-- Only a failed write leaves an incomplete item. The program's output is not produced in pieces, so `Cut` does not
+-- occur.
 abbrev pub IsWhole : ScriptFault → List ℕ → Type 0
 IsWhole Read missing = missing ≡ []
 IsWhole Write missing = ⊤
@@ -76,14 +77,14 @@ Finishes s w held held' (Err (Device fault)) =
 
 -- ---- everything from a reader
 
--- The input is everything that the reader has left, with a line end added if the last line has none. No byte of the
+-- The input is everything that the reader has left, with a line end added if the last line has none, and no byte of the
 -- input is rejected.
 abbrev pub IsAll : Wanted → Option (List ℕ) → List ℕ → Type 0
 IsAll wanted left read =
     (input : List ℕ) × Gives left input × (read ≡ whole (start wanted) input) × (is_refused (after (start wanted) input).place ≡ false)
 
--- The input is everything that the reader has left, with a line end added if the last line has none. Bytes of the input
--- may be rejected.
+-- The input is everything that the reader has left, with a line end added if the last line has none, and bytes of the
+-- input may be rejected.
 abbrev pub IsLeft : Wanted → Option (List ℕ) → List ℕ → Type 0
 IsLeft wanted left read = (input : List ℕ) × Gives left input × (read ≡ whole (start wanted) input)
 
@@ -92,15 +93,15 @@ abbrev pub IsFront : Wanted → Option (List ℕ) → List ℕ → Type 0
 IsFront wanted left read =
     (rest : List ℕ) × Gives left (read ++ rest) × (is_refused (after (start wanted) read).place ≡ true)
 
--- The input consists of complete responses, `passed` documents were skipped, and the items in it are written. The
--- arguments of `Answered` are what the reader has left, and what the writer has accepted, before and after.
+-- The input consists of complete responses, `passed` documents were skipped, and the items in the input are written.
+-- The arguments of `Answered` are what the reader has left, and what the writer has accepted, before and after.
 abbrev pub Answered : Wanted → Words → Option (List ℕ) → Option (List ℕ) → Option (List ℕ) → ℕ → Type 0
 Answered wanted w left held held' passed =
     (read : List ℕ) × IsAll wanted left read × Appends held held' (all_text w (pieces (start wanted) read))
     × (end_of (after (start wanted) read).place ≡ Ok tt) × (passed ≡ (after (start wanted) read).passed)
 
--- The effect of a run that failed. If the input is invalid at its last byte, the items before that byte are written. If
--- a device or an allocation failed, what is written is a prefix of the output for the complete input.
+-- The effect of a run that failed. If the input of a run is invalid at its last byte, the items before that byte are
+-- written. If a device or an allocation failed, what is written is a prefix of the output for the complete input.
 abbrev pub Stopped : Wanted → Words → Option (List ℕ) → Option (List ℕ) → Option (List ℕ) → AnswerFault → Type 0
 Stopped wanted w left held held' (Refused why at) =
     (read : List ℕ) × (IsFront wanted left read ⊎ IsAll wanted left read)
@@ -115,7 +116,7 @@ abbrev pub Converts : Result ℕ AnswerFault → Wanted → Words → Option (Li
 Converts (Ok passed) wanted w left held held' = Answered wanted w left held held' passed
 Converts (Err fault) wanted w left held held' = Stopped wanted w left held held' fault
 
--- The effect of a run on responses with the given items. The items are written, and the input is not rejected.
+-- The effect of a run on responses with the given items, which are written, and the input is not rejected.
 abbrev pub ReadsAnswers : Words → List Piece → Option (List ℕ) → Option (List ℕ) → Result ℕ AnswerFault → Type 0
 ReadsAnswers w all held held' (Ok passed) = Appends held held' (all_text w all)
 ReadsAnswers w all held held' (Err (Refused why at)) = ⊥

@@ -30,7 +30,7 @@ pub record Words : Type 0 where
 abbrev pub before : Words → List ℕ
 before w = cond (w.count == 0) (opening w.form) (separator w.form) ++ w.begins
 
--- Whether a body is full after one more item. A full body is then closed.
+-- Whether a body is full after one more item, so that it is then closed.
 abbrev pub is_full : Words → Bool
 is_full w = not (has_lists w.form) && more w.count == w.size
 

@@ -1,8 +1,8 @@
 -- Responses to `_changes` and `_revs_diff`, with the leaves in them, as specified in docs/PROFILE.md, "CouchDB's
 -- answers", and in CouchDB's API, "/{db}/_changes" and "/{db}/_revs_diff".
 --
--- In this file, k is a name after its opening quotation mark, and s is white space. A value is t up to the comma or
--- brace after it, and u is the same value on one line. The number of open lists and objects is d.
+-- In this file, k is a name after its opening quotation mark, s is white space, and d is the number of open lists and
+-- objects. In this file, t is a value up to the comma or brace after it, and u is the same value on one line.
 use Rattle.std.specs.Prelude.{◌≡◌, ℕ, ◌==◌, slice_index, List, [], ◌∷◌, ◌++◌, Bool, true, false, codes}
 use Rattle.doc_envelope.specs.Texts.{Spaces, EndsString, Closed, is_space, is_json}
 use Rattle.response_parser.specs.Names.{name_of}
@@ -15,8 +15,9 @@ use Rattle.response_parser.specs.declared.place.Found.TheVariants.{Id, Rev}
 
 -- ---- objects and lists
 
--- The members of an object, up to its closing brace. `Member n n' m ps` says that m is a member with the contents ps.
--- The flag n says whether an id came before the member, and n' whether an id came before the next member.
+-- The members of an object, up to its closing brace. In the parameters, `Member n n' m ps` says that m is a member with
+-- the contents ps. The flag n says whether an id came before the member m, and n' whether an id came before the next
+-- member.
 pub data AreMembersOf (Member : Bool → Bool → List ℕ → List Piece → Type 0) : Bool → List ℕ → List Piece → Type 0 where
   last_member : {n n' : Bool} {m : List ℕ} {ps : List Piece} → Member n n' m ps → AreMembersOf Member n (m ++ 125 ∷ []) ps
   member : {n n' : Bool} {m t : List ℕ} {ps qs : List Piece} (s : List ℕ) → Member n n' m ps → Spaces s → AreMembersOf Member n' t qs
@@ -53,8 +54,8 @@ is_skipped names.Reason = false
 is_skipped names.Other = true
 is_skipped names.Foreign = false
 
--- A member that is skipped. Flags say whether the member is in a document's list of revisions, and whether it is in the
--- entry of a document.
+-- A member that is skipped. The flags `inner` and `entry` say whether a member is in a document's list of revisions,
+-- and whether it is in the entry of a document.
 pub data IsSkipped (inner entry : Bool) (d : ℕ) : List ℕ → Type 0 where
   skipped : {k t u : List ℕ} {name : Name} (s s' : List ℕ) → EndsString k → is_json (34 ∷ k) ≡ true
       → name_of Leaves false inner entry d (34 ∷ k) ≡ name → is_skipped name ≡ true → Spaces s → Spaces s' → IsValue t u
@@ -79,7 +80,8 @@ pub data IsRevMember : Bool → Bool → List ℕ → List Piece → Type 0 wher
       → IsRevMember false false (named_by (codes "rev\"") s s' t) ((Rev, u) ∷ [])
   skipped_rev : {t : List ℕ} → IsSkipped true false 5 t → IsRevMember false false t []
 
--- A member of a feed row, such as {"seq":"1-g","id":"a","changes":[{"rev":"1-x"}]}. The id comes before the revisions.
+-- A member of a feed row, such as {"seq":"1-g","id":"a","changes":[{"rev":"1-x"}]}, in which the id comes before the
+-- revisions.
 pub data IsRowMember : Bool → Bool → List ℕ → List Piece → Type 0 where
   id_of : {n : Bool} {t u : List ℕ} (s s' : List ℕ) → Spaces s → Spaces s' → IsValue t u → (slice_index u 0 == 34) ≡ true
       → IsRowMember n true (named_by (codes "id\"") s s' t) ((Id, u) ∷ [])

@@ -59,8 +59,8 @@ mutual
         → IsObject wanted d (123 ∷ (s ++ t)) ps
     itself : {d : ℕ} {o : List ℕ} {ps : List Piece} → d < 8 → IsDocument wanted o ps → IsObject wanted d o ps
 
-  -- The members of an object, from a name to the closing brace. A flag says whether the name is the first one of the
-  -- object.
+  -- The members of an object, from a name to the closing brace, with a flag that says whether the name is the first one
+  -- of the object.
   pub data IsMembers (wanted : Wanted) : Bool → ℕ → List ℕ → List Piece → Type 0 where
     last_value : {f : Bool} {d : ℕ} {k : List ℕ} (s s' : List ℕ) {t u : List ℕ} {name : Name} {ps : List Piece} → IsNamed wanted f d k name → Holds wanted name u ps
         → Spaces s → Spaces s' → IsValue t u → IsMembers wanted f d (34 ∷ (k ++ (s ++ 58 ∷ (s' ++ (t ++ 125 ∷ []))))) ps

@@ -20,8 +20,8 @@ text_begun place s b = record s { place = Line place; text = b ∷ [] }
 abbrev pub is_lower : ℕ → Bool
 is_lower b = nat_le 97 b && nat_le b 122
 
--- The parser's state after a line end. If a response is required and none was read, the parser returns to its first
--- place.
+-- The parser's state after a line end. If a response is required and the parser has read none, the parser returns to
+-- its first place.
 abbrev pub line_ended : State → State
 line_ended s = at (cond (s.some || is_strict s.wanted) Between Start) s
 
@@ -31,7 +31,7 @@ change_begun s b = cond (b == 32) (record s { place = Line Seq; text = [] }) (re
 abbrev pub is_change : State → Bool
 is_change s = wants_changes s.wanted && bytes_eq s.text (codes "change")
 
--- The parser's state after the first word of a line. A line that begins with `refused` is counted as skipped.
+-- The parser's state after the first word of a line, where a line that begins with `refused` is counted as skipped.
 abbrev pub word_passed : State → State
 word_passed s = record s { passed = cond (bytes_eq s.text (codes "refused")) (more s.passed) s.passed }
 
@@ -74,7 +74,7 @@ after_id s b = cond (b == 32) (at (Line BeforeRev) s) (refused NoAnswer s)
 abbrev pub is_rev_byte : ℕ → Bool
 is_rev_byte b = is_digit b || is_lower b || nat_le 65 b && nat_le b 90 || b == 45 || b == 95 || b == 46
 
--- The parser's state after the first byte of a revision. The parser adds a quotation mark before the revision.
+-- The parser's state after the first byte of a revision, before which the parser adds a quotation mark.
 abbrev pub before_rev : State → ℕ → State
 before_rev s b = cond (is_rev_byte b) (record s { place = Line Rev; text = 34 ∷ b ∷ [] }) (refused NoAnswer s)
 

@@ -12,8 +12,8 @@ use Rattle.response_parser.specs.declared.place.Found.TheVariants as found
 
 -- ---- names with quotation marks
 
--- The meaning of a name t if documents are requested. The flag `first` says whether the name is the first one of its
--- object.
+-- The meaning of a name t if documents are requested, where the flag `first` says whether the name is the first one of
+-- its object.
 abbrev pub document_name : Bool → List ℕ → Name
 document_name first t =
     cond (first && bytes_eq t (codes "\"_id\"")) Plain
@@ -22,9 +22,9 @@ document_name first t =
     (cond (bytes_eq t (codes "\"missing\"") || bytes_eq t (codes "\"error\"")) Passed
     (cond (bytes_eq t (codes "\"last_seq\"")) Last Other))))
 
--- The meaning of a name t if leaves are requested. In a document's list of revisions, only the name `rev` has a
--- meaning. In the entry of a document, only the name `missing` has a meaning. The flags `inner` and `entry` say whether
--- the name is in such a list or entry.
+-- The meaning of a name t if leaves are requested. If leaves are requested, only the name `rev` has a meaning in a
+-- document's list of revisions. If leaves are requested, only the name `missing` has a meaning in the entry of a
+-- document. The flags `inner` and `entry` say whether a name is in a document's list of revisions or in its entry.
 abbrev pub leaf_name : Bool → Bool → List ℕ → Name
 leaf_name inner entry t =
     cond entry (cond (bytes_eq t (codes "\"missing\"")) Missing Other)
@@ -46,7 +46,7 @@ wanted_name Unfolded first inner entry t = document_name first t
 wanted_name Leaves first inner entry t = leaf_name inner entry t
 wanted_name InChanges first inner entry t = change_name first t
 
--- The meaning of a name t for any request. The names `error` and `reason` have a meaning in an outermost object.
+-- The meaning of a name t for any request, where the names `error` and `reason` have a meaning in an outermost object.
 unfoldable pub name_of : Wanted → Bool → Bool → Bool → ℕ → List ℕ → Name
 name_of wanted first inner diff depth t =
     cond (depth == 1 && bytes_eq t (codes "\"error\"")) Error
@@ -129,8 +129,8 @@ is_error Reason = false
 is_error Other = false
 is_error Foreign = false
 
--- The kind of item that is found if a name has a value with the given first byte. A document begins with a brace, an id
--- and a revision with a quotation mark.
+-- The kind of item that is found if a name has a value with the given first byte. The text of a document begins with a
+-- brace, that of an id or a revision with a quotation mark.
 abbrev pub found_of : Name → ℕ → Found
 found_of Plain first = found.Nothing
 found_of Document first = cond (first == 123) found.Document found.Nothing
@@ -162,8 +162,8 @@ passes Reason first = false
 passes Other first = false
 passes Foreign first = false
 
--- The error for a name's value, if there is one. A value that must be an id or a revision is not a string, or the value
--- is the reason of an error.
+-- The error for a name's value, if there is one. A name's value gives an error if it must be an id or a revision but is
+-- not a string, or if it is the reason of an error.
 abbrev pub refusal_of : Name → ℕ → Bool → Option Refusal
 refusal_of Plain first failed = None
 refusal_of Document first failed = None

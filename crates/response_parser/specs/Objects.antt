@@ -26,7 +26,7 @@ opened place s =
     (record s { place = place; diff = s.diff && nat_lt 0 s.depth; depth = s.depth + 1; known = false; named = false; failed = false })
     (refused NoAnswer s)
 
--- The parser's state after a list or an object closes. If the outermost one closes, the response ends.
+-- The parser's state after a list or an object closes. If the outermost list or object closes, the response ends.
 abbrev pub closed : Place → State → State
 closed place s =
     record s { place = cond (nat_lt 1 s.depth) place Between; some = true; depth = s.depth - 1; known = true; named = false; failed = false }
@@ -50,7 +50,7 @@ object_closed s =
 abbrev pub empty_closed : State → State
 empty_closed s = object_closed (record s { known = wants_leaves s.wanted && s.depth == 1 })
 
--- The parser's state after the entry of a document opens. The name before the entry is the document's id.
+-- The parser's state after the entry of a document opens. The name before the entry of a document is the document's id.
 abbrev pub entry_opened : State → State
 entry_opened s = opened Member (record s { diff = true; found = found.Id })
 
@@ -120,8 +120,8 @@ abbrev pub after_member : State → ℕ → State
 after_member s b =
     cond (is_space b) s (cond (b == 44) (at NextMember s) (cond (b == 125) (object_closed s) (refused NotJson s)))
 
--- The parser's state in a document whose first name was just read. The document's text begins with the brace and the
--- name.
+-- The parser's state in a document whose first name was just read. In this state of the parser, the document's text is
+-- the brace and the name.
 abbrev pub plain_begun : State → State
 plain_begun s = record s { place = Value names.Plain; text = codes "{\"_id\""; nesting = 1 }
 
@@ -161,7 +161,7 @@ abbrev pub value_begun : Name → State → State
 value_begun name s =
     record s { place = value_place name; known = s.known || is_known name; named = s.named || is_id name; inner = s.inner || is_changes name; text = []; nesting = 0 }
 
--- The parser's state after a name and its colon. The revisions of a document must come after its id.
+-- The parser's state after a name and its colon. In a feed row, the revisions of a document must come after its id.
 abbrev pub begun_as : Name → State → State
 begun_as names.Plain s = value_begun names.Plain s
 begun_as names.Document s = value_begun names.Document s

@@ -29,7 +29,7 @@ pub record State : Type 0 where
   pub failed : Bool
   -- The number of open brackets within a value.
   pub nesting : ℕ
-  -- The part of the current name or value that was read. The text is complete after the end of the name or value.
+  -- The part of the current name or value that was read, which is complete after the end of the name or value.
   pub text : List ℕ
   -- The text of the last member `error`.
   pub error : List ℕ

@@ -56,7 +56,7 @@ is_refused (Revs place) = false
 is_refused (Line place) = false
 is_refused (Refused why) = true
 
--- The parser's state before the effect of a byte. The byte is counted, unless a byte was rejected before.
+-- The parser's state before the effect of a byte. A byte is counted as read, unless a byte was rejected before.
 abbrev pub begun : State → State
 begun s = record s { found = found.Nothing; taken = cond (is_refused s.place) s.taken (more s.taken) }
 

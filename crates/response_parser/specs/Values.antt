@@ -32,7 +32,7 @@ told found.Rev s = record s { found = found.Rev }
 abbrev pub passed_by : Name → ℕ → State → State
 passed_by name first s = record s { passed = cond (passes name first) (more s.passed) s.passed }
 
--- The parser's state after the value of a name. A string that is CouchDB's error is stored.
+-- The parser's state after the value of a name, where a string that is CouchDB's error is stored.
 abbrev pub error_kept : Name → ℕ → State → State
 error_kept name first s = cond (is_error name && first == 34) (record s { failed = true; error = s.text }) s
 
@@ -50,7 +50,7 @@ abbrev pub value_ended : Name → State → ℕ → State
 value_ended name s b =
     cond (is_json s.text) (value_judged (refusal_of name (slice_index s.text 0) s.failed) name s b) (refused NotJson s)
 
--- The parser's state after a document's closing brace. The document is found, unless it is a log.
+-- The parser's state after a document's closing brace. A document is found at its closing brace, unless it is a log.
 abbrev pub plain_found : State → State
 plain_found s = cond (wants_documents s.wanted && not (is_log s.text)) (document_found s) s
 
@@ -59,7 +59,7 @@ plain_ended s = cond (is_json s.text) (plain_found (object_closed (record s { kn
 
 -- ---- bytes of a value
 
--- The parser's state after an opening bracket in a value. A value that is nested too deep is rejected.
+-- The parser's state after an opening bracket in a value. A value in which too many brackets are open is rejected.
 abbrev pub deeper : State → ℕ → State
 deeper s b = cond (nat_lt s.nesting 128) (record s { nesting = s.nesting + 1; text = s.text ++ b ∷ [] }) (refused NotJson s)
 
@@ -72,8 +72,8 @@ shallower name s b =
     cond (s.nesting == 0) (refused NotJson s)
     (cond (s.nesting == 1 && is_plain name) (plain_ended (less_deep s b)) (less_deep s b))
 
--- The parser's state after white space in a value. White space before the value is dropped, and inside the value
--- becomes a blank.
+-- The parser's state after white space in a value. The parser drops white space before a value, and replaces white
+-- space inside a value by a blank.
 abbrev pub spaced : State → State
 spaced s = cond (length s.text == 0) s (added 32 s)
 

@@ -30,7 +30,8 @@ wants_changes Unfolded = false
 wants_changes Leaves = false
 wants_changes Changes = true
 
--- Whether a request rejects, instead of skips, an object without a document. Such a request also accepts empty input.
+-- Whether a request rejects, instead of skips, an object without a document. A request that rejects objects without
+-- documents also accepts empty input.
 abbrev pub is_strict : Wanted → Bool
 is_strict Documents = false
 is_strict Enveloped = false

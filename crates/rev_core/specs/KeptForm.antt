@@ -1,4 +1,4 @@
--- How a compact revision is stored. No public contract uses the definitions of the module `KeptForm`.
+-- How a compact revision is stored, in definitions that no public contract uses.
 use Rattle.rev_core.specs.Rev.{RevId}
 use Rattle.rev_core.specs.ShortSig.{text_in}
 use Rattle.rev_core.specs.declared.kept_rev.Form.{Form}

@@ -1,5 +1,5 @@
--- Two trees that agree, have complete histories and have each other's leaves are the same. Further theorems say how
--- trees come to have each other's leaves.
+-- Two trees that agree, have complete histories and have each other's leaves are the same. Further theorems of
+-- `AgreementLaws` say how trees come to have each other's leaves.
 use Rattle.std.proofs.Common.{◌≡◌, ◌⊎◌, ℕ, zero, suc, true, false, not, ◌&&◌, ◌||◌, List, [], ◌∷◌, filter, Option, Some, None, is_some, refl, sym, ap, ◌∙◌, inl, inr, arith}
 use Rattle.std.specs.List.{list_any}
 use Rattle.std.specs.Option.{option_map_or}

@@ -1,4 +1,5 @@
--- The index from revisions to the positions of their nodes in the node list. The key of an entry is a revision's hash.
+-- The index from revisions to the positions of their nodes in the node list, in which the key of an entry is a
+-- revision's hash.
 use Rattle.std.specs.Prelude.{ℕ, Bool, true, ◌&&◌, not, ◌+◌, ◌%◌, ◌^◌, List, [], ◌∷◌, ◌++◌, is_some, length, nat_eq, nat_lt, if◌then◌else◌}
 use Rattle.std.specs.Map.{lookup}
 use Rattle.std.specs.Hash.FoldHasher as hasher
@@ -9,14 +10,14 @@ use Rattle.rev_tree.specs.declared.nodes.TheConstants.{MOST_WALKED}
 abbrev pub mark_of : RevId → ℕ
 mark_of r = (hasher.finish (hasher.write hasher.initial r.sig) + r.generation) % 2 ^ 64
 
--- The index entries after adding a hash with the position of its node. The entries stay the same if they have the hash
+-- The index entries after adding a hash with the position of its node, or the same entries if they have the hash
 -- already.
 abbrev pub noted : List (ℕ × ℕ) → ℕ → ℕ → List (ℕ × ℕ)
 noted entries mark place =
     if is_some (lookup (nat_eq mark) entries) then entries else entries ++ (mark, place) ∷ []
 
--- The index entries after adding the hashes of revisions, whose positions start at i. Each hash keeps its first
--- position.
+-- The index entries after adding the hashes of revisions, whose positions start at i. In the index, each hash keeps its
+-- first position.
 abbrev pub noted_from : List (ℕ × ℕ) → ℕ → List RevId → List (ℕ × ℕ)
 noted_from entries i [] = entries
 noted_from entries i (r ∷ revs) = noted_from (noted entries (mark_of r) i) (i + 1) revs
@@ -27,8 +28,8 @@ falls [] = true
 falls (r ∷ []) = true
 falls (r ∷ (s ∷ revs)) = nat_eq r.generation (s.generation + 1) && falls (s ∷ revs)
 
--- The index of nodes whose revisions are `revs`. The index is empty if the nodes are few enough to be scanned. The
--- index is also empty if each revision is one generation below the previous one, because the generation then determines
--- the position.
+-- The index of nodes whose revisions are `revs`. The index of nodes is empty if the nodes are few enough to be scanned.
+-- The index of nodes is also empty if each revision is one generation below the previous one, because the generation
+-- then determines the position.
 abbrev pub index_for : List RevId → List (ℕ × ℕ)
 index_for revs = if nat_lt MOST_WALKED (length revs) && not (falls revs) then noted_from [] 0 revs else []

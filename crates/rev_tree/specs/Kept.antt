@@ -1,4 +1,4 @@
--- How a list of revisions is stored. No public contract uses the definitions of the module `Kept`.
+-- How a list of revisions is stored, in definitions that no public contract uses.
 use Rattle.std.specs.Prelude.{List, [], ◌∷◌}
 use Rattle.rev_core.specs.Rev.{RevId}
 use Rattle.rev_tree.specs.declared.revs.Kept.{Kept}

@@ -49,7 +49,7 @@ abbrev pub entry_of : {X : Type 0} → RevId → Option X → List (RevId × X)
 entry_of r None = []
 entry_of r (Some x) = (r, x) ∷ []
 
--- The entries of all nodes for which part f has a value. The key of an entry is the node's revision.
+-- The entries of all nodes for which part f has a value, where the key of an entry is the node's revision.
 abbrev pub entries_of : {X : Type 0} → (NodeValue → Option X) → List NodeValue → List (RevId × X)
 entries_of f [] = []
 entries_of f (n ∷ nodes) = entry_of n.rev (f n) ++ entries_of f nodes
@@ -108,8 +108,8 @@ pub record HasRoom (v : NodesValue) (more : ℕ) : Type 0 where
   pub nodes : length v.items + more ≤ v.capacity
   pub places : HasIndexRoom (length v.items + more) v.index_capacity
 
--- The effect of adding revision r to a list of nodes, in which r is at position k afterwards. Space for one node is
--- used if r is new.
+-- The effect of adding revision r to a list of nodes, in which r is at position k afterwards. If revision r is new,
+-- adding it uses the space for one node.
 pub record HasGained (old new : NodesValue) (r : RevId) (origin : Origin) (k : ℕ) : Type 0 where
   pub tree : tree_of new.items ≡ with_rev (tree_of old.items) r origin
   pub at : slice_get (revs_in new.items) k ≡ Some r

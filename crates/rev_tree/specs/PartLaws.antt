@@ -1,5 +1,5 @@
--- Trees that are parts of other trees. A part grows by leaves with their ancestors, and a part that has all leaves is
--- the complete tree.
+-- Trees that are parts of other trees. A part of a tree grows by leaves with their ancestors, and a part that has all
+-- leaves is the complete tree.
 use Rattle.std.proofs.Common.{◌≡◌, ℕ, zero, suc, ◌≤◌, true, false, not, cond, ◌||◌, List, [], ◌∷◌, Option, Some, None, is_some, refl, sym, ap, ◌∙◌, inl, inr, arith}
 use Rattle.std.specs.Option.{option_map_or, option_or}
 use Rattle.std.specs.Ordering.{eq_by_cmp}

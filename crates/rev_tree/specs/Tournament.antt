@@ -1,5 +1,5 @@
--- A tournament among the leaves of a tree. A player is stored as the index of its node, counted from 1, and 0 means
--- that there is no player.
+-- A tournament among the leaves of a tree. A player of a tournament is stored as the index of its node, counted from 1,
+-- and 0 means that there is no player.
 use Rattle.std.specs.Prelude.{◌≡◌, ℕ, zero, suc, ◌-◌, ◌/◌, ◌<◌, ◌≤◌, ◌^◌, ◌⊎◌, Bool, true, false, cond, List, length, get_or, Option, Some, None, is_some, option_map, nat_lt, slice_get}
 use Rattle.std.specs.declared.cmp.Ordering.{Ordering}
 use Rattle.std.specs.Ordering.{is_lt, bool_cmp, ordering_then}
@@ -43,7 +43,8 @@ under nodes winners entered k =
     cond (nat_lt k (length winners)) (entry nodes (get_or winners k 0))
     (cond (nat_lt (k - length winners) entered) (leaf_key (slice_get nodes (k - length winners))) None)
 
--- The stored winners, and the leaves that take part, are nodes with a content. A node's key therefore does not change.
+-- The stored winners, and the leaves that take part, are nodes with a content. A node of the tournament has a content,
+-- so its key does not change.
 pub record IsHeld (nodes : List NodeValue) (winners : List ℕ) (entered : ℕ) : Type 0 where
   pub within : entered ≤ length nodes
   pub fits : entered ≤ length winners
@@ -75,8 +76,8 @@ pub record IsBestLeaf (nodes : List NodeValue) (place : ℕ) : Type 0 where
   pub leaf : node.has_child ≡ false
   pub best : (j : ℕ) (n : NodeValue) → slice_get nodes j ≡ Some n → n.has_child ≡ false → goes_before n (Some node) ≡ false
 
--- The invariant of the nodes, their index and their tournament. A position of a node, counted from 1, fits into 32
--- bits.
+-- The invariant of the nodes, their index and their tournament. The position of a node in the list, counted from 1,
+-- fits into 32 bits.
 pub record IsIndexed (nodes : List NodeValue) (places : PlacesValue) : Type 0 where
   pub few : length nodes < 2 ^ 32
   pub index : places.entries ≡ index_for (revs_in nodes)

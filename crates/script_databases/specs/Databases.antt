@@ -30,7 +30,7 @@ abbrev pub text_cmp : List ℕ → List ℕ → Ordering
 text_cmp = slice_cmp nat_cmp
 
 -- The program's settings: the id prefix that targets refuse, the seed of generated ids, and the defaults of
--- replications. A further setting says whether successful loads and edits print no text.
+-- replications. A further setting of the program says whether successful loads and edits print no text.
 pub record Program : Type 0 where
   pub deny : Option (List ℕ)
   pub seed : ℕ
@@ -51,8 +51,8 @@ coded_named_backup =
     (coded× (coded_list coded_ℕ) (coded× (coded_list coded_ℕ) coded_backup)) (λ k. (k.db, (k.name, k.backup)))
     (λ p. record { db = p.0; name = p.1.0; backup = p.1.1 }) (λ _. refl)
 
--- The state of a script: the settings, the number of generated ids, the backups, and the peers by name. No line changes
--- the settings, and the number is modulo the length of the random stream.
+-- The state of a script: the settings, the number of generated ids, the backups, and the peers by name. No line of a
+-- script changes the settings, and the number of generated ids is modulo the length of the random stream.
 pub record State : Type 0 where
   pub program : Program
   pub drawn : ℕ
@@ -102,7 +102,7 @@ with_peer s name p = record s { peers = finmap.insert s.peers name p }
 abbrev pub IsTaken : State → ℕ → Type 0
 IsTaken s uuid = (name : List ℕ) × (p : PeerValue) × (peer_at s name ≡ Some p) × (p.db.uuid ≡ uuid)
 
--- The state after the peer of a name is changed by f. The state is unchanged if there is no such peer.
+-- The state after the peer of a name is changed by f, or the unchanged state if there is no such peer.
 abbrev pub with_changed : State → List ℕ → (PeerValue → PeerValue) → Option PeerValue → State
 with_changed s name f None = s
 with_changed s name f (Some p) = with_peer s name (f p)
@@ -150,7 +150,8 @@ backup_at s db name = backup_among s.backups db name
 abbrev pub with_backup : State → List ℕ → List ℕ → BackupValue → State
 with_backup s db name b = record s { backups = s.backups ++ record { db = db; name = name; backup = b } ∷ [] }
 
--- The new backup of a database, or the error. The database must exist, and the backup's name must be unused.
+-- The new backup of a database, or the error. To make a backup, the database must exist, and the backup's name must be
+-- unused.
 abbrev pub backed_of : Option PeerValue → Option BackupValue → Result BackupValue Refusal
 backed_of None o = Err why.NoDatabase
 backed_of (Some p) (Some b) = Err why.BackupExists

@@ -34,9 +34,10 @@ with_both old source target s t = with_peer (with_peer old source s) target t
 -- What holds after a replication by one thread, as specified in docs/PROFILE.md, "Replication by one thread" and "Tied
 -- peers".
 --
--- Only the source's log changed, and the target is a later one. Peers that were tied are still tied, with all backups
--- of the source, for every selection. If the replication succeeded, the report is that of its session. If the two peers
--- were also tied before, the target covers the source's selected feed.
+-- A replication by one thread changes of the source only its log, and the target is a later one. Peers that were tied
+-- are still tied after a replication, with all backups of the source, for every selection. If a replication succeeded,
+-- the report is that of its session. If a replication succeeded and the two peers were tied before, the target covers
+-- the source's selected feed.
 pub record KeepsTied (s t : PeerValue) (plan : Plan) (result : Result Report TargetFault) (s' t' : PeerValue) : Type 0
   where
     pub log : s' ≡ record s { outgoing = s'.outgoing }
@@ -46,8 +47,8 @@ pub record KeepsTied (s t : PeerValue) (plan : Plan) (result : Result Report Tar
     pub well : IfOk result (λ report. IsReported s t t' plan report)
     pub whole : OnOk result (IsTiedPair s t plan.chosen → CoversFeed s t' plan.chosen s.db.update_seq)
 
--- The possible results of a replication by one thread, including errors, and the state after it. If source and target
--- are the same database, every plan is rejected.
+-- The possible results of a replication by one thread, including errors, and the state after it. If a replication's
+-- source and target are the same database, every plan is rejected.
 abbrev pub ReplicatesAlone : State → List ℕ → List ℕ → PeerValue → PeerValue → Plan → Result Report TargetFault → State
     → Type 0
 ReplicatesAlone old source target s t plan result new =
@@ -76,8 +77,8 @@ abbrev pub unwatched : Result Watched PoolFault → Result Report PoolFault
 unwatched (Ok watched) = Ok watched.report
 unwatched (Err why) = Err why
 
--- The possible results of a run with a progress board. At most as many documents were settled as were read. If the
--- board for a valid plan could not be allocated, the result is `Memory` and the state is unchanged.
+-- The possible results of a run with a progress board. On the board of a run, at most as many documents are settled as
+-- read. If the board for a valid plan could not be allocated, the result is `Memory` and the state is unchanged.
 abbrev pub ReplicatesWatched : State → List ℕ → List ℕ → PeerValue → PeerValue → Plan → Result Watched PoolFault
     → State → Type 0
 ReplicatesWatched old source target s t plan result new =

@@ -25,7 +25,8 @@ use Rattle.write_commands.specs.declared.load.Load.{Load}
 
 -- ---- its parameters
 
--- The parameters of `load`, which loads a document, or creates a database if there is no document. A UUID may be given.
+-- The parameters of `load`, which loads a document, or creates a database if there is no document, optionally with a
+-- given UUID.
 pub record LoadAsk : Type 0 where
   pub db : List ℕ
   pub uuid : Option ℕ
@@ -88,8 +89,8 @@ LoadsUntaken old db uuid doc told new =
     IsTaken old uuid × Refuses why.UuidTaken old told new
     ⊎ (IsTaken old uuid → ⊥) × Does (doc >>= load_new old db uuid) old told new
 
--- The result of `load` for a new database with a generated UUID. The document is parsed first. If the document is
--- valid, the id is drawn, even if an allocation fails after that.
+-- The result of `load` for a new database with a generated UUID. Before a `load` line draws an id, its document is
+-- parsed. If the document of a `load` line is valid, the id is drawn, even if an allocation fails after that.
 abbrev pub LoadsMade : State → List ℕ → Result (Option Document) Refusal → Told → State → Type 0
 LoadsMade old db (Ok doc) told new =
     LoadsUntaken (drawn_one old) db (next_made old) (Ok doc) told new ⊎ Refuses why.Memory (drawn_one old) told new

@@ -47,7 +47,7 @@ replicate_asked ask = record {
   options = ask.options;
 }
 
--- The optional parameters of a `replicate` line. An absent parameter is `None`, except that `alone` and `progress` are
+-- The optional parameters of a `replicate` line, which are `None` if absent, except that `alone` and `progress` are
 -- false if absent.
 abbrev pub options_in : Data → Result Options Refusal
 options_in d = do
@@ -157,14 +157,14 @@ plan_of s options chosen = plan_with s.program options (session_of s options) ch
 
 -- ---- its result
 
--- The ending of a replication by one thread. A replication that its plan stopped has not failed.
+-- The ending of a replication by one thread, where a replication that its plan stopped has not failed.
 abbrev pub ending_of : Result Report TargetFault → Result Ending Refusal
 ending_of (Ok report) = Ok (Done report)
 ending_of (Err fault) = do
   low_water ← stop_of fault
   Ok (Stopped low_water)
 
--- The ending of a replication by the pool. A replication that its plan stopped has not failed.
+-- The ending of a replication by the pool, where a replication that its plan stopped has not failed.
 abbrev pub ending_of_run : Result Report PoolFault → Result Ending Refusal
 ending_of_run (Ok report) = Ok (Done report)
 ending_of_run (Err fault) = do
@@ -206,8 +206,8 @@ ReplicatesChosen old ask both (Ok chosen) told new =
     × (told ≡ told_of (replicated_text (plan_of old ask.options chosen).session ending))
 ReplicatesChosen old ask both (Err refusal) told new = Refuses refusal (with_session old ask.options) told new
 
--- The result of `replicate` for two existing databases. The session id is drawn before the selection is built, and
--- building it may run out of memory.
+-- The result of `replicate` for two existing databases. The session id of a `replicate` line is drawn before the
+-- selection is built, and building the selection may run out of memory.
 abbrev pub ReplicatesBoth : State → ReplicateAsk → PeerValue × PeerValue → Told → State → Type 0
 ReplicatesBoth old ask both told new =
     (chosen : Result Choice Refusal) × GivesOrMemory chosen (choice_given ask.doc_ids)
@@ -228,8 +228,8 @@ ReportsReplication old ask told new = ReplicatesFound old ask (both_of old ask) 
 
 -- ---- the guarantee of `replicate`, as specified in docs/PROFILE.md, "Tied databases"
 
--- The guarantee of a session that was not stopped and printed the recorded sequence n. The number n is the source's
--- update sequence, and the target covers each leaf of the source's selected feed.
+-- The guarantee of a session that was not stopped and printed the recorded sequence n. The recorded sequence n is the
+-- source's update sequence, and the target covers each leaf of the source's selected feed.
 abbrev pub CoversIfDone : State → List ℕ → List ℕ → Choice → Ending → Type 0
 CoversIfDone s source target chosen (Done report) = CoversUpTo s source target chosen report.recorded
 CoversIfDone s source target chosen (Shown watched) = CoversUpTo s source target chosen watched.report.recorded

@@ -24,8 +24,8 @@ pub record SyncAsk : Type 0 where
 abbrev pub sync_asked : BothWays → SyncAsk
 sync_asked ask = record { there = replicate_asked ask.there; back = replicate_asked ask.back }
 
--- The parameters that both directions of a `sync` line have. An absent parameter is `None`, except that `alone` is
--- false if absent.
+-- The parameters that both directions of a `sync` line have, which are `None` if absent, except that `alone` is false
+-- if absent.
 abbrev pub shared_in : Data → Result Shared Refusal
 shared_in d = do
   workers ← needed (optional as_whole (codes "workers") d)
@@ -34,7 +34,7 @@ shared_in d = do
   alone ← needed (optional as_bool (codes "alone") d)
   Ok (record { workers = workers; batch = batch; at = at; alone = unwrap_or alone false })
 
--- The parameters of one direction of `sync`. The plan does not stop a direction, and a direction prints no progress.
+-- The parameters of one direction of `sync`, which its plan does not stop, and which prints no progress.
 abbrev pub way_options : Shared → Option ℕ → Options
 way_options shared session = record {
   session = session;
@@ -75,8 +75,8 @@ abbrev pub both_told : List ℕ → Told → Told
 both_told text (Ok more) = Ok (text ++ more)
 both_told text (Err name) = Err name
 
--- The result of `sync` after that of the forward direction. The reverse direction follows, unless the forward direction
--- failed.
+-- The result of `sync` after that of the forward direction, where the reverse direction follows unless the forward
+-- direction failed.
 abbrev pub SyncsBack : State → SyncAsk → Told → Told → State → Type 0
 SyncsBack mid ask (Ok text) told new =
     (second : Told) × MayTell ReportsReplication mid ask.back second new × (told ≡ both_told text second)
@@ -89,8 +89,8 @@ Syncs old ask told new =
 
 -- ---- the guarantee of `sync`, as specified in docs/PROFILE.md, "Tied databases"
 
--- The guarantee for a `sync` line. Between the two directions all databases are consistent, and each direction has the
--- guarantee of a replication.
+-- The guarantee for a `sync` line. Between the two directions of `sync`, all databases are consistent, and each
+-- direction has the guarantee of a replication.
 abbrev pub IsMet : State → SyncAsk → Told → Type 0
 IsMet new ask (Ok text) =
     (mid : State) × (first : List ℕ) × (second : List ℕ) × (text ≡ first ++ second) × AllTied mid

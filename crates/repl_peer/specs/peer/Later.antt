@@ -5,8 +5,8 @@ use Rattle.couch_base.specs.WriteLaws.{IsLater}
 use Rattle.couch_base.specs.Feed.{WindowValue}
 use Rattle.repl_peer.specs.peer.Peer.{PeerValue, SessionValue, WrittenValue, RefusedValue}
 
--- A session after calls keeps its scope and start. The windows, arrivals, ledger and recorded sequence of a session
--- only grow.
+-- A session after calls keeps its scope and start. After calls, the windows, arrivals, ledger and recorded sequence of
+-- a session have only grown.
 pub record Keeps (old new : SessionValue) : Type 0 where
   pub id : new.id ≡ old.id
   pub scope : new.scope ≡ old.scope

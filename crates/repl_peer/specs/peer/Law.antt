@@ -21,13 +21,13 @@ window_bounds ws = map (λ w. (w.lo, w.hi)) ws
 
 -- The invariant of a session's stored windows `ws`, its front f, its recorded sequence n and its goal.
 pub record LawfulStore (f : FrontValue) (ws : List WindowValue) (n goal : ℕ) : Type 0 where
-  -- The windows are consecutive from the session's start, end at or below the goal, and have rising rows. The front has
-  -- the same windows.
+  -- A session's windows are consecutive from its start, end at or below the goal, and have rising rows. The front of a
+  -- session has the same windows as the session.
   pub front : IsFront f
   pub bounds : window_bounds ws ≡ bounds f
   pub within : end_of f ≤ goal
   pub windows : AllByRecursion IsWindow ws
-  -- The recorded sequence is at least the session's start and at most the low water.
+  -- A session's recorded sequence is at least its start and at most its low water.
   pub start : f.start ≤ n
   pub recorded : n ≤ low_water f
 

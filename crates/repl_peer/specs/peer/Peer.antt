@@ -1,7 +1,7 @@
 -- Peers and their sessions, as specified in docs/PROFILE.md, "Sessions of a peer".
 --
 -- A peer is a database with the state that replication needs. A target has a session for each replication into it. A
--- session has the windows of the source's changes feed, and which of them are done. For each document that came, the
+-- session has the windows of the source's changes feed, and which of them are done. For each document that came, a
 -- session records whether the target stored it (an arrival) or refused it (a ledger row). What a session claims to have
 -- replicated can therefore be compared with the revisions that the target has. A source has a log for each replication
 -- from it, with the sequence that the target recorded in each session. The common checkpoint of the next replication is
@@ -32,9 +32,9 @@ pub record RefusedValue : Type 0 where
   pub doc : Document
   pub reason : Reason
 
--- An incoming session. A session has a scope, which never changes, and its windows, with a front that says which of
--- them are done. A session also has its arrivals, its ledger of refused documents, its counts, its recorded sequence,
--- and its two timestamps.
+-- An incoming session of a peer. A session has a scope, which never changes, and its windows, with a front that says
+-- which of them are done. A session also has its arrivals, its ledger of refused documents, its counts, its recorded
+-- sequence, and its two timestamps.
 pub record SessionValue : Type 0 where
   pub id : SessionId
   pub scope : Scope

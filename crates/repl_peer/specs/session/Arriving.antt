@@ -1,5 +1,5 @@
--- Documents that are settled in bulk. The arrivals of the documents are prepared before settling, and added as one
--- list.
+-- Documents that are settled in bulk. For bulk settling, the arrivals of the documents are prepared before, and added
+-- as one list.
 use Rattle.std.specs.Prelude.{◌≡◌, ◌+◌, List, ◌++◌, map, length, take}
 use Rattle.doc_json.specs.Document.{Document}
 use Rattle.repl_peer.specs.peer.Peer.{WrittenValue, SessionValue, written_of}

@@ -59,7 +59,7 @@ abbrev pub on_base : ℕ → Option SessionValue → Result (Unit {0}) TargetFau
 on_base start None = Err faults.NoSuchBase
 on_base start (Some s) = start_answer start s.recorded
 
--- The check of a session's start against its base. Without a base the start must be 0.
+-- The check of a session's start against its base. If a session has no base, its start must be 0.
 abbrev pub base_answer : List SessionValue → RepId → Option SessionId → ℕ → Result (Unit {0}) TargetFault
 base_answer sessions rep None start = start_answer start 0
 base_answer sessions rep (Some base) start = on_base start (base_in sessions rep base)
@@ -74,7 +74,7 @@ begin_answer p id b =
     if holds p.sessions id then Err faults.SessionExists
     else goal_answer b.start b.scope.goal (base_answer p.sessions b.scope.rep b.scope.base b.start)
 
--- A new session, begun at timestamp `at`. The session has no windows, and its recorded sequence is its start.
+-- A new session, begun at timestamp `at`. A new session has no windows, and its recorded sequence is its start.
 abbrev pub new_session : SessionId → Beginning → ℕ → SessionValue
 new_session id b at = record {
   id = id;
@@ -106,7 +106,8 @@ next_in w s =
     if w.lo == end_of s.front then (if nat_lt s.goal w.hi then Err faults.PastGoal else Ok tt)
     else Err (faults.Gap (end_of s.front))
 
--- The result of appending window w to session s, if no allocation fails. The window must be from the session's life.
+-- The result of appending window w to session s, if no allocation fails. A window that is appended must be from the
+-- session's life.
 abbrev pub append_in : WindowValue → SessionValue → Result (Unit {0}) TargetFault
 append_in w s = if w.life == s.life then next_in w s else Err (faults.OtherLife s.life)
 
@@ -117,7 +118,7 @@ abbrev pub with_window : WindowValue → SessionValue → Result (Unit {0}) Targ
 with_window w s (Ok done) = record s { front = appended s.front w.hi; windows = s.windows ++ w ∷ [] }
 with_window w s (Err fault) = s
 
--- Peer p after appending window w to session `id`. An error leaves the peer unchanged.
+-- Peer p after appending window w to session `id`, or the unchanged peer if the window cannot be appended.
 abbrev pub after_append : PeerValue → SessionId → WindowValue → PeerValue
 after_append p id w = on_session p id (λ s. with_window w s (append_in w s))
 

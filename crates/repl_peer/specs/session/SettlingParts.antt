@@ -31,8 +31,8 @@ abbrev pub IndexesMore : LedgerIndex → List RefusedValue → LedgerIndex → T
 IndexesMore old ledger new =
     (id : Id) (r : RevId) → is_ledgered new id r ≡ (is_ledgered old id r || in_ledger ledger id r)
 
--- A session keeps its id and its replication, and its ledger only grows. An index of the old ledger becomes an index of
--- the new ledger.
+-- A session keeps its id and its replication, and its ledger only grows. An index of the session's old ledger becomes
+-- an index of its new ledger.
 pub record KeepsIndexed (old : SessionValue) (index : LedgerIndex) (new : SessionValue) (index' : LedgerIndex) : Type 0
   where
     pub id : new.id ≡ old.id
@@ -74,8 +74,7 @@ pub record Steps (refuses : Document → Bool) (o : Origin) (d : Document) (befo
   pub goes : stops_at refuses before d ≡ false
   pub step : (w : WindowValue) → o ≡ fed w before.session.id d → after ≡ settle_one refuses w before d
 
--- The cause if settling a document failed. The cause is `SeqFull` if no sequence was left for the document, else
--- `Memory`.
+-- The cause if settling a document failed, which is `SeqFull` if no sequence was left for the document, else `Memory`.
 abbrev pub cause_at : Bool → Cause
 cause_at full = if full then causes.SeqFull else causes.Memory
 
@@ -116,8 +115,7 @@ pub record Passes (s : SessionValue) (parcel : ParcelValue) (place leaves asked 
   pub leaf_count : leaves ≡ leaf_count window
   pub asked_count : asked ≡ asked_count parcel.asked
 
--- The result of marking window w, and the new session t. The window is marked as done if each leaf of its rows is
--- known.
+-- The result of marking window w, and the new session t. A window is marked as done if each leaf of its rows is known.
 abbrev pub Marks : (Id → RevId → Bool) → WindowValue → SessionValue → ℕ → ℕ → ℕ → Result (Unit {0}) TargetFault
     → SessionValue → Type 0
 Marks known w s leaves asked n (Ok done) t =

@@ -34,7 +34,7 @@ abbrev pub after_some : (Document → Bool) → PeerValue → SessionId → Parc
 after_some refuses p session parcel n =
     after_stop refuses p session parcel (min n (most_settled refuses p session parcel))
 
--- A call on a target. The call `Stop` is a settling that ran out of memory after a number of documents.
+-- A call on a target, where `Stop` is a settling that ran out of memory after a number of documents.
 pub data Call : Type 0 where
   Load : (doc : Document) → Call
   Edit : (id : Id) (parent : Option RevId) (deleted : Bool) (body : List ℕ) → Call
@@ -71,8 +71,8 @@ pub record IsPageOf (db : DatabaseValue) (chosen : Choice) (w : WindowValue) : T
   pub within : goal ≤ db.update_seq
   pub is : w ≡ page db since goal limit chosen
 
--- A call of a run of the pool, for the run's session. The call begins no session and makes no local write, and its
--- messages come from the source, for the selection.
+-- A call of a run of the pool, for the run's session. A call of a run begins no session and makes no local write, and
+-- its messages come from the source, for the selection.
 abbrev pub IsFrom : DatabaseValue → Choice → SessionId → Call → Type 0
 IsFrom source chosen run (Append session window) = (session ≡ run) × IsPageOf source chosen window
 IsFrom source chosen run (Settle session parcel) = (session ≡ run) × (parcel ≡ open_revs source parcel.asked)
@@ -90,8 +90,8 @@ abbrev pub IsGrown : (Document → Bool) → DatabaseValue → Choice → Sessio
 IsGrown refuses source chosen run given now =
     (calls : List Call) × AllFrom source chosen run calls × (now ≡ after_calls refuses given calls)
 
--- The effect of a replication on its target. The target is unchanged, or the plan's session has begun at the common
--- checkpoint, and the target has grown by calls of this session.
+-- The effect of a replication on its target. After a replication, the target is unchanged, or the plan's session has
+-- begun at the common checkpoint, and the target has grown by calls of this session.
 abbrev pub IsLeft : (Document → Bool) → PeerValue → PeerValue → Plan → PeerValue → Type 0
 IsLeft refuses source given plan now =
     (now ≡ given)

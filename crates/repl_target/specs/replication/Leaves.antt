@@ -24,8 +24,9 @@ IsPut source target chosen source' =
     (source' ≡ source)
     ⊎ (e : EntryValue) × IsSentEntry target e × (source' ≡ after_put_entry source (rep_between source target chosen) e)
 
--- The effect of a replication on both peers. Of the source only the log may have changed. The target is unchanged or
--- has grown by calls of the plan's session. Source and target stay tied to each other and to third peers.
+-- The effect of a replication on both peers. Of a replication's source only the log may have changed. A replication's
+-- target is unchanged or has grown by calls of the plan's session. After a replication, source and target stay tied to
+-- each other and to third peers.
 pub record Leaves (refuses : Document → Bool) (source target : PeerValue) (plan : Plan) (source' target' : PeerValue)
     : Type 0 where
   pub log : source' ≡ record source { outgoing = source'.outgoing }

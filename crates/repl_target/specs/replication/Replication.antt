@@ -56,8 +56,8 @@ checkpoint_of source target chosen = checkpoint_between source target (rep_betwe
 abbrev pub start_between : PeerValue → PeerValue → Choice → ℕ
 start_between source target chosen = start_at (checkpoint_of source target chosen)
 
--- The scope of a new session. The base of the session is that of the common checkpoint, and its goal is the source's
--- update sequence.
+-- The scope of a new session. A new session's base is the session of the common checkpoint, and its goal is the
+-- source's update sequence.
 abbrev pub scope_between : PeerValue → PeerValue → Choice → Scope
 scope_between source target chosen = record {
   rep = rep_between source target chosen;
@@ -155,13 +155,13 @@ closed_as p plan (Err fault) = after_record (after_conclude p plan.session plan.
 abbrev pub closed : PeerValue → Plan → PeerValue
 closed p plan = closed_as p plan (conclude_answer p plan.session)
 
--- The source after an entry was put into the log of a replication. An older entry is ignored, and a failed allocation
--- leaves the source unchanged.
+-- The source after an entry was put into the log of a replication. If the entry is older or the allocation for it
+-- fails, the source is unchanged.
 abbrev pub PutsOver : PeerValue → RepId → EntryValue → Result (Unit {0}) AllocError → PeerValue → Type 0
 PutsOver source rep entry (Ok done) source' = source' ≡ after_put_entry source rep entry
 PutsOver source rep entry (Err refused) source' = source' ≡ source
 
--- The result of recording at both sides. The result is that of concluding, or `Memory` if the allocation at the source
+-- The result of recording at both sides, which is the result of concluding, or `Memory` if the allocation at the source
 -- fails.
 abbrev pub told_by : Result Report TargetFault → Result (Unit {0}) AllocError → Result Report TargetFault
 told_by concluded (Ok done) = concluded
@@ -213,8 +213,8 @@ CoversFrom source target chosen n =
     (row : RowValue) → Among row (chosen_feed chosen source.db n source.db.update_seq) → (leaf : RevId) → Among leaf row.leaves
     → covers target row.id leaf ≡ true
 
--- The report describes the plan's session at the target. The session began at the common checkpoint, is of the source's
--- life, and has recorded the source's update sequence, its goal.
+-- The report describes the plan's session at the target. The session of a successful replication began at the common
+-- checkpoint, is of the source's life, and has recorded the source's update sequence, its goal.
 pub record IsReported (source target target' : PeerValue) (plan : Plan) (report : Report) : Type 0 where
   pub session : SessionValue
   pub held : session_in target'.sessions plan.session ≡ Some session

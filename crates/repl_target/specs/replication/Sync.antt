@@ -17,8 +17,8 @@ use Rattle.repl_peer.specs.declared.fault.Report.{Report}
 use Rattle.repl_peer.specs.declared.fault.TargetFault.{TargetFault}
 use Rattle.repl_target.specs.declared.replication.Plan.{Plan}
 
--- The result of replicating from a to b and then from b to a, and the two peers afterwards. The second replication runs
--- only if the first succeeded.
+-- The result of replicating from a to b and then from b to a, and the two peers afterwards. The replication from b to a
+-- runs only if the one from a to b succeeded.
 pub data Syncs (refuses_a refuses_b : Document → Bool) (a b : PeerValue) (there back : Plan) : Result Synced
     SyncFault → PeerValue → PeerValue → Type 0 where
   refused_there : {why : TargetFault} {a' b' : PeerValue} → Replicates refuses_b a b there (Err why) a' b'
@@ -42,8 +42,8 @@ abbrev pub HasRefusedNone : PeerValue → Id → Type 0
 HasRefusedNone p id =
     (s : SessionValue) → Among s p.sessions → (x : RefusedValue) → Among x s.ledger → x.doc.id ≡ id → ⊥
 
--- The effect of both replications on a document. Each side has the other side's leaves. If the trees agreed before and
--- had complete histories, both sides have the same document.
+-- The effect of both replications on a document. After both replications, each side has the other side's leaves of the
+-- document. If the document's trees agreed before and had complete histories, both sides have the same document.
 pub record Meets (a b a' b' : DatabaseValue) (id : Id) : Type 0 where
   pub there : KnowsLeaves b' a' id
   pub back : KnowsLeaves a' b' id
@@ -54,8 +54,8 @@ pub record Meets (a b a' b' : DatabaseValue) (id : Id) : Type 0 where
   pub whole : IsWhole (tree_of a.docs id) → IsWhole (tree_of b.docs id)
       → IsWhole (tree_of a'.docs id) × IsWhole (tree_of b'.docs id)
 
--- If the peers were tied in both directions, both replications leave a document's trees as `Meets` says. The document
--- must be selected by both plans, and neither side may have refused it.
+-- If the peers were tied in both directions, both replications leave a document's trees as `Meets` says. For `Meets`,
+-- the document must be selected by both plans, and neither side may have refused it.
 abbrev pub MeetBoth : PeerValue → PeerValue → PeerValue → PeerValue → Plan → Plan → Type 0
 MeetBoth a b a' b' there back =
     IsTiedPair a b there.chosen → IsTiedPair b a back.chosen → (id : Id) → HasRefusedNone a' id → HasRefusedNone b' id
