@@ -36,7 +36,7 @@ state_of l = (l.rev, l.wins, l.live)
 abbrev pub states : Document → List State
 states d = map state_of d.leaves.items
 
--- The leaves of a document after one more is added, where the first leaf is the winner.
+-- The leaves of a document after one more is added. The first leaf of a document in a picture is the winner.
 abbrev pub with_leaf : List State → RevId → Bool → List State
 with_leaf [] r live = (r, true, live) ∷ []
 with_leaf (s ∷ rest) r live = (s ∷ rest) ++ (r, false, live) ∷ []

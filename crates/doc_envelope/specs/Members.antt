@@ -4,7 +4,7 @@ use Rattle.std.specs.List.{list_all, filter}
 
 -- ---- byte by byte
 
--- Where a byte is in a member: outside of strings, in a string, or after a backslash in a string.
+-- The mode of a byte in a member: outside of strings, in a string, or after a backslash in a string.
 pub data Mode : Type 0 where
   Outside : Mode
   Quoted : Mode

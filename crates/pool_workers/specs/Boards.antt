@@ -114,7 +114,7 @@ halt_in (Err halt) = Some halt
 
 -- ---- seats in use
 
--- The seats that the elements of a list hold, where the last element holds the first seat.
+-- The seats that the elements of a list hold, in reverse order, so that the last element holds the first seat.
 abbrev pub held : {X : Type 0} → (X → Option BoardSeat) → List X → List BoardSeat
 held f [] = []
 held f (x ∷ xs) = held f xs ++ option_to_list (f x)

@@ -9,7 +9,8 @@ use Rattle.relay_responses.specs.Read.{items_at, each_item, with_first}
 
 -- ---- named leaves
 
--- The members of an object, appended to the members `found`, where each name is listed once, with its last value.
+-- The members of an object, appended to the members `found`. In the list of members, each name occurs once, with its
+-- last value.
 abbrev pub last_members : List (Text × Json) → Members → List (Text × Json)
 last_members found no_members = found
 last_members found (member k j ms) = last_members (insert_entry bytes_eq found k j) ms

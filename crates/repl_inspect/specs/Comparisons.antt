@@ -4,7 +4,7 @@ use Rattle.couch_base.specs.Database.{Id, DatabaseValue, tree_of}
 use Rattle.couch_base.specs.Feed.{RowValue}
 use Rattle.repl_inspect.specs.Comparing.{ComparisonValue, compared}
 
--- The comparison of document `id` in two databases, where a missing document has an empty tree.
+-- The comparison of document `id` in two databases. In a comparison, a document that does not exist has an empty tree.
 abbrev pub compared_at : DatabaseValue → DatabaseValue → Id → ComparisonValue
 compared_at source target id = compared (tree_of source.docs id) (tree_of target.docs id)
 

@@ -55,8 +55,8 @@ pub data IsRecorded (plan : Plan) (fault : Option PoolFault) (complete : Bool) (
   refused : {why : TargetFault} → fault ≡ None → complete ≡ true → conclude_answer before plan.session ≡ Err why
       → after ≡ closed before plan → IsRecorded plan fault complete before after (faults.Refused why)
 
--- The outcome of a run after its last step, which is the outcome before, or `Memory` if that is `Ok` and the allocation
--- for the entry at the source fails.
+-- The outcome of a run after its last step. A run's success becomes `Memory` if the allocation for the entry at the
+-- source fails, and any other outcome stays.
 abbrev pub UnlessMemory : Result Report PoolFault → Result Report PoolFault → Type 0
 UnlessMemory (Ok report) result = (result ≡ Ok report) ⊎ (result ≡ Err faults.Memory)
 UnlessMemory (Err why) result = result ≡ Err why
@@ -161,8 +161,8 @@ pub record EndsWell (source target target' : PeerValue) (plan : Plan) (n : ℕ) 
 abbrev pub LeftPeer : {F : Type 0} → (F → Document → Bool) → PeerValue → F × PeerValue → Plan → F × PeerValue → Type 0
 LeftPeer refuses source given plan now = (now.0 ≡ given.0) × IsLeft (refuses given.0) source given.1 plan now.1
 
--- The result of a run of the pool, and the two peers that it returns, where a counter of the run's board may be full if
--- there is one.
+-- The result of a run of the pool, and the two peers that it returns. If the run has a board, a counter of the board
+-- may be full.
 pub record RunsOn {F : Type 0} (refuses : F → Document → Bool) (may_fill : Type 0) (may_stop : Place → Type 0)
     (plan : Plan) (source target source' target' : F × PeerValue) (fetched : List ℕ) (outcome : Result Report PoolFault)
     : Type 0 where

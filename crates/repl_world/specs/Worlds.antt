@@ -171,8 +171,8 @@ run refuses w (step ∷ steps) = run refuses (happens refuses w step) steps
 
 -- ---- failed allocations
 
--- The effect of a step that ran out of memory, which is no change, except that settling may have settled a part of the
--- documents that it could settle.
+-- The effect of a step that ran out of memory. Such a step changes the world only if it settles a parcel, and then it
+-- may have settled a part of the parcel's documents.
 abbrev pub IsStopped : (Document → Bool) → WorldValue → SessionId → Option (ℕ × ParcelValue) → WorldValue → Type 0
 IsStopped refuses w session parcel now =
     (now ≡ w)

@@ -31,7 +31,7 @@ change_begun s b = cond (b == 32) (record s { place = Line Seq; text = [] }) (re
 abbrev pub is_change : State → Bool
 is_change s = wants_changes s.wanted && bytes_eq s.text (codes "change")
 
--- The parser's state after the first word of a line, where a line that begins with `refused` is counted as skipped.
+-- The parser's state after the first word of a line. The parser counts a line that begins with `refused` as skipped.
 abbrev pub word_passed : State → State
 word_passed s = record s { passed = cond (bytes_eq s.text (codes "refused")) (more s.passed) s.passed }
 

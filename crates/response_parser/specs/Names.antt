@@ -12,8 +12,8 @@ use Rattle.response_parser.specs.declared.place.Found.TheVariants as found
 
 -- ---- names with quotation marks
 
--- The meaning of a name t if documents are requested, where the flag `first` says whether the name is the first one of
--- its object.
+-- The meaning of a name t if documents are requested. The flag `first` says whether the name t is the first one of its
+-- object.
 abbrev pub document_name : Bool → List ℕ → Name
 document_name first t =
     cond (first && bytes_eq t (codes "\"_id\"")) Plain
@@ -46,7 +46,8 @@ wanted_name Unfolded first inner entry t = document_name first t
 wanted_name Leaves first inner entry t = leaf_name inner entry t
 wanted_name InChanges first inner entry t = change_name first t
 
--- The meaning of a name t for any request, where the names `error` and `reason` have a meaning in an outermost object.
+-- The meaning of a name t for any request. For any request, the names `error` and `reason` have a meaning in an
+-- outermost object.
 unfoldable pub name_of : Wanted → Bool → Bool → Bool → ℕ → List ℕ → Name
 name_of wanted first inner diff depth t =
     cond (depth == 1 && bytes_eq t (codes "\"error\"")) Error
@@ -162,8 +163,8 @@ passes Reason first = false
 passes Other first = false
 passes Foreign first = false
 
--- The error for a name's value, if there is one. A name's value gives an error if it must be an id or a revision but is
--- not a string, or if it is the reason of an error.
+-- The error for a name's value, if there is one. The value of a name gives an error if it is no string but must be an
+-- id or a revision, or if it is the reason of an error.
 abbrev pub refusal_of : Name → ℕ → Bool → Option Refusal
 refusal_of Plain first failed = None
 refusal_of Document first failed = None

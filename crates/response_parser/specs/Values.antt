@@ -32,7 +32,7 @@ told found.Rev s = record s { found = found.Rev }
 abbrev pub passed_by : Name → ℕ → State → State
 passed_by name first s = record s { passed = cond (passes name first) (more s.passed) s.passed }
 
--- The parser's state after the value of a name, where a string that is CouchDB's error is stored.
+-- The parser's state after the value of a name. The parser stores a string that is CouchDB's error.
 abbrev pub error_kept : Name → ℕ → State → State
 error_kept name first s = cond (is_error name && first == 34) (record s { failed = true; error = s.text }) s
 

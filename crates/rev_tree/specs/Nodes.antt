@@ -49,7 +49,7 @@ abbrev pub entry_of : {X : Type 0} → RevId → Option X → List (RevId × X)
 entry_of r None = []
 entry_of r (Some x) = (r, x) ∷ []
 
--- The entries of all nodes for which part f has a value, where the key of an entry is the node's revision.
+-- The entries of all nodes for which part f has a value. The key of a node's entry is the node's revision.
 abbrev pub entries_of : {X : Type 0} → (NodeValue → Option X) → List NodeValue → List (RevId × X)
 entries_of f [] = []
 entries_of f (n ∷ nodes) = entry_of n.rev (f n) ++ entries_of f nodes

@@ -157,14 +157,14 @@ plan_of s options chosen = plan_with s.program options (session_of s options) ch
 
 -- ---- its result
 
--- The ending of a replication by one thread, where a replication that its plan stopped has not failed.
+-- The ending of a replication by one thread. A replication by one thread that its plan stopped has not failed.
 abbrev pub ending_of : Result Report TargetFault → Result Ending Refusal
 ending_of (Ok report) = Ok (Done report)
 ending_of (Err fault) = do
   low_water ← stop_of fault
   Ok (Stopped low_water)
 
--- The ending of a replication by the pool, where a replication that its plan stopped has not failed.
+-- The ending of a replication by the pool. A replication by the pool that its plan stopped has not failed.
 abbrev pub ending_of_run : Result Report PoolFault → Result Ending Refusal
 ending_of_run (Ok report) = Ok (Done report)
 ending_of_run (Err fault) = do

@@ -75,7 +75,7 @@ abbrev pub both_told : List ℕ → Told → Told
 both_told text (Ok more) = Ok (text ++ more)
 both_told text (Err name) = Err name
 
--- The result of `sync` after that of the forward direction, where the reverse direction follows unless the forward
+-- The result of `sync` after that of the forward direction. The reverse direction of `sync` follows, unless the forward
 -- direction failed.
 abbrev pub SyncsBack : State → SyncAsk → Told → Told → State → Type 0
 SyncsBack mid ask (Ok text) told new =

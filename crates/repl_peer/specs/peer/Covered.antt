@@ -19,7 +19,7 @@ use Rattle.repl_peer.specs.declared.fault.Reason.TheVariants as reasons
 abbrev pub contradiction_of : DatabaseValue → Document → Option Contradiction
 contradiction_of db d = first_contradiction (tree_of db.docs d.id).parents (edges_of d.ancestry)
 
--- Why a peer refuses a document, if it does, where the filter is checked before the document's tree.
+-- Why a peer refuses a document, if it does. A peer checks the filter before the document's tree.
 abbrev pub refusal_of : (Document → Bool) → DatabaseValue → Document → Option Reason
 refusal_of refuses db d =
     if refuses d then Some reasons.Filtered

@@ -34,7 +34,7 @@ abbrev pub after_some : (Document → Bool) → PeerValue → SessionId → Parc
 after_some refuses p session parcel n =
     after_stop refuses p session parcel (min n (most_settled refuses p session parcel))
 
--- A call on a target, where `Stop` is a settling that ran out of memory after a number of documents.
+-- A call on a target. The call `Stop` on a target is a settling that ran out of memory after a number of documents.
 pub data Call : Type 0 where
   Load : (doc : Document) → Call
   Edit : (id : Id) (parent : Option RevId) (deleted : Bool) (body : List ℕ) → Call
