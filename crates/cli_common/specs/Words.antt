@@ -10,11 +10,11 @@ use Rattle.clap.specs.declared.parser.matches.ArgMatches.{ArgMatches}
 abbrev pub program_app : List ℕ → App
 program_app name = on_top (λ s. record s { has_version = true }) (new_app name)
 
--- An option without a value.
+-- A command-line option without a value.
 abbrev pub flag_option : List ℕ → Rule
 flag_option name = record (new_rule name) { long = Some name; action = Some SetTrue }
 
--- The rule of a positional argument.
+-- The `clap` rule of a positional argument.
 abbrev pub hidden_option : List ℕ → Rule
 hidden_option name = record (new_rule name) { action = Some Set }
 
@@ -24,7 +24,7 @@ IsFlag text flag =
     ((text ≡ None) → flag ≡ false) × ((text ≡ Some (codes "true")) → flag ≡ true)
     × ((text ≡ Some (codes "false")) → flag ≡ false)
 
--- The first values and the single values of all arguments are those that the command line gives them.
+-- For each argument, the first value and the only value that `clap` returns are those of the command line.
 abbrev pub IsFound : App → List (List ℕ) → ArgMatches → Type 0
 IsFound line words m =
     (first_value (found_of m) ≡ λ id. first_of id (matches_of line words))

@@ -17,7 +17,7 @@ abbrev pub told_of : Result (List ℕ) Refusal → Told
 told_of (Ok text) = Ok text
 told_of (Err refusal) = Err (name_of refusal)
 
--- A line fails with a given error, and leaves the state unchanged.
+-- A script's line fails with a given error, and leaves the script's state unchanged.
 abbrev pub Refuses : Refusal → State → Told → State → Type 0
 Refuses refusal old told new = (told ≡ Err (name_of refusal)) × (new ≡ old)
 
@@ -27,11 +27,11 @@ abbrev pub AnswersIn : {L : Type 0} → Answering State L → Answering State (R
 AnswersIn answers old (Ok ask) told new = answers old ask told new
 AnswersIn answers old (Err refusal) told new = Refuses refusal old told new
 
--- A line has a given result, and leaves the state unchanged.
+-- A script's line has a given result, and leaves the script's state unchanged.
 abbrev pub Reads : Result (List ℕ) Refusal → State → Told → State → Type 0
 Reads text old told new = (told ≡ told_of text) × (new ≡ old)
 
--- A line has a given output and leaves a given state, or it fails and leaves the state unchanged.
+-- A script's line has a given output and leaves a given state, or it fails and leaves the state unchanged.
 abbrev pub Does : Result (List ℕ × State) Refusal → State → Told → State → Type 0
 Does (Ok done) old told new = (told ≡ Ok done.0) × (new ≡ done.1)
 Does (Err refusal) old told new = Refuses refusal old told new

@@ -7,7 +7,7 @@ use Rattle.serde_json.specs.Written.{compact_text}
 use Rattle.rev_core.specs.Rev.{RevId}
 use Rattle.rev_core.specs.Text.{rev_text}
 
--- A text with a line end.
+-- A text followed by a line end.
 abbrev pub ended : List ℕ → List ℕ
 ended text = text ++ 10 ∷ []
 

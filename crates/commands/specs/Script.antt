@@ -11,15 +11,15 @@ use Rattle.script_databases.specs.declared.refusal.Refusal.TheVariants as why
 use Rattle.command_api.specs.Telling.{AnswersIn}
 use Rattle.commands.specs.words.{Asked, asked_in, WordsAnswer}
 
--- The line is the JSON object with members ms.
+-- A script's line is the JSON object with members `ms`.
 abbrev pub IsObject : List ℕ → Members → Type 0
 IsObject line ms = IsUtf8 line × (read line ≡ Some (object ms))
 
--- The line is not a JSON object.
+-- A script's line is not a JSON object.
 abbrev pub IsNoObject : List ℕ → Type 0
 IsNoObject line = (ms : Members) → IsObject line ms → ⊥
 
--- The request of a line, or why the line is not a command.
+-- The request of a script's line, or why the line is not a command.
 abbrev pub Asks : List ℕ → Result Asked Refusal → Type 0
 Asks line asked =
     ((ms : Members) × IsObject line ms × (asked ≡ asked_in (object ms))) ⊎ (IsNoObject line × (asked ≡ Err why.BadLine))

@@ -142,7 +142,8 @@ same_head (r ∷ revs) (s ∷ others) = eq_by_cmp rev_cmp r s
 abbrev pub same_revision : Document → Document → Bool
 same_revision d e = bytes_eq d.id e.id && same_head d.ancestry e.ancestry
 
--- The invariant of parcel p.
+-- The invariant of parcel p: each requested revision is fetched or gone, each fetched document was requested, and no
+-- revision occurs twice.
 pub record IsParcel (p : ParcelValue) : Type 0 where
   pub asked : IsAsked p.asked
   pub answered : list_all (is_answered p.docs p.gone) p.asked.docs ≡ true

@@ -64,7 +64,7 @@ live_upto docs b rows = filter (λ e. nat_le e.0 b) (live docs rows)
 abbrev pub swept : List (Id × Kept) → List (ℕ × ℕ) → List (ℕ × ℕ)
 swept docs rows = if nat_lt (length docs) (length rows / 2) then live docs rows else rows
 
--- Each document position in the index is below n.
+-- Each document position in the index of a database is below n.
 abbrev pub ArePlaces : ℕ → List (ℕ × ℕ) → Type 0
 ArePlaces n index = (e : ℕ × ℕ) → Among e index → e.1 < n
 
@@ -117,11 +117,11 @@ pub record IsTable (g : Id → Option Kept) (index : List (ℕ × Id)) (hi : ℕ
   pub indexed : (id : Id) (k : Kept) → g id ≡ Some k → at_seq k.seq index ≡ Some id
   pub trees : (id : Id) (k : Kept) → g id ≡ Some k → IsDocumentTree k.tree
 
--- Each sequence of the index is below s.
+-- Each sequence in the index of a database is below s.
 abbrev pub AllBelow : {X : Type 0} → ℕ → List (ℕ × X) → Type 0
 AllBelow {X} s index = (e : ℕ × X) → Among e index → e.0 < s
 
--- The sequences of the index rows rise.
+-- The sequences in the index of a database rise.
 abbrev pub InOrder : List (ℕ × ℕ) → Type 0
 InOrder [] = Unit {0}
 InOrder (e ∷ rows) = ((x : ℕ × ℕ) → Among x rows → e.0 < x.0) × InOrder rows

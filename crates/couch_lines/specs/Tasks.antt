@@ -31,7 +31,7 @@ IsSize absent (Some text) n =
 abbrev pub IsNamed : Option (List ℕ) → List ℕ → Type 0
 IsNamed word db = (word ≡ Some db) × (is_name db ≡ true)
 
--- The name of a task, as an argument.
+-- The command-line argument that names a task of `couch_lines`.
 abbrev pub word_of : Named → List ℕ
 word_of named.Load = codes "load"
 word_of named.Ids = codes "ids"
@@ -40,12 +40,12 @@ word_of named.Leaves = codes "leaves"
 word_of named.Bulk = codes "bulk"
 word_of named.Trees = codes "trees"
 
--- An optional argument is the name of a database, if there is one.
+-- An optional argument is the name of a database, if the argument exists.
 abbrev pub IsNamedOrNone : Option (List ℕ) → Option (List ℕ) → Type 0
 IsNamedOrNone word None = word ≡ None
 IsNamedOrNone word (Some db) = IsNamed word db
 
--- The task with a given name, an argument and flags.
+-- The task of `couch_lines` with a given name, argument and flags.
 abbrev pub Fits : Named → Option (List ℕ) → Bool → Bool → Task → Type 0
 Fits named.Load word whole svg (Load db w) = IsNamed word (string_bytes db) × (w ≡ whole) × (svg ≡ false)
 Fits named.Load word whole svg (Ids n) = ⊥
@@ -116,11 +116,11 @@ AskNothing word second third whole svg Memory = Unit {0}
 
 -- ---- the command line
 
--- The rule of the first argument, which is required.
+-- The `clap` rule of the first argument of `couch_lines`, which is required.
 abbrev pub task_word : Rule
 task_word = record (new_rule (codes "task")) { action = Some Set; value_names = 1; required = true }
 
--- The rule of the second argument.
+-- The `clap` rule of the second argument of `couch_lines`.
 abbrev pub second_word : Rule
 second_word = record (new_rule (codes "of")) { action = Some Set; value_names = 1 }
 

@@ -21,11 +21,11 @@ pub record HeadView : Type 0 where
 abbrev pub is_space : ℕ → Bool
 is_space b = b == 32
 
--- The text before the first space.
+-- The part of a text before the text's first space.
 abbrev pub word_in : Text → Text
 word_in text = before_first is_space text
 
--- The text after the first space.
+-- The part of a text after the text's first space.
 abbrev pub rest_in : Text → Text
 rest_in text = after_first is_space text
 

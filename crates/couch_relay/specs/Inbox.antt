@@ -16,7 +16,7 @@ pub record IsInbox (inbox : Inbox) : Type 0 where
   pub within : inbox.at ≤ length inbox.held.items
   pub some : 0 < length inbox.buffer.items
 
--- A reader returned bytes, by which its history grew.
+-- A reader returned bytes, which were appended to the history of the bytes that it has returned.
 abbrev pub Took : Option (List ℕ) → Option (List ℕ) → Type 0
 Took old new = (bytes : List ℕ) × Appends old new bytes
 

@@ -77,13 +77,13 @@ status_after (tell notice) = None
 status_after (done None counts recorded) = Some (if counts.doc_write_failures == 0 then 0 else 1)
 status_after (done (Some fault) counts recorded) = Some 3
 
--- A run is over with the given status, because of `done`, or because the remaining bytes have no response to the last
--- request.
+-- A run of the relay is over with the given status, because of `done`, or because the remaining bytes have no response
+-- to the last request.
 abbrev pub EndsWith : Type 0 → RequestView → List ℕ → ℕ → Type 0
 EndsWith ended next left status =
     (status_after next ≡ Some status) ⊎ ((status_after next ≡ None) × NoFrame ended left × (status ≡ 3))
 
--- A complete run of the program: the input, the output, and the exit status.
+-- A complete run of the relay: the input, the output, and the exit status.
 pub record Ran (o : RequestOptions) (ended : Type 0) (input text : List ℕ) (status : ℕ) : Type 0 where
   pub read : List ℕ
   pub left : List ℕ
@@ -94,7 +94,7 @@ pub record Ran (o : RequestOptions) (ended : Type 0) (input text : List ℕ) (st
   pub text_is : text ≡ written ++ request_text o next
   pub ends : EndsWith ended next left status
 
--- A run that a fault stopped, in which a prefix of one more request was written.
+-- A run of the relay that a fault stopped, in which a prefix of one more request was written.
 pub record RanUntil (o : RequestOptions) (input text : List ℕ) : Type 0 where
   pub read : List ℕ
   pub left : List ℕ
@@ -171,7 +171,7 @@ Runs options ended input text status =
     × Ran o ended rest text status)
     ⊎ ((options.choice ≡ true) × NoChoice ended input × (text ≡ []) × (status ≡ 3))
 
--- A run that a fault stopped, in which at most a prefix of a request was written after the exchanges.
+-- A run of the relay that a fault stopped, in which at most a prefix of a request was written after the exchanges.
 abbrev pub RunsUntil : Options → List ℕ → List ℕ → Type 0
 RunsUntil options input text =
     (text ≡ [])

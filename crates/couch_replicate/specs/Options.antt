@@ -20,14 +20,14 @@ number_option name =
     record (new_rule name)
     { long = Some name; action = Some Set; value_names = 1; parser = Some (vp.Unsigned 0 18446744073709551615) }
 
--- The command line of the program.
+-- The command line of the program `couch_replicate`.
 abbrev pub options : App
 options = with_rule (with_rule (with_rule (with_rule (with_rule (with_rule (with_rule (with_rule (with_rule
     (program_app (codes "couch_replicate")) deny_option) (number_option (codes "seed"))) (number_option (codes "at"))) (number_option (codes "workers")))
     (number_option (codes "batch"))) (flag_option (codes "quiet"))) (flag_option (codes "explain")))
     (flag_option (codes "progress"))) (hidden_option (codes "file"))
 
--- The text is the number n, or without a text n is the default.
+-- The text of an option is the number n, or n is the option's default if there is no text.
 abbrev pub IsNumber : Option (List ℕ) → ℕ → ℕ → Type 0
 IsNumber None default n = n ≡ default
 IsNumber (Some text) default n =

@@ -54,28 +54,28 @@ pub record Holds (d : Document) (id : List ℕ) (leaves : List State) : Type 0 w
 -- The effect of a line of a script's output: whether a document is open after the line, and which item, if any, the
 -- line completes.
 pub data IsNext : Option Document → Told → Option Document → Option Whole → Type 0 where
-  -- A line that begins a document.
+  -- A line of a script's output that begins a document.
   opened : {old : Option Document} {id : String Global} {count : ℕ} {d : Document} → Holds d (string_bytes id) [] → d.count ≡ count
       → IsNext old (told.Document id count) (Some d) None
-  -- A line with a leaf that is not the last one of the open document.
+  -- A line of a script's output with a leaf that is not the last one of the open document.
   more : {d e : Document} {live : Bool} {revs : Vec RevId Global} (r : RevId) → head_of revs.items ≡ Some r
       → Holds e (string_bytes d.id) (with_leaf (states d) r live) → e.count ≡ d.count → vec_len e.leaves < e.count
       → IsNext (Some d) (told.Leaf live revs) (Some e) None
-  -- A line with the last leaf of the open document, which is then complete.
+  -- A line of a script's output with the last leaf of the open document, which is then complete.
   whole : {d e : Document} {live : Bool} {revs : Vec RevId Global} (r : RevId) → head_of revs.items ≡ Some r
       → Holds e (string_bytes d.id) (with_leaf (states d) r live) → e.count ≡ d.count → e.count ≤ vec_len e.leaves
       → IsNext (Some d) (told.Leaf live revs) None (Some (wholes.Tree e))
-  -- A line with a leaf, if no document is open.
+  -- A line of a script's output with a leaf, if no document is open.
   loose : {live : Bool} {revs : Vec RevId Global} → IsNext None (told.Leaf live revs) None None
   -- A line of a script's output with a leaf and an empty list of revisions, which does not occur when lines are parsed.
   empty : {old : Option Document} {live : Bool} {revs : Vec RevId Global} → head_of revs.items ≡ None → IsNext old (told.Leaf live revs) None None
-  -- A line with a document and its live leaves.
+  -- A line of a script's output with a document and its live leaves.
   conflict : {old : Option Document} {id : String Global} {revs : Vec RevId Global} {e : Document} → Holds e (string_bytes id) (with_all [] revs.items)
       → IsNext old (told.Conflict id revs) None (Some (wholes.Tree e))
-  -- A line of `compare` about a document, and a line of numbers.
+  -- A line of `compare` about a document, or a line of numbers, in a script's output.
   found : {old : Option Document} {f : Found} → IsNext old (told.Found f) None (Some (wholes.Found f))
   row : {old : Option Document} {r : Row} → IsNext old (told.Row r) None (Some (wholes.Row r))
-  -- A line with a log.
+  -- A line of a script's output with a log.
   log : {old : Option Document} {l : Log} → IsNext old (told.Log l) None (Some (wholes.Log l))
   -- Any other line of a script's output.
   other : {old : Option Document} → IsNext old told.Other None None
@@ -151,7 +151,7 @@ pub record IsPictured (form : Form) (db : Option (List ℕ)) (clean : Bool) (lef
   pub pictured : IsPictureOf form db input clean picture
   pub written : Appends held held' picture
 
--- A text that is the start of a picture, and drawings that satisfy `holds`.
+-- A text that is the start of a picture, followed by drawings that satisfy `holds`.
 abbrev pub BeginsPicture : (List ℕ → Type 0) → List ℕ → Type 0
 BeginsPicture holds text = (head : List ℕ) × Draws [] head [] × (drawn : List ℕ) × holds drawn × (text ≡ head ++ drawn)
 

@@ -81,27 +81,28 @@ abbrev pub shown_text : Form → List ℕ → List ℕ
 shown_text form text = encode_utf8_all (shown form (chars text))
 
 pub data Sign : Type 0 where
-  -- The sign of a document id.
+  -- A sign of a picture that shows a document id.
   title : Form → List ℕ → Sign
-  -- The sign of a leaf, with whether it is the winner, and whether it is live.
+  -- A sign of a picture that shows a leaf, whether it is the winner, and whether it is live.
   leaf : Form → RevId → Bool → Bool → Sign
-  -- The sign of the command that resolves a leaf's conflict, with its database, document id and revision.
+  -- A sign of a picture that shows the command that resolves a leaf's conflict, with its database, document id and
+  -- revision.
   edit : List ℕ → List ℕ → RevId → Sign
-  -- The sign of a finding of `compare`, with the document id.
+  -- A sign of a picture that shows a finding of `compare`, with the document id.
   found : Form → Finding → List ℕ → Sign
-  -- The sign of a revision of a finding.
+  -- A sign of a picture that shows a revision of a finding.
   listed : RevId → Sign
-  -- The sign of the kind and the name of a line of numbers.
+  -- A sign of a picture that shows the kind and the name of a line of numbers.
   heading : Form → Table → List ℕ → Sign
-  -- The sign of the number of a column.
+  -- A sign of a picture that shows the number of a column.
   count : Column → ℕ → Sign
-  -- The sign of a part of a total.
+  -- A sign of a picture that shows a part of a total as a bar.
   bar : Form → ℕ → ℕ → Sign
-  -- The sign of a log, with its replication id.
+  -- A sign of a picture that shows a log, by its replication id.
   log : Form → List ℕ → Sign
-  -- The sign of the start time of a session.
+  -- A sign of a picture that shows the start time of a session.
   moment : Form → List ℕ → Sign
-  -- The sign of the numbers of documents written and read, with the largest number read in the log.
+  -- A sign of a picture that shows the numbers of documents written and read, and the largest number read in the log.
   chart : Form → ℕ → ℕ → ℕ → Sign
 
 abbrev pub leaf_ink : Form → RevId → Bool → Bool → List ℕ
@@ -207,7 +208,7 @@ ink_of (whole r) = rev_text r
 ink_of (short r) = short_text r
 ink_of (sign s) = sign_ink s
 
--- The sign that a piece of a picture is, if it is one.
+-- The sign that a piece of a picture is, if it is a sign.
 abbrev pub sign_in : Piece → List Sign
 sign_in (mark m) = []
 sign_in (number n) = []
@@ -235,18 +236,18 @@ abbrev pub edits_of : Option (List ℕ) → List ℕ → List Leaf → List Sign
 edits_of None id leaves = []
 edits_of (Some db) id leaves = flat_map (edit_of db id) leaves
 
--- The signs of a document: its id, its leaves, and in text the commands that resolve its conflict.
+-- The signs of a document in a picture: its id, its leaves, and in text the commands that resolve its conflict.
 abbrev pub signs_of : Form → Option (List ℕ) → List ℕ → List Leaf → List Sign
 signs_of forms.Text db id leaves = title forms.Text id ∷ (map (leaf_sign forms.Text) leaves ++ edits_of db id leaves)
 signs_of forms.Svg db id leaves = title forms.Svg id ∷ map (leaf_sign forms.Svg) leaves
 
 -- ---- signs of other lines
 
--- The signs of a finding of `compare`: the finding, and its revisions.
+-- The signs of a finding of `compare` in a picture: the finding, and its revisions.
 abbrev pub signs_of_found : Form → Finding → List ℕ → List RevId → List Sign
 signs_of_found form finding id revs = found form finding id ∷ map listed revs
 
--- The signs of a line of numbers, each number with its column.
+-- The signs of a line of numbers in a picture, each number with its column.
 abbrev pub counts_of : List Column → List ℕ → List Sign
 counts_of (c ∷ cs) (n ∷ ns) = count c n ∷ counts_of cs ns
 counts_of cs ns = []
@@ -258,7 +259,7 @@ bars_of form tables.Compared ns = bar form (get_or ns 1 0 - get_or ns 2 0) (get_
 bars_of form tables.Info ns = []
 bars_of form tables.Session ns = bar form (get_or ns 5 0) (get_or ns 4 0) ∷ []
 
--- The signs of a line of numbers: its name, its numbers, and a bar.
+-- The signs of a line of numbers in a picture: its name, its numbers, and a bar.
 abbrev pub signs_of_row : Form → Table → List ℕ → List ℕ → List Sign
 signs_of_row form table name ns = heading form table name ∷ (counts_of (columns_of table) ns ++ bars_of form table ns)
 
@@ -267,12 +268,12 @@ abbrev pub most_from : ℕ → List Entry → ℕ
 most_from most [] = most
 most_from most (e ∷ es) = most_from (max most e.read) es
 
--- The signs of a session of a log: its start time, its documents, and its id.
+-- The signs of a log's session in a picture: its start time, its documents, and its id.
 abbrev pub signs_of_session : Form → ℕ → Entry → List Sign
 signs_of_session form most e =
     moment form (string_bytes e.begun) ∷ chart form e.written e.read most ∷ count columns.Read e.read ∷ count columns.Written e.written
     ∷ count columns.Failed e.failed ∷ heading form tables.Session (string_bytes e.session) ∷ []
 
--- The signs of a log: its replication id, and those of each session.
+-- The signs of a log in a picture: its replication id, and those of each session.
 abbrev pub signs_of_log : Form → List ℕ → List Entry → List Sign
 signs_of_log form id es = log form id ∷ flat_map (signs_of_session form (most_from 1 es)) es

@@ -65,7 +65,7 @@ enveloped x = cond (is_enveloped x) (Some (envelope_of x)) None
 
 -- ---- unwrapping
 
--- A text, if it is not blank.
+-- A text, or `None` if it is blank.
 abbrev pub if_any : List ℕ → Option (List ℕ)
 if_any t = cond (is_blank t) None (Some t)
 

@@ -34,7 +34,7 @@ nesting_behind Escaped n b = n
 
 -- ---- members
 
--- The number of bytes of the current member that were not yet read.
+-- The number of unread bytes of the current member.
 unfoldable pub length_in : Mode → ℕ → List ℕ → ℕ
 length_in m n [] = 0
 length_in m n (b ∷ t) = cond (ends_member m n b) 0 (length_in (mode_behind m b) (nesting_behind m n b) t + 1)

@@ -4,11 +4,11 @@ use Rattle.json.specs.Print.{quoted}
 use Rattle.doc_envelope.specs.Members.{is_blank}
 use Rattle.doc_envelope.specs.Envelopes.{whole_name, stays, unfolded_member}
 
--- The text t of an object without its closing brace after member m is appended.
+-- The text of an object without its closing brace, after member m is appended to t.
 abbrev pub added : List ℕ → List ℕ → List ℕ
 added t m = cond (nat_lt 1 (length t)) (t ++ 44 ∷ m) (t ++ m)
 
--- The text h of an envelope's string after member m is appended.
+-- The text of an envelope's string, after member m is appended to h.
 abbrev pub held_with : List ℕ → List ℕ → List ℕ
 held_with h m = cond (length h == 0) (h ++ m) (h ++ 44 ∷ m)
 
@@ -39,6 +39,6 @@ unfoldable pub all_taken : List ℕ → List (List ℕ) → Option (List ℕ)
 all_taken t [] = Some t
 all_taken t (m ∷ ms) = option_and_then (λ u. all_taken u ms) (taken_with t m)
 
--- The text t of an object without its closing brace, after the member that holds the wrapped members h is appended.
+-- The text of an object without its closing brace, after the wrapped members h are appended to t as one member.
 abbrev pub with_held : List ℕ → List ℕ → List ℕ
 with_held t h = cond (length h == 0) t (added t (whole_name ++ 58 ∷ []) ++ quoted h)

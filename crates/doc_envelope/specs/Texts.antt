@@ -16,7 +16,7 @@ Spaces s = list_all is_space s ≡ true
 abbrev pub is_json : List ℕ → Bool
 is_json text = is_utf8 text && is_some (document text)
 
--- The text of a string after its opening quotation mark, with the closing one.
+-- The text of a JSON string after its opening quotation mark, up to its closing one.
 pub data EndsString : List ℕ → Type 0 where
   ends : EndsString (34 ∷ [])
   plain : {b : ℕ} {t : List ℕ} → (b == 34) ≡ false → (b == 92) ≡ false → EndsString t → EndsString (b ∷ t)

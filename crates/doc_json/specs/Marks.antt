@@ -11,14 +11,14 @@ place_from n (b ∷ bs) = place_from ((n * 31 + b) % 8192) bs
 abbrev pub place_of : ℕ → List ℕ → ℕ
 place_of places id = place_from 0 (drop (length id - 8) id) % places
 
--- Whether the table entry of an id is true.
+-- Whether the table of selected ids has the value true for an id.
 abbrev pub is_marked_of : ℕ → List Bool → List ℕ → Bool
 is_marked_of places marks id = get_or marks (place_of places id) false
 
 abbrev pub is_marked : List Bool → List ℕ → Bool
 is_marked marks id = is_marked_of (length marks) marks id
 
--- The table is not empty, and its entry for each of the ids is true.
+-- The table of selected ids is not empty, and its value for each of the ids is true.
 pub record AreMarks (marks : List Bool) (ids : List (List ℕ)) : Type 0 where
   pub some : 0 < length marks
   pub each : AllByRecursion (λ id. is_marked marks id ≡ true) ids

@@ -26,7 +26,7 @@ special_names =
 abbrev pub is_unknown : List ℕ → Bool
 is_unknown name = is_special name && not (list_any (bytes_eq name) special_names)
 
--- Whether the object has an unknown special member.
+-- Whether the object has a special member that a document may not have.
 abbrev pub has_unknown : Members → Bool
 has_unknown no_members = false
 has_unknown (member name d ms) = is_unknown name || has_unknown ms

@@ -22,7 +22,7 @@ sum_line count hash seq = sum_head count ++ hash ++ codes " " ++ seq
 unfoldable pub is_sum : List ℕ → Bool
 is_sum line = starts_with nat_eq line (codes "sum ")
 
--- The hash before the first block.
+-- The hash that precedes the first block of a journal.
 unfoldable pub first_chain : List ℕ
 first_chain = codes "start"
 

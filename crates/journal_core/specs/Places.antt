@@ -34,7 +34,7 @@ right_end place line = sum_line (length place.held) (hash_at place line) (seq_of
 unfoldable pub end_in : Place → List ℕ → Option (List ℕ)
 end_in place line = if bytes_eq line (right_end place line) then Some (hash_at place line) else None
 
--- The place after a line that rightly ends a block, which has the given hash.
+-- The place of a journal reader after a line that rightly ends a block, which has the given hash.
 abbrev pub closed : Place → List ℕ → List ℕ → Place
 closed place line hash = record {
   chain = hash;
@@ -44,7 +44,7 @@ closed place line hash = record {
   whole = true;
 }
 
--- The place after a line that ends a block with a wrong checksum.
+-- The place of a journal reader after a line that ends a block with a wrong checksum.
 abbrev pub damaged : Place → Place
 damaged place = record { chain = place.chain; seq = place.seq; confirmed = place.confirmed; held = place.held; whole = false }
 
@@ -52,19 +52,19 @@ abbrev pub ended_by : Place → List ℕ → Option (List ℕ) → Place
 ended_by place line None = damaged place
 ended_by place line (Some hash) = closed place line hash
 
--- The place after a line that ends a block, whether its checksum is right or wrong.
+-- The place of a journal reader after a line that ends a block, whether its checksum is right or wrong.
 abbrev pub ended : Place → List ℕ → Place
 ended place line = ended_by place line (end_in place line)
 
--- The place after a line that does not end a block.
+-- The place of a journal reader after a line that does not end a block.
 abbrev pub held_more : Place → List ℕ → Place
 held_more place line = record { chain = place.chain; seq = place.seq; confirmed = place.confirmed; held = place.held ++ line ∷ []; whole = place.whole }
 
--- The place after the next line of a journal.
+-- The place of a journal reader after the next line.
 abbrev pub next : Place → List ℕ → Place
 next place line = if place.whole then (if is_sum line then ended place line else held_more place line) else place
 
--- The place after all of the given lines.
+-- The place of a journal reader after all of the given lines.
 abbrev pub place_after : List (List ℕ) → Place
 place_after lines = fold next start lines
 

@@ -15,7 +15,7 @@ doc_view doc = (string_bytes doc.0, texts_of doc.1.keys)
 abbrev pub docs_view : {S T : Type 0} → IndexMap (String Global) (IndexSet (String Global) S) T → DocsView
 docs_view docs = map doc_view docs.entries
 
--- The revisions of an optional set, which are no revisions without a set.
+-- The revisions of an optional set, or the empty list without a set.
 abbrev pub keys_or_none : {S : Type 0} → Option (IndexSet (String Global) S) → List (String Global)
 keys_or_none None = []
 keys_or_none (Some revs) = revs.keys

@@ -8,18 +8,19 @@ use Rattle.journal_lines.specs.Members.{both, items_at, number_at, text_at}
 use Rattle.journal_lines.specs.Lists.{revs_json, texts_of}
 use Rattle.journal_lines.specs.declared.leaf.Leaf.{Leaf}
 
--- A revision, the generation of the newest revision in its ancestry, and the names of the revision and its ancestors.
+-- A revision, the generation of the newest revision in its ancestry, and the signatures of the revision and its
+-- ancestors.
 abbrev pub LeafView : Type 0
 LeafView = List ℕ × ℕ × List (List ℕ)
 
 abbrev pub leaf_view : Leaf → LeafView
 leaf_view leaf = (string_bytes leaf.rev, leaf.start, texts_of leaf.names.items)
 
--- The revision id with the given generation and name.
+-- The revision id with the given generation and signature.
 abbrev pub rev_at : ℕ → List ℕ → List ℕ
 rev_at generation name = decimal generation ++ codes "-" ++ name
 
--- Whether a revision has one of the given names, whose generations fall by one from `start`.
+-- Whether a revision has one of the given signatures, whose generations fall by one from `start`.
 abbrev pub knows_at : List ℕ → ℕ → List (List ℕ) → Bool
 knows_at rev start [] = false
 knows_at rev start (name ∷ names) = bytes_eq rev (rev_at start name) || knows_at rev (start - 1) names
@@ -35,16 +36,16 @@ HeadView = List ℕ × LeafView × Bool
 abbrev pub head_view : Leaf → HeadView
 head_view leaf = (string_bytes leaf.id, leaf_view leaf, leaf.deleted)
 
--- The generation and the names of a stored ancestry.
+-- The newest generation and the signatures of a stored ancestry.
 abbrev pub ancestry_view : ℕ × Vec (String Global) Global → ℕ × List (List ℕ)
 ancestry_view p = (p.0, texts_of p.1.items)
 
--- The generation and the names that a JSON value of the member `_revisions` gives.
+-- The newest generation and the signatures that a JSON value of the member `_revisions` gives.
 abbrev pub ancestry_in : Json → Option (ℕ × List (List ℕ))
 ancestry_in revisions = both (number_at (codes "start") revisions) (option_and_then revs_json (items_at (codes "ids") revisions))
 
--- The generation and the names of an optional member `_revisions`. If a document has no member `_revisions`, no
--- ancestors are known.
+-- The newest generation and the signatures of an optional member `_revisions`. If a document has no member
+-- `_revisions`, no ancestors are known.
 abbrev pub ancestry_by : Option Json → Option (ℕ × List (List ℕ))
 ancestry_by None = Some (0, [])
 ancestry_by (Some revisions) = ancestry_in revisions

@@ -6,11 +6,11 @@ use Rattle.std.specs.Str.Parse.{digits_value, without_leading_plus}
 use Rattle.json.specs.Json.{Json, Items}
 use Rattle.json.specs.Find.{get, as_str, as_number, as_array}
 
--- The string of a member, if the member is a string.
+-- The value of a JSON object's member, if it is a string.
 abbrev pub text_at : List ℕ → Json → Option (List ℕ)
 text_at name j = option_and_then as_str (get name j)
 
--- The items of a member, if the member is a list.
+-- The items of a JSON object's member, if it is a list.
 abbrev pub items_at : List ℕ → Json → Option Items
 items_at name j = option_and_then as_array (get name j)
 
@@ -31,6 +31,6 @@ number_of_digits ds = if are_digits ds && nat_lt (digits_value 10 ds) (2 ^ 64) t
 abbrev pub number_in : Json → Option ℕ
 number_in j = option_and_then (λ s. number_of_digits (without_leading_plus s)) (as_number j)
 
--- The number of a member, if it has no sign, point or exponent, and at most 64 bits.
+-- The number of a JSON object's member, if it has no sign, point or exponent, and at most 64 bits.
 abbrev pub number_at : List ℕ → Json → Option ℕ
 number_at name j = option_and_then number_in (get name j)

@@ -26,7 +26,7 @@ is_token text = nat_lt 0 (length text) && list_all is_token_byte text
 abbrev pub text_in : List ℕ → Option (List ℕ)
 text_in bytes = if is_utf8 bytes then Some bytes else None
 
--- The bytes after a prefix, if they begin with the prefix.
+-- The bytes after a prefix, if the given bytes begin with the prefix.
 abbrev pub after : List ℕ → List ℕ → Option (List ℕ)
 after prefix bytes = if bytes_eq (take (length prefix) bytes) prefix then Some (drop (length prefix) bytes) else None
 
@@ -37,6 +37,6 @@ abbrev pub cut_at : List ℕ → Option ℕ → Option (List ℕ × List ℕ)
 cut_at bytes None = None
 cut_at bytes (Some i) = Some (take i bytes, drop (i + 1) bytes)
 
--- The bytes before and after the first blank.
+-- The bytes before and after the first blank of the given bytes.
 abbrev pub cut_at_blank : List ℕ → Option (List ℕ × List ℕ)
 cut_at_blank bytes = cut_at bytes (position is_blank bytes)

@@ -14,11 +14,11 @@ seq_in (string s) = token s
 seq_in (array js) = None
 seq_in (object ms) = None
 
--- The sequence of a member, if the member is a string or a number.
+-- The sequence in a JSON object's member, if the member is a string or a number.
 abbrev pub seq_at : List ℕ → Json → Option (List ℕ)
 seq_at name j = option_and_then seq_in (get name j)
 
--- A text, or the text `other` if the former is missing.
+-- A text, or the text `other` if there is no text.
 abbrev pub text_or : List ℕ → Option (List ℕ) → List ℕ
 text_or other None = other
 text_or other (Some text) = text

@@ -5,7 +5,7 @@ use Rattle.json.specs.Find.{get}
 use Rattle.json.specs.Print.{quoted}
 use Rattle.journal_responses.specs.Members.{text_at, text_or}
 
--- The string of a member, or the empty text if the member is not a string.
+-- The value of a JSON object's member, or the empty text if it is not a string.
 abbrev pub word_at : List ℕ → Json → List ℕ
 word_at name j = text_or [] (text_at name j)
 

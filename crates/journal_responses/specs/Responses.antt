@@ -1,4 +1,4 @@
--- What a response is, and why it is not the requested one.
+-- What a server's response is, and why it is not the requested one.
 use Rattle.std.specs.Prelude.{◌≡◌, ℕ, List, Option, None, Some, codes, option_and_then, string_bytes, ⊤}
 use Rattle.json.specs.Json.{Json, document}
 use Rattle.journal_lines.specs.Texts.{text_in}
@@ -10,7 +10,7 @@ use Rattle.journal_responses.specs.declared.said.Said.TheVariants.{Error, NotJso
 abbrev pub response_in : List ℕ → Option Json
 response_in body = option_and_then document (text_in body)
 
--- A response has no JSON value, or an allocation failed.
+-- A server's response has no JSON value, or an allocation failed.
 abbrev pub IsUnread : Option Json → Said → Type 0
 IsUnread value (Error error reason) = ⊥
 IsUnread value NotJson = value ≡ None
@@ -35,7 +35,7 @@ IsSaid j NotJson = ⊥
 IsSaid j Other = error_in j ≡ None
 IsSaid j Memory = ⊤
 
--- A response is not the requested one, or an allocation failed.
+-- A server's response is not the requested one, or an allocation failed.
 abbrev pub IsOther : Said → Type 0
 IsOther (Error error reason) = ⊤
 IsOther NotJson = ⊤

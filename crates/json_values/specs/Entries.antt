@@ -21,18 +21,18 @@ IsRising es = IsStrictlySortedBy (slice_cmp nat_cmp) (names_of es)
 abbrev pub put_entry : {T : Type 0} → Bor (List ℕ) → T → List (Entry T) → List (Entry T)
 put_entry k v es = insert_entry (λ a b. slice_cmp nat_cmp a.now b.now) es k v
 
--- Index i is that of the member named k.
+-- Index i is the position of the member named k in a list of members.
 abbrev pub IsPlaceOf : {T : Type 0} → List ℕ → List (Entry T) → ℕ → Type 0
 IsPlaceOf {T} k es i = (name : Bor (List ℕ)) → name.now ≡ k → (v : T) → (e : Entry T) → slice_get es i ≡ Some e → put_entry name v es ≡ slice_set es i (e.0, v)
 
--- Index i is the one at which a member named k must be inserted.
+-- In the order of names, a member named k must be inserted at index i.
 abbrev pub IsGapFor : {T : Type 0} → List ℕ → List (Entry T) → ℕ → Type 0
 IsGapFor {T} k es i = (name : Bor (List ℕ)) → name.now ≡ k → (v : T) → put_entry name v es ≡ take i es ++ (name, v) ∷ drop i es
 
--- A member named k must be appended after all other members.
+-- In the order of names, a member named k comes after all members of the list.
 abbrev pub ComesLast : {T : Type 0} → List ℕ → List (Entry T) → Type 0
 ComesLast {T} k es = (name : Bor (List ℕ)) → name.now ≡ k → (v : T) → put_entry name v es ≡ es ++ (name, v) ∷ []
 
--- The last member of the old list has been moved to index i.
+-- The last member of the list `old` has been moved to index i.
 abbrev pub MovesLast : {T : Type 0} → List (Entry T) → ℕ → List (Entry T) → Type 0
 MovesLast {T} old i new = (es : List (Entry T)) (last : Entry T) → old ≡ es ++ last ∷ [] → new ≡ take i es ++ last ∷ drop i es

@@ -12,6 +12,6 @@ lexer_view a = record { text = drop a.at a.text.now; plain = a.plain }
 pub record IsLexer (a : Inside) : Type 0 where
   pub utf8 : IsUtf8 a.text.now
   pub within : a.at ≤ length a.text.now
-  -- At the current position, the text has no blank.
+  -- At the lexer's current position, the text has no blank.
   pub solid : is_blank (class (get_or a.text.now a.at 32)) ≡ true → a.at ≡ length a.text.now
   pub room : length a.text.now ≤ length a.room.now + a.at

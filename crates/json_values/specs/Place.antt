@@ -27,7 +27,7 @@ Begins old t place new = (p : spec.Place) → may_begin p ≡ true → punctuate
 abbrev pub Closes : List ℕ → Token → Place → List ℕ → Type 0
 Closes old t place new = (p : spec.Place) → may_close p ≡ true → punctuate p (lex between old) ≡ t ∷ tokens_at place new
 
--- Whether the next token is a name.
+-- Whether the next token of a JSON text is a name.
 abbrev pub begins_key : List Token → Bool
 begins_key [] = false
 begins_key (Token.begin_object ∷ ts) = false
@@ -41,7 +41,7 @@ begins_key (Token.boolean b ∷ ts) = false
 begins_key (Token.null ∷ ts) = false
 begins_key (Token.bad ∷ ts) = false
 
--- Whether the next token ends an object.
+-- Whether the next token of a JSON text ends an object.
 abbrev pub ends_object : List Token → Bool
 ends_object [] = false
 ends_object (Token.begin_object ∷ ts) = false
@@ -55,7 +55,7 @@ ends_object (Token.boolean b ∷ ts) = false
 ends_object (Token.null ∷ ts) = false
 ends_object (Token.bad ∷ ts) = false
 
--- Whether reading a string may give the given token.
+-- Whether reading a JSON string may give the given token.
 abbrev pub of_string : Token → Bool
 of_string Token.begin_object = false
 of_string Token.end_object = false
@@ -68,7 +68,7 @@ of_string (Token.boolean b) = false
 of_string Token.null = false
 of_string Token.bad = true
 
--- The next tokens do not begin a value, at any nesting depth.
+-- The next tokens of a JSON text do not begin a value, at any nesting depth.
 abbrev pub BeginsNoValue : List Token → Type 0
 BeginsNoValue ts = (depth : ℕ) → value depth ts ≡ None
 

@@ -7,7 +7,7 @@ use Rattle.output_parser.specs.declared.told.Column.TheVariants as columns
 use Rattle.output_parser.specs.declared.told.Table.{Table}
 use Rattle.output_parser.specs.declared.told.Table.TheVariants as tables
 
--- The text before a column's number, without the blank.
+-- The text before the number of a column in a line of numbers, without the blank.
 abbrev pub column_text : Column → List ℕ
 column_text columns.ComparedDocuments = codes "compared"
 column_text columns.ComparedLeaves = codes " documents"
@@ -30,7 +30,7 @@ column_text columns.Read = codes " read"
 column_text columns.Written = codes " written"
 column_text columns.Failed = codes " failed"
 
--- The columns of a table, in order.
+-- The columns of a kind of line with numbers, in order.
 abbrev pub columns_of : Table → List Column
 columns_of tables.Compared =
     columns.ComparedDocuments ∷ columns.ComparedLeaves ∷ columns.ComparedMissing ∷ columns.Contradicting ∷ columns.Differing ∷ []

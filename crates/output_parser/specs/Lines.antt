@@ -30,7 +30,7 @@ abbrev pub state_text : Bool → List ℕ
 state_text true = codes "live "
 state_text false = codes "deleted "
 
--- A line `leaf REV live REVS` or `leaf REV deleted REVS`, by its texts.
+-- The texts of a line `leaf REV live REVS` or `leaf REV deleted REVS`.
 pub record LeafParts (line own : List ℕ) (live : Bool) (list : List ℕ) : Type 0 where
   pub word : lacks 32 own ≡ true
   pub form : line ≡ codes "leaf " ++ (own ++ 32 ∷ (state_text live ++ list))
@@ -49,7 +49,7 @@ pub record IsLeafLine (line : List ℕ) (live : Bool) (revs : List RevId) : Type
   pub falls : FallsByOne revs
   pub begins : BeginsWith own revs
 
--- A line with a keyword, a blank, an id, a blank and a list of revisions, by its texts.
+-- The texts of a line with a keyword, a blank, an id, a blank and a list of revisions.
 pub record ListedParts (word line id list : List ℕ) : Type 0 where
   pub lacks_blank : lacks 32 list ≡ true
   pub form : line ≡ word ++ (id ++ 32 ∷ list)
@@ -66,7 +66,7 @@ finding_text findings.Missing = codes "missing "
 finding_text findings.Contradicts = codes "contradicts "
 finding_text findings.Differs = codes "differs "
 
--- The line is not about the given kind of finding.
+-- The line of output does not report the given kind of finding of `compare`.
 abbrev pub NoFinding : List ℕ → Finding → Type 0
 NoFinding line finding = (id : List ℕ) (revs : List RevId) → IsListed (finding_text finding) line id revs → ⊥
 
@@ -76,7 +76,7 @@ NoRow line table = (name numbers : List ℕ) → IsRow table line name numbers �
 abbrev pub NoLog : List ℕ → Type 0
 NoLog line = (id : List ℕ) (entries : List Logged) → IsLog line id entries → ⊥
 
--- The contents of a line that does not describe a tree.
+-- The contents of a line of a script's output that does not describe a tree.
 abbrev pub TellsMore : List ℕ → Told → Type 0
 TellsMore line (told.Document id count) = ⊥
 TellsMore line (told.Leaf live revs) = ⊥

@@ -107,7 +107,7 @@ HasWritten (Some b) a z stopped (Some s) (Some t) =
     × (stopped ≡ None → t.read + a ≡ s.read + z)
 HasWritten (Some b) a z stopped s t = ⊥
 
--- The halt with which a write ended, if it did not succeed.
+-- The halt with which a writer's step ended, if the step did not succeed.
 abbrev pub halt_in : Result (Unit {0}) Halt → Option Halt
 halt_in (Ok done) = None
 halt_in (Err halt) = Some halt

@@ -32,7 +32,7 @@ abbrev pub IsHaltOn : Type 0 → (Place → Type 0) → PoolFault → Type 0
 IsHaltOn may_fill may_stop (faults.Refused fault) = IsStepFault fault
 IsHaltOn may_fill may_stop fault = IsLateOn may_fill may_stop fault
 
--- The error of a run for a worker's halt.
+-- The error that a run returns for a worker's halt.
 abbrev pub fault_of : Halt → PoolFault
 fault_of (halts.Stopped place) = faults.Halted place
 fault_of (halts.Refused fault) = faults.Refused fault

@@ -8,7 +8,7 @@ use Rattle.repl_peer.specs.peer.Peer.{SessionValue}
 use Rattle.repl_target.specs.declared.replication.Plan.{Plan}
 use Rattle.repl_target.specs.replication.Replication.{is_batch, next_window, has_left}
 
--- Window w is the next page of the source's selected feed at the window's beginning.
+-- Window w is the page of the source's selected feed that begins at w's lower bound.
 abbrev pub IsNext : DatabaseValue → Plan → WindowValue → Type 0
 IsNext source plan w =
     (is_batch plan.batch ≡ true) × (w.lo < source.update_seq) × (w ≡ next_window source plan w.lo)
@@ -25,7 +25,8 @@ IsOneLess None less = less ≡ None
 IsOneLess (Some more) None = ⊥
 IsOneLess (Some more) (Some less) = more ≡ less + 1
 
--- Each window of a list is the next page at its beginning, and the plan allows `more` further windows.
+-- Each window of a list is the page of the source's selected feed at its lower bound, and the plan allows `more`
+-- further windows.
 abbrev pub HasPages : DatabaseValue → Plan → Option ℕ → List WindowValue → Type 0
 HasPages source plan more windows =
     ((w : WindowValue) → Among w windows → IsNext source plan w) × AllowsMore plan.stop_after (length windows) more

@@ -13,23 +13,23 @@ abbrev pub seat_view : Bool → Bool → ℕ → List ℕ → List ℕ → SeatV
 seat_view deals works number reads settles =
     record { deals = deals; works = works; number = number; reads = reads; settles = settles }
 
--- The view of the seat that creates the seats of k workers, from worker number n on.
+-- What the seat that creates the seats of k workers knows, before it creates the seat of worker n.
 abbrev pub dealer : ℕ → ℕ → SeatView
 dealer k n = seat_view true false n (replicate k 0) (replicate k 0)
 
--- The view of the creating seat after it created a worker's seat.
+-- What the creating seat knows after it created a worker's seat.
 abbrev pub dealt : SeatView → SeatView
 dealt v = seat_view v.deals v.works (v.number + 1) v.reads v.settles
 
--- The view of a new worker's seat.
+-- What a new worker's seat knows about the board's counters.
 abbrev pub hired : SeatView → SeatView
 hired v = seat_view false true v.number (replicate (length v.reads) 0) (replicate (length v.reads) 0)
 
--- The view of a new viewer's seat.
+-- What a new viewer's seat knows about the board's counters.
 abbrev pub viewer : SeatView → SeatView
 viewer v = seat_view false false 0 (replicate (length v.reads) 0) (replicate (length v.reads) 0)
 
--- A worker's view after the worker has added n to its read counter.
+-- What a worker's seat knows after the worker has added n to its read counter.
 abbrev pub added_read : SeatView → ℕ → SeatView
 added_read v n =
     seat_view v.deals v.works v.number (slice_set v.reads v.number (slice_index v.reads v.number + n)) v.settles
@@ -85,7 +85,7 @@ pub record Kept (k : ℕ) (words : List ℕ) (views : List SeatView) : Type 0 wh
 
 -- ---- new views
 
--- The view of a new seat, whose bounds are all 0.
+-- A new seat knows only that the board's counts are at least 0.
 abbrev pub IsFresh : ℕ → Bool → ℕ → SeatView → Type 0
 IsFresh k works number v =
     (v.works ≡ works) × (v.number ≡ number) × (v.reads ≡ replicate k 0) × (v.settles ≡ replicate k 0)

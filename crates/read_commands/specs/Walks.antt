@@ -6,15 +6,15 @@ use Rattle.repl_peer.specs.peer.Peer.{PeerValue}
 use Rattle.script_databases.specs.Databases.{State, peer_at}
 use Rattle.read_commands.specs.declared.feed.Walk.{Walk}
 
--- The rows of the feed after the position, up to the update sequence.
+-- The rows of the selected changes feed after a reader's position, up to the update sequence.
 abbrev pub rows_left : DatabaseValue → Walk → List RowValue
 rows_left db w = chosen_feed w.chosen db w.since db.update_seq
 
--- All rows of the feed, before and after the position.
+-- All rows of the selected changes feed, before and after a reader's position.
 abbrev pub rows_walked : DatabaseValue → Walk → List RowValue
 rows_walked db w = chosen_feed w.chosen db 0 db.update_seq
 
--- The remaining output about a database, or the empty text if the database does not exist.
+-- The remaining output of a command about a database, or the empty text if the database does not exist.
 abbrev pub left_in : Option PeerValue → (PeerValue → List ℕ) → List ℕ
 left_in None text = []
 left_in (Some l) text = text l

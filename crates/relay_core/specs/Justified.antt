@@ -20,8 +20,8 @@ abbrev pub is_too_large : Side → ℕ → Bool
 is_too_large Target status = status == 413
 is_too_large Source status = false
 
--- Whether the response to a carry has a row that refuses the given leaf, or the target refused a carry of the document
--- alone as too large.
+-- Whether the target's response to a carry, a request that transfers documents, refuses the given leaf, or refuses the
+-- document alone as too large.
 abbrev pub rejects : RequestView → ResponseView → Text → Text → Bool
 rejects (carry_docs docs) (row_errors_response rows) id leaf = refuses rows id leaf
 rejects (carry_docs docs) (rejected_response side status words) id leaf = is_too_large side status && is_alone docs id
@@ -33,37 +33,37 @@ is_found h id leaf = list_any (λ e. finds e.request e.response id leaf) h
 abbrev pub is_rejected : List Exchange → Text → Text → Bool
 is_rejected h id leaf = list_any (λ e. rejects e.request e.response id leaf) h
 
--- The target has each leaf of the rows, or refused it.
+-- The target has each leaf of a page's rows, or refused it.
 abbrev pub AreSettled : List Exchange → List DocView → Type 0
 AreSettled h rows = (id leaf : Text) → names rows id leaf ≡ true → (is_found h id leaf || is_rejected h id leaf) ≡ true
 
--- The leaves of the rows that the target does not have.
+-- The leaves of a page's rows that the target does not have.
 abbrev pub not_found : List Exchange → List DocView → List DocView
 not_found h rows = docs_where (λ id leaf. not (is_found h id leaf)) rows
 
 -- ---- the replication logs
 
--- The log that a response has, if it has one.
+-- The replication log that a response has, if it has one.
 abbrev pub log_in : ResponseView → Option LogView
 log_in (log_response log) = Some log
 log_in r = None
 
--- The log of a side after an exchange, given the log before.
+-- The replication log of a side after an exchange, given its log before.
 abbrev pub log_after : Side → RequestView → ResponseView → Option LogView → Option LogView
 log_after Source (get_log Source) r before = log_in r
 log_after Target (get_log Target) r before = log_in r
 log_after side q r before = before
 
--- The log of a side, as its server last returned it.
+-- The replication log of a side, as its server last returned it.
 abbrev pub last_log : Side → List Exchange → Option LogView
 last_log side [] = None
 last_log side (e ∷ h) = log_after side e.request e.response (last_log side h)
 
--- Whether one of the log entries has the given session and sequence.
+-- Whether one of a log's entries has the given session and sequence.
 abbrev pub has_pair : List EntryView → Text → Text → Bool
 has_pair entries session seq = list_any (λ e. bytes_eq e.session session && bytes_eq e.seq seq) entries
 
--- The session and sequence of the first of the target's entries that is also in the source's log.
+-- The session and sequence of the first entry of the target's log that is also in the source's log.
 abbrev pub newest_common : List EntryView → List EntryView → Option (Text × Text)
 newest_common [] source = None
 newest_common (e ∷ target) source = if has_pair source e.session e.seq then Some (e.session, e.seq) else newest_common target source
@@ -134,7 +134,7 @@ MayAsk h (put_log side log checkpoint) = IsReady h side log checkpoint.seq check
 MayAsk h (tell notice) = Unit {0}
 MayAsk h (done fault counts recorded) = Unit {0}
 
--- Each request of a history was allowed when it was sent.
+-- Each request of the relay's history was allowed when it was sent.
 abbrev pub IsJustified : List Exchange → Type 0
 IsJustified [] = Unit {0}
 IsJustified (e ∷ h) = MayAsk h e.request × IsJustified h

@@ -25,7 +25,7 @@ begin_of run = seq_of (option_map pair_view run.begin)
 abbrev pub wait_of : Run → Option ℕ
 wait_of run = if run.waits then Some (if run.is_open then 5000 else 60000) else None
 
--- The documents of the current carry.
+-- The documents that the relay's current carry transfers to the target.
 abbrev pub part_of : Transfer → List DocView
 part_of t = docs_view (take t.size (drop t.carried t.missing.items))
 
@@ -40,7 +40,7 @@ asked_by run (stages.TargetPut target source checkpoint) = put_log Target (log_v
 asked_by run (stages.SourcePut source checkpoint) = put_log Source (log_view source) (checkpoint_view checkpoint)
 asked_by run (stages.Done fault) = done (option_map fault_view fault) run.counts (begin_of run)
 
--- The next notice, or the request of the phase's stage.
+-- The next notice of the relay's phase, or the request of its stage.
 abbrev pub asked_of : Phase → RequestView
 asked_of phase = option_map_or (λ n. tell (notice_view n)) (slice_get phase.notices.items phase.told) (asked_by phase.run phase.stage)
 

@@ -19,7 +19,7 @@ operation_text RevsDiff = codes "_revs_diff"
 operation_text Carry = codes "_bulk_docs"
 operation_text WriteLog = codes "PUT _local"
 
--- The form that a response to an operation must have, in words of a fault's message.
+-- The form that a response to an operation must have, as a fault's message describes it.
 abbrev pub expected_text : Operation → Text
 expected_text ReadLog = codes "a replication log"
 expected_text Changes = codes "a page of changes"

@@ -14,16 +14,16 @@ is_plain_byte b = nat_le 32 b && not (b == 127)
 abbrev pub plain : Text → Option Text
 plain s = if list_all is_plain_byte s then Some s else None
 
--- The revision of a change in a row.
+-- The revision of a change in a row of a page.
 abbrev pub rev_in : Json → Option Text
 rev_in j = option_and_then plain (text_at (codes "rev") j)
 
--- The leaves of a row, if the row has a leaf.
+-- The leaves of a page's row, if the row has a leaf.
 abbrev pub some_leaf : List Text → Option (List Text)
 some_leaf [] = None
 some_leaf (r ∷ rs) = Some (r ∷ rs)
 
--- The id and the leaves of a row's document.
+-- The id and the leaves of the document of a page's row.
 abbrev pub row_in : Json → Option DocView
 row_in j = both (text_at (codes "id") j) (option_and_then some_leaf (option_and_then (each_item rev_in) (items_at (codes "changes") j)))
 
@@ -42,13 +42,13 @@ abbrev pub add_row : List DocView → DocView → List DocView
 add_row [] row = (row.0, add_revs [] row.1) ∷ []
 add_row (d ∷ ds) row = if bytes_eq row.0 d.0 then (d.0, add_revs d.1 row.1) ∷ ds else d ∷ add_row ds row
 
--- The documents of all rows, each once, with the leaves of all its rows, each once.
+-- The documents of all rows of a page, each once, with the leaves of all its rows, each once.
 abbrev pub merged : List DocView → List DocView
 merged rows = fold add_row [] rows
 
 -- ---- the page
 
--- The number of documents after the page, or `None` if the member is missing or null.
+-- The number of documents after a page, or `None` if the member is missing or null.
 abbrev pub pending_of : Option Json → Option (Option Text)
 pending_of None = Some None
 pending_of (Some null) = Some None

@@ -12,11 +12,11 @@ use Rattle.relay_core.specs.Messages.{Text}
 abbrev pub json_in : Text → Option Json
 json_in body = if is_utf8 body then document body else None
 
--- The string of a member, if the member is a string.
+-- The value of a JSON object's member, if it is a string.
 abbrev pub text_at : Text → Json → Option Text
 text_at name j = option_and_then as_str (get name j)
 
--- The items of a member, if the member is a list.
+-- The items of a JSON object's member, if it is a list.
 abbrev pub items_at : Text → Json → Option Items
 items_at name j = option_and_then as_array (get name j)
 
@@ -27,7 +27,7 @@ both (Some x) None = None
 
 -- ---- sequences
 
--- The digits of an integer, if it has no sign.
+-- The digits of a number's text, if the text has only digits.
 abbrev pub digits_in : Text → Option Text
 digits_in s = if list_all is_ascii_digit s then Some s else None
 

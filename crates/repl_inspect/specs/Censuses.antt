@@ -12,7 +12,8 @@ use Rattle.repl_inspect.specs.declared.census.Census.{Census}
 abbrev pub is_gone : TreeValue → Bool
 is_gone tree = length (live tree) == 0
 
--- The numbers of documents, of deleted ones, of those in conflict, of leaves and of revisions.
+-- The census of a database: the numbers of documents, of deleted ones, of those in conflict, of leaves and of
+-- revisions.
 abbrev pub census_of : List TreeValue → Census
 census_of trees = record {
   documents = counted (length trees);

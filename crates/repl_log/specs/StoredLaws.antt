@@ -43,7 +43,7 @@ insert_entry-present s (e ∷ es) x y is =
       | false ↦ λ rest. ap (λ l. e ∷ l) (insert_entry-present s es x y rest)
     ] is
 
--- Theorems about stored values, given the function from a stored value to the value in contracts, and that to its
+-- Theorems about stored values, given functions from a stored value to its value in contracts, and from that to its
 -- session.
 module _ {X V : Type 0} (value : X → V) (session : V → SessionId) where
   abbrev named : SessionId → V → Bool

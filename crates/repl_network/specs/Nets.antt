@@ -141,6 +141,6 @@ EditFits peers place id parent deleted body =
     (p : PeerValue) → IsAt peers place p → (e : RevId × Option RevId) → edited p.db id parent deleted body ≡ Ok e
     → FitsIn peers (edit_document id e deleted body)
 
--- If the trees of a document agreed and had complete histories before, they still do.
+-- If the trees of a document agreed and had complete histories before a write, they still do after it.
 abbrev pub KeepsAgreement : List PeerValue → List PeerValue → Id → Type 0
 KeepsAgreement peers peers' id = AllAgree peers id → AllWhole peers id → AllAgree peers' id × AllWhole peers' id

@@ -12,7 +12,7 @@ ArePages source plan since [] = Unit {0}
 ArePages source plan since (w ∷ windows) =
     (since < source.update_seq) × (w ≡ next_window source plan since) × ArePages source plan w.hi windows
 
--- The plan allows n windows.
+-- The plan of a run allows n windows.
 abbrev pub AreAllowed : Option ℕ → ℕ → Type 0
 AreAllowed None n = Unit {0}
 AreAllowed (Some stop_after) n = n ≤ stop_after

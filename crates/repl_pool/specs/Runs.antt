@@ -30,8 +30,7 @@ use Rattle.repl_pool.specs.Pages.{IsPaged}
 
 -- ---- end of a run
 
--- The session of a run was concluded, because no worker failed or stopped, and all parcels that were sent were
--- received.
+-- The session of a run was concluded, no worker failed or stopped, and all parcels that were sent were received.
 pub record IsConcluded (plan : Plan) (fault : Option PoolFault) (complete : Bool) (before after : PeerValue)
     (report : Report) : Type 0 where
   pub free : fault ≡ None
@@ -119,7 +118,7 @@ IsUnbegunFor source target plan fault =
     ⊎ (fault ≡ faults.Refused refusals.Memory)
     ⊎ (why : TargetFault) × (begins_answer source target plan ≡ Err why) × (fault ≡ faults.Refused why)
 
--- The outcome is the error for which the session has not begun.
+-- The outcome of a run is the error for which its session has not begun.
 pub record IsUnbegun (source target : PeerValue) (plan : Plan) (outcome : Result Report PoolFault) : Type 0 where
   pub fault : PoolFault
   pub told : outcome ≡ Err fault
@@ -170,7 +169,7 @@ pub record RunsOn {F : Type 0} (refuses : F → Document → Bool) (may_fill : T
   -- is a halt only if the gate allows it, a full board only if possible, and never a hole.
   pub early : EarlyOrLate may_fill may_stop (early_answer source.1 target.1 plan) source target source' target' fetched
       outcome
-  -- Of the source only the log changes.
+  -- A run changes only the log of its source.
   pub filter : source'.0 ≡ source.0
   pub log : source'.1 ≡ record source.1 { outgoing = source'.1.outgoing }
   -- The target of a run is unchanged, or the session has begun and the target has grown by calls with messages of the
@@ -184,7 +183,7 @@ pub record RunsOn {F : Type 0} (refuses : F → Document → Bool) (may_fill : T
   -- A third peer stays tied to the source and to the target of a run. In two of four cases, a third peer must have a
   -- UUID of its own to stay tied.
   pub others : KeepsOthersTied source.1 target.1 source'.1 target'.1
-  -- An audit of the returned peers is clean if they were tied.
+  -- An audit of the peers that a run returns is clean if the peers were tied before the run.
   pub audited : (chosen : Choice) → IsTiedPair source.1 target.1 chosen
       → audit_answer source'.1 target'.1 chosen ≡ None
   -- If a run's session has not begun, both peers are unchanged and the error says why. If a run's session has begun, it
@@ -192,8 +191,8 @@ pub record RunsOn {F : Type 0} (refuses : F → Document → Bool) (may_fill : T
   pub put : LeavesOrPuts plan source target source' target' outcome
   -- The guarantees of a run that succeeded.
   pub well : IfOk outcome (EndsWell source.1 target.1 target'.1 plan (sum fetched))
-  -- If the peers were tied, the target covers the source's complete selected feed, including the part at or below the
-  -- start.
+  -- If the peers of a successful run were tied, the target covers the source's complete selected feed, including the
+  -- part at or below the start.
   pub whole : IfOk outcome
       (λ _. IsTiedPair source.1 target.1 plan.chosen
       → CoversFeed source.1 target'.1 plan.chosen source.1.db.update_seq)

@@ -46,7 +46,8 @@ pub record Tied (w : WorldValue) : Type 0 where
   -- No window or log of the bag is from a later life than the source's database.
   pub window_lives : (x : WindowValue) → Among x w.bag.windows → x.life ≤ w.source.db.life
   pub log_lives : (g : ℕ × List EntryValue) → Among g w.bag.logs → g.0 ≤ w.source.db.life
-  -- The windows of the source's life, with their requests and parcels, are consistent with the database as it is now.
+  -- The windows of the source's life in the bag are consistent with the source's current database, and so are their
+  -- requests and parcels.
   pub windows : (x : WindowValue) → Among x w.bag.windows → x.life ≡ w.source.db.life
       → IsTiedWindow w.source.db w.chosen x
   pub asked : (a : ℕ × AskedValue) → Among a w.bag.asked → OwnAsked w a.0 a.1

@@ -4,7 +4,7 @@ use Rattle.std.specs.Prelude.{ℕ, List, [], Bool, true, false, codes}
 use Rattle.response_output.specs.declared.forms.Form.{Form}
 use Rattle.response_output.specs.declared.forms.Form.TheVariants.{Loads, Asked, Diffs, Docs, Bodies}
 
--- The text that opens a body of the given form.
+-- The text that opens a request body of the given form.
 abbrev pub opening : Form → List ℕ
 opening Loads = []
 opening Asked = codes "{\"docs\":["
@@ -12,7 +12,7 @@ opening Diffs = codes "{"
 opening Docs = []
 opening Bodies = codes "{\"new_edits\":false,\"docs\":["
 
--- The text between two items of a body.
+-- The text between two items of a request body.
 abbrev pub separator : Form → List ℕ
 separator Loads = []
 separator Asked = codes ","
@@ -20,7 +20,7 @@ separator Diffs = codes "],"
 separator Docs = []
 separator Bodies = codes ","
 
--- The text after each item of a body.
+-- The text after each item of a request body.
 abbrev pub ends : Form → List ℕ
 ends Loads = codes "}\n"
 ends Asked = codes "}"
@@ -28,7 +28,7 @@ ends Diffs = []
 ends Docs = codes "}\n"
 ends Bodies = []
 
--- The text that closes a body of the given form.
+-- The text that closes a request body of the given form.
 abbrev pub closing : Form → List ℕ
 closing Loads = []
 closing Asked = codes "]}\n"
@@ -36,7 +36,7 @@ closing Diffs = codes "]}\n"
 closing Docs = []
 closing Bodies = codes "]}\n"
 
--- The body that is written if there are no items to write.
+-- The request body that is written if there are no items to write.
 abbrev pub empty : Form → List ℕ
 empty Loads = []
 empty Asked = codes "{\"docs\":[]}\n"
@@ -44,7 +44,7 @@ empty Diffs = codes "{}\n"
 empty Docs = []
 empty Bodies = []
 
--- The text between a document id and its revision.
+-- The text between a document id and its revision in a request body.
 abbrev pub before_rev : Form → List ℕ
 before_rev Loads = codes ",\"rev\":"
 before_rev Asked = codes ",\"rev\":"
@@ -52,7 +52,8 @@ before_rev Diffs = codes ":["
 before_rev Docs = codes ",\"rev\":"
 before_rev Bodies = codes ",\"rev\":"
 
--- Whether the revisions of a document form one list, so that a body ends before a document instead of after a revision.
+-- Whether the revisions of a document form one list, so that a request body ends before a document instead of after a
+-- revision.
 abbrev pub has_lists : Form → Bool
 has_lists Loads = false
 has_lists Asked = false

@@ -48,7 +48,7 @@ pub record Begins (fault : ScriptFault) (w : Words) (all : List Piece) (held hel
 abbrev pub all_text : Words → List Piece → List ℕ
 all_text w all = texts w all ++ last_text (words_behind w all)
 
--- A write failed within the last text, so that only a part of it is written.
+-- A write failed within the text that ends the output, so that only a part of it is written.
 pub record EndsInPart (fault : ScriptFault) (whole : List ℕ) (held held' : Option (List ℕ)) : Type 0 where
   pub text : List ℕ
   pub missing : List ℕ
@@ -56,7 +56,7 @@ pub record EndsInPart (fault : ScriptFault) (whole : List ℕ) (held held' : Opt
   pub written : Appends held held' text
   pub failed : fault ≡ Write
 
--- The last text is written if the input consists of complete responses.
+-- The text that ends the output is written if the input consists of complete responses.
 abbrev pub EndsAnswers : State → Words → Option (List ℕ) → Option (List ℕ) → Result ℕ AnswerFault → Type 0
 EndsAnswers s w held held' (Ok passed) =
     Appends held held' (last_text w) × (end_of s.place ≡ Ok tt) × (passed ≡ s.passed)
@@ -64,7 +64,7 @@ EndsAnswers s w held held' (Err (Refused why at)) =
     Appends held held' [] × (end_of s.place ≡ Err why) × (at ≡ s.taken)
 EndsAnswers s w held held' (Err (Device fault)) = EndsInPart fault (last_text w) held held'
 
--- The end of a run, in which a last line without a line end is ended first.
+-- The end of a conversion, in which a last line without a line end is ended first.
 abbrev pub Finishes : State → Words → Option (List ℕ) → Option (List ℕ) → Result ℕ AnswerFault → Type 0
 Finishes s w held held' (Ok passed) =
     Appends held held' (all_text w (pieces s (last_end s))) × (end_of (after s (last_end s)).place ≡ Ok tt)
@@ -111,7 +111,7 @@ Stopped wanted w left held held' (Device fault) =
     (read : List ℕ) × IsLeft wanted left read
     × (Begins fault w (pieces (start wanted) read) held held' ⊎ EndsInPart fault (all_text w (pieces (start wanted) read)) held held')
 
--- The guarantees of a run for any input, by the run's result.
+-- The guarantees of a conversion for any input, by the conversion's result.
 abbrev pub Converts : Result ℕ AnswerFault → Wanted → Words → Option (List ℕ) → Option (List ℕ) → Option (List ℕ) → Type 0
 Converts (Ok passed) wanted w left held held' = Answered wanted w left held held' passed
 Converts (Err fault) wanted w left held held' = Stopped wanted w left held held' fault
@@ -135,7 +135,7 @@ CountsOfWriter (Ok passed) writer writer' = writer' ≡ writer
 CountsOfWriter (Err (Refused why at)) writer writer' = writer' ≡ writer
 CountsOfWriter (Err (Device fault)) writer writer' = IsOfWriter fault writer writer'
 
--- The result of a run at the end of the input.
+-- The result of a conversion at the end of its input.
 abbrev pub judged_by : ℕ → ℕ → Result (Unit {0}) Refusal → Result ℕ AnswerFault
 judged_by passed taken (Ok u) = Ok passed
 judged_by passed taken (Err why) = Err (Refused why taken)

@@ -13,14 +13,14 @@ use Rattle.response_output.specs.declared.forms.Form.TheVariants.{Loads, Asked, 
 -- The state of a formatter between two items.
 pub record Words : Type 0 where
   pub form : Form
-  -- The text before each item.
+  -- The text that the formatter writes before each item.
   pub begins : List ℕ
-  -- The last document id, and whether a revision of this document was written.
+  -- The formatter's last document id, and whether it has written a revision of this document.
   pub id : List ℕ
   pub listed : Bool
-  -- The number of items in the open body.
+  -- The number of items in the formatter's open body.
   pub count : ℕ
-  -- The maximum number of items per body, or 0 for no limit.
+  -- The maximum number of items per request body, or 0 for no limit.
   pub size : ℕ
   -- Whether the formatter has written any text.
   pub told : Bool
@@ -30,7 +30,7 @@ pub record Words : Type 0 where
 abbrev pub before : Words → List ℕ
 before w = cond (w.count == 0) (opening w.form) (separator w.form) ++ w.begins
 
--- Whether a body is full after one more item, so that it is then closed.
+-- Whether the formatter's body is full after one more item, so that it is then closed.
 abbrev pub is_full : Words → Bool
 is_full w = not (has_lists w.form) && more w.count == w.size
 
@@ -50,7 +50,7 @@ document_text w text = before w ++ (text ++ behind w)
 abbrev pub with_document : Words → List ℕ → Words
 with_document w text = counted_up (id_kept w (id_of text))
 
--- Whether a body of lists is full.
+-- Whether the formatter's body of lists is full.
 abbrev pub is_over : Words → Bool
 is_over w = has_lists w.form && (nat_lt 0 w.count && w.count == w.size)
 
@@ -93,7 +93,7 @@ words_then w Rev text = with_rev w
 
 -- ---- all items
 
--- The texts of items, in order.
+-- The texts that the formatter writes for items, in order.
 abbrev pub texts : Words → List Piece → List ℕ
 texts w [] = []
 texts w (p ∷ more) = text_for w p.0 p.1 ++ texts (words_then w p.0 p.1) more
@@ -102,7 +102,7 @@ abbrev pub words_behind : Words → List Piece → Words
 words_behind w [] = w
 words_behind w (p ∷ more) = words_behind (words_then w p.0 p.1) more
 
--- The text that is written at the end.
+-- The text that the formatter writes at the end.
 abbrev pub last_text : Words → List ℕ
 last_text w = cond (nat_lt 0 w.count) (closing w.form) (cond w.told [] (empty w.form))
 

@@ -59,7 +59,7 @@ entry_opened s = opened Member (record s { diff = true; found = found.Id })
 abbrev pub list_opened : State → State
 list_opened s = cond (wants_changes s.wanted) (refused NoAnswer s) (opened Item s)
 
--- Whether a place is before the first response.
+-- Whether a place of the parser is before the first response.
 abbrev pub is_first : Place → Bool
 is_first Start = true
 is_first Begin = true
@@ -177,7 +177,7 @@ begun_as names.Reason s = value_begun names.Reason s
 begun_as names.Other s = value_begun names.Other s
 begun_as names.Foreign s = refused NoDocument s
 
--- Whether the name may be the id of a document with missing revisions.
+-- Whether the parser's last name may be the id of a document with missing revisions.
 abbrev pub is_ahead : State → Bool
 is_ahead s = wants_leaves s.wanted && (s.depth == 1 && (s.first || s.diff))
 

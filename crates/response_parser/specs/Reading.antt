@@ -9,7 +9,7 @@ use Rattle.response_parser.specs.declared.place.Refusal.TheVariants.{NoAnswer, C
 use Rattle.response_parser.specs.declared.place.Found.{Found}
 use Rattle.response_parser.specs.declared.place.Found.TheVariants.{Nothing, Document, Id, Rev}
 
--- The parser's state after the given bytes.
+-- The parser's state after it has read the given bytes.
 abbrev pub after : State → List ℕ → State
 after s [] = s
 after s (b ∷ bytes) = after (step s b) bytes
@@ -24,7 +24,7 @@ piece_of Document text = (Document, text) ∷ []
 piece_of Id text = (Id, text) ∷ []
 piece_of Rev text = (Rev, text) ∷ []
 
--- The item that is complete after the last byte, if there is one.
+-- The item that the parser's last byte completed, if there is one.
 abbrev pub given : State → List Piece
 given s = piece_of s.found s.text
 

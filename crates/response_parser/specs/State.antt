@@ -12,14 +12,14 @@ use Rattle.response_parser.specs.declared.place.Found.TheVariants.{Nothing}
 pub record State : Type 0 where
   pub wanted : Wanted
   pub place : Place
-  -- Whether a list or an object was closed.
+  -- Whether the parser has read the end of a list or an object.
   pub some : Bool
-  -- The number of open lists and objects.
+  -- The number of lists and objects that are open at the parser's position.
   pub depth : ℕ
   -- Whether the innermost object has a known member, and whether it has an id.
   pub known : Bool
   pub named : Bool
-  -- Whether the last name is the first one of its object.
+  -- Whether the parser's last name is the first one of its object.
   pub first : Bool
   -- Whether the innermost list is a document's list of revisions.
   pub inner : Bool
@@ -27,15 +27,15 @@ pub record State : Type 0 where
   pub diff : Bool
   -- Whether the response has a member `error`.
   pub failed : Bool
-  -- The number of open brackets within a value.
+  -- The number of brackets that are open within the parser's current value.
   pub nesting : ℕ
   -- The part of the current name or value that was read, which is complete after the end of the name or value.
   pub text : List ℕ
-  -- The text of the last member `error`.
+  -- The text of CouchDB's error, from the last member `error`.
   pub error : List ℕ
-  -- The kind of item that the last byte completed.
+  -- The kind of item that the parser's last byte completed.
   pub found : Found
-  -- The number of skipped documents.
+  -- The number of documents that the parser has skipped.
   pub passed : ℕ
   -- The number of bytes that the parser has read.
   pub taken : ℕ

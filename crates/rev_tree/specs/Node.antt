@@ -17,7 +17,7 @@ pub record NodeValue : Type 0 where
   pub origin : Origin
   pub has_child : Bool
 
--- The flags that a stored node has.
+-- The flags of a node, from its stored form.
 abbrev pub marks_of : Known → Marks
 marks_of (Bare marks counted) = marks
 marks_of (Full marks counted content) = marks

@@ -44,7 +44,7 @@ abbrev pub AllDeny : Option (List ℕ) → Entries → Type 0
 AllDeny deny entries =
     (name : List ℕ) (denied : Option (List ℕ)) → finmap.get (denied_of entries) name ≡ Some denied → denied ≡ deny
 
--- A table after a change of the peers of two names, all else being unchanged.
+-- The table of databases after a change of the peers of two names, and of no other peers.
 abbrev pub IsEmptied : Entries → List ℕ → List ℕ → Entries → Type 0
 IsEmptied old source target new =
     (p : Rules × PeerValue) × (q : Rules × PeerValue)

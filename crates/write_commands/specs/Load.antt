@@ -83,7 +83,7 @@ abbrev pub load_new : State → List ℕ → ℕ → Option Document → Result 
 load_new s db uuid None = Ok (made_line db, with_peer s db (new_peer uuid))
 load_new s db uuid (Some doc) = put_into s db (new_peer uuid) doc
 
--- The result of `load` for a new database with the given UUID, `UuidTaken` if another database has the UUID.
+-- The result of `load` for a new database with the given UUID, or `UuidTaken` if another database has the UUID.
 abbrev pub LoadsUntaken : State → List ℕ → ℕ → Result (Option Document) Refusal → Told → State → Type 0
 LoadsUntaken old db uuid doc told new =
     IsTaken old uuid × Refuses why.UuidTaken old told new

@@ -125,11 +125,11 @@ ending_line session (Stopped low_water) = stopped_line session low_water
 abbrev pub last_second : ℕ
 last_second = 253402300799
 
--- The timestamp of the line, or the program's if the line has none.
+-- The timestamp of a `replicate` line, or the program's if the line has none.
 abbrev pub moment_of : Program → Options → ℕ
 moment_of program options = unwrap_or options.at program.at
 
--- The session id that the line gives, or the next generated one.
+-- The session id that a `replicate` line gives, or the next generated one.
 abbrev pub session_of : State → Options → ℕ
 session_of s options = unwrap_or options.session (next_made s)
 

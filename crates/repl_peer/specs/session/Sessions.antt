@@ -51,7 +51,7 @@ session_answer p id answer = found_answer answer (session_in p.sessions id)
 abbrev pub start_answer : ℕ → ℕ → Result (Unit {0}) TargetFault
 start_answer start recorded = if nat_lt recorded start then Err (faults.StartAboveBase recorded) else Ok tt
 
--- The earlier session with id `base`, if it is of the same replication.
+-- The peer's session with id `base`, if it is of the same replication.
 abbrev pub base_in : List SessionValue → RepId → SessionId → Option SessionValue
 base_in sessions rep base = find (λ s. is_of base s && same_rep s.rep rep) sessions
 
@@ -134,7 +134,7 @@ record_answer p id = session_answer p id (λ s. Ok (low_water s.front))
 abbrev pub after_record : PeerValue → SessionId → ℕ → PeerValue
 after_record p id at = on_session p id (recorded_at at)
 
--- The report of session s.
+-- The report of session s, which concluding returns.
 abbrev pub report_of : SessionValue → Report
 report_of s = record {
   session = s.id;

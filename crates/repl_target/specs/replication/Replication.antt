@@ -133,13 +133,13 @@ Reads refuses source plan (suc n) from to =
     (before : Reading) × Reads refuses source plan n from before × (is_due source plan n before.since ≡ true)
     × Carries refuses source plan before to
 
--- Windows are read until no other window must be read.
+-- The windows of a replication are read until no other window must be read.
 abbrev pub ReadsAll : (Document → Bool) → DatabaseValue → Plan → Reading → PeerValue → Type 0
 ReadsAll refuses source plan from target' =
     (n : ℕ) × (now : Reading) × Reads refuses source plan n from now × (is_due source plan n now.since ≡ false)
     × (target' ≡ now.target)
 
--- Windows are read until one fails.
+-- The windows of a replication are read until one fails.
 abbrev pub ReadsUntil : (Document → Bool) → DatabaseValue → Plan → Reading → TargetFault → PeerValue → Type 0
 ReadsUntil refuses source plan from why target' =
     (n : ℕ) × (now : Reading) × Reads refuses source plan n from now × (is_due source plan n now.since ≡ true)
@@ -186,7 +186,7 @@ first_reading source target plan =
 -- The result of a replication by one thread, and the source and target after it.
 pub data Replicates (refuses : Document → Bool) (source target : PeerValue) (plan : Plan) : Result Report TargetFault
     → PeerValue → PeerValue → Type 0 where
-  -- The plan is not valid for the source and the target.
+  -- The plan of a replication is not valid for the source and the target.
   not_planned : {why : TargetFault} → plan_answer source.db.uuid target.db.uuid plan ≡ Err why
       → Replicates refuses source target plan (Err why) source target
   -- An allocation fails before the session begins, or the session cannot begin.
@@ -194,7 +194,7 @@ pub data Replicates (refuses : Document → Bool) (source target : PeerValue) (p
       → Replicates refuses source target plan (Err faults.Memory) source target
   not_begun : {why : TargetFault} → plan_answer source.db.uuid target.db.uuid plan ≡ Ok tt → begins_answer source target plan ≡ Err why
       → Replicates refuses source target plan (Err why) source target
-  -- Reading, storing or settling a window fails.
+  -- A replication fails because reading, storing or settling a window fails.
   cut : {why : TargetFault} {target' : PeerValue} → plan_answer source.db.uuid target.db.uuid plan ≡ Ok tt
       → begins_answer source target plan ≡ Ok tt
       → ReadsUntil refuses source.db plan (first_reading source target plan) why target'
