@@ -119,7 +119,7 @@ pub record AreOptions (options : Options) (choice : Text) (o : RequestOptions) :
   pub query : string_bytes o.query ≡ options.query.now
   pub choice_is : string_bytes o.choice ≡ choice
 
--- A byte of a text on one line: a blank instead of a line end.
+-- A byte of a text that is put on one line, with a blank instead of a line end.
 abbrev pub on_line : ℕ → ℕ
 on_line b = if b == 10 || b == 13 then 32 else b
 

@@ -77,7 +77,7 @@ pub data IsNext : Option Document → Told → Option Document → Option Whole 
   row : {old : Option Document} {r : Row} → IsNext old (told.Row r) None (Some (wholes.Row r))
   -- A line of a script's output with a log.
   log : {old : Option Document} {l : Log} → IsNext old (told.Log l) None (Some (wholes.Log l))
-  -- Any other line of a script's output.
+  -- A line of a script's output that shows in no picture.
   other : {old : Option Document} → IsNext old told.Other None None
 
 -- ---- pictures

@@ -7,7 +7,7 @@ use Rattle.json.specs.Print.{quoted}
 use Rattle.journal_lines.specs.Texts.{cut_at_blank, is_token, text_in}
 use Rattle.journal_lines.specs.declared.leaves.Leaves.{Leaves}
 
--- What a line with leaves names: a sequence, the id of a document, and revisions.
+-- What a journal line with leaves names: a sequence, the id of a document, and revisions.
 abbrev pub LeavesView : Type 0
 LeavesView = List ℕ × List ℕ × List (List ℕ)
 
@@ -72,7 +72,7 @@ abbrev pub leaves_by : Option (List ℕ × List ℕ) → Option LeavesView
 leaves_by None = None
 leaves_by (Some parts) = leaves_at (option_and_then token (text_in parts.0)) (text_in parts.1)
 
--- The leaves that a line names after its first word.
+-- The leaves that a journal line names after its first word.
 abbrev pub leaves_in : List ℕ → Option LeavesView
 leaves_in rest = leaves_by (cut_at_blank rest)
 

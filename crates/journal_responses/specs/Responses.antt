@@ -27,8 +27,8 @@ IsErrorOf error reason NotJson = ⊥
 IsErrorOf error reason Other = ⊥
 IsErrorOf error reason Memory = ⊥
 
--- What a JSON value is if it is not the requested response: an error of CouchDB, or another value. If an allocation
--- failed, this is said instead of what the JSON value is.
+-- What a JSON value is if it is not the requested response: an error of CouchDB, another value, or not known because an
+-- allocation failed.
 abbrev pub IsSaid : Json → Said → Type 0
 IsSaid j (Error error reason) = error_in j ≡ Some (string_bytes error, string_bytes reason)
 IsSaid j NotJson = ⊥

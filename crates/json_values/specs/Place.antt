@@ -1,4 +1,4 @@
--- The tokens of a text from a position on.
+-- The tokens of a JSON text from a position on.
 use Rattle.std.specs.Prelude.{◌≡◌, ◌≢◌, ℕ, List, [], ◌∷◌, Bool, true, false, None, ⊤}
 use Rattle.json.specs.Token.{Token, bad}
 use Rattle.json.specs.Json.{value}

@@ -44,13 +44,13 @@ abbrev pub MayFill : Option Board → Type 0
 MayFill None = ⊥
 MayFill (Some b) = Unit {0}
 
--- With a board, all seats are the board's worker seats, and without a board there are no seats.
+-- If there is a board, all seats are the board's worker seats, and without a board there are no seats.
 abbrev pub AreSeated : Option Board → List BoardSeat → Type 0
 AreSeated None seats = seats ≡ []
 AreSeated (Some b) seats = All (WorksAt b) seats
 
--- With a board, all seats are the board's worker seats, and with `out` further seats there is at least one for each
--- worker. If a run has no board, it has no seats.
+-- If there is a board, all seats are the board's worker seats, and with `out` further seats there is at least one for
+-- each worker. If a run has no board, it has no seats.
 abbrev pub AreSeats : Option Board → ℕ → ℕ → List BoardSeat → Type 0
 AreSeats None out workers seats = seats ≡ []
 AreSeats (Some b) out workers seats = (workers ≤ length seats + out) × All (WorksAt b) seats
@@ -60,8 +60,8 @@ abbrev pub AreBack : Option Board → List BoardSeat → List BoardSeat → Type
 AreBack None given now = (given ≡ []) × (now ≡ [])
 AreBack (Some b) given now = AreRisen b given now
 
--- With a board, n documents are shown as settled. If a board exists and no writer was stopped, n documents are also
--- shown as read.
+-- If there is a board, its seats show n more documents as settled. If a board exists and no writer was stopped, its
+-- seats also show n more documents as read.
 abbrev pub HaveShown : Option Board → ℕ → Option Halt → List BoardSeat → List BoardSeat → Type 0
 HaveShown None n stopped given now = Unit {0}
 HaveShown (Some b) n stopped given now =
@@ -74,7 +74,7 @@ IsSeated None None = Unit {0}
 IsSeated (Some b) (Some s) = WorksAt b s
 IsSeated board seat = ⊥
 
--- With a board, the seat shows n more documents as read.
+-- If there is a board, the seat shows n more documents as read.
 abbrev pub HasRead : Option Board → ℕ → Option BoardSeat → Option BoardSeat → Type 0
 HasRead None n s t = t ≡ s
 HasRead (Some b) n (Some s) (Some t) =
@@ -91,15 +91,15 @@ abbrev pub HasRoom : Option Board → ℕ → Option BoardSeat → Type 0
 HasRoom (Some b) n (Some s) = s.settled + n ≤ s.read
 HasRoom board n seat = Unit {0}
 
--- With a board, the seat's settled counter has grown by the difference between a and z.
+-- If there is a board, the seat's settled counter has grown by the difference between a and z.
 abbrev pub HasSettled : Option Board → ℕ → ℕ → Option BoardSeat → Option BoardSeat → Type 0
 HasSettled None a z s t = t ≡ s
 HasSettled (Some b) a z (Some s) (Some t) =
     WorksAt b t × (t.number ≡ s.number) × (t.read ≡ s.read) × (t.settled + a ≡ s.settled + z)
 HasSettled (Some b) a z s t = ⊥
 
--- With a board, the seat's settled counter has grown by the difference between a and z. If no writer was stopped, the
--- seat's read counter has grown by the difference between a and z, too.
+-- If there is a board, the seat's settled counter has grown by the difference between a and z. If no writer was
+-- stopped, the seat's read counter has grown by the difference between a and z, too.
 abbrev pub HasWritten : Option Board → ℕ → ℕ → Option Halt → Option BoardSeat → Option BoardSeat → Type 0
 HasWritten None a z stopped s t = t ≡ s
 HasWritten (Some b) a z stopped (Some s) (Some t) =

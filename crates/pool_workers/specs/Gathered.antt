@@ -12,14 +12,14 @@ use Rattle.pool_workers.specs.declared.gather.WrittenAll.{WrittenAll}
 use Rattle.pool_workers.specs.declared.parcels.ParcelView.{ParcelView}
 use Rattle.pool_workers.specs.declared.windows.WindowView.{WindowView}
 
--- What is known of the fetchers after they have ended. If no fetcher was stopped, their counts are those of the parcels
--- sent, and the parcels sent are for the windows taken.
+-- What is known of the fetchers after they have ended. If no fetcher was stopped, the fetchers' counts are those of the
+-- parcels sent, and the parcels sent are for the windows taken.
 abbrev pub FetchedKnows : WindowView → ParcelView → FetchedAll → Type 0
 FetchedKnows w p t =
     t.stopped ≡ None → (sum t.counts.items ≡ amounts p.sent) × (t.sent ≡ length p.sent) × (w.taken ≡ names p.sent)
 
--- What is known of the writers after they have ended. If no writer was stopped, their counts are those of the parcels
--- received.
+-- What is known of the writers after they have ended. If no writer was stopped, the writers' counts are those of the
+-- parcels received.
 abbrev pub WrittenKnows : ParcelView → ℕ → WrittenAll → Type 0
 WrittenKnows p amount t = t.stopped ≡ None → (amount ≡ amounts p.got) × (t.got ≡ length p.got)
 
@@ -28,7 +28,8 @@ abbrev pub IsOneOf : Option Halt → Option Halt → Halt → Type 0
 IsOneOf a b h = (a ≡ Some h) ⊎ ((b ≡ Some h) ⊎ (h ≡ CountFull))
 
 module _ {S L : Type 0} where
-  -- After all workers have ended, the passes have all parts, and the ledger's share has the part of each writer.
+  -- After all workers have ended, the passes to both channels have all parts, and the ledger's share has the part of
+  -- each writer.
   abbrev pub IsWhole : ℕ → Ended S L → Type 0
   IsWhole workers e = ((view e.windows).parts ≡ 1024) × ((view e.parcels).parts ≡ 1024) × (e.all.parts ≡ workers)
 
@@ -37,7 +38,7 @@ module _ {S L : Type 0} where
   Tells e =
       FetchedKnows (view e.windows) (view e.parcels) e.fetched × WrittenKnows (view e.parcels) e.all.amount e.written
 
-  -- Each halt is allowed by the gate, or is a full board, or an error of a worker's call.
+  -- Each halt of a worker is allowed by the gate, or is a full board, or an error of the worker's call.
   abbrev pub StopsWhere : Type 0 → (Place → Type 0) → Ended S L → Type 0
   StopsWhere may_fill may_stop e =
       IfSome e.read (Allows may_stop) × IfSome e.fetched.stopped (Allows may_stop)

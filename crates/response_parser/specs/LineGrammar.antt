@@ -18,7 +18,7 @@ pub data AreLines (wanted : Wanted) : List ℕ → List Piece → Type 0 where
   blank : {b : ℕ} {t : List ℕ} {ps : List Piece} → is_space b ≡ true → AreLines wanted t ps → AreLines wanted (b ∷ t) ps
   -- A document or a log in a script's output.
   document : {o t : List ℕ} {ps qs : List Piece} → IsDocument wanted o ps → AreLines wanted t qs → AreLines wanted (o ++ t) (ps ++ qs)
-  -- Any other line of a script's output.
+  -- A line of a script's output that begins with a lower-case letter.
   answer : {b : ℕ} (x : List ℕ) {t : List ℕ} {ps : List Piece} → is_lower b ≡ true → is_space b ≡ false → InOneLine x → AreLines wanted t ps
       → AreLines wanted (b ∷ (x ++ 10 ∷ t)) ps
 

@@ -15,7 +15,7 @@ use Rattle.repl_peer.specs.session.RepIndex.{listed}
 use Rattle.repl_peer.specs.declared.session.rep_index.RepIndex.{RepIndex}
 use Rattle.repl_peer.specs.declared.session.ledger_index.LedgerIndex.{LedgerIndex}
 
--- The sessions of a stored table, newest first.
+-- The sessions of a peer's stored table, newest first.
 abbrev pub sessions_of : List (SessionId × SessionValue) → List SessionValue
 sessions_of es = newest_first (λ s. s) es
 
