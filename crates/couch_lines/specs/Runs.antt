@@ -60,7 +60,7 @@ IsDone task left held held' result = Converts result (wanted_of task) (words_of_
 
 -- The guarantees of a task for input with known contents. A `load` task writes a `load` line for each document in
 -- CouchDB responses, in order, by its text or in its envelope. The documents in a script's output are written into
--- bodies, and each leaf of its changes into a `doc` line. Input with known contents is not rejected.
+-- bodies, and each leaf of its changes into a `doc` line. A task does not reject input with known contents.
 abbrev pub Makes : Task → Option (List ℕ) → Option (List ℕ) → Option (List ℕ) → Result ℕ AnswerFault → Type 0
 Makes (Load db whole) left held held' result = (answers : List ℕ) → (documents : List Piece) → left ≡ Some answers
     → IsAnswered (wanted_of (Load db whole)) answers documents → ReadsAnswers (loads_of (string_bytes db)) documents held held' result

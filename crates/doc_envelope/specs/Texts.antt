@@ -31,8 +31,8 @@ pub record IsPlain (nesting b : ℕ) : Type 0 where
   pub opens : (b == 123 || b == 91) ≡ false
   pub closes : (b == 125 || b == 93) ≡ false
 
--- In the first text, strings are closed and brackets are paired, at most 128 deep. The second text of `Closed` is the
--- first one with a blank for each byte of white space outside of strings.
+-- In the first text of `Closed`, strings are closed and brackets are paired, at most 128 deep. The second text of
+-- `Closed` is the first one with a blank for each byte of white space outside of strings.
 pub data Closed : ℕ → List ℕ → List ℕ → Type 0 where
   nothing : {n : ℕ} → Closed n [] []
   space : {n b : ℕ} {t u : List ℕ} → is_space b ≡ true → Closed n t u → Closed n (b ∷ t) (32 ∷ u)
