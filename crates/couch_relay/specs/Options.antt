@@ -12,49 +12,49 @@ use Rattle.relay_core.specs.Messages.{Text}
 
 -- ---- the command line
 
--- a positional argument that must be given
+-- A positional argument that must be given.
 abbrev pub argument : Text → Rule
 argument name = record (new_rule name) { action = Some Set; required = true }
 
--- an option with an integer value below 2 ^ 64
+-- An option with an integer value below 2 ^ 64.
 abbrev pub number_option : Text → Rule
 number_option name =
     record (new_rule name)
     { long = Some name; action = Some Set; value_names = 1; parser = Some (vp.Unsigned 0 18446744073709551615) }
 
--- an option with a string value
+-- An option with a string value.
 abbrev pub text_option : Text → Rule
 text_option name = record (new_rule name) { long = Some name; action = Some Set; value_names = 1 }
 
--- a command line with the three positional arguments
+-- A command line with the three positional arguments.
 abbrev pub with_arguments : App → App
 with_arguments app =
     with_rule (with_rule (with_rule app (argument (codes "SOURCE"))) (argument (codes "TARGET"))) (argument (codes "SESSION"))
 
--- a command line with the three numeric options
+-- A command line with the three numeric options.
 abbrev pub with_numbers : App → App
 with_numbers app =
     with_rule (with_rule (with_rule app (number_option (codes "batch"))) (number_option (codes "carry")))
     (number_option (codes "every"))
 
--- a command line with the options for the feed, the filter and the selection
+-- A command line with the options for the feed, the filter and the selection.
 abbrev pub with_options : App → App
 with_options app = with_rule (with_rule (with_rule (with_rule (with_rule (with_rule
     app (flag_option (codes "continuous"))) (flag_option (codes "progress"))) (text_option (codes "filter")))
     (text_option (codes "query"))) (text_option (codes "salt"))) (flag_option (codes "choice"))
 
--- the command line of the program
+-- The command line of the program.
 abbrev pub command_line : App
 command_line = with_options (with_numbers (with_arguments (program_app (codes "couch_relay"))))
 
 -- ---- the values of the options
 
--- the option's text is the decimal numeral of `n`; an option without a text has the value `default`
+-- The option's text is the decimal numeral of `n`; an option without a text has the value `default`.
 abbrev pub IsValue : Option Text → ℕ → ℕ → Type 0
 IsValue None default n = n ≡ default
 IsValue (Some text) default n = IsNumber 64 text n
 
--- the options have the values of their texts: `text` and `number` give the text of an option by its name
+-- The options have the values of their texts: `text` and `number` give the text of an option by its name.
 pub record AreGiven (text number : Text → Option Text) (o : Options) : Type 0 where
   pub source : o.source.now ≡ unwrap_or (text (codes "SOURCE")) []
   pub target : o.target.now ≡ unwrap_or (text (codes "TARGET")) []
@@ -69,11 +69,11 @@ pub record AreGiven (text number : Text → Option Text) (o : Options) : Type 0 
   pub salt : o.salt.now ≡ unwrap_or (text (codes "salt")) []
   pub choice : IsFlag (number (codes "choice")) o.choice
 
--- the options have the values that `clap` reads from the arguments, the program's name first
+-- The options have the values that `clap` reads from the arguments, the program's name first.
 abbrev pub Says : List Text → Options → Type 0
 Says words o = AreGiven (λ id. first_of id (matches_of command_line words)) (λ id. one_of id (matches_of command_line words)) o
 
--- why the arguments give no options: `clap`'s error, or no options have these values, or an allocation failed
+-- Why the arguments give no options: `clap`'s error, or no options have these values, or an allocation failed.
 abbrev pub Refuses : List Text → NoOptions → Type 0
 Refuses words (Words error) = HasKind (fault_of command_line words) error
 Refuses words NoNumber = (o : Options) → Says words o → ⊥
