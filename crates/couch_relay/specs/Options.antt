@@ -54,7 +54,7 @@ abbrev pub IsValue : Option Text → ℕ → ℕ → Type 0
 IsValue None default n = n ≡ default
 IsValue (Some text) default n = IsNumber 64 text n
 
--- The options have the values of their texts: `text` and `number` give the text of an option by its name.
+-- The options have the values of their texts. The functions `text` and `number` give the text of an option by its name.
 pub record AreGiven (text number : Text → Option Text) (o : Options) : Type 0 where
   pub source : o.source.now ≡ unwrap_or (text (codes "SOURCE")) []
   pub target : o.target.now ≡ unwrap_or (text (codes "TARGET")) []
@@ -69,11 +69,12 @@ pub record AreGiven (text number : Text → Option Text) (o : Options) : Type 0 
   pub salt : o.salt.now ≡ unwrap_or (text (codes "salt")) []
   pub choice : IsFlag (number (codes "choice")) o.choice
 
--- The options have the values that `clap` reads from the arguments, the program's name first.
+-- The options have the values that `clap` reads from the arguments, of which the first is the program's name.
 abbrev pub Says : List Text → Options → Type 0
 Says words o = AreGiven (λ id. first_of id (matches_of command_line words)) (λ id. one_of id (matches_of command_line words)) o
 
--- Why the arguments give no options: `clap`'s error, or no options have these values, or an allocation failed.
+-- The reason why the arguments give no options, which is `clap`'s error, or that no options have the values of the
+-- arguments, or that an allocation failed.
 abbrev pub Refuses : List Text → NoOptions → Type 0
 Refuses words (Words error) = HasKind (fault_of command_line words) error
 Refuses words NoNumber = (o : Options) → Says words o → ⊥
