@@ -175,15 +175,15 @@ pub record RunsOn {F : Type 0} (refuses : F → Document → Bool) (may_fill : T
   -- The target of a run is unchanged, or the session has begun and the target has grown by calls with messages of the
   -- source.
   pub grown : LeftPeer refuses source.1 target plan target'
-  -- A run's target keeps everything it had, and tied peers stay tied, with each backup of the source, for every
-  -- selection.
+  -- A run's target keeps everything it had, and consistent peers stay consistent, with each backup of the source, for
+  -- every selection.
   pub later : IsLaterPeer target.1 target'.1
   pub tied : (chosen : Choice) (backups : List BackupValue) → IsTiedWith backups source.1 target.1 chosen
       → IsTiedWith backups source'.1 target'.1 chosen
   -- A third peer stays tied to the source and to the target of a run. In two of four cases, a third peer must have a
   -- UUID of its own to stay tied.
   pub others : KeepsOthersTied source.1 target.1 source'.1 target'.1
-  -- An audit of the peers that a run returns is clean if the peers were tied before the run.
+  -- An audit of the peers that a run returns is clean if the peers were consistent before the run.
   pub audited : (chosen : Choice) → IsTiedPair source.1 target.1 chosen
       → audit_answer source'.1 target'.1 chosen ≡ None
   -- If a run's session has not begun, both peers are unchanged and the error says why. If a run's session has begun, it
@@ -191,8 +191,8 @@ pub record RunsOn {F : Type 0} (refuses : F → Document → Bool) (may_fill : T
   pub put : LeavesOrPuts plan source target source' target' outcome
   -- The guarantees of a run that succeeded.
   pub well : IfOk outcome (EndsWell source.1 target.1 target'.1 plan (sum fetched))
-  -- If the peers of a successful run were tied, the target covers the source's complete selected feed, including the
-  -- part at or below the start.
+  -- If the peers of a successful run were consistent, the target covers the source's complete selected feed, including
+  -- the part at or below the start.
   pub whole : IfOk outcome
       (λ _. IsTiedPair source.1 target.1 plan.chosen
       → CoversFeed source.1 target'.1 plan.chosen source.1.db.update_seq)
