@@ -14,8 +14,8 @@ const REP: RepId = RepId {
     chosen: None,
 };
 
-/// The observations of a peer, which are its database's life and update sequence, its number of local writes, and its
-/// number of entries in the log of the replication.
+/// The observations of a peer: the life and update sequence of its database, and the numbers of its local writes and of
+/// its log entries.
 type Seen = (u64, u64, usize, usize);
 
 /// Returns the number of entries in the log of the replication.

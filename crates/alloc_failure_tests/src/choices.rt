@@ -1,4 +1,5 @@
-//! Selections of documents, and replications with them. A failed allocation changes nothing.
+//! Tests selections of documents, and replications of selected documents. A call whose allocation fails changes
+//! nothing.
 use crate::peers::load;
 use crate::replications::{is_memory, is_nothing, plan};
 use anyhow::{Result, bail};
@@ -35,7 +36,7 @@ fn ids(alloc: Global) -> Option<Vec<DocId>> {
     Some(ids)
 }
 
-/// Creates the selection of these ids, and retries if an allocation fails.
+/// Creates the selection of a list of ids, and retries if an allocation fails.
 fn choose(alloc: Global) -> Option<Chosen> {
     match Chosen::new(ids(alloc)?) {
         Err(DocFault::Memory) => Chosen::new(ids(alloc)?).ok(),
@@ -143,8 +144,8 @@ fn fill(alloc: Global, source: &mut Peer<Rules>) -> Option<()> {
     Some(())
 }
 
-/// The observations of a replication of selected documents. These observations are the length of the replication id,
-/// the number of rows of the page, the recorded sequence, the target's sequence, and whether the target has only the
+/// The observations of a replication of selected documents. The observations are the length of the replication id, the
+/// number of rows of the page, the recorded sequence, the target's sequence, and whether the target has only the
 /// selected documents.
 type Seen = (usize, usize, u64, u64, bool);
 
@@ -176,8 +177,8 @@ fn ended(alloc: Global, source: &mut Peer<Rules>, target: &mut Peer<Rules>) -> O
     ))
 }
 
-/// Replicates into a target. This is a separate function, because each further value next to a peer lengthens the
-/// proof.
+/// Replicates into a target. The code is a separate function, because each further live variable beside a peer
+/// lengthens the proof.
 fn into_target(alloc: Global, source: &mut Peer<Rules>) -> Option<Seen> {
     let mut target = Peer::new(alloc, 2, Rules { deny: None });
     ended(alloc, source, &mut target)

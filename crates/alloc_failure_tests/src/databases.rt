@@ -1,4 +1,4 @@
-//! `Database::put`, `edit`, `page`, `revs_diff`, `open_revs`, `count_asked` and `copy_in`, the copies of their
+//! Tests `Database::put`, `edit`, `page`, `revs_diff`, `open_revs`, `count_asked` and `copy_in`, the copies of their
 //! messages, and `Parcel::prepare`. A failed allocation leaves a database unchanged.
 use anyhow::{Result, bail};
 use couch_base::{Asked, BaseFault, Database, Parcel, Put, Row, Window};
@@ -153,7 +153,7 @@ fn put_all(alloc: Global, db: &mut Database) -> Result<()> {
     Ok(())
 }
 
-/// Edits a document, and again above the new revision if `twice` is true.
+/// Edits a document, and also edits the new revision if `twice` is true.
 fn edit_id(alloc: Global, db: &mut Database, id: &str, body: &Body, twice: bool) -> Result<()> {
     let id = doc_id(alloc, id)?;
     let rev = edit(alloc, db, &id, None, body)?;
@@ -163,7 +163,7 @@ fn edit_id(alloc: Global, db: &mut Database, id: &str, body: &Body, twice: bool)
     Ok(())
 }
 
-/// Puts and edits four documents, two of which are edited.
+/// Puts the documents of `put_all`, and edits the documents c and d.
 fn grow(alloc: Global, db: &mut Database) -> Result<()> {
     put_all(alloc, db)?;
     let body = body(alloc, r#"{"n":2}"#)?;
@@ -193,7 +193,7 @@ fn prepare(alloc: Global, parcel: &mut Parcel, window: &Window) -> Result<()> {
     }
 }
 
-/// Puts the documents of a row.
+/// Puts the documents whose id is that of a row.
 fn put_row(alloc: Global, db: &mut Database, docs: &[Doc], row: &Row) -> Result<()> {
     let origin = Origin::Feed(SessionId(1), row.seq());
     for doc in docs {
@@ -249,7 +249,7 @@ fn exchanged(alloc: Global, db: &Database, empty: &Database) -> Result<Counts> {
     counted(alloc, db, empty, &window)
 }
 
-/// Copies the documents into the next life.
+/// Copies a database into life 1.
 fn db_copied(alloc: Global, db: &Database) -> Result<Database> {
     match db.copy_in(alloc, 1) {
         Err(AllocError) => Ok(db.copy_in(alloc, 1)?),
@@ -264,14 +264,14 @@ fn copy_exchanged(alloc: Global, db: &Database, empty: &Database) -> Result<(u64
     Ok((copy.update_seq(), counts))
 }
 
-/// Grows a database, and exchanges its copy with another one.
+/// Grows a database, and exchanges a copy of it with another database.
 fn session(alloc: Global, db: &mut Database, empty: &Database) -> Result<(u64, Counts)> {
     grow(alloc, db)?;
     copy_exchanged(alloc, db, empty)
 }
 
-/// Runs the session of two databases. Few values are alive next to a database, because each value makes the proof of
-/// every step longer.
+/// Runs a session between two databases. The function has few live variables beside a database, because each variable
+/// lengthens the proof of every step.
 fn between(alloc: Global) -> Result<(u64, Counts)> {
     let mut db = Database::new(alloc, 7);
     let empty = Database::new(alloc, 8);

@@ -1,4 +1,4 @@
-//! `DocId::parse`, `read_doc`, `read_body`, `write_doc`, the copies, and `new_rev`.
+//! Tests `DocId::parse`, `read_doc`, `read_body`, `write_doc`, the copies, and `new_rev`.
 use anyhow::{Result, bail};
 use doc_json::{Body, Doc, DocFault, DocId, read_body, read_doc, write_doc};
 use rev_core::{Rev, RevFault, new_rev};
@@ -62,7 +62,7 @@ fn revised(alloc: Global, text: &[u8]) -> Result<Rev, RevFault> {
     }
 }
 
-/// Whether the id is d.
+/// Whether a document id is `d`.
 fn is_named(alloc: Global) -> bool {
     match id(alloc) {
         Ok(id) => id.text() == "d",
@@ -78,7 +78,7 @@ fn is_first(alloc: Global, text: &[u8]) -> bool {
     }
 }
 
-/// Whether the body of a value, and an edit with it, are as expected.
+/// Whether the body of a value, and an edit with that body, are as expected.
 fn is_edited(alloc: Global, members: &Value) -> bool {
     match body(alloc, members) {
         Ok(body) => body.text() == b"{\"n\":1}".as_slice() && is_first(alloc, body.text()),

@@ -1,11 +1,11 @@
-//! `Log::put`, `Log::copy`, `Logs::put`, `Logs::copy`, `rep_id` and `write_log`.
+//! Tests `Log::put`, `Log::copy`, `Logs::put`, `Logs::copy`, `rep_id` and `write_log`.
 use anyhow::{Result, bail};
 use repl_log::{Entry, Log, LogFault, Logs, Moment, RepId, rep_id, write_log};
 use rev_tree::SessionId;
 use std::alloc::{AllocError, Global};
 use test_support::bare_entry;
 
-/// Creates the entry of the session with this number, which recorded up to this number and read nothing.
+/// Creates the entry of a session that read nothing, whose number and recorded sequence are both `recorded`.
 fn entry(recorded: u64) -> Result<Entry, LogFault> {
     let at = Moment::new(1_381_384_598)?;
     Ok(bare_entry(SessionId(u128::from(recorded)), recorded, at))
@@ -67,7 +67,7 @@ fn copy_of(alloc: Global, logs: &Logs, id: &RepId) -> Result<Log, AllocError> {
     }
 }
 
-/// Returns the id of the replication from 1 into a database.
+/// Returns the id of the replication from the database with UUID 1 into the database with UUID `target`.
 fn from_one(target: u64) -> RepId {
     RepId {
         source: 1,
@@ -124,7 +124,7 @@ fn is_named(alloc: Global, id: &RepId) -> bool {
     }
 }
 
-/// Whether a log is written with its id in front.
+/// Whether a log is written with its id at the start.
 fn is_written(alloc: Global, id: &RepId, log: &Log) -> bool {
     match written(alloc, id, log) {
         Ok(text) => text.starts_with(b"{\"_id\":\"_local/00000000000000000000000000000001-"),

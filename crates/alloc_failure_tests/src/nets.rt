@@ -1,5 +1,5 @@
-//! Calls on a network. After a failed allocation nothing was added or written, and audits are clean. Later, the hops
-//! with further sessions have the result that they would have had without the failure.
+//! Calls on a network. After a failed allocation, no peer was added, no document was written, and audits are clean.
+//! After a failure, hops with further sessions have the same result as hops without a failure.
 use crate::peers::{body, doc, doc_id};
 use crate::replications::{is_memory, is_nothing, plan};
 use anyhow::{Result, bail};
@@ -196,7 +196,8 @@ fn sequences(net: &Net<Rules>) -> Option<u64> {
     Some(sum)
 }
 
-/// Writes and replicates in a network of three peers. Returns the sum of their sequences, and whether audits are clean.
+/// Writes and replicates in a network of three peers. Returns the sum of the peers' update sequences, and whether
+/// audits are clean.
 fn ended(alloc: Global, net: &mut Net<Rules>) -> Option<(u64, bool)> {
     let Ok(at) = Moment::new(10) else {
         return None;
@@ -228,8 +229,8 @@ fn ended(alloc: Global, net: &mut Net<Rules>) -> Option<(u64, bool)> {
     Some((sequences(net)?, clean))
 }
 
-/// Does the same as `ended`, for a new network. No other value is alive next to the network, because each value
-/// lengthens the proof.
+/// Does the same as `ended`, for a new network. The network is the function's only live variable, because each further
+/// variable lengthens the proof.
 fn of_net(alloc: Global) -> Option<(u64, bool)> {
     let mut net = Net::new(alloc);
     ended(alloc, &mut net)

@@ -69,7 +69,7 @@ pub(crate) fn load(alloc: Global, peer: &mut Peer<Rules>, text: &str) -> Option<
     }
 }
 
-/// An edit that is made once.
+/// Edits a document, without a retry if an allocation fails.
 fn edited(peer: &mut Peer<Rules>, id: &DocId, parent: &Option<Rev>, body: &Body) -> Option<Rev> {
     peer.edit(id, *parent, false, body).ok()
 }
@@ -152,7 +152,7 @@ fn append(alloc: Global, peer: &mut Peer<Rules>, window: &Window) -> Option<()> 
     }
 }
 
-/// Returns the number of settled documents if settling ran out of memory, and the number of returned ones.
+/// Returns the number of settled documents if settling ran out of memory, and the number of returned documents.
 fn stopped(fault: TargetFault) -> Option<(u64, usize)> {
     match fault {
         TargetFault::Stopped {
@@ -268,8 +268,8 @@ fn tell(rt: &impl Print, settled: Settled, report: Report, sequence: u64) -> Res
     Ok(())
 }
 
-/// Runs the peers' session. Runs the session, and returns the settled numbers, the report, and the target's sequence.
-/// The target has a tree that contradicts a tree of the source.
+/// Runs the session, and returns the numbers of settled documents, the report, and the target's sequence. The target
+/// has a tree that contradicts a tree of the source.
 fn session(
     alloc: Global,
     source: &mut Peer<Rules>,
@@ -289,8 +289,8 @@ fn session(
     Some((settled, report, target.db().update_seq()))
 }
 
-/// Runs the session with a target that refuses documents. A function of its own, because each value beside a peer adds
-/// to the proof.
+/// Runs the session with a target that refuses documents. The code is a separate function, because each further live
+/// variable beside a peer lengthens the proof.
 fn into_target(
     alloc: Global,
     source: &mut Peer<Rules>,

@@ -30,7 +30,7 @@ struct Kind<'a, G: Gate> {
     workers: u64,
 }
 
-/// Takes a peer for a run.
+/// Takes a peer out of its variable for a run.
 fn taken(alloc: Global, place: &mut Peer<Rules>) -> Peer<Rules> {
     mem::replace(place, Peer::new(alloc, 0, Rules { deny: None }))
 }
@@ -73,7 +73,7 @@ fn is_want(fault: PoolFault) -> bool {
     }
 }
 
-/// Runs, and retries with another session if an allocation fails.
+/// Runs the pool, and retries with another session if an allocation fails.
 fn replicate<G: Gate + Sync, R: Threads + Wait + Sync>(
     rt: &R,
     alloc: Global,
@@ -126,7 +126,8 @@ fn ended<G: Gate + Sync, R: Threads + Wait + Sync>(
     Some((report.recorded, target.db().update_seq(), clean))
 }
 
-/// Runs into a target. This is a separate function, because each further value next to a peer makes the proof longer.
+/// Runs into a target. The code is a separate function, because each further live variable beside a peer lengthens the
+/// proof.
 fn into_target<G: Gate + Sync, R: Threads + Wait + Sync>(
     rt: &R,
     alloc: Global,
@@ -137,7 +138,7 @@ fn into_target<G: Gate + Sync, R: Threads + Wait + Sync>(
     ended(rt, alloc, kind, source, &mut target)
 }
 
-/// Runs between a source and a target.
+/// Runs the pool between a source and a target.
 fn between<G: Gate + Sync, R: Threads + Wait + Sync>(
     rt: &R,
     alloc: Global,

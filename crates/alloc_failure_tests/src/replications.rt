@@ -97,8 +97,8 @@ fn ended(
     Some((report.recorded, target.db().update_seq(), clean))
 }
 
-/// Replicates into a target. This is a separate function, because each further value next to a peer lengthens the
-/// proof.
+/// Replicates into a target. The code is a separate function, because each further live variable beside a peer
+/// lengthens the proof.
 fn into_target(alloc: Global, source: &mut Peer<Rules>) -> Option<(u64, u64, bool)> {
     let mut target = Peer::new(alloc, 2, Rules { deny: None });
     ended(alloc, source, &mut target)

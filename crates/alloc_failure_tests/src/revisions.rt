@@ -1,4 +1,4 @@
-//! `Rev::write`, `Ancestry::from_parts`, `Ancestry::copy`, `KeptRev::keep`, and the copies of compact revisions.
+//! Tests `Rev::write`, `Ancestry::from_parts`, `Ancestry::copy`, `KeptRev::keep`, and the copies of compact revisions.
 use anyhow::{Result, bail};
 use rev_core::{Ancestry, KeptRev, Rev, RevFault, Sig};
 use std::alloc::{AllocError, Global};

@@ -1,4 +1,4 @@
-//! Questions about two peers. After a failed allocation, the same query has its usual result.
+//! Questions about two peers. A query that is repeated after a failed allocation returns its usual result.
 use crate::peers::{doc_id, load};
 use anyhow::{Result, bail};
 use couch_base::Database;
@@ -10,7 +10,7 @@ use repl_target::{Peer, Rules};
 use rev_tree::Tree;
 use std::alloc::{AllocError, Global};
 
-/// Two leaves of a document. The target has one of these leaves with another history.
+/// Two leaves of a document, of which the target has one, and contradicts the history of the other.
 const SOURCE: [&str; 2] = [
     r#"{"_id":"d","_revisions":{"start":3,"ids":["d","b","a"]}}"#,
     r#"{"_id":"d","_revisions":{"start":2,"ids":["c","a"]}}"#,
@@ -29,7 +29,7 @@ fn compared(alloc: Global, source: &Database, target: &Database, id: &DocId) -> 
     }
 }
 
-/// Returns a total, and retries if an allocation fails.
+/// Compares the feed of a source with a target, and retries if an allocation fails.
 fn total(alloc: Global, source: &Peer<Rules>, target: &Peer<Rules>) -> Option<Total> {
     match compare_feed(alloc, source, target, None) {
         Err(AllocError) => compare_feed(alloc, source, target, None).ok(),
@@ -45,7 +45,7 @@ fn census(alloc: Global, database: &Database) -> Option<Census> {
     }
 }
 
-/// Adds a tree, and retries if an allocation fails, in which case nothing was added.
+/// Adds a tree, and retries if an allocation fails, because a failed call adds nothing.
 fn counted(alloc: Global, tree: &Tree) -> Option<Census> {
     let mut census = Census::none();
     if census.add(alloc, tree).is_err() {

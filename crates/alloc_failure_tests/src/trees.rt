@@ -1,4 +1,4 @@
-//! `Tree::merge`, which leaves the tree unchanged if an allocation fails, and the read calls that allocate.
+//! Tests `Tree::merge`, which leaves the tree unchanged if an allocation fails, and the read calls that allocate.
 use crate::revisions;
 use anyhow::{Result, bail};
 use rev_core::{Ancestry, Rev, Sig};
@@ -117,7 +117,7 @@ fn copied(alloc: Global, tree: &Tree) -> Result<Tree, AllocError> {
     }
 }
 
-/// Whether the leaves above some revisions are exactly one leaf.
+/// Whether exactly one given leaf is above a list of revisions.
 fn is_above(alloc: Global, tree: &Tree, revs: &[Rev], leaf: Rev) -> bool {
     match leaves_above(alloc, tree, revs) {
         Ok(above) => above.as_slice() == [leaf].as_slice(),

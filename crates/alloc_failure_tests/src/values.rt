@@ -1,4 +1,4 @@
-//! Calls of `ValueReader::read_line` with one reader, of `read_line_body` and of `read_line_doc`.
+//! Tests calls of `ValueReader::read_line` with one reader, of `read_line_body` and of `read_line_doc`.
 use anyhow::{Result, bail};
 use doc_json::{Doc, DocFault, read_line_body, read_line_doc, write_doc};
 use json_values::{ReadFault, ValueReader};
@@ -14,7 +14,7 @@ static TEXTS: &[&[u8]] = &[
 const DOCUMENT: &[u8] =
     b"{\"_id\":\"d\",\"_rev\":\"3-c\",\"_revisions\":{\"start\":3,\"ids\":[\"c\",\"b\",\"a\"]},\"n\":[1,{\"m\":\"x\"}]}";
 
-/// Whether a text is the body of its own value.
+/// Whether a JSON text, read as a value, gives a body with the same text.
 fn is_its_body(reader: &mut ValueReader, alloc: Global, text: &[u8]) -> Result<bool, DocFault> {
     let line = match reader.read_line(alloc, text) {
         Ok(line) => line,
@@ -27,7 +27,7 @@ fn is_its_body(reader: &mut ValueReader, alloc: Global, text: &[u8]) -> Result<b
     }
 }
 
-/// Whether a text is the serialized form of its own document.
+/// Whether a JSON text, read as a document, is serialized to the same text.
 fn is_its_document(reader: &mut ValueReader, alloc: Global, text: &[u8]) -> Result<bool, DocFault> {
     let line = match reader.read_line(alloc, text) {
         Ok(line) => line,

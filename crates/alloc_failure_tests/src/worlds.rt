@@ -1,5 +1,5 @@
-//! `World::run`. After a failed allocation the world is the one after the previous steps, or a settling is partial. The
-//! remaining steps then have the result that all steps would have had.
+//! `World::run`. After a failed allocation the world is as the previous steps left it, or a settling is partial. The
+//! steps that remain after a failure lead to the result that all steps have without a failure.
 use crate::peers::{body, doc, doc_id};
 use anyhow::{Result, bail};
 use repl_log::Moment;
@@ -16,7 +16,7 @@ const SESSION: SessionId = SessionId(1);
 type Session = (usize, u64, u64);
 
 /// The observations of a world, which are the life of the source, the update sequences of its peers, the session if it
-/// has begun, and the sizes of the bag.
+/// has begun, and the sizes of the message bag.
 #[derive(Clone, Copy, PartialEq, Eq)]
 struct Seen {
     life: u64,
@@ -26,9 +26,9 @@ struct Seen {
     sizes: (usize, usize, usize, usize, usize),
 }
 
-/// The observations before each step that may be the first remaining one, with the step's index. The observations
-/// during a partial settling have an index of their own. The source's log and its backups are not observed, because
-/// storing and backing up are repeated.
+/// The observations before each step after which a failure may occur, with the index of the first remaining step. The
+/// observations during a partial settling have an index of their own. The source's log and its backups are not
+/// observed, because storing and backing up are repeated.
 static BEFORE: &[(
     u64,
     u64,
@@ -242,8 +242,8 @@ fn ended(alloc: Global, world: &mut World<Rules>) -> Option<(u64, Seen, bool)> {
     Some((entry.recorded, look(world), clean))
 }
 
-/// Does the same as `ended`, for a world of two new peers. No other value is alive next to the world, because each
-/// value lengthens the proof.
+/// Does the same as `ended`, for a world of two new peers. The world is the function's only live variable, because each
+/// further variable lengthens the proof.
 fn of_two(alloc: Global) -> Option<(u64, Seen, bool)> {
     let source = Peer::new(alloc, 1, Rules { deny: None });
     let target = Peer::new(alloc, 2, Rules { deny: None });
