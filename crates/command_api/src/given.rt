@@ -1,4 +1,5 @@
-//! Parses the ids, revisions, bodies and documents of a line. Commands call these functions in the order of checks.
+//! Parses the ids, revisions, bodies and documents of a line. Commands call the functions of this module in the order
+//! of checks.
 ghost use Rattle.std.specs.Prelude.{◌≡◌, option_map};
 ghost use Rattle.std.specs.Option.{option_copied};
 ghost use Rattle.json_values.specs.LineView.{line_view, line_items};

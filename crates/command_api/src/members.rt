@@ -127,7 +127,7 @@ fn as_uuid(value: &LineValue<'_>) -> Option<u128>
     }
 }
 
-/// Whether a value is an object that has only members with these names.
+/// Whether a value is an object that has only members with the given names.
 #[inline(always)]
 pub fn has_only_members(value: &LineValue<'_>, keys: &[&str]) -> bool
     ensures { result ≡ has_only (map (λ x. x.now) keys.now) (line_view value.now) }

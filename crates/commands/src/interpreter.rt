@@ -150,7 +150,7 @@ pub fn read_object<'a>(
 /// - `Memory`: an allocation failed before anything was read, or while a line was read. The output of all lines before
 ///   the failed allocation is complete.
 /// - `Cut`: an allocation failed after the first piece of a line's output. The output of all earlier lines is complete,
-///   and a part of this line's output is missing.
+///   and a part of the failed line's output is missing.
 pub fn run_script<H, R: ScriptRead, W: ScriptWrite, L: ObserveAnswers>(
     rt: &H,
     reader: &mut R,
@@ -172,8 +172,8 @@ where
         × Appends (W.held writer.old) (W.held writer.new) text
         × IsAnswered TrustedLines (no_databases (program_of settings.now)) input clean text state) }
     ensures end { OnOk result (IsAtEnd (R.left reader.new)) }
-    // This clause states the guarantee for the bytes that the reads returned, and that the last read returned the end
-    // of the input.
+    // The clauses `took` and `ended` state the guarantee for the bytes that the reads returned, and that the last read
+    // returned the end of the input.
     ensures took { IfOk result
         (λ clean. (input : List ℕ) × (text : List ℕ) × (state : State)
         × Appends (R.taken reader.old) (R.taken reader.new) input × Appends (W.held writer.old) (W.held writer.new) text
@@ -188,15 +188,16 @@ where
         × IsToldUntil fault LinesAnswer (no_databases (program_of settings.now)) input text
         × IsFaultOf fault (R.reads reader.old) (R.reads reader.new) (R.failures reader.old) (R.failures reader.new)
         (W.failures writer.old) (W.failures writer.new)) }
-    // This clause states the guarantee for the output before an error.
+    // The clause `trust_until` states the guarantee for the output before an error.
     ensures trust_until { IfErr result (λ fault. (input : List ℕ) × (text : List ℕ) × Gives (R.left reader.old) input
         × Appends (W.held writer.old) (W.held writer.new) text
         × IsToldUntil fault TrustedLines (no_databases (program_of settings.now)) input text) }
     ensures took_until { IfErr result (λ fault. (input : List ℕ) × (text : List ℕ)
         × Appends (R.taken reader.old) (R.taken reader.new) input × Appends (W.held writer.old) (W.held writer.new) text
         × IsToldUntil fault TrustedLines (no_databases (program_of settings.now)) input text) }
-    // If a read fails, the output of all lines that were read is complete. Unless a write failed, that output has been
-    // flushed. Each read may fail, so this clause describes the state before each read.
+    // If a read fails, the output of all lines that were read is complete. Unless a write failed, the output of all
+    // lines that were read has been flushed. The clause `read` describes the state before each read, because each read
+    // may fail.
     ensures read { IfErr result (λ fault. fault ≡ Read → (taken : List ℕ) × (text : List ℕ) × (state : State)
         × Consumes (R.left reader.old) (R.left reader.new) taken × Appends (W.held writer.old) (W.held writer.new) text
         × AnswersEnded TrustedLines (no_databases (program_of settings.now)) taken text state) }

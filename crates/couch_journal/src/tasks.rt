@@ -21,9 +21,10 @@ pub(crate) enum Task<'a> {
     Refused,
     /// Prints the line with the checksum of a block, for the given hash of the previous block and the given sequence.
     Seal(&'a str, &'a str),
-    /// Prints how much of a journal its checksums confirm, with a sequence only up to this sequence.
+    /// Prints how much of a journal its checksums confirm, or how much up to a sequence if a sequence is given.
     Confirm(Option<&'a str>),
-    /// Prints the last state of each document of a journal, with `true` without verifying its checksums.
+    /// Prints the last state of each document of a journal, without verifying the journal's checksums if the Boolean is
+    /// true.
     States(bool),
     /// Prints the documents of the last states of a journal of this size.
     Select(u64),

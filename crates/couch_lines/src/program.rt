@@ -37,7 +37,8 @@ pub fn run_program<H: AllocGlobal + Env + Input + Print + Eprint>(rt: &H) -> u8
 ///
 /// # Errors
 ///
-/// `OutOfMemory`: the output buffer cannot be allocated. Nothing has been read or written.
+/// `OutOfMemory`: the output buffer cannot be allocated. If the buffer cannot be allocated, nothing has been read or
+/// written.
 fn run_standard<'a, H>(
     rt: &'a H,
     words: &[String],
