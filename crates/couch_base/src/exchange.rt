@@ -34,8 +34,8 @@ impl Database {
     }
 
     /// Returns the documents for a request, and the requested revisions that this database does not have. For each
-    /// requested document, these are the leaves at or above the requested revisions, each with its known ancestry and
-    /// its content.
+    /// requested document, the result has the leaves at or above the requested revisions, each with its known ancestry
+    /// and its content.
     ///
     /// Documents are in the order of the request, the leaves of a document winner first.
     pub fn open_revs(&self, alloc: Global, asked: &Asked) -> Result<Parcel, AllocError>

@@ -26,7 +26,8 @@ pub enum Put {
 /// Why a call failed.
 #[derive(Clone, Copy, Debug, Error)]
 pub enum BaseFault {
-    /// A given child has another parent in the document's tree. The variant names the newest such child.
+    /// A given child has another parent in the document's tree. The variant names the newest child of which the tree
+    /// has another parent.
     #[error("a revision has another parent in the document's tree")]
     Contradiction { child: Rev, known: Rev, given: Rev },
     /// The update sequence is the greatest one, 9,007,199,254,740,991.

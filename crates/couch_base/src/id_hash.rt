@@ -1,9 +1,9 @@
 //! The hash function of a database's table of documents.
 //!
 //! Ids come from untrusted sources. With a fixed initial state, anyone could choose ids whose hashes collide, and each
-//! lookup would scan all of them. The hash of an id therefore starts with the database's UUID. The UUID protects only
-//! if the author of the ids does not know it. A UUID that the program makes follows from the program's seed, which is 0
-//! by default.
+//! lookup would scan all of them. The hash of an id therefore starts with the database's UUID. The UUID protects
+//! against hash collisions only if the author of the ids does not know the UUID. A UUID that the program makes follows
+//! from the program's seed, which is 0 by default.
 ghost use Rattle.std.specs.Prelude.{◌≡◌};
 ghost use Rattle.std.specs.Hash.{le_bytes};
 ghost use Rattle.std.specs.Hash.FoldHasher.{initial, write};

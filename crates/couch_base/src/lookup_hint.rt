@@ -2,8 +2,8 @@
 
 /// The position after the document that was found last.
 ///
-/// Documents are often looked up in the order in which they are stored. A lookup with a hint then needs no hash. Hints
-/// do not affect results.
+/// Documents are often looked up in the order in which they are stored. A lookup that finds the document at the hint's
+/// position needs no hash. Hints do not affect the results of lookups.
 #[derive(Drop)]
 pub struct LookupHint {
     pub(crate) place: usize,

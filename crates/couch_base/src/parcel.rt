@@ -137,7 +137,8 @@ impl Parcel {
     }
 
     /// Builds the trees that the documents would have as new documents, with a session's feed at the sequences of the
-    /// rows as their origins. The value of the parcel does not change; `put_prepared` can then use the trees.
+    /// rows as their origins. The value of the parcel does not change. The call `put_prepared` can use the prepared
+    /// trees.
     pub fn prepare(
         &mut self,
         alloc: Global,
@@ -185,7 +186,7 @@ fn make_all(
     Ok(all)
 }
 
-/// Returns the first index from `from` on whose row has the id, or the length.
+/// Returns the index of the first row that has the id, from index `from` on, or the number of rows.
 fn row_from(rows: &[Row], id: &DocId, from: usize) -> usize {
     for place in from..rows.len() {
         if rows[place].id() == id {
