@@ -161,15 +161,16 @@ impl Drawer<'_> {
     }
 }
 
-/// Reads the output of a script, and draws it as text or as one SVG picture (docs/PROFILE.md, "Pictures"). Drawn are
-/// the documents of `show` and `conflicts`, the lines of `compare`, the numbers of `info` and of sessions, and logs. If
-/// the database is named, the text includes the commands that resolve conflicts.
+/// Reads the output of a script, and draws it as text or as one SVG picture (docs/PROFILE.md, "Pictures"). The picture
+/// shows the documents of `show` and `conflicts`, the lines of `compare`, the numbers of `info` and of sessions, and
+/// logs. If the database is named, the text includes the commands that resolve conflicts.
 ///
 /// Returns whether memory was sufficient for every line.
 ///
 /// # Errors
 ///
-/// - `Read` or `Write`: that device failed in this call; `Read` also after 4,294,967,295 reads.
+/// - `Read`: the reader failed in this call, or 4,294,967,295 reads were made. - `Write`: the writer failed in this
+///   call.
 /// - `Memory`: an allocation failed between lines, or for the end of the picture.
 ///
 /// After an error, a prefix of the picture was written. Unless a write failed, that prefix ends after the drawing for a

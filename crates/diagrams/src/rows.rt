@@ -73,7 +73,7 @@ fn hang_of(before: &Leaf, leaf: &Leaf) -> u32 {
 }
 
 /// Returns the last row in which a revision of this generation is drawn. The call drops the rows after that row,
-/// because a later leaf that would branch off one of them branches off the row of this leaf instead.
+/// because a later leaf never branches off a dropped row, but off the row of the current leaf.
 fn parent_of(branches: &mut Vec<Branch>, hang: u32) -> usize {
     for _ in 0..branches.len() {
         match branches.last() {

@@ -26,7 +26,8 @@ pub struct Envelope {
     text: Vec<u8>,
     /// The text of the members that the envelope stores in its string.
     held: Vec<u8>,
-    /// Whether each member of the envelope outside of its string is known to have the text that the kit prints for it.
+    /// Whether each member of the envelope outside of its string is known to have the text that the kit's JSON library
+    /// prints for it.
     printed: bool,
     scratch: Scratch,
 }
@@ -191,7 +192,8 @@ impl Envelope {
         self.hold(member)
     }
 
-    /// Appends a member to the envelope, and checks whether the member has the text that the kit prints for it.
+    /// Appends a member to the envelope, and checks whether the member has the text that the kit's JSON library prints
+    /// for it.
     fn put_front(&mut self, member: &[u8]) -> Result<(), AllocError>
         ensures made { OnOk result (made_of self.new ≡ added (made_of self.old) member.now) }
         ensures held { held_of self.new ≡ held_of self.old }

@@ -1,4 +1,4 @@
-//! Recognizes members of an envelope that have the text that the kit prints for them.
+//! Recognizes members of an envelope that have the text that the kit's JSON library prints for them.
 ghost use Rattle.std.specs.Prelude.{◌≡◌, ◌≤◌, ◌++◌, [], ◌∷◌, length, true, IfSome};
 ghost use Rattle.std.specs.Str.{bytes_eq};
 ghost use Rattle.doc_envelope.specs.Printed.{IsPrintedMember, IsPrintedValue, IsDigits, BeginsWithString, AreIds, IsStarted};
@@ -6,15 +6,15 @@ ghost use Rattle.doc_envelope.specs.Printed.{IsPrintedMember, IsPrintedValue, Is
 use json::is_number;
 use json_values::plain_end;
 
-/// Returns true only if a member, and each member before it, may be in an envelope and has the text that the kit
-/// prints.
+/// Returns true only if a member, and each member before it, may be in an envelope and has the text that the kit's JSON
+/// library prints.
 pub(crate) fn still_printed(printed: bool, member: &[u8]) -> bool
     ensures { result ≡ true → (printed ≡ true) × IsPrintedMember member.now }
 {
     printed && is_printed_member(member)
 }
 
-/// Returns true only if a member may be in an envelope and has the text that the kit prints.
+/// Returns true only if a member may be in an envelope and has the text that the kit's JSON library prints.
 fn is_printed_member(member: &[u8]) -> bool
     ensures { result ≡ true → IsPrintedMember member.now }
 {

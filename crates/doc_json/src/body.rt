@@ -77,7 +77,7 @@ impl Body {
         self.text.clone()
     }
 
-    /// Copies the body. The copy shares its bytes.
+    /// Copies the body. The copy of a body shares the body's bytes.
     pub fn copy(&self) -> Result<Body, AllocError>
         ensures copied { IfOk result (λ b. b ≡ self.now) }
     {

@@ -100,7 +100,7 @@ impl Chosen {
         is_marked(self.marks.as_slice(), id) && self.ids().binary_search(id).is_ok()
     }
 
-    /// Copies the selection. The copy shares its ids.
+    /// Copies the selection. The copy of a selection shares the selection's ids.
     pub fn copy(&self) -> Result<Chosen, AllocError>
         ensures copied { IfOk result (λ c. c ≡ self.now) }
     {

@@ -16,8 +16,8 @@ use crate::text::push_name;
 use json_values::PlainTexts;
 use std::alloc::{AllocError, Global};
 
-/// The initial capacity of a buffer, in bytes. Most small documents need no larger buffer. The allocator rounds up by
-/// as much as 15 bytes to this size.
+/// The initial capacity of a buffer, in bytes. Most small documents need no larger buffer. The allocator rounds sizes
+/// that are up to 15 bytes smaller up to this size.
 const SHORT: usize = 136;
 
 /// Serializes the object of the members without a leading `_`. The buffer has fewer than 32 spare bytes. If the text is

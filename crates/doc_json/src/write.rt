@@ -12,8 +12,8 @@ use itoa::Buffer;
 use rev_core::{Ancestry, Rev};
 use std::alloc::{AllocError, Global};
 
-/// Serializes a document in compact form. Its members are `_id`, `_rev`, `_revisions`, `_deleted` if the document is
-/// deleted, and then the members of the body.
+/// Serializes a document in compact form. The members of the result are `_id`, `_rev`, `_revisions`, `_deleted` if the
+/// document is deleted, and then the members of the body.
 ///
 /// If `serde_json` can read the result, `read_doc` returns the document.
 pub fn write_doc(alloc: Global, doc: &Doc) -> Result<Vec<u8>, AllocError>
@@ -25,8 +25,8 @@ pub fn write_doc(alloc: Global, doc: &Doc) -> Result<Vec<u8>, AllocError>
     Ok(out)
 }
 
-/// Appends the serialized document to a buffer. If an allocation fails, a part may have been appended; the previous
-/// content is kept in any case.
+/// Appends the serialized document to a buffer. If an allocation fails, a part of the document may have been appended,
+/// but the previous content of the buffer stays.
 pub fn push_doc(out: &mut Vec<u8>, doc: &Doc) -> Result<(), AllocError>
     ensures text { OnOk result (out.new.items ≡ out.old.items ++ doc_text doc.now) }
     ensures kept { Keeps out.old.items out.new.items }
@@ -36,7 +36,7 @@ pub fn push_doc(out: &mut Vec<u8>, doc: &Doc) -> Result<(), AllocError>
     push_parts(out, doc)
 }
 
-/// Appends the parts of a document. Reserves enough for most documents first.
+/// Appends the parts of a document. The call first reserves enough space for most documents.
 fn push_parts(out: &mut Vec<u8>, doc: &Doc) -> Result<(), AllocError>
     ensures text { OnOk result (out.new.items ≡ out.old.items ++ doc_text doc.now) }
     ensures kept { Keeps out.old.items out.new.items }

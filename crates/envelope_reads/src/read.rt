@@ -15,8 +15,8 @@ use std::alloc::Global;
 ///
 /// # Errors
 ///
-/// Those of `read_line_doc` for the envelope, except `Attachments`, `SpecialMember` and `Fraction`, which never occur;
-/// and `Memory` if an allocation failed.
+/// The call returns the errors of `read_line_doc` for the envelope, except `Attachments`, `SpecialMember` and
+/// `Fraction`, which never occur. The call returns `Memory` if an allocation failed.
 pub fn read_envelope(
     alloc: Global,
     envelope: &mut Envelope,

@@ -7,7 +7,7 @@ use uuid::Uuid;
 /// The type of a member's value.
 #[derive(Drop)]
 pub(crate) enum Kind {
-    /// 1 to 32 ASCII letters, digits, `-` or `_`.
+    /// A database name, which has 1 to 32 ASCII letters, digits, `-` or `_`.
     Name,
     /// A string.
     Text,
@@ -184,7 +184,7 @@ fn members_of(word: &str) -> Option<&'static [Member]> {
     None
 }
 
-/// Finds out why an object is not a valid object of this command.
+/// Finds out why an object is not a valid object of a given command.
 fn fault_among<'v>(object: &'v LineValue<'_>, members: &'static [Member]) -> CommandFault<'v> {
     for member in members {
         match object.get(member.0) {
@@ -211,7 +211,7 @@ fn unknown_member<'v>(object: &'v LineValue<'_>, members: &'static [Member]) -> 
     CommandFault::NoneSeen
 }
 
-/// Whether one of the command's members has this name.
+/// Whether one of the command's members has a given name.
 fn is_among(name: &str, members: &'static [Member]) -> bool {
     for member in members {
         if is_same_text(name, member.0) {

@@ -14,12 +14,12 @@ use std::alloc::{AllocError, Global};
 /// if the line shows it, and the meaning of the name (docs/PROFILE.md, "Names of refusals"). The explanation has the
 /// line's strings as JSON strings.
 ///
-/// The contract guarantees that the explanation is one line: the reason between its start and its line end is any text
-/// with no hidden character.
+/// The contract guarantees that the explanation is one line without hidden characters. The contract does not say which
+/// text explains the reason.
 ///
 /// # Errors
 ///
-/// Returns `AllocError` if an allocation fails; then part of the explanation may have been appended.
+/// Returns `AllocError` if an allocation fails, and part of the explanation may have been appended.
 pub fn explain(
     values: &mut ValueReader,
     alloc: Global,

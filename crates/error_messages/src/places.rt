@@ -113,7 +113,7 @@ fn member_at_fault<'v>(name: &str, object: &'v LineValue<'_>) -> Option<&'v str>
     None
 }
 
-/// Whether a member of a document causes this error.
+/// Whether a member of a document causes a given error.
 fn is_at_fault(name: &str, member: &str, value: &LineValue<'_>) -> bool {
     if is_same_text("Fraction", name) {
         return has_fraction(value);
@@ -127,7 +127,7 @@ fn is_at_fault(name: &str, member: &str, value: &LineValue<'_>) -> bool {
     false
 }
 
-/// Whether a document must not have this member. A document must not have `_deleted` with a value that is not a
+/// Whether a document must not have a given member. A document must not have `_deleted` with a value that is not a
 /// Boolean, or a member with an initial `_` other than the four known ones.
 fn is_odd(member: &str, value: &LineValue<'_>) -> bool {
     if is_same_text("_deleted", member) {
