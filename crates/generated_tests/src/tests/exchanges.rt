@@ -119,7 +119,7 @@ fn is_leaf(
 }
 
 /// Asserts that the documents from an index on are the leaves of a tree above some revisions. Returns the index after
-/// them.
+/// the compared documents.
 fn brings_leaves(
     rt: &impl Abort,
     alloc: Global,
@@ -223,8 +223,8 @@ fn exchange(
     docs
 }
 
-/// Exchanges between a source and a target. This is a separate function, because each further value next to a side
-/// makes the proof longer.
+/// Exchanges between a source and a target. The code is a separate function, because each further live variable beside
+/// a side lengthens the proof.
 fn with_target(rt: &impl Abort, alloc: Global, seed: u64, source: &mut Side) -> usize {
     let mut rng = ChaCha8Rng::seed_from_u64(seed);
     let mut target = Side::new(alloc, 2);

@@ -83,7 +83,7 @@ fn agree_on_rev(rt: &impl Abort, alloc: Global, tree: &Tree, plain: &PlainTree, 
     agree_on_walk(rt, alloc, tree, plain, one);
 }
 
-/// Asserts that a tree has these leaves.
+/// Asserts that a tree has exactly the given leaves.
 fn agree_on_leaves(rt: &impl Abort, alloc: Global, tree: &Tree, leaves: &[Rev]) {
     are_same(rt, tree.leaves(alloc), leaves);
     holds(rt, tree.leaf_count() == leaves.len(), "the leaves");
@@ -109,7 +109,7 @@ fn agree_on_missing(rt: &impl Abort, alloc: Global, tree: &Tree, plain: &PlainTr
     are_same(rt, tree.missing(alloc, asked), &missing);
 }
 
-/// Asserts that both representations agree, also about the given revisions.
+/// Asserts that both representations of a tree agree, also about the given revisions.
 fn agree(rt: &impl Abort, alloc: Global, tree: &Tree, plain: &PlainTree, asked: &[Rev]) {
     let leaves = plain.leaves(alloc).expect(rt, "memory");
     agree_on_leaves(rt, alloc, tree, &leaves);

@@ -32,7 +32,7 @@ pub(crate) fn rev(rt: &impl Abort, place: usize) -> Rev {
     }
 }
 
-/// Whether a list of revisions has the revisions at these indices.
+/// Whether a list of revisions has the revisions at the given indices.
 pub(crate) fn are(rt: &impl Abort, revs: &[Rev], places: &[usize]) -> bool {
     let mut are = revs.len() == places.len();
     for (one, place) in revs.iter().zip(places) {
@@ -90,7 +90,7 @@ fn agree_on_content(rt: &impl Abort, tree: &Tree, reference: &Reference, one: Re
     }
 }
 
-/// Asserts that a list of revisions has the revisions at these indices.
+/// Asserts that a list of revisions has the revisions at the given indices.
 fn assert_are(rt: &impl Abort, answer: Result<Revs, AllocError>, places: &[usize]) {
     let revs = answer.expect(rt, "revisions");
     holds(rt, are(rt, revs.as_slice(), places), "revisions");
@@ -141,7 +141,7 @@ fn agree_at(rt: &impl Abort, alloc: Global, tree: &Tree, reference: &Reference, 
     agree_on_walk(rt, alloc, tree, reference, one, place);
 }
 
-/// Asserts that the leaves and the winner of a tree are the revisions at these indices.
+/// Asserts that the leaves and the winner of a tree are the revisions at the given indices.
 fn agree_on_leaves(rt: &impl Abort, alloc: Global, tree: &Tree, places: &[usize]) {
     assert_are(rt, tree.leaves(alloc), places);
     holds(rt, tree.leaf_count() == places.len(), "the leaves");

@@ -29,7 +29,7 @@ const FIRST: usize = 1;
 
 const SECOND: usize = 2;
 
-/// The indices of the sources, after the target.
+/// The indices of the two sources of a bench.
 const SOURCE: usize = 0;
 
 const OTHER: usize = 1;
@@ -37,16 +37,17 @@ const OTHER: usize = 1;
 /// A step of a test.
 #[derive(Clone, Copy)]
 enum Call {
-    /// Load this many random documents into the target.
+    /// Load a number of random documents into the target.
     GrowTarget(usize),
-    /// Load this many random documents into a source.
+    /// Load a number of random documents into a source.
     Grow(usize, usize),
     /// Replicate all documents of a source, or those of a selection, into the target.
     Replicate(usize, usize),
 }
 
-/// A second source is replicated into a target with documents of its own. After that, the first source is replicated,
-/// for one selection and completely. After it has grown, it is replicated for both selections and completely again.
+/// A second source is replicated into a target with documents of its own. After the second source, the first source is
+/// replicated, for one selection and completely. After the first source has grown, it is replicated for both selections
+/// and completely again.
 static CALLS: &[Call] = &[
     Call::Grow(OTHER, 10),
     Call::GrowTarget(5),
@@ -112,7 +113,7 @@ impl Bench {
         let number = below(&mut rng, CHOICES);
         let deny = if number < IDS { Some(number) } else { None };
         let first = some(&mut rng);
-        // The second selection is chosen from the same 31 selections, and differs from the first.
+        // The second selection is one of the 31 nonempty selections, and differs from the first selection.
         let second = first % 31 + 1;
         let mut bench = Bench {
             alloc,
@@ -182,7 +183,7 @@ struct How {
     deny: Option<usize>,
 }
 
-/// Returns the prefix that refuses the document with this number.
+/// Returns the prefix by which a filter refuses the document with this number.
 pub(crate) fn prefix(rt: &impl Abort, alloc: Global, deny: Option<usize>) -> Option<String> {
     match deny {
         Some(number) => Some(format!(in alloc; "d{number}").expect(rt, "memory")),
@@ -208,12 +209,12 @@ fn plan(
     }
 }
 
-/// Takes a peer for a run of the pool.
+/// Takes a peer out of its variable for a run of the pool.
 fn taken(alloc: Global, place: &mut Peer<Rules>) -> Peer<Rules> {
     mem::replace(place, Peer::new(alloc, 0, Rules { deny: None }))
 }
 
-/// Puts both peers of a run back, and returns its report.
+/// Stores both peers of a run again, and returns the report of the run.
 fn taken_back(
     ran: Ran<Rules>,
     source: &mut Peer<Rules>,
@@ -308,7 +309,7 @@ fn wanted(source: &PlainSide, since: u64, session: SessionId, carried: &Carried)
     }
 }
 
-/// Performs the steps of a seed, with this many workers.
+/// Performs the steps of a seed, with the given number of workers.
 fn of_seed<R: Abort + Threads + Wait + Sync>(rt: &R, alloc: Global, seed: u64, workers: u64) {
     let mut bench = Bench::new(rt, alloc, seed, workers);
     for call in CALLS {

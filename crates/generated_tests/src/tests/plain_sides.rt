@@ -41,7 +41,7 @@ pub(crate) fn next_above(documents: &Documents, seq: u64, goal: u64) -> Option<(
 pub(crate) type Masks = [u32; IDS];
 
 /// A row of a ledger has the document, its newest revision, and the child, known parent and given parent of a
-/// contradiction. If the filter refuses the document, each of these three is `PLACES`.
+/// contradiction. If the filter refuses the document, the child and both parents are `PLACES`.
 pub(crate) type Row = [usize; 5];
 
 /// The tree of each document with the sequence of its latest change, and the revisions of refused documents.

@@ -98,7 +98,7 @@ impl Met {
         self.entries = self.entries.saturating_add(other.entries);
     }
 
-    /// Returns the least of the counts.
+    /// Returns the least of the counts of restores, sessions, windows and entries.
     pub(crate) fn least(&self) -> u64 {
         self.restores
             .min(self.begins)
@@ -484,8 +484,9 @@ impl PlainWorld {
         }
     }
 
-    /// Returns the session to continue. This is the newest session, if it has not recorded its goal and is from the
-    /// source's life, or from any life if `any_life` is true. Otherwise it is the next number.
+    /// Returns the session to continue. The newest session is continued if it has not recorded its goal and is from the
+    /// source's life, or from any life if `any_life` is true. If the newest session cannot be continued, the call
+    /// returns the next session number.
     pub(crate) fn carried(&self, any_life: bool) -> u128 {
         match self.sessions.begun.last() {
             Some(held)
@@ -611,7 +612,7 @@ impl PlainWorld {
         }
     }
 
-    /// Records or concludes a session, and puts its entry into the bag.
+    /// Records or concludes a session, and puts its entry into the message bag.
     pub(crate) fn record(&mut self, rt: &impl Abort, session: u128, concludes: bool, time: u64) {
         if let Some(done) = self.sessions.record(session, concludes, time) {
             self.entries.push(done).expect(rt, "memory");

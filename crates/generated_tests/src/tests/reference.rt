@@ -46,7 +46,7 @@ pub(crate) enum Answer {
     },
 }
 
-/// The three sets and the origins.
+/// The set of revisions, and the parents, the contents and the origin of each revision.
 #[derive(Clone, Copy)]
 pub(crate) struct Reference {
     revisions: u32,
@@ -136,7 +136,7 @@ impl Reference {
         }
     }
 
-    /// Whether the three sets are equal.
+    /// Whether two references have the same revisions, parents and contents.
     fn is_as(&self, other: &Reference) -> bool {
         self.revisions == other.revisions
             && self.parents == other.parents

@@ -187,8 +187,8 @@ fn survey(rt: &impl Abort, alloc: Global, source: &Side, target: &Side) -> [u64;
     [total.contradicting, total.differing, conflicts]
 }
 
-/// Tests a source and a target. This is a separate function, because each further value next to a side makes the proof
-/// longer.
+/// Tests a source and a target. The code is a separate function, because each further live variable beside a side
+/// lengthens the proof.
 fn with_target(rt: &impl Abort, alloc: Global, seed: u64, source: &mut Side) -> [u64; 3] {
     let mut rng = ChaCha8Rng::seed_from_u64(seed);
     let mut target = Side::new(alloc, 2);
@@ -207,7 +207,7 @@ fn two_hundred_pairs_agree(rt: HostRuntime) {
             found[at] = found[at].saturating_add(more[at]);
         }
     }
-    // Each case occurs often enough to be tested.
+    // Contradicting documents, differing leaves and conflicts occur often enough to be tested.
     assert!(rt;
         found[0] > 100 && found[1] > 50 && found[2] > 100,
         "{found:?}"

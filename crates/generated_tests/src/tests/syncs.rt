@@ -1,5 +1,6 @@
-//! Pairs of peers diverge at random and are replicated in both directions, by one thread and by the pool. After that,
-//! both sides must have the same documents, and a second replication must change nothing.
+//! Pairs of peers diverge at random and are replicated in both directions, by one thread and by the pool. After a
+//! replication in both directions, both sides must have the same documents, and a second replication must change
+//! nothing.
 use crate::tests::checks::holds;
 use crate::tests::feeds::id;
 use crate::tests::merges::below;

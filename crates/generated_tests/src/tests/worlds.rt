@@ -1,4 +1,4 @@
-//! Random lists of steps, taken by a world and by its plain model, and compared: both peers, the logs and the bag.
+//! Compares the peers, the logs and the message bag of a world with its plain model, after random lists of steps.
 use crate::tests::checks::holds;
 use crate::tests::choices::{all_or_some, chosen};
 use crate::tests::feeds::{body, document_by_chance, id};
@@ -22,10 +22,10 @@ use std::process::Abort;
 /// The number of steps of a list.
 const STEPS: usize = 80;
 
-/// The number of these that load a document first.
+/// The number of steps at the start of a list, each of which loads a document.
 const LOADS: usize = 4;
 
-/// Generates random steps. Each is taken by the model and added to the list.
+/// Generates random steps. The model takes each generated step, and the step is added to the list.
 #[derive(Drop)]
 struct Dealer {
     alloc: Global,
@@ -33,7 +33,7 @@ struct Dealer {
     /// The revisions of a document that is edited repeatedly, oldest first.
     chain: Vec<Rev>,
     model: PlainWorld,
-    /// The number of the generated step, and of the turn of the replication.
+    /// The number of generated steps. The other number, `turn`, counts the steps of the replication.
     number: usize,
     turn: usize,
 }
@@ -65,7 +65,7 @@ impl Dealer {
         self.model.picked = all_or_some(&mut self.rng);
     }
 
-    /// Returns an index of the bag: usually the last one, sometimes one out of range.
+    /// Returns an index into a list of the message bag, which is usually the last index, and sometimes out of range.
     fn place(&mut self, length: usize) -> usize {
         if below(&mut self.rng, 6) == 0 {
             below(&mut self.rng, 5)
@@ -74,7 +74,7 @@ impl Dealer {
         }
     }
 
-    /// Returns the session to continue, sometimes another one.
+    /// Returns the session to continue, or sometimes another session.
     fn session(&mut self) -> u128 {
         if below(&mut self.rng, 8) == 0 {
             below(&mut self.rng, 4) as u128
@@ -100,7 +100,7 @@ impl Dealer {
         }
     }
 
-    /// Returns the index of a parent for an edit: usually the leaf's; `None` if there is no revision.
+    /// Returns the index of an edit's parent, which is usually the leaf, or `None` if the document has no revision.
     fn parent(&mut self, at_source: bool) -> Option<usize> {
         let held = self.model.side(at_source).tree(EDITED).count();
         let generation = if below(&mut self.rng, 4) == 0 {
@@ -309,7 +309,8 @@ impl Dealer {
     }
 }
 
-/// Computes the revisions of the document that is edited repeatedly; the model does not interpret them.
+/// Computes the revisions of the document that is edited repeatedly. The model does not interpret the strings of these
+/// revisions.
 fn make_chain(rt: &impl Abort, alloc: Global, chain: &mut Vec<Rev>) {
     for _ in 0..6u64 {
         let parent = chain.last().copied();
@@ -329,7 +330,7 @@ fn deal(rt: &impl Abort, alloc: Global, dealer: &mut Dealer) -> Vec<Step> {
 
 // ---- comparing
 
-/// Whether a database has the part of the chain that its model has, and nothing else of that document.
+/// Whether a database has exactly the first `held` revisions of the document that is edited repeatedly.
 fn has_chain(rt: &impl Abort, alloc: Global, db: &Database, held: usize, chain: &[Rev]) -> bool {
     match db.tree(&id(rt, alloc, EDITED)) {
         Some(tree) => {
@@ -474,7 +475,7 @@ fn take(rt: &impl Abort, alloc: Global, world: &mut World<Rules>, steps: &[Step]
     compare_peers(rt, alloc, world.source(), world.target(), dealer);
 }
 
-/// Generates a list and takes it in a world. Returns the common checkpoint of both logs, or 0.
+/// Generates a list of steps, and takes the steps in a world. Returns the common checkpoint of both logs, or 0.
 fn taken(rt: &impl Abort, alloc: Global, dealer: &mut Dealer, world: &mut World<Rules>) -> u64 {
     let steps = deal(rt, alloc, dealer);
     take(rt, alloc, world, &steps, dealer);
@@ -486,7 +487,7 @@ fn taken(rt: &impl Abort, alloc: Global, dealer: &mut Dealer, world: &mut World<
         .map_or(0, |done| done.recorded)
 }
 
-/// Tests the list of a seed.
+/// Tests the list of steps that a seed generates.
 fn of_seed(rt: &impl Abort, alloc: Global, seed: u64, met: &mut Met) -> u64 {
     let mut dealer = Dealer::new(alloc, seed);
     dealer.pick();
