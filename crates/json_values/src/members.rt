@@ -31,7 +31,7 @@ impl<'a, T: Drop> Members<'a, T> {
         Ok(Members::Listed(Vec::with_capacity(alloc, room)?))
     }
 
-    /// Inserts a member. A member with the same name keeps its position and gets the new value.
+    /// Inserts a member. A member of the object with the same name keeps its position and gets the new value.
     #[inline(always)]
     pub(crate) fn put(&mut self, alloc: Global, name: &'a str, value: T) -> Result<(), AllocError>
         requires { IsRising (entries_of self.old) }

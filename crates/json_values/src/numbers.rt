@@ -23,7 +23,8 @@ pub(crate) fn read_number(text: &str) -> Option<Number>
     }
 }
 
-/// Parses a number token without a sign. Such a token usually has a few digits, which are summed in one loop.
+/// Parses a number token without a sign. A number token without a sign usually has a few digits, which are summed in
+/// one loop.
 #[inline(always)]
 fn read_from_zero(bytes: &[u8]) -> Option<Number>
     ensures { option_map number_view result ≡ number_from false (scan bytes.now) }

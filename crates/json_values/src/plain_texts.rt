@@ -2,8 +2,8 @@
 ghost use Rattle.std.specs.Prelude.{◌≡◌, true, false};
 ghost use Rattle.json_values.specs.Plain.{Narrows};
 
-/// The facts about which strings of a line need no escapes. Such a string contains no quotation mark, no backslash and
-/// no control byte, so it can be written as JSON unchanged.
+/// The facts about which strings of a line need no escapes. A string that needs no escapes contains no quotation mark,
+/// no backslash and no control byte, so it can be written as JSON unchanged.
 #[derive(Clone, Copy, Drop)]
 pub struct PlainTexts {
     /// All names of members.

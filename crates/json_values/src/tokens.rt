@@ -300,7 +300,7 @@ impl<'a> Tokens<'a> {
     }
 
     /// Returns the initial capacity for an array or object whose first element comes next. The capacity is eight,
-    /// because most have no more elements, or 0 if the array or object is empty.
+    /// because most arrays and objects have no more elements, or 0 if the array or object is empty.
     #[inline(always)]
     pub(crate) fn room(&self) -> usize {
         let next = self.lexer.peek();

@@ -40,7 +40,7 @@ fn append_run(out: &mut [u8], at: usize, text: &[u8], from: usize, to: usize)
     }
 }
 
-/// Returns the value of a hexadecimal digit, or 36.
+/// Returns the value of a hexadecimal digit, or 36 for any other byte.
 fn digit(c: u8) -> u32
     ensures value { result ≡ digit_value c }
     ensures ascii { result < 16 → c < 128 }

@@ -14,7 +14,7 @@ use serde_json::Number;
 /// The greatest value to which another digit is appended.
 const FULL: u64 = 100_000_000_000_000_000;
 
-/// Whether a byte ends a word.
+/// Whether a byte ends a number or a literal.
 #[inline(always)]
 fn is_delimiter(c: u8) -> bool
     ensures { result ≡ (is_operator c || is_space c) }

@@ -28,7 +28,7 @@ pub fn cut_last(text: &[u8], byte: u8) -> Option<(&[u8], &[u8])>
     None
 }
 
-/// Removes a prefix; `None` if the text does not have it.
+/// Removes a prefix, or returns `None` if the text does not begin with the prefix.
 pub fn behind<'a>(text: &'a [u8], beginning: &[u8]) -> Option<&'a [u8]>
     ensures some { IfSome result (λ x. text.now ≡ beginning.now ++ x.now) }
     ensures none { IfNone result ((rest : List ℕ) → text.now ≡ beginning.now ++ rest → ⊥) }
@@ -36,7 +36,7 @@ pub fn behind<'a>(text: &'a [u8], beginning: &[u8]) -> Option<&'a [u8]>
     text.strip_prefix(beginning)
 }
 
-/// Removes a suffix; `None` if the text does not have it.
+/// Removes a suffix, or returns `None` if the text does not end with the suffix.
 pub fn before<'a>(text: &'a [u8], end: &[u8]) -> Option<&'a [u8]>
     ensures some { IfSome result (λ x. text.now ≡ x.now ++ end.now) }
     ensures none { IfNone result ((front : List ℕ) → text.now ≡ front ++ end.now → ⊥) }

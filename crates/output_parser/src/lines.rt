@@ -125,7 +125,7 @@ fn leaf_parts(line: &[u8]) -> Option<(&[u8], bool, &[u8])>
     Some((own, false, list))
 }
 
-/// Whether the first of these revisions has this text.
+/// Whether the first revision of a list has the given text.
 fn begins_with(revs: &[Rev], own: &[u8]) -> bool
     ensures yes { result ≡ true → BeginsWith own.now revs.now }
     ensures no { result ≡ false → AllByRecursion IsRev revs.now → BeginsWith own.now revs.now → ⊥ }
@@ -139,7 +139,8 @@ fn begins_with(revs: &[Rev], own: &[u8]) -> bool
     revs[0] == own
 }
 
-/// Parses a document id and revisions after a first word. Returns `None` if the line does not begin with that word.
+/// Parses a document id and revisions after a first word. Returns `None` if the line does not begin with the given
+/// word.
 fn read_listed<'a>(
     alloc: Global,
     line: &'a [u8],

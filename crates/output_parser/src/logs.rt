@@ -10,7 +10,7 @@ use crate::told::{Entry, Log, Member};
 use std::alloc::{AllocError, Global};
 use std::str;
 
-/// Parses a log; `None` if the line is not a log.
+/// Parses a log, or returns `None` if the line is not a log.
 pub fn read_log(alloc: Global, line: &[u8]) -> Result<Option<Log>, AllocError>
     ensures some { IfOk result (λ o. IfSome o (λ l. IsLog line.now (string_bytes l.id) (map logged l.entries.items))) }
     ensures none { IfOk result (λ o. IfNone o ((id : List ℕ) (entries : List Logged) → IsLog line.now id entries → ⊥)) }
@@ -84,7 +84,7 @@ fn read_entry(alloc: Global, text: &[u8]) -> Result<Option<(Entry, &[u8])>, Allo
 }
 
 /// Parses the values of members at the start of a text, and returns them with the text after the members. Returns
-/// `None` if the text does not start with these members.
+/// `None` if the text does not start with the members of a session.
 fn read_values<'a>(
     alloc: Global,
     text: &'a [u8],
@@ -107,7 +107,7 @@ fn read_values<'a>(
 }
 
 /// Parses the value of a member at the start of a text, and returns it with the text after the member. Returns `None`
-/// if the text does not start with this member.
+/// if the text does not start with the given member.
 fn cut_member(text: &[u8], member: Member) -> Option<(&[u8], &[u8])>
     ensures some { IfSome result (λ x. IsMember member x.0.now x.1.now text.now) }
     ensures none { IfNone result ((value after : List ℕ) → IsMember member value after text.now → ⊥) }

@@ -9,7 +9,7 @@ use crate::cuts::cut_first;
 use rev_core::Rev;
 use std::alloc::{AllocError, Global};
 
-/// Parses a revision; `None` if the text is not a revision.
+/// Parses a revision, or returns `None` if the text is not a revision.
 pub fn revision(text: &[u8]) -> Option<Rev>
     ensures some { IfSome result (λ r. (rev_text r ≡ text.now) × IsRev r) }
     ensures none { IfNone result ((r : RevId) → IsRev r → rev_text r ≡ text.now → ⊥) }
@@ -23,7 +23,7 @@ pub fn revision(text: &[u8]) -> Option<Rev>
     }
 }
 
-/// Parses a comma-separated list of revisions. Returns `None` if the text is not such a list.
+/// Parses a comma-separated list of revisions. Returns `None` if the text is not a list of revisions.
 pub fn read_revs(alloc: Global, text: &[u8]) -> Result<Option<Vec<Rev>>, AllocError>
     ensures some { IfOk result (λ o. IfSome o (λ v. IsRevs text.now v.items)) }
     ensures none { IfOk result (λ o. IfNone o ((revs : List RevId) → IsRevs text.now revs → ⊥)) }

@@ -64,7 +64,7 @@ fn columns_back(table: Table) -> &'static [Column]
 }
 
 /// Parses columns at the end of a text, the last column first, and returns the text before the columns. Returns `None`
-/// if the text does not end with these columns.
+/// if the text does not end with the given columns.
 fn read_columns<'a>(
     alloc: Global,
     text: &'a [u8],
@@ -86,7 +86,7 @@ fn read_columns<'a>(
 }
 
 /// Parses a column at the end of a text, and returns the text before the column. Returns `None` if the text does not
-/// end with this column.
+/// end with the given column.
 fn cut_column(text: &[u8], column: Column) -> Option<(&[u8], u64)>
     ensures some { IfSome result (λ x. EndsIn column x.1 x.0.now text.now) }
     ensures none { IfNone result ((front : List ℕ) (n : ℕ) → EndsIn column n front text.now → ⊥) }

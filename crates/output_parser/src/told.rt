@@ -38,16 +38,16 @@ pub struct Found {
 /// The finding of `compare` about a document.
 #[derive(Clone, Copy, Debug, PartialEq, Eq)]
 pub enum Finding {
-    /// The target lacks these leaves.
+    /// The target lacks the listed leaves.
     Missing,
-    /// The target knows a different parent of this revision.
+    /// The target knows a different parent of the listed revision.
     Contradicts,
     /// The listed leaves have different contents in the target.
     Differs,
 }
 
 impl Finding {
-    /// Returns the first word of a line of `compare` with this finding.
+    /// Returns the first word of a line of `compare` with the given finding.
     pub fn text(self) -> &'static str
         ensures { result.now ≡ finding_text self }
     {
