@@ -1,5 +1,5 @@
-//! The rows of backups, with a source that is restored, and data from its other lives. Each call of these rows has
-//! ample memory.
+//! Test rows for backups, with a source that is restored, and data from the source's other lives. Each call in the test
+//! rows has ample memory.
 use crate::tests::peers::{Call, Lists, Rep, Rows, expect};
 use rev_tree::SessionId;
 
@@ -82,8 +82,8 @@ const AHEAD: Rows = &[
     ),
 ];
 
-/// The source is restored, after which its documents, local writes and log are those of the backup. Another document
-/// gets the sequence that d4 had.
+/// The source is restored, after which its documents, local writes and log are those of the backup. After the restore,
+/// another document gets the sequence that d4 had.
 const PUT_BACK: Rows = &[
     (Call::Restore(SOURCE, FIRST), "restored"),
     (Call::Life(SOURCE), "1"),
@@ -162,7 +162,7 @@ fn a_life_is_above_both(rt: HostRuntime) {
         (Call::Numbers(SOURCE), "1 at 4"),
         (Call::Tree(SOURCE, "e"), "1-a of 1"),
         (Call::Backup(SOURCE), "1 at 4"),
-        // Another peer with this database, in life 0, keeps its own filter.
+        // Another peer with the same UUID, in life 0, is restored from the backup, and keeps its own filter.
         (Call::Peer(1, Some("d")), "made"),
         (Call::Restore(OTHER, THIRD), "restored"),
         (Call::Life(OTHER), "4"),

@@ -1,4 +1,4 @@
-//! The rows of selections, with pages and replications of selected documents, and their logs.
+//! Test rows for selections, for pages and replications of selected documents, and for the replications' logs.
 use crate::tests::choices::{Call, Rows, expect};
 use rev_tree::SessionId;
 
@@ -12,7 +12,7 @@ const S4: SessionId = SessionId(4);
 
 const S5: SessionId = SessionId(5);
 
-/// The lists of a test.
+/// The lists of calls of a test.
 type Lists = &'static [Rows];
 
 #[test]

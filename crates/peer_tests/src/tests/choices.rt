@@ -12,7 +12,7 @@ use std::alloc::Global;
 use std::process::Abort;
 use test_support::shown;
 
-/// The index of a selection; `None` for all documents.
+/// The index of a selection, or `None` for all documents.
 pub(crate) type Under = Option<usize>;
 
 /// A call on the source, the target, or the selections, which are named by index.
@@ -26,7 +26,7 @@ pub(crate) enum Call<'a> {
     Choose(&'a [&'a str]),
     /// Select the documents with numbers from 1 on, with the first id given twice, as the next selection.
     ChooseMany(u32),
-    /// Copy a selection, as the next one.
+    /// Copy a selection, as the next selection.
     Copy(usize),
     /// Read whether two selections are equal.
     Equal(usize, usize),
@@ -34,7 +34,7 @@ pub(crate) enum Call<'a> {
     Has(Under, &'a str),
     /// Read the text of the id of the replication from the source into the target.
     Text(Under),
-    /// Read a page of the source above a sequence and up to a goal, which scans this number of rows.
+    /// Read a page of the source above a sequence and up to a goal, which scans a given number of rows.
     Page(u64, u64, u64, Under),
     /// Replicate the source into the target by one thread, given the session and the number of rows that a window
     /// scans.
@@ -198,8 +198,8 @@ fn rep_text(alloc: Global, rep: &RepId) -> Option<String> {
     }
 }
 
-/// Returns the selection at an index; The result is `Some(None)` for all documents, and `None` if there is no such
-/// selection.
+/// Returns the selection at an index. The result is `Some(None)` for all documents, and `None` if no selection has the
+/// index.
 fn chosen(choices: &[Chosen], under: Under) -> Option<Option<&Chosen>> {
     match under {
         Some(at) => choices.get(at).map(Some),

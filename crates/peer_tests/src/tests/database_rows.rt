@@ -1,4 +1,4 @@
-//! The rows of databases: pages, puts, edits, requests and fetches. Each call of these rows has ample memory.
+//! Test rows for databases: pages, puts, edits, requests and fetches. Each call in the test rows has ample memory.
 use crate::tests::databases::{Bench, Call, Rows, expect};
 
 /// The first database of a bench, the source of fetches.
@@ -50,7 +50,7 @@ static BOTH: Rows = &[
     ),
 ];
 
-/// The complete feed of `BOTH`, and the request of an empty B.
+/// The complete feed of `BOTH`, and the request of an empty database B.
 static BOTH_ASKED: Rows = &[
     (Call::Page(A, 0, 2, 10), "0 to 2: 2 d 2-b,2-a;"),
     (Call::Diff(B, FIRST), "0 to 2: d 2-b,2-a;"),
@@ -92,7 +92,7 @@ fn a_changed_document_moves_in_the_feed(rt: HostRuntime) {
 #[test]
 fn puts_as_given(rt: HostRuntime) {
     const GROWN: &str = r#"{"_id":"d","_revisions":{"start":3,"ids":["c","b"]}}"#;
-    // A longer ancestry fills the gap, and the first content of an ancestor is a change.
+    // A longer ancestry adds a missing ancestor, and storing the ancestor's first content is a change.
     const LONGER: &str = r#"{"_id":"d","_revisions":{"start":3,"ids":["c","b","a"]}}"#;
     const ANCESTOR: &str = r#"{"_id":"d","_rev":"2-b","n":1}"#;
     // The first content stays.
@@ -195,7 +195,7 @@ fn edits_refused_by_name(rt: HostRuntime) {
 
 #[test]
 fn an_edit_that_is_there(rt: HostRuntime) {
-    // The new revision of this edit is put into the tree without its parent.
+    // A put stores the revision that the edit would create, without the revision's parent.
     const THERE: &str = r#"{"_id":"d","_rev":"2-1c600d37126a8e6d3c67d6f7a6a5c299"}"#;
     static ROWS: Rows = &[
         (

@@ -35,7 +35,7 @@ pub(crate) enum Call<'a> {
     Node(usize, &'a str, &'a str),
     /// Read the document at a revision.
     Document(usize, &'a str, &'a str),
-    /// Read a page above a sequence and up to a goal, of at most this number of rows, as the next window.
+    /// Read a page above a sequence and up to a goal, of at most a given number of rows, as the next window.
     Page(usize, u64, u64, u64),
     /// Request the leaves of a window that a database lacks, as the next request.
     Diff(usize, usize),
@@ -74,7 +74,7 @@ pub(crate) struct Bench {
 }
 
 impl Bench {
-    /// Creates databases without documents, with these UUIDs.
+    /// Creates databases without documents, with the given UUIDs.
     pub(crate) fn new(rt: &impl Abort, alloc: Global, uuids: &[u128]) -> Bench {
         let mut databases = Vec::new(alloc);
         for uuid in uuids {
@@ -182,7 +182,7 @@ fn make_at(alloc: Global, databases: &mut Vec<Database>, uuid: u128, seq: u64) -
 /// The greatest life: 2^53 - 1.
 const LAST_LIFE: u64 = 9_007_199_254_740_991;
 
-/// Copies a database, as the next one, optionally into a life.
+/// Copies a database, as the next database, optionally into a life.
 fn copy(
     alloc: Global,
     databases: &mut Vec<Database>,
@@ -301,7 +301,7 @@ pub(crate) fn keep_parcel(
     text
 }
 
-/// Performs lists of calls on a new bench with databases of these UUIDs, and asserts each result.
+/// Performs lists of calls on a new bench with databases of the given UUIDs, and asserts each result.
 pub(crate) fn expect(rt: &impl Abort, alloc: Global, uuids: &[u128], lists: &[Rows]) {
     let mut bench = Bench::new(rt, alloc, uuids);
     for calls in lists {

@@ -47,7 +47,7 @@ fn doc(alloc: Global, start: u32, sigs: &[Sig]) -> Option<Doc> {
     Some(Doc::new(id, ancestry, false, body))
 }
 
-/// Loads d with an ancestry of this length, down to generation 1.
+/// Loads d with an ancestry of a given length, down to generation 1.
 pub(crate) fn load_long(alloc: Global, peer: &mut Peer<Rules>, length: u32) -> Option<String> {
     let Some(sigs) = sigs(alloc, length) else {
         return None;
@@ -69,7 +69,7 @@ fn load_leaf(alloc: Global, peer: &mut Peer<Rules>, number: u32) -> Option<Strin
     put_text(alloc, peer.load(&doc))
 }
 
-/// Loads this number of leaves of d, all of generation 1, and returns the result of the last load.
+/// Loads a given number of leaves of d, all of generation 1, and returns the result of the last load.
 pub(crate) fn load_wide(alloc: Global, peer: &mut Peer<Rules>, leaves: u32) -> Option<String> {
     let mut text = String::new(alloc);
     for number in 0..leaves {
@@ -81,7 +81,7 @@ pub(crate) fn load_wide(alloc: Global, peer: &mut Peer<Rules>, leaves: u32) -> O
     Some(text)
 }
 
-/// Returns a body of this many letters x.
+/// Returns a body of a given number of letters x.
 fn letters_body(alloc: Global, letters: usize) -> Option<Body> {
     let Ok(mut text) = r#"{"t":""#.to_string(alloc) else {
         return None;
@@ -97,7 +97,7 @@ fn letters_body(alloc: Global, letters: usize) -> Option<Body> {
     body(alloc, text.as_str())
 }
 
-/// Creates d by an edit, with a body of this many letters x.
+/// Creates d by an edit, with a body of a given number of letters x.
 pub(crate) fn edit_large(alloc: Global, peer: &mut Peer<Rules>, letters: usize) -> Option<String> {
     let Some(body) = letters_body(alloc, letters) else {
         return None;

@@ -1,4 +1,4 @@
-//! Rows with large values, each with ample memory, so that no call fails.
+//! Test rows with large values and ample memory, in which no call fails.
 use crate::tests::peers::{Call, Lists, Rows, expect};
 use rev_tree::SessionId;
 

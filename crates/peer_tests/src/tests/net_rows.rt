@@ -1,5 +1,5 @@
-//! The rows of networks. The rows of networks spread documents through a hub, have a broken chain, a refused document
-//! and an incomplete history, and provoke each error.
+//! The rows of networks. Test rows for networks, which spread documents through a hub, have a broken chain, a refused
+//! document and an incomplete history, and provoke each error.
 use crate::tests::nets::{Call, Lists, Rows, expect, of_slice};
 
 /// Four peers.
@@ -10,7 +10,7 @@ const FOUR: Rows = &[
     (Call::Add(4, None), "3"),
 ];
 
-/// The revisions of edits with the body {"v":1}: the first one, and a child of 1-a.
+/// The revisions that edits with the body {"v":1} create: a first revision, and a child of 1-a.
 const FIRST: &str = "1-125e243b9a90308f8be767a220f77ae9";
 
 const SECOND: &str = "2-04e04b58ba493e5eb3fd86e7cf77b40e";
@@ -59,7 +59,7 @@ fn a_hub_spreads_what_anybody_writes(rt: HostRuntime) {
         (Call::Audit(0, 3), "clean"),
         (Call::Audit(3, 0), "clean"),
         (Call::Audit(1, 2), "clean"),
-        // A peer that is added later gets what others replicate to it.
+        // A peer that is added later gets the documents that other peers replicate to it.
         (Call::Add(5, None), "4"),
         (Call::Along(&[(2, 4)]), "done"),
         (Call::Tree(4, "d"), "1-b,1-a of 2"),
@@ -75,7 +75,7 @@ fn a_broken_chain_brings_nothing_to_its_end(rt: HostRuntime) {
             Call::Load(0, r#"{"_id":"d","_rev":"1-a"}"#),
             "Changed { seq: 1 }",
         ),
-        // The second link of the chain comes before the first.
+        // The second hop of the chain from 0 to 2 is taken before the first hop.
         (Call::Along(&[(1, 2), (0, 1), (3, 2)]), "done"),
         (Call::Tree(1, "d"), "1-a of 1"),
         (Call::Tree(2, "d"), "no document"),
@@ -124,7 +124,7 @@ fn a_refused_document_stays_away_and_others_go_on(rt: HostRuntime) {
         ),
         (Call::Tree(2, "x1"), "no document"),
         (Call::Audit(1, 0), "clean"),
-        // The document comes by another chain of hops.
+        // The document x1 reaches the peer by another chain of hops.
         (Call::Along(&[(1, 2)]), "done"),
         (
             Call::Tree(2, "x1"),
@@ -161,7 +161,7 @@ fn a_history_that_is_cut_off_stays_so(rt: HostRuntime) {
 #[test]
 fn trees_that_disagree_do_so_still(rt: HostRuntime) {
     const ROWS: Rows = &[
-        // Two parents of one revision.
+        // Two peers give one revision different parents.
         (
             Call::Load(0, r#"{"_id":"d","_revisions":{"start":2,"ids":["c","x"]}}"#),
             "Changed { seq: 1 }",
@@ -170,7 +170,7 @@ fn trees_that_disagree_do_so_still(rt: HostRuntime) {
             Call::Load(1, r#"{"_id":"d","_revisions":{"start":2,"ids":["c","y"]}}"#),
             "Changed { seq: 1 }",
         ),
-        // Two contents of one revision.
+        // Two peers give one revision different contents.
         (
             Call::Load(0, r#"{"_id":"e","_rev":"1-a","v":1}"#),
             "Changed { seq: 2 }",
@@ -203,7 +203,7 @@ fn hops_that_are_refused(rt: HostRuntime) {
             Call::Load(0, r#"{"_id":"d","_rev":"1-a"}"#),
             "Changed { seq: 1 }",
         ),
-        // The hops before the failed one keep their effect, and those after it are not taken.
+        // The hops before the failed hop keep their effect, and the hops after the failed hop are not taken.
         (Call::Along(&[(0, 1), (1, 1), (1, 2)]), "hop 1: SamePeer"),
         (Call::Tree(1, "d"), "1-a of 1"),
         (Call::Tree(2, "d"), "no document"),

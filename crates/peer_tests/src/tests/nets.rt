@@ -17,7 +17,7 @@ use test_support::{rev_text, shown};
 /// The source and the target of a hop.
 type Places = (usize, usize);
 
-/// A call on a network, whose peers are named by index. Each replication has the next session.
+/// A call on a network, whose peers are named by index. Each replication in a test has the next session number.
 #[derive(Clone, Copy)]
 pub(crate) enum Call<'a> {
     /// Add a peer with a UUID and the prefix that its filter refuses.
@@ -30,7 +30,7 @@ pub(crate) enum Call<'a> {
     Along(&'a [Places]),
     /// Replicate along hops, in windows of one row, at most two for each replication.
     AlongTwoRows(&'a [Places]),
-    /// Replicate through the hub, with these numbers of plans for the two directions.
+    /// Replicate through the hub, with the given numbers of plans for the two directions.
     Hub(usize, usize),
     /// Audit the second peer, as a target, against the first peer, as its source.
     Audit(usize, usize),
@@ -46,7 +46,7 @@ pub(crate) type Rows = &'static [(Call<'static>, &'static str)];
 /// Lists of calls that are performed in order.
 pub(crate) type Lists = &'static [Rows];
 
-/// A network, and the last session.
+/// A network, and the number of its last session.
 #[derive(Drop)]
 struct Bench {
     alloc: Global,

@@ -1,4 +1,4 @@
-//! The rows of peers, with local writes, sessions, each error, logs and audits. Each call of these rows has ample
+//! Test rows for peers, with local writes, sessions, each error, logs and audits. Each call in the test rows has ample
 //! memory.
 use crate::tests::peers::{Beginning, Call, Lists, Rep, Rows, expect};
 use rev_tree::SessionId;
@@ -39,7 +39,8 @@ const OTHER_REP: Rep = Rep {
 /// The document d at 1-a.
 const D: &str = r#"{"_id":"d","_rev":"1-a"}"#;
 
-/// The edit of d at 1-a with an empty body; its signature is the MD5 of the parent, the kind and the body.
+/// The edit of d at 1-a with an empty body. The signature of the edit's revision is the MD5 of the parent, the kind and
+/// the body.
 const NEXT: &str = "2-1c600d37126a8e6d3c67d6f7a6a5c299";
 
 /// A session of `REP` without a base, from 0 to 1.
@@ -82,7 +83,7 @@ const ASKED: Rows = &[
     (Call::Diff(TARGET, FIRST), "0 to 1: d 1-a;"),
 ];
 
-/// The source edits d, and the requested revision is answered with its descendant.
+/// The source edits d, and a fetch of the requested revision returns the revision's descendant.
 const MOVED: Rows = &[
     (Call::Edit(SOURCE, "d", "1-a", false, "{}"), NEXT),
     (Call::Numbers(SOURCE), "1 at 2"),
@@ -135,7 +136,7 @@ fn a_refused_descendant_covers(rt: HostRuntime) {
         (Call::Covered(TARGET, "d", "1-a"), "true"),
         (Call::Record(TARGET, S1, 11), "1"),
     ];
-    // The document is not in the tree, so it is requested and refused again.
+    // The target has no tree of the refused document, which is therefore requested and refused again.
     const LAST: Rows = &[
         (
             Call::Diff(TARGET, SECOND),
@@ -180,8 +181,8 @@ fn sequences_run_out(rt: HostRuntime) {
         (Call::Diff(TARGET, FIRST), "0 to 2: d 1-a; e 1-a;"),
         (Call::Fetch(SOURCE, FIRST), FETCHED),
     ];
-    // The first document takes the last sequence, and the second document gets none. The first document is an arrival
-    // again.
+    // The first document takes the last sequence, and the second document gets none. If the parcel is settled again,
+    // the first document is an arrival again.
     const STOPPED: &str = "Stopped 1, rest e, SeqFull";
     const TWICE: &str =
         "session 1 from 0 to 0 checked 0 found 0 read 2 written 2 failed 0, 10 to 11";
@@ -494,8 +495,8 @@ fn a_session_that_is_not_there_is_refused(rt: HostRuntime) {
 fn a_foreign_document_is_refused(rt: HostRuntime) {
     const E: &str = r#"{"_id":"e","_rev":"1-a"}"#;
     const ROWS: Rows = &[
-        // The other source's window has the same bounds, and the other source's document has no row in the stored
-        // window.
+        // The other source's window has the bounds of the stored window, and the other source's document has no row in
+        // the stored window.
         (Call::Load(OTHER, E), "Changed { seq: 1 }"),
         (Call::Page(OTHER, 0, 1), "0 to 1: 1 e 1-a;"),
         (Call::Diff(TARGET, SECOND), "0 to 1: e 1-a;"),
@@ -548,7 +549,7 @@ fn the_leaves_of_a_done_window_are_let_go(rt: HostRuntime) {
     expect(&rt, rt.alloc(), LISTS);
 }
 
-// Like the two rows before, this row has a hostile parcel. It was fetched before another client wrote.
+// A test with a hostile parcel, like the two tests before it. The parcel was fetched before another client wrote.
 #[test]
 fn a_parcel_of_another_leaf_leaves_its_window_uncovered(rt: HostRuntime) {
     const ROWS: Rows = &[
@@ -639,7 +640,7 @@ const TWELVE: Rows = &[
     ),
 ];
 
-/// Sessions at the target that recorded 9 and 5. The feed has no row below 12.
+/// Sessions at the target that recorded the sequences 9 and 5. The feed has no row below 12.
 const RECORDED: Rows = &[
     (Call::Begin(TARGET, S1, TO_NINE, 10), "begun"),
     (Call::Page(SOURCE, 0, 9), "0 to 9:"),
@@ -697,7 +698,7 @@ fn common_session(rt: HostRuntime) {
         (Call::Common(SOURCE, TARGET, REP), "2 at 4"),
         (Call::PutEntry(SOURCE, REP, S2, 3), "Older { stored: 4 }"),
         (Call::SourceLog(SOURCE, REP), "2 at 4;1 at 9;"),
-        // An existing session is replaced in place, also at the same sequence.
+        // The entry of an existing session is replaced in place, also by an entry with the same sequence.
         (Call::PutEntry(SOURCE, REP, S1, 9), "put"),
         (Call::PutEntry(SOURCE, REP, S1, 10), "put"),
         (Call::SourceLog(SOURCE, REP), "2 at 4;1 at 10;"),

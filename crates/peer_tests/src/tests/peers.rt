@@ -105,7 +105,7 @@ pub(crate) enum Call<'a> {
     Common(usize, usize, Rep),
     /// Audit the second peer, as a target, against the first peer, as its source.
     Audit(usize, usize),
-    /// Check a plan between two peers, with this maximum number of rows of a window.
+    /// Check a plan between two peers, with a given maximum number of rows of a window.
     CheckPlan(usize, usize, u64),
     /// Begin the session of a plan at the second peer, from the first, with a timestamp.
     BeginPlan(SessionId, u64),
@@ -115,11 +115,11 @@ pub(crate) enum Call<'a> {
     HoleAbove(usize, usize, u64),
     /// Replicate the first peer into the second, given the session and the maximum number of rows of a window.
     Replicate(SessionId, u64),
-    /// Load d with this number of revisions in its ancestry.
+    /// Load d with a given number of revisions in its ancestry.
     LoadLong(usize, u32),
-    /// Load this many leaves of d.
+    /// Load a given number of leaves of d.
     LoadWide(usize, u32),
-    /// Create d with this many letters in its body.
+    /// Create d with a given number of letters in its body.
     EditLarge(usize, usize),
     /// Read the size of the tree of d.
     Sizes(usize),

@@ -1,4 +1,5 @@
-//! The rows of plans, with errors, the start of a session, its entry at the source, and the scan above a sequence.
+//! Test rows for plans, with errors, the start of a session, the session's entry at the source, and the scan above a
+//! sequence.
 use crate::tests::peers::{Call, Lists, Rep, Rows, expect};
 use rev_tree::SessionId;
 
@@ -19,7 +20,7 @@ const S1: SessionId = SessionId(1);
 
 const S2: SessionId = SessionId(2);
 
-/// The replication from the source into the target, and that into the peer that refuses d.
+/// The replication from the source into the target, and the replication from the source into the peer that refuses d.
 const REP: Rep = Rep {
     source: 1,
     target: 2,
@@ -111,7 +112,7 @@ fn an_older_entry_is_passed_over(rt: HostRuntime) {
         (Call::SourceLog(SOURCE, REP), "1 at 9;"),
         (Call::RecordAtSource(S1), "recorded"),
         (Call::SourceLog(SOURCE, REP), "1 at 9;"),
-        // The next session begins at the lesser of the two sequences.
+        // The next session begins at the lesser of the sequences that source and target recorded.
         (Call::BeginPlan(S2, 13), "1"),
     ];
     static LISTS: Lists = &[THREE, FIRST_SESSION, ROWS];
@@ -124,7 +125,7 @@ fn a_walk_above_a_sequence(rt: HostRuntime) {
         (Call::HoleAbove(SOURCE, TARGET, 0), "hole 1 d 1-a"),
         (Call::HoleAbove(SOURCE, TARGET, 1), "hole 2 e 1-b"),
         (Call::HoleAbove(SOURCE, TARGET, 2), "clean"),
-        // There is nothing above the update sequence.
+        // The feed has no rows above the update sequence.
         (Call::HoleAbove(SOURCE, TARGET, 9), "clean"),
         (Call::HoleAbove(SOURCE, SOURCE, 0), "clean"),
     ];

@@ -6,7 +6,7 @@ use rev_tree::SessionId;
 use std::alloc::Global;
 use test_support::shown;
 
-/// Creates the plan of a session with this maximum number of rows of a window and a timestamp.
+/// Creates the plan of a session with a maximum number of rows of a window and a timestamp.
 pub(crate) fn plan(session: SessionId, batch: u64, moment: u64) -> Option<Plan> {
     let Ok(at) = Moment::new(moment) else {
         return None;

@@ -144,7 +144,7 @@ fn run_held<R: Abort + Threads + Wait + Sync>(
     )
 }
 
-/// Creates a board for this many workers, their seats, and the seat of one viewer.
+/// Creates a board for a number of workers, the workers' seats, and the seat of one viewer.
 fn board_for(alloc: Global, workers: usize) -> Option<(Board, Vec<BoardSeat>, BoardSeat)>
     ensures { IfSome result (λ r. All (WorksAt r.0) r.1.items × CameWith r.0 r.2) }
 {
@@ -169,7 +169,7 @@ fn take_seat(board: &Board, seats: &mut Vec<BoardSeat>) -> Option<BoardSeat>
     seats.pop()
 }
 
-/// Creates a board for this many workers and four viewers, with the workers' seats and the viewers'.
+/// Creates a board for a number of workers and four viewers, with the seats of the workers and of the viewers.
 fn board_for_four(alloc: Global, workers: usize) -> Option<(Board, Vec<BoardSeat>, Viewers)>
     ensures { IfSome result (λ r. All (WorksAt r.0) r.1.items
         × CameWith r.0 r.2.0 × CameWith r.0 r.2.1 × CameWith r.0 r.2.2 × CameWith r.0 r.2.3) }

@@ -63,7 +63,7 @@ fn hold(told: &AtomicBool, ran_out: &AtomicBool) {
 }
 
 /// A gate that blocks the first window's fetcher until the second window is recorded, and stores the recorded sequences
-/// of both.
+/// of both windows.
 #[derive(Drop)]
 struct HoldsFetched {
     second: AtomicBool,
@@ -101,14 +101,14 @@ impl Gate for HoldsFetched {
     }
 }
 
-/// A gate that stops once, at a kind of place of a window. The kinds are took, asked, fetched, settled and recorded,
-/// numbered from 0.
+/// A gate that stops once, at a kind of place of a window. The kinds of places are took, asked, fetched, settled and
+/// recorded, numbered from 0.
 #[derive(Drop)]
 struct StopsOnce {
     kind: u64,
     window: u64,
-    /// Whether the gate claims that it may block, although it never does. If so, each worker is a thread of its own,
-    /// even if they are few.
+    /// Whether the gate claims that it may block, although it never does. If the gate claims that it may block, each
+    /// worker is a thread of its own, even if there are few workers.
     may_block: bool,
     stopped: AtomicBool,
 }
@@ -276,8 +276,8 @@ pub(crate) fn go_on<R: Abort + Threads + Wait + Sync>(rt: &R, alloc: Global, ben
     bench.run(rt, AT_GOAL);
 }
 
-/// Performs a run with this number of workers that stops, and a further run that completes the copy. The gate may block
-/// the workers or not.
+/// Performs a run with a given number of workers that stops, and a further run that completes the copy. The gate may
+/// block the workers or not.
 fn stop_and_go_on<R: Abort + Threads + Wait + Sync>(
     rt: &R,
     alloc: Global,

@@ -15,7 +15,7 @@ const A: usize = 0;
 
 const B: usize = 1;
 
-/// Returns a run in windows of this many rows.
+/// Returns a run in windows of a given number of rows.
 const fn in_windows_of(batch: u64) -> How {
     How {
         session: SessionId(1),
@@ -31,13 +31,13 @@ const fn in_windows_of(batch: u64) -> How {
 struct Counts {
     places: Vec<AtomicU64>,
     strays: AtomicU64,
-    /// Whether the gate claims that it may block, although it never does. If so, workers are threads of their own, even
-    /// if they are few.
+    /// Whether the gate claims that it may block, although it never does. If the gate claims that it may block, each
+    /// worker is a thread of its own, even if there are few workers.
     may_block: bool,
 }
 
 impl Counts {
-    /// Creates the counts for this many windows, all 0.
+    /// Creates counts of 0 for a given number of windows.
     fn new(rt: &impl Abort, alloc: Global, windows: usize, may_block: bool) -> Counts {
         let mut places = Vec::new(alloc);
         for _ in 0..windows {
@@ -82,8 +82,8 @@ impl Gate for Counts {
     }
 }
 
-/// Asserts that a run with this many workers asks the gate, which may block them or not, exactly once at each place of
-/// a window, in order.
+/// Asserts that a run with a number of workers asks a gate, which may or may not block workers, exactly once at each
+/// place of a window, in order.
 fn expect_in_order<R: Abort + Threads + Wait + Sync>(
     rt: &R,
     alloc: Global,

@@ -94,9 +94,9 @@ impl Turns {
     /// Returns the number of workers that will certainly come to a place, and the number of workers that may come.
     ///
     /// A fetcher has a window until it has passed `Fetched`, and a writer a parcel until it has passed `Recorded`. The
-    /// fetcher that finds no further window sends the end to a writer, before or after the other's last parcel; so once
-    /// all are fetched and one is recorded, there may be one writer for the other two. A stopped worker drops all
-    /// messages.
+    /// fetcher that finds no further window sends the end to a writer, before or after the last parcel of the other
+    /// fetcher. If all three windows are fetched and one is recorded, only one writer may be left for the other two
+    /// windows. A stopped worker drops all messages.
     fn awaited(&self) -> (u64, u64) {
         let fetched = bits(self.left & FETCHED);
         let recorded = bits(self.left & RECORDED);
@@ -164,7 +164,7 @@ impl Turns {
 struct Drawn {
     stop_at: u64,
     turns: Mutex<Turns>,
-    /// Signalled whenever a worker is chosen.
+    /// A counter that wakes blocked workers whenever a worker is chosen.
     bell: AtomicU64,
     ran_out: AtomicBool,
 }
@@ -280,7 +280,8 @@ fn different(sorted: &[u64]) -> u64 {
 const SEEDS: u64 = 250;
 
 /// Performs runs in the orders of `SEEDS` seeds. More than half of the orders must be different.
-// The target's own sequences depend on the order of the run. All other values that are read at the end are the same.
+// The target's own sequences depend on the order of the run. All other values that are read at the end are the same for
+// every order.
 fn run_orders<R: Abort + Threads + Wait + Sync>(rt: &R, alloc: Global, first: u64) {
     let mut orders = Vec::new(alloc);
     for number in 0..SEEDS {
@@ -326,7 +327,7 @@ fn stop_drawn<R: Abort + Threads + Wait + Sync>(rt: &R, alloc: Global, seed: u64
     assert!(rt; !ran_out, "out of turns at {seed}");
 }
 
-/// Stops a run for each of 150 seeds, of which ten runs stop at each place.
+/// Stops a run for each of 150 seeds, so that ten runs stop at each place.
 fn stop_orders<R: Abort + Threads + Wait + Sync>(rt: &R, alloc: Global, first: u64) {
     for number in 0..150u64 {
         stop_drawn(rt, alloc, first.saturating_add(number));

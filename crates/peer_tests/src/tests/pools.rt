@@ -24,7 +24,7 @@ use test_support::shown;
 #[derive(Clone, Copy)]
 pub(crate) struct How {
     pub(crate) session: SessionId,
-    /// The number of workers; `None` for the bench's own number.
+    /// The number of workers, or `None` for the bench's own number.
     pub(crate) workers: Option<u64>,
     pub(crate) batch: u64,
     pub(crate) stop_after: Option<u64>,
@@ -37,7 +37,7 @@ pub(crate) enum Call<'a> {
     Peer(u128, Option<&'a str>),
     /// Create the next peer, with its UUID, and its database at a sequence.
     PeerAt(u128, u64),
-    /// Load this number of documents d0, d1 and so on.
+    /// Load a given number of documents d0, d1 and so on.
     Fill(usize, u64),
     /// Load a document.
     Load(usize, &'a str),
@@ -260,7 +260,8 @@ fn compare(
     }
 }
 
-/// Runs the pool. This is a separate function, because each further value next to the peers lengthens the proof.
+/// Runs the pool. The code is a separate function, because each further live variable beside the peers lengthens the
+/// proof.
 fn ran<G: Gate + Sync, R: Threads + Wait + Sync>(
     rt: &R,
     alloc: Global,
@@ -304,7 +305,7 @@ fn fetched_text(alloc: Global, fetched: u64) -> Option<String> {
     format!(in alloc; ", fetched {fetched}").ok()
 }
 
-/// Returns the sum of counts.
+/// Returns the sum of a list of counts.
 fn sum_of(counts: &[u64]) -> u64 {
     let mut sum = 0u64;
     for count in counts {
@@ -331,7 +332,7 @@ fn load_number(alloc: Global, peer: &mut Peer<Rules>, number: u64) -> Option<Str
     }
 }
 
-/// Loads this many documents of one revision each, and returns the result of the last load.
+/// Loads a given number of documents of one revision each, and returns the result of the last load.
 fn fill(alloc: Global, peer: &mut Peer<Rules>, documents: u64) -> Option<String> {
     let mut text = String::new(alloc);
     for number in 0..documents {

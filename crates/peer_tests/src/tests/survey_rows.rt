@@ -1,4 +1,4 @@
-//! The rows of `repl_inspect`, with missing, contradicting and differing leaves, conflicts, ledgers, counts, and a
+//! Test rows for `repl_inspect`, with missing, contradicting and differing leaves, conflicts, ledgers, counts, and a
 //! document of 1,000 leaves.
 use crate::tests::surveys::{Call, Rows, expect};
 
@@ -20,7 +20,7 @@ fn what_a_target_misses(rt: HostRuntime) {
         // The target has neither of the source's two documents.
         (Call::Compare("d"), "2 missing 3-d 2-c differing"),
         (Call::Compare("e"), "1 missing 1-a differing"),
-        // Neither peer has this document.
+        // Neither peer has the document f.
         (Call::Compare("f"), "0 missing differing"),
         // The target has 2-b with another parent, and 2-c with another body.
         (
@@ -35,7 +35,7 @@ fn what_a_target_misses(rt: HostRuntime) {
             Call::Compare("d"),
             "2 missing 3-d contradicts 2-b differing 2-c",
         ),
-        // The target has the same leaf, except that it is live.
+        // The target has the source's leaf, but as a live leaf.
         (
             Call::Target(r#"{"_id":"e","_rev":"1-a"}"#),
             "Changed { seq: 3 }",

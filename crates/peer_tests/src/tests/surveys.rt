@@ -26,7 +26,7 @@ pub(crate) enum Call<'a> {
     Source(&'a str),
     /// Load a document into the target.
     Target(&'a str),
-    /// Load this many leaves of the document d into the source.
+    /// Load a given number of leaves of the document d into the source.
     Wide(u32),
     /// Replicate the source into the target.
     Replicate,
@@ -121,7 +121,7 @@ impl Bench {
         }
     }
 
-    /// Reads the total of the feed.
+    /// Reads the total of the differences between the source's complete feed and the target.
     fn total(&self, id: Option<&str>) -> Option<String> {
         match id {
             Some(id) => {
@@ -134,7 +134,7 @@ impl Bench {
         }
     }
 
-    /// Reads the total with a selection.
+    /// Reads the total of the differences between selected documents of the source and the target.
     fn total_under(&self, chosen: Option<&Chosen>) -> Option<String> {
         match compare_feed(self.alloc, &self.source, &self.target, chosen) {
             Ok(total) => shown(self.alloc, &total),

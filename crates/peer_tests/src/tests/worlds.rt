@@ -28,7 +28,7 @@ pub(crate) enum Act<'a> {
     LoadSource(&'a str),
     ThirdParty(&'a str),
     ReadLog,
-    /// Begin a session from a log of the bag: the log's index and the goal.
+    /// Begin a session from a log of the message bag: the log's index and the goal.
     Begin(SessionId, usize, u64),
     Page(u64, u64, u64),
     Append(SessionId, usize),
@@ -251,7 +251,7 @@ pub(crate) fn expect(rt: &impl Abort, alloc: Global, lists: &[Acts], told: Told)
     tell(rt, alloc, &mut world, lists, told);
 }
 
-/// Loads this many documents at the source: d0, d1 and so on, each at 1-a.
+/// Loads a given number of documents at the source: d0, d1 and so on, each at 1-a.
 fn load_many(alloc: Global, world: &mut World<Rules>, count: u64) -> Option<()> {
     for number in 0..count {
         let Ok(text) = format!(in alloc; r#"{{"_id":"d{number}","_rev":"1-a"}}"#) else {
@@ -264,7 +264,8 @@ fn load_many(alloc: Global, world: &mut World<Rules>, count: u64) -> Option<()> 
     Some(())
 }
 
-/// Takes lists of steps in a world whose source has this many documents, and asserts the results of its questions.
+/// Takes lists of steps in a world whose source has a given number of documents, and asserts the results of questions
+/// about the world.
 pub(crate) fn expect_of_many(
     rt: &impl Abort,
     alloc: Global,
