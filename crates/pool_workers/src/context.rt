@@ -12,8 +12,8 @@ use std::sync::ledger::Ledger;
 
 /// The state that all threads of a run share. The shared state has the runtime and the allocator, the two channels, the
 /// source, and the target behind its lock. The shared state also has the facts about the given target, the gate, the
-/// plan, the board if there is one, and the number of workers in each group. The steps of a worker are methods of this
-/// type.
+/// plan, the board if there is one, and the number of workers in each group. The steps of a worker are methods of
+/// `Context`.
 #[derive(Drop)]
 pub struct Context<'e, F: WriteFilter, S: SourceBrand, T: TargetBrand<F>, L: Ledger, G, R> {
     pub rt: &'e R,

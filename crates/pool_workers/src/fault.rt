@@ -57,15 +57,15 @@ pub enum PoolFault {
     /// The gate returned `Stop` at this place.
     #[error("stopped by the gate")]
     Halted(Place),
-    /// The first leaf of the source's feed above the start that a run left uncovered. No run returns this error. The
-    /// contract of a run excludes it (clause `runs`, field `early`), and no code creates it.
+    /// The first leaf of the source's feed above the start that a run left uncovered. No run returns the error `Hole`.
+    /// The contract of a run excludes `Hole` (clause `runs`, field `early`), and no code creates it.
     #[error("a leaf of the source is not covered")]
     Hole { seq: u64, id: DocId, rev: Rev },
     /// A fetcher's count of documents would exceed 9,007,199,254,740,991.
     #[error("a count of documents is full")]
     CountFull,
-    /// A writer's count of documents read, on the board, would exceed 9,007,199,254,740,991. This error is possible
-    /// only for a run with a board.
+    /// A writer's count of documents read, on the board, would exceed 9,007,199,254,740,991. The error `BoardFull` is
+    /// possible only for a run with a board.
     #[error("a worker's count on the board is full")]
     BoardFull,
     /// An allocation failed, or a thread cannot be created.

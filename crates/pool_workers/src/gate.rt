@@ -14,7 +14,7 @@ pub enum Place {
     Fetched(u64),
     /// A writer settled the window's parcel.
     Settled(u64),
-    /// A writer recorded at the target; the second number is the recorded sequence.
+    /// A writer recorded the session at the target. The second number is the recorded sequence.
     Recorded(u64, u64),
 }
 
@@ -27,7 +27,8 @@ pub enum Turn {
     Stop,
 }
 
-/// Decides whether a worker continues at a place. Called without a lock, possibly from several threads. May block.
+/// Decides whether a worker continues at a place. Workers call the gate without a lock, possibly from several threads.
+/// May block.
 pub trait Gate {
     ghost use Rattle.pool_workers.specs.Gates.{Stops};
 

@@ -39,8 +39,8 @@ impl<F: WriteFilter, T: TargetBrand<F>> GivenTarget<F, T> {
         }
     }
 
-    /// Returns the request for the leaves of a page that the target lacks. If the given target had no documents, these
-    /// are all leaves of the rows. Needs no lock.
+    /// Returns the request for the leaves of a page that the target lacks. If the given target had no documents, the
+    /// request has all leaves of the rows. Needs no lock.
     pub fn diff<S: SourceBrand>(
         &self,
         alloc: Global,

@@ -1,4 +1,5 @@
-//! Messages that come from the source. The types of these messages keep this fact when messages move between threads.
+//! Messages that come from the source. The types of the messages keep the fact that a message comes from the source
+//! when the message moves between threads.
 ghost use Rattle.std.specs.Prelude.{◌≡◌, ◌<◌, [], true, length, IfOk};
 ghost use Rattle.std.specs.List.{sum_by};
 ghost use Rattle.couch_base.specs.Database.{DatabaseValue};
@@ -271,7 +272,8 @@ fn leaf_count(rows: &[Row]) -> u128
 /// Grows the heap of this thread by more than a page.
 ///
 /// The C library grows the heap of each thread except the first by one page per system call, for which all threads may
-/// wait. A block that is allocated and freed grows it at once, if the heap keeps that much (`keep_heaps`).
+/// wait. Allocating and freeing one large block grows the heap in one step, if the heap keeps the freed memory
+/// (`keep_heaps`).
 fn grow_heap(alloc: Global) {
     if let Ok(room) = Vec::<u8>::with_capacity(alloc, HEAP_STEP) {
         drop(room);
@@ -281,7 +283,7 @@ fn grow_heap(alloc: Global) {
 /// Makes the heaps of all threads keep the memory of a parcel.
 ///
 /// The C library releases the end of a heap if more than 128 KiB are free there. The C library allocates large blocks
-/// directly from the system. After such a block was freed, heaps keep up to twice its size.
+/// directly from the system. After a large block was freed, heaps keep up to twice the block's size.
 pub fn keep_heaps(alloc: Global) {
     if let Ok(room) = Vec::<u8>::with_capacity(alloc, HEAP_KEPT) {
         drop(room);

@@ -14,9 +14,9 @@ pub enum ParcelMessage<S: SourceBrand> {
     End,
 }
 
-/// A thread's facts about the channel of parcels, which are the thread's parts (of 1,024) of the right to know
-/// everything, and the parcels that the thread has sent and received, each with its number and its number of documents.
-/// Values of this type never exist at run time.
+/// A thread's facts about the channel of parcels. The field `parts` is the thread's share, in 1,024ths, of the right to
+/// know everything. The fields `sent` and `got` have the parcels that the thread has sent and received, each with its
+/// number and its number of documents. No `ParcelView` exists at run time.
 pub struct ParcelView {
     pub parts: u64,
     pub sent: LinkedList<(u64, u64)>,

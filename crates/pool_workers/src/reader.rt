@@ -21,8 +21,8 @@ use std::sync::ledger::Ledger;
 /// The maximum number of pages that are read before they are stored.
 const MOST_AHEAD: u64 = 8;
 
-/// Pages that were read in order and must be sent, and their copies, which must be stored. Also the end of the last
-/// page, and why reading stopped if it failed.
+/// Pages that were read in order and must be sent, and their copies, which must be stored. The value also has the end
+/// of the last page, and why reading stopped if it failed.
 #[derive(Drop)]
 struct Ahead<S: SourceBrand> {
     pages: Vec<Paged<S>>,

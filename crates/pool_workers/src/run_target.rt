@@ -26,9 +26,9 @@ use std::sync::ledger::{Book, Ledger, Share};
 
 /// The target of a run, which is the given target after calls with messages that come from the source. The ledger has
 /// the number of documents that the run's session has read. `more` is the number of windows that may still be stored,
-/// if the plan sets a limit. Each method is the call of the same name on the target, for the run's session; `append`
-/// also checks that the plan allows another window, and `settle_counted` is `settle` with its documents added to a
-/// share of the ledger.
+/// if the plan sets a limit. Each method is the call of the same name on the target, for the run's session. The method
+/// `append` also checks that the plan allows another window. The method `settle_counted` is `settle`, and adds the
+/// settled documents to a share of the ledger.
 #[derive(Drop)]
 pub struct RunTarget<F: WriteFilter, S: SourceBrand, T: TargetBrand<F>, L: Ledger> {
     target: Peer<F>,
@@ -168,7 +168,8 @@ impl<F: WriteFilter, S: SourceBrand, T: TargetBrand<F>, L: Ledger> RunTarget<F, 
         self.target.record(self.session, at)
     }
 
-    /// Returns the target, when all shares are collected: their total is what the run's session has read.
+    /// Returns the target after all shares are collected. The total of the shares is the number of documents that the
+    /// run's session has read.
     pub fn close(self, all: &mut Share<L>) -> Peer<F>
         requires { all.old.parts ≡ L.parts }
         ensures { (session : SessionId) × (more : Option ℕ)

@@ -25,7 +25,7 @@ use std::sync::ledger::{Ledger, Share};
 use std::thread;
 use std::thread::{Scope, Threads};
 
-/// The values that the caller's thread owns before the workers start, which are capacity for a count of each fetcher,
+/// The values that the caller's thread owns before the workers start. The values are space for a count of each fetcher,
 /// the passes with all parts of both channels, the complete share of the ledger, and the seats of the board.
 #[derive(Drop)]
 pub struct Owned<S: SourceBrand, L: Ledger> {
@@ -36,8 +36,8 @@ pub struct Owned<S: SourceBrand, L: Ledger> {
     pub seats: Vec<BoardSeat>,
 }
 
-/// The values that the caller's thread owns after all workers have ended, which are the passes with all parts of both
-/// channels, the complete share of the ledger, why reading ended early, and the results of both groups.
+/// The values that the caller's thread owns after all workers have ended. The values are the passes with all parts of
+/// both channels, the complete share of the ledger, why reading ended early, and the results of both groups.
 #[derive(Drop)]
 pub struct Ended<S: SourceBrand, L: Ledger> {
     pub windows: WindowPass<S>,

@@ -14,9 +14,10 @@ pub enum WindowMessage<S: SourceBrand> {
     End,
 }
 
-/// A thread's facts about the channel of windows, which are the thread's parts (of 1,024) of the right to know
-/// everything, 1 for the page reader and 0 for other threads, the number of windows that the page reader has sent, and
-/// the numbers of the windows that the thread has taken. Values of this type never exist at run time.
+/// A thread's facts about the channel of windows. The field `parts` is the thread's share, in 1,024ths, of the right to
+/// know everything. The field `reads` is 1 for the page reader and 0 for other threads, and `count` is the number of
+/// windows that the page reader has sent. The field `taken` has the numbers of the windows that the thread has taken.
+/// No `WindowView` exists at run time.
 pub struct WindowView {
     pub parts: u64,
     pub reads: u64,

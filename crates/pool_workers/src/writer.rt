@@ -126,15 +126,16 @@ impl<F: WriteFilter, S: SourceBrand, T: TargetBrand<F>, L: Ledger, G: Gate, R: W
         show_read(self.board, seat, documents)?;
         self.settle_and_show(share, seat, fetched, &mut spent)?;
         pass(self.rt, self.gate, Place::Settled(number))?;
-        // The lock is usually still free at this point, because a waiting writer takes a while to wake up.
+        // After settling, the lock is usually still free for recording, because a waiting writer takes a while to wake
+        // up.
         let recorded = self.record()?;
         drop(spent);
         pass(self.rt, self.gate, Place::Recorded(number, recorded))
     }
 
     /// Returns the session for which a parcel is prepared before the lock is taken. Returns `None` if one thread does
-    /// all work, because nobody waits for the lock, and data that is built where it is stored stays in the processor's
-    /// cache.
+    /// all work, because no other thread waits for the lock. Data that one thread builds and stores stays in the
+    /// processor's cache.
     fn session_ahead(&self) -> Option<SessionId> {
         if self.workers > 1 {
             Some(self.plan.session)

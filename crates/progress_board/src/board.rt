@@ -33,11 +33,11 @@ pub(crate) fn board_of(table: BoardTable, workers: usize) -> Board
 impl Board {
     ghost use Rattle.progress_board.specs.Seats.{CameWith, IsLater, SameSeat, read_refusal, settled_refusal, seen_read, seen_settled, SeesItself};
 
-    /// Returns the totals of all workers, settled and read in this order, as this seat now sees them.
+    /// Returns the totals of all workers, first of settled and then of read documents, as the seat sees them.
     ///
     /// The total of settled documents is at most that of read documents, and neither is below an earlier total for this
-    /// seat. A worker sees at least its own additions. Never blocks, and does not allocate. The seat must have been
-    /// created with this board.
+    /// seat. A worker sees at least its own additions. The call never blocks, and does not allocate. The seat must have
+    /// been created with this board.
     pub fn read(&self, seat: &mut BoardSeat) -> (u64, u64)
         requires came { CameWith self.now seat.old }
         ensures came { CameWith self.now seat.new }
@@ -52,7 +52,7 @@ impl Board {
         (settled, read)
     }
 
-    /// Adds to the documents that this worker has read.
+    /// Adds to the number of documents that the seat's worker has read.
     ///
     /// # Errors
     ///
@@ -86,7 +86,7 @@ impl Board {
         Ok(())
     }
 
-    /// Adds to the documents that this worker has settled.
+    /// Adds to the number of documents that the seat's worker has settled.
     ///
     /// # Errors
     ///

@@ -51,7 +51,7 @@ fn lay(alloc: Global, workers: usize) -> Result<(BoardTable, Place), AllocError>
     lay_words(alloc, words.as_slice(), workers)
 }
 
-/// Creates a table of these counters, with the seat that creates other seats.
+/// Creates a table of given counters, with the seat that creates other seats.
 fn lay_words(
     alloc: Global,
     words: &[u64],

@@ -90,7 +90,7 @@ impl Front {
     ///
     /// # Errors
     ///
-    /// Each error is returned exactly if its condition holds, the first in this order, and changes nothing:
+    /// The call returns the first of these errors whose condition holds, and an error changes nothing:
     ///
     /// - `NotRising`: the bound `hi` is not above the end.
     /// - `Memory`: an allocation failed.

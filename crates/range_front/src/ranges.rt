@@ -37,8 +37,8 @@ pub(crate) fn is_covered(mark: u64, ranges: &[DoneRange], hi: u64) -> bool
     }
 }
 
-/// Removes the range at an index if it begins at `hi`. Returns the sequence up to which all windows are done after
-/// that.
+/// Removes the range at an index if it begins at `hi`. Returns the sequence up to which all windows are done after the
+/// removal.
 fn absorb(ranges: &mut Vec<DoneRange>, place: usize, hi: u64) -> u64
     ensures reach { result ≡ (absorbed hi (drop place ranges.old.items)).0 }
     ensures rest { ranges.new.items ≡ take place ranges.old.items ++ (absorbed hi (drop place ranges.old.items)).1 }

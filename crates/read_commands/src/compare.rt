@@ -87,7 +87,7 @@ pub struct CompareRest {
 }
 
 impl CompareRest {
-    /// Appends the lines of documents until the piece is full, then the totals. Returns whether more is left.
+    /// Appends the lines of documents until the piece is full, then the totals. Returns whether more output is left.
     pub fn more(
         &mut self,
         alloc: Global,

@@ -73,7 +73,7 @@ pub struct ConflictsRest {
 }
 
 impl ConflictsRest {
-    /// Appends documents in conflict until the piece is full, then their number. Returns whether more is left.
+    /// Appends documents in conflict until the piece is full, then their number. Returns whether more output is left.
     pub fn more(
         &mut self,
         alloc: Global,

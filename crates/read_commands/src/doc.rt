@@ -22,7 +22,7 @@ use std::thread::Threads;
 pub struct Doc<'a> {
     pub db: &'a str,
     pub id: &'a str,
-    /// The revision to print. If it is absent, the winner is printed.
+    /// The revision to print. If the revision is absent, the winner is printed.
     pub rev: Option<&'a str>,
 }
 

@@ -67,7 +67,7 @@ impl<'v, 'a> StreamingCommand<&'v Line<'a>> for Docs<'v, 'a> {
     }
 }
 
-/// The maximum number of rows per read. The number is small because documents can be large.
+/// The maximum number of rows per read. The maximum is small because documents can be large.
 const PAGE: u64 = 16;
 
 /// The rest of the output of `docs`.
@@ -78,7 +78,7 @@ pub struct DocsRest {
 }
 
 impl DocsRest {
-    /// Appends documents until the piece is full, then the update sequence. Returns whether more is left.
+    /// Appends documents until the piece is full, then the update sequence. Returns whether more output is left.
     pub fn more(
         &mut self,
         alloc: Global,

@@ -15,7 +15,7 @@ const PIECE: usize = 65_536;
 /// A position in a feed.
 #[derive(Drop)]
 pub struct Walk {
-    /// The sequence after which rows are left.
+    /// The sequence after which rows are still to be printed.
     pub since: u64,
     /// The selected documents. If the selection is absent, all documents are selected.
     pub chosen: Option<Chosen>,
@@ -52,8 +52,8 @@ pub trait RowPrinter {
 #[derive(Drop)]
 pub struct NoTally;
 
-/// Prints rows of the feed, at most `limit` per read, until the piece is full. Returns whether the piece is full, and
-/// if it is not, no rows are left.
+/// Prints rows of the feed, at most `limit` per read, until the piece is full. Returns whether the piece is full. If
+/// the piece is not full, no rows are left.
 pub fn fill<P: RowPrinter>(
     alloc: Global,
     piece: &mut Vec<u8>,

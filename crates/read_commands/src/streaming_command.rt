@@ -27,7 +27,7 @@ pub trait StreamingCommand<L>: Sized + Drop {
 
     ghost asked: { Self → Ask };
 
-    // The parameters that an object gives, in which all members have their types and no other members exist.
+    // The parameters that an object gives, if it has only members of the command, each of the right type.
     ghost asked_in: { Data → Result Ask Refusal };
 
     // The possible results of the command, and the states that they leave.

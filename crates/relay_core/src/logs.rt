@@ -144,8 +144,8 @@ fn restart_notices(alloc: Global, is_anew: bool) -> Result<Vec<Notice>, AllocErr
     Ok(notices)
 }
 
-/// Requests that the target store its log. The source is asked to store its log only after the target has stored its
-/// own.
+/// Requests that the target store its log. The run requests that the source store its log only after the target has
+/// stored its log.
 fn put_target(
     alloc: Global,
     run: Run,
@@ -207,7 +207,7 @@ pub(crate) fn after_target_log(alloc: Global, run: Run, response: Response) -> P
 }
 
 /// Continues a run after both logs were read. If the newest entry that both logs have is still the beginning of the
-/// window, both logs are stored; otherwise a new window begins.
+/// window, both logs are stored. If the newest common entry is another one, a new window begins.
 pub(crate) fn after_source_log(
     alloc: Global,
     run: Run,

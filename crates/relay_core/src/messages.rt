@@ -154,7 +154,7 @@ pub struct RefusedLeaf {
 /// A message that the relay prints for its user.
 #[derive(Drop)]
 pub enum Notice {
-    /// The target refused this leaf.
+    /// The target refused a leaf.
     Refused(RefusedLeaf),
     /// The logs have changed, so the run restarts at the newest entry that both logs have.
     Restarted,

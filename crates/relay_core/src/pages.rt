@@ -119,8 +119,8 @@ fn accounted(
     Ok(onward(settings, run, notices))
 }
 
-/// Requests the transfer of the next documents, or asks the target again what it lacks if all documents were
-/// transferred.
+/// Requests the transfer of the next documents. If all documents were transferred, the call requests again that the
+/// target say which leaves it lacks.
 fn ask_carry(alloc: Global, run: Run, mut transfer: Transfer) -> Phase
     ensures { (h : List Exchange) → IsOpenAt h run transfer → Knows h result }
 {
