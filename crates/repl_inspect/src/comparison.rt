@@ -97,8 +97,8 @@ pub(crate) fn compare_trees(
     })
 }
 
-/// Returns the first contradiction of the ancestries of leaves with the target's tree. The leaves are leaves of the
-/// source.
+/// Returns the first contradiction of the ancestries of leaves with the target's tree. The given leaves are leaves of
+/// the source.
 fn first_under(
     alloc: Global,
     source: &Tree,

@@ -17,7 +17,8 @@ use std::alloc::{AllocError, Global};
 /// target. The call ignores logs, and reads the source's feed in pages.
 ///
 /// If no leaf is missing, the target covers the complete feed. If the target covers the complete feed, each missing
-/// leaf is in a ledger of the target. If all ledgers are empty as well, no leaf is missing.
+/// leaf is in a ledger of the target. If the target covers the complete feed and all ledgers are empty, no leaf is
+/// missing.
 pub fn compare_feed<F: WriteFilter, G: WriteFilter>(
     alloc: Global,
     source: &Peer<F>,

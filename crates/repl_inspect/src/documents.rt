@@ -17,8 +17,8 @@ use std::alloc::{AllocError, Global};
 /// Returns the leaves of a document, winner first, each as a document with its known ancestry and its content. The list
 /// is empty if the database does not have the document.
 ///
-/// If the documents of all rows of a feed are loaded in order into a peer without documents and sessions, with enough
-/// sequences left, all are accepted, and each selected document is then as it is here.
+/// A peer without documents and sessions, with enough sequences left, accepts the documents of all rows of a feed if
+/// they are loaded in order. After these loads, each selected document of the peer is as in the original database.
 pub fn documents_of(alloc: Global, database: &Database, id: &DocId) -> Result<Vec<Doc>, AllocError>
     ensures documents { IfOk result (λ v. v.items ≡ documents_at database.now id.now) }
     ensures documents_load_back { LoadBack database.now }

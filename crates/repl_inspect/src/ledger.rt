@@ -9,8 +9,8 @@ use rev_core::Rev;
 pub enum LedgerRow {
     /// The write filter refuses the document. The variant names the document's newest revision.
     Denied { rev: Rev },
-    /// The document's ancestry gives a revision another parent than the tree does. The variant names the newest such
-    /// revision.
+    /// The document's ancestry gives a revision another parent than the tree does. The variant names the newest
+    /// revision whose parent differs.
     Contradicted { rev: Rev, known: Rev, given: Rev },
 }
 

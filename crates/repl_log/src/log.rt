@@ -62,7 +62,7 @@ impl Log {
     /// Checked in this order; an error changes nothing:
     ///
     /// - `Older`: the stored entry of the session has a greater recorded sequence.
-    /// - `Memory`: an allocation failed. This error is returned only for a new session.
+    /// - `Memory`: an allocation failed. The call returns `Memory` only for a new session.
     pub fn put(&mut self, entry: Entry) -> Result<(), LogFault>
         ensures answer { GivesUnlessMemory result (put_answer self.old (value_of entry)) }
         // Replacing the entry of an existing session does not allocate.

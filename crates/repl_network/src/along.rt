@@ -25,9 +25,9 @@ use std::alloc::Global;
 ///
 /// If every two peers are consistent (docs/PROFILE.md, "Nets"), every two peers stay consistent, also if the call
 /// fails. Suppose that the call succeeds, that each plan selects a document, that no peer has refused that document,
-/// and that its trees agreed and had complete histories. If chains of hops also lead from every peer to every other
-/// peer, all peers have the same document, with the same winner. The trees of the document agree again and have
-/// complete histories.
+/// and that its trees agreed and had complete histories. If the assumptions about a document hold, and chains of hops
+/// lead from every peer to every other peer, all peers have the same document, with the same winner. The trees of the
+/// document agree again and have complete histories.
 pub fn replicate_along<F: WriteFilter>(
     alloc: Global,
     peers: &mut [Peer<F>],
@@ -53,8 +53,9 @@ pub fn replicate_along<F: WriteFilter>(
 /// Stores a user's document at one peer of a network (`Peer::load`).
 ///
 /// Consistent peers stay consistent, also if the call fails. If the trees of the document agreed and had complete
-/// histories, they still do, provided that the new document gives no revision another parent or content than a peer
-/// has, and that its history is complete or ends at a revision that its peer has.
+/// histories, they still do, under two conditions. The first condition is that the new document gives no revision
+/// another parent or content than a peer has. The second condition is that the history of the new document is complete,
+/// or ends at a revision that its peer has.
 pub fn load_at<F: WriteFilter>(
     peers: &mut [Peer<F>],
     place: usize,
@@ -82,8 +83,8 @@ pub fn load_at<F: WriteFilter>(
 /// Edits a document at one peer of a network (`Peer::edit`).
 ///
 /// Consistent peers stay consistent, also if the call fails. If the trees of the document agreed and had complete
-/// histories, they still do, provided that no peer has the new revision with another parent or content; this holds
-/// unless two different edits have the same MD5.
+/// histories, they still do, provided that no peer has the new revision with another parent or content. No peer has the
+/// new revision with another parent or content unless two different edits have the same MD5.
 pub fn edit_at<F: WriteFilter>(
     peers: &mut [Peer<F>],
     place: usize,

@@ -15,9 +15,9 @@ use std::alloc::{AllocError, Global};
 /// Replicates every peer of a network into the hub, which is the first peer, and then the hub into every other peer.
 /// One thread makes all replications, two per peer. The plans are given for the peers other than the hub, in order.
 ///
-/// Consistent peers stay consistent, also if the call fails. If the call succeeds, each document that all plans select
-/// and no peer has refused, and whose trees agreed and had complete histories, is the same at all peers, and its trees
-/// agree again and have complete histories.
+/// Consistent peers stay consistent, also if the call fails. Suppose that all plans select a document that no peer has
+/// refused, and whose trees agreed and had complete histories. If the call succeeds, the supposed document is the same
+/// at all peers, and its trees agree again and have complete histories.
 ///
 /// # Errors
 ///

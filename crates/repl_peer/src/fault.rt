@@ -18,10 +18,10 @@ use thiserror::Error;
 /// Why a document is in a session's ledger.
 #[derive(Clone, Copy, Debug)]
 pub enum Reason {
-    /// The write filter refuses it.
+    /// The write filter refuses the document.
     Filtered,
-    /// The document's ancestry gives a child another parent than the tree does. The variant names the newest such
-    /// child.
+    /// The document's ancestry gives a child another parent than the tree does. The variant names the newest child
+    /// whose parent differs.
     Contradicting { child: Rev, known: Rev, given: Rev },
 }
 
@@ -93,7 +93,7 @@ pub enum TargetFault {
         cause: Cause,
     },
     /// All documents of the parcel are settled, but a leaf of the window's rows is not covered, so the window is not
-    /// done. The variant names the first such leaf.
+    /// done. The variant names the first leaf that is not covered.
     #[error("a leaf of the window is not covered")]
     Uncovered {
         seq: u64,
@@ -199,7 +199,7 @@ impl From<LogFault> for TargetFault {
         match refused {
             LogFault::Older { stored } => TargetFault::Older { stored },
             LogFault::Memory => TargetFault::Memory,
-            // Storing an entry in a log never returns these two errors.
+            // Storing an entry in a log never returns `BadMoment` or `EmptyLog`.
             LogFault::BadMoment | LogFault::EmptyLog => TargetFault::Older { stored: 0 },
         }
     }

@@ -32,7 +32,8 @@ pub fn rep_between<F: WriteFilter, G: WriteFilter>(
 /// log, with the lesser of its two recorded sequences (docs/PROFILE.md, "Common checkpoint"). Returns `None` if the
 /// logs share no session.
 ///
-/// Scans the target's sessions of this replication, newest first, up to the one it finds. Does not allocate.
+/// The call scans the target's sessions of the replication, newest first, up to the session that it finds. Does not
+/// allocate.
 pub fn checkpoint<F: WriteFilter, G: WriteFilter>(
     source: &Peer<F>,
     target: &Peer<G>,

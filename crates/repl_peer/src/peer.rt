@@ -128,9 +128,9 @@ impl<F: WriteFilter> Peer<F> {
 
     /// Returns the database.
     ///
-    /// The clauses state what every peer guarantees: the leaves of all window rows at or below a session's recorded
-    /// sequence are covered (in the tree, or rightly refused); each revision comes from a local write or a window row;
-    /// and the documents read are those written plus those refused.
+    /// The clauses state what every peer guarantees. The leaves of all window rows at or below a session's recorded
+    /// sequence are covered, which means in the tree or rightly refused. Each revision comes from a local write or a
+    /// window row. The number of documents read is the sum of those written and those refused.
     pub fn db(&self) -> &Database
         ensures value { result.now ≡ self.now.1.db }
         ensures law { Lawful (F.refuses self.now.0) self.now.1 }
@@ -157,7 +157,8 @@ impl<F: WriteFilter> Peer<F> {
 
     // ---- local writes
 
-    /// Stores a user's document with its ancestry as given. If the database changes, this is the next local write.
+    /// Stores a user's document with its ancestry as given. If the database changes, the put is the peer's next local
+    /// write.
     ///
     /// The call returns the errors of `Database::put`, and `Memory` only if that call may return `Memory`. An error
     /// changes nothing.
@@ -219,7 +220,7 @@ impl<F: WriteFilter> Peer<F> {
         self.db.page_due(alloc, since, goal, limit, chosen)
     }
 
-    /// Returns the leaves of another database's window that are missing here (`Database::revs_diff`).
+    /// Returns the leaves of another database's window that this peer's database lacks (`Database::revs_diff`).
     pub fn revs_diff(&self, alloc: Global, window: &Window) -> Result<Asked, AllocError>
         ensures asked { IfOk result (λ a. a ≡ revs_diff self.now.1.db window.now) }
     {
@@ -341,9 +342,9 @@ impl<F: WriteFilter> Peer<F> {
 
     /// Settles a parcel of a session: applies its documents in order, then marks its window as done.
     ///
-    /// Each document is stored, and counts as written even if it already existed; or it is refused by the filter or as
-    /// a contradiction, and goes into the session's ledger. Returns the number of stored documents and the number of
-    /// documents that went into the ledger.
+    /// A stored document counts as written even if it already existed. A document that is refused by the filter or as a
+    /// contradiction goes into the session's ledger. Returns the number of stored documents and the number of documents
+    /// that went into the ledger.
     ///
     /// # Errors
     ///
@@ -354,8 +355,9 @@ impl<F: WriteFilter> Peer<F> {
     /// - `AlreadyDone`: the window is already done.
     /// - `CountFull`: a count of the session would exceed 9,007,199,254,740,991.
     /// - `Stopped`: a document could not get a sequence, or an allocation failed. The first `settled` documents are
-    ///   settled, and `rest` are the others.
-    /// - `Uncovered`: a leaf of the window's rows, the first such one, is not covered. All documents are settled.
+    ///   settled, and `rest` has the remaining documents.
+    /// - `Uncovered`: a leaf of the window's rows is not covered, and the error names the first such leaf. All
+    ///   documents are settled.
     pub fn settle(&mut self, id: SessionId, parcel: Parcel) -> Result<Settled, TargetFault>
         ensures settles { SettleGives (F.refuses self.old.0) self.old.1 id parcel result self.new.1 }
         ensures filter { self.new.0 ≡ self.old.0 }
@@ -367,7 +369,7 @@ impl<F: WriteFilter> Peer<F> {
     }
 
     /// Does the same as `settle`, but moves the remains of the parcel into `spent` if all documents are settled. A
-    /// caller that holds the peer's lock can drop them after it releases the lock.
+    /// caller that holds the peer's lock can drop the remains after it releases the lock.
     pub fn settle_into(
         &mut self,
         id: SessionId,

@@ -35,8 +35,8 @@ use std::marker::Model;
 
 /// An incoming session.
 ///
-/// Arrivals are stored in several lists, in order. A list of prepared arrivals becomes one of these lists without a
-/// copy.
+/// Arrivals are stored in several lists, in order. A list of prepared arrivals becomes one of the session's lists
+/// without a copy.
 #[derive(Drop)]
 pub(crate) struct Session {
     pub(crate) id: SessionId,
@@ -134,8 +134,8 @@ impl Session {
         mark
     }
 
-    /// Records the session and returns its report if every window up to the goal is done. Otherwise returns
-    /// `Unfinished` and changes nothing.
+    /// Records the session and returns its report if every window up to the goal is done. If a window up to the goal is
+    /// not done, the call returns `Unfinished` and changes nothing.
     pub(crate) fn conclude(&mut self, at: Moment) -> Result<Report, TargetFault>
         ensures answer { result ≡ conclude_in self.old }
         ensures session { self.new

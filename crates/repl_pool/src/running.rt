@@ -61,8 +61,8 @@ struct Begun<F: WriteFilter> {
     crew: u64,
 }
 
-/// Returns the number of workers in each group. This number is the plan's number of workers, but at most the number of
-/// windows that there may be, and 1 if there is nothing to read.
+/// Returns the number of workers in each group. The number of workers in a group is the plan's number, but at most the
+/// number of windows that there may be, and 1 if there is nothing to read.
 fn crew_of(plan: &Plan, start: u64, goal: u64) -> u64
     requires workers { 0 < plan.now.workers }
     requires batch { is_batch plan.now.batch ≡ true }
@@ -272,37 +272,39 @@ fn run_with<F: WriteFilter + Send + Sync, G: Gate + Sync, R: Threads + Wait + Sy
 }
 
 /// Replicates the source's documents into the target with a pool of threads. The caller's thread begins the session at
-/// the common checkpoint of the two logs, reads the source's feed in windows, stores each at the target, and sends it
-/// to `plan.workers` fetchers, or fewer if there may be fewer windows. Fetchers request the missing leaves at the
-/// target, count documents at the source, and send parcels to the same number of writers. The writers read, settle and
-/// record. The target is behind a lock, and the source is shared. The gate is asked at each place, without a lock. If
-/// the gate says that it never blocks, a fetcher and a writer share one thread in turn.
+/// the common checkpoint of the two logs, and reads the source's feed in windows. The caller's thread stores each
+/// window at the target, and sends it to `plan.workers` fetchers, or to fewer if there may be fewer windows. Fetchers
+/// request the missing leaves at the target, count documents at the source, and send parcels to the same number of
+/// writers. The writers read and settle the parcels, and record the session. The target is behind a lock, and the
+/// source is shared. The gate is asked at each place, without a lock. If the gate says that it never blocks, a fetcher
+/// and a writer share one thread in turn.
 ///
-/// After all workers have ended, the caller's thread concludes the session, or records it if it cannot be concluded,
-/// and stores its entry in the source's log, unless that has a newer one. The call does not scan the feed again,
-/// because each leaf was checked when its window was marked as done. It is proved that no leaf above the start is
-/// uncovered if the session is concluded. `Hole`, the error for such a leaf, is therefore never returned.
+/// After all workers have ended, the caller's thread concludes the session, or records it if it cannot be concluded.
+/// The caller's thread then stores the session's entry in the source's log, unless the log has a newer entry of the
+/// session. The call does not scan the feed again, because each leaf was checked when its window was marked as done. It
+/// is proved that no leaf above the start is uncovered if the session is concluded. The error `Hole`, which names an
+/// uncovered leaf, is therefore never returned.
 ///
 /// If the run succeeds, each leaf of the source's selected feed above the start is covered at the target. The report is
 /// that of the session, which began at the common checkpoint and is recorded at the source's update sequence. The
-/// fetchers' numbers of documents add up to the documents read. If the target was also empty and nothing was refused,
-/// each selected document has the same revisions, parents and contents of leaves as at the source. If the peers were
-/// consistent (docs/PROFILE.md, "Tied peers"), each leaf of the source's complete selected feed is covered, including
-/// those below the start.
+/// fetchers' numbers of documents add up to the documents read. If the run succeeds, the target was empty and nothing
+/// was refused, each selected document has the same revisions, parents and contents of leaves as at the source. If the
+/// peers were consistent (docs/PROFILE.md, "Tied peers"), each leaf of the source's complete selected feed is covered,
+/// including those below the start.
 ///
-/// Whatever the result, only the source's log changes, and the target is the given one, or the given one after the
-/// session has begun and calls of this session with messages of the source. The target keeps everything it had,
-/// and consistent peers stay consistent. Another peer that was consistent with one of the two stays consistent with it;
-/// in two of the four cases the other peer needs a UUID of its own (`KeepsOthersTied`). An audit of consistent peers is
-/// then clean.
+/// Whatever the result, the source changes only in its log. The returned target is the given target, or the given
+/// target after the session's begin and calls of the session with messages of the source. The target keeps everything
+/// it had, and consistent peers stay consistent. A third peer that was consistent with one of the two peers stays
+/// consistent with that peer. In two of the four cases of third peers, the third peer needs a UUID of its own
+/// (`KeepsOthersTied`). After a run, an audit of consistent peers is clean.
 ///
-/// Blocks until the run ends. It is not proved that a run ends.
+/// The call blocks until the run ends. It is not proved that a run ends.
 ///
 /// # Errors
 ///
 /// - `NoWorkers`, `TooManyWorkers`, `BadBatch`, `SamePeer`: as `check_run`, in this order. Both peers are unchanged.
 /// - `Refused`: a step failed. If no worker failed or stopped, and all windows that the plan allows are settled but end
-///   below the goal, it is `Refused` of `Unfinished`.
+///   below the goal, the error is `Refused` of `Unfinished`.
 /// - `Halted`: the gate returned `Stop` at this place.
 /// - `CountFull`: a fetcher's count of documents would exceed 9,007,199,254,740,991.
 /// - `Memory`: an allocation failed, or a thread cannot be created.
@@ -328,16 +330,16 @@ pub fn run<F: WriteFilter + Send + Sync, G: Gate + Sync, R: Threads + Wait + Syn
 }
 
 /// Does the same as `run`, with a board on which viewers may read the progress meanwhile (`Board::read`). Each writer
-/// has the seat of a worker of the board. Before it settles a parcel, it adds the parcel's documents to its read
-/// counter. After settling, and before the gate is asked at `Settled`, it adds those that were settled to its settled
-/// counter. No lock is taken for the board.
+/// has the seat of a worker of the board. Before a writer settles a parcel, it adds the parcel's documents to its read
+/// counter. After settling, and before the gate is asked at `Settled`, the writer adds the settled documents to its
+/// settled counter. No lock is taken for the board.
 ///
 /// There must be one seat for each worker of the plan. The seats are returned in order, whatever the outcome, and no
 /// count has fallen. If the run succeeds, both counts, added up over the seats, have risen by the documents read in the
 /// report.
 ///
 /// In addition to the errors of `run`, returns `BoardFull` if a writer's read counter would exceed
-/// 9,007,199,254,740,991; that parcel is not settled.
+/// 9,007,199,254,740,991. The parcel that would exceed the counter's maximum is not settled.
 pub fn run_on<F: WriteFilter + Send + Sync, G: Gate + Sync, R: Threads + Wait + Sync>(
     rt: &R,
     alloc: Global,

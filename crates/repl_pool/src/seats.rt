@@ -7,7 +7,8 @@ ghost use Rattle.pool_workers.specs.Boards.{HasNothing, WorksAt};
 use progress_board::{Board, BoardFault, BoardSeat};
 use std::alloc::Global;
 
-/// A new board, the seats of its workers, for `run_on`, and those of its viewers, who may call `read` during the run.
+/// A new board, the seats of its workers, for `run_on`, and the seats of its viewers, who may call `read` during the
+/// run.
 #[derive(Drop)]
 pub struct Seats {
     /// The board.

@@ -41,7 +41,7 @@ pub fn audit<F: WriteFilter, G: WriteFilter>(
 
 /// Returns the first leaf of the source's selected feed above a sequence that the target does not cover, or `Clean`.
 ///
-/// Reads the feed in place.
+/// The call reads the source's feed in place.
 pub fn hole_above<F: WriteFilter, G: WriteFilter>(
     alloc: Global,
     source: &Peer<F>,
@@ -66,7 +66,7 @@ pub fn hole_above<F: WriteFilter, G: WriteFilter>(
 /// Returns the first leaf of the source's selected feed above one sequence and at or below another that the target does
 /// not cover, or `Clean`.
 ///
-/// Reads the feed in place.
+/// The call reads the source's feed in place.
 pub fn hole_within<F: WriteFilter, G: WriteFilter>(
     alloc: Global,
     source: &Peer<F>,

@@ -53,8 +53,8 @@ impl<F: WriteFilter + Drop> World<F> {
     ghost use Rattle.repl_world.specs.Worlds.{new_answer};
     ghost use Rattle.repl_world.specs.Tied.{IsWorld, Tied, HoldNone};
 
-    /// Creates a world of two peers, with an empty bag. The world's replication is that of the selected documents, or
-    /// of all documents if there is no selection.
+    /// Creates a world of two peers, with an empty message bag. The world's replication is that of the selected
+    /// documents, or of all documents if there is no selection.
     ///
     /// Returns `SamePeer` if the two databases have the same UUID. If the target has no session of the replication from
     /// the source, and the source has no entry of it, the new world is consistent.
@@ -105,7 +105,7 @@ impl<F: WriteFilter> World<F> {
         &self.target
     }
 
-    /// Returns the numbers of windows, requests, parcels, entries and logs in the bag.
+    /// Returns the numbers of windows, requests, parcels, entries and logs in the message bag.
     pub fn bag_sizes(&self) -> (usize, usize, usize, usize, usize)
         ensures sizes { result
             ≡ (
@@ -132,7 +132,7 @@ impl<F: WriteFilter> World<F> {
 
     /// Takes steps in order.
     ///
-    /// A failed step has the effect of the failed call, and a step with an index that is not in the bag changes
+    /// A failed step has the effect of the failed call, and a step with an index that is not in the message bag changes
     /// nothing. If an allocation fails in a step, the world is the one after the previous steps, except that a settling
     /// may have settled a part of its parcel (`Stopped`).
     ///
@@ -280,7 +280,7 @@ impl<F: WriteFilter> World<F> {
         }
     }
 
-    /// Puts the source's log of the replication into the bag.
+    /// Puts the source's log of the replication into the message bag.
     fn read_log(&mut self, alloc: Global) -> Result<(), AllocError>
         ensures filters { self.new.0 ≡ self.old.0 }
         ensures ok { OnOk result (self.new.1 ≡ reads_log self.old.1) }
@@ -292,8 +292,8 @@ impl<F: WriteFilter> World<F> {
         self.bag.put_log(life, log)
     }
 
-    /// Begins a session of the replication at the target, at the common checkpoint of a log in the bag and the target's
-    /// log.
+    /// Begins a session of the replication at the target, at the common checkpoint of a log in the message bag and the
+    /// target's log.
     fn begin(
         &mut self,
         alloc: Global,
@@ -326,7 +326,7 @@ impl<F: WriteFilter> World<F> {
         unless_memory(self.target.begin(session, beginning, at))
     }
 
-    /// Puts a page of the source's feed into the bag.
+    /// Puts a page of the source's feed into the message bag.
     fn page(&mut self, alloc: Global, since: u64, goal: u64, limit: u64) -> Result<(), AllocError>
         ensures filters { self.new.0 ≡ self.old.0 }
         ensures ok { OnOk result (self.new.1 ≡ paged self.old.1 (page_answer self.old.1.source.db since goal limit self.old.1.chosen)) }
@@ -341,7 +341,7 @@ impl<F: WriteFilter> World<F> {
         }
     }
 
-    /// Stores a window of the bag for a session.
+    /// Stores a window of the message bag for a session.
     fn append(&mut self, alloc: Global, session: SessionId, place: usize) -> Result<(), AllocError>
         ensures filters { self.new.0 ≡ self.old.0 }
         ensures ok { OnOk result (self.new.1 ≡ appends self.old.1 session (slice_get self.old.1.bag.windows place)) }
@@ -355,7 +355,7 @@ impl<F: WriteFilter> World<F> {
         unless_memory(self.target.append(session, window))
     }
 
-    /// Puts the target's request for the missing leaves of a window of the bag into the bag.
+    /// Puts the target's request for the missing leaves of one of the bag's windows into the message bag.
     fn diff(&mut self, alloc: Global, place: usize) -> Result<(), AllocError>
         ensures filters { self.new.0 ≡ self.old.0 }
         ensures ok { OnOk result (self.new.1 ≡ differs self.old.1 place (slice_get self.old.1.bag.windows place)) }
@@ -368,7 +368,7 @@ impl<F: WriteFilter> World<F> {
         self.bag.put_asked(place, asked)
     }
 
-    /// Puts the source's parcel for a request of the bag into the bag.
+    /// Puts the source's parcel for one of the bag's requests into the message bag.
     fn fetch(&mut self, alloc: Global, place: usize) -> Result<(), AllocError>
         ensures filters { self.new.0 ≡ self.old.0 }
         ensures ok { OnOk result (self.new.1 ≡ fetches self.old.1 (slice_get self.old.1.bag.asked place)) }
@@ -382,7 +382,7 @@ impl<F: WriteFilter> World<F> {
         self.bag.put_parcel(window, parcel)
     }
 
-    /// Settles a parcel of the bag for a session.
+    /// Settles a parcel of the message bag for a session.
     fn settle(&mut self, alloc: Global, session: SessionId, place: usize) -> Result<(), AllocError>
         ensures filters { self.new.0 ≡ self.old.0 }
         ensures ok { OnOk result
@@ -399,7 +399,7 @@ impl<F: WriteFilter> World<F> {
         found_memory(self.target.settle(session, parcel))
     }
 
-    /// Records a session, and puts its entry into the bag.
+    /// Records a session, and puts its entry into the message bag.
     fn record(&mut self, session: SessionId, at: Moment) -> Result<(), AllocError>
         ensures filters { self.new.0 ≡ self.old.0 }
         ensures ok { OnOk result (self.new.1 ≡ records self.old.1 session at) }
@@ -408,7 +408,7 @@ impl<F: WriteFilter> World<F> {
         self.bag.record(&mut self.target, session, at)
     }
 
-    /// Concludes a session, and puts its entry into the bag if concluding succeeds.
+    /// Concludes a session, and puts its entry into the message bag if concluding succeeds.
     fn conclude(&mut self, session: SessionId, at: Moment) -> Result<(), AllocError>
         ensures filters { self.new.0 ≡ self.old.0 }
         ensures ok { OnOk result (self.new.1 ≡ concludes self.old.1 session at) }
@@ -444,7 +444,7 @@ impl<F: WriteFilter> World<F> {
         unless_memory(self.source.restore(backup))
     }
 
-    /// Stores an entry of the bag in the source's log.
+    /// Stores an entry of the message bag in the source's log.
     fn put_entry(&mut self, place: usize) -> Result<(), AllocError>
         ensures filters { self.new.0 ≡ self.old.0 }
         ensures ok { OnOk result (self.new.1 ≡ puts self.old.1 (slice_get self.old.1.bag.entries place)) }

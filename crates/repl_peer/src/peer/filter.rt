@@ -22,8 +22,8 @@ pub trait WriteFilter {
         ensures { result ≡ (if refuses self.now doc.now then Verdict.Refuse else Verdict.Accept) };
 }
 
-/// Refuses documents whose ids begin with the prefix `deny`. An empty prefix refuses every document; `None` refuses no
-/// document.
+/// Refuses documents whose ids begin with the prefix `deny`. An empty prefix refuses every document, and no prefix
+/// (`None`) refuses none.
 #[derive(Drop)]
 pub struct Rules {
     pub deny: Option<String>,

@@ -26,7 +26,7 @@ unsafe impl Sync for GhostRevs {}
 /// The origin of the revisions of a write.
 #[derive(Clone, Copy, Drop)]
 pub(crate) enum Came<'a> {
-    /// A document: all of its revisions.
+    /// All revisions of a document.
     Whole(&'a [Rev]),
     /// An edit: the new revision and its parent.
     Edit(Rev, Option<Rev>),

@@ -57,8 +57,8 @@ impl<F: WriteFilter> Peer<F> {
         }
     }
 
-    /// Returns the arrivals of a session in order, if the peer has it: first the documents of the inner lists, then the
-    /// others.
+    /// Returns the arrivals of a session in order, if the peer has the session. The arrivals of the inner lists come
+    /// before those of the second list.
     pub fn arrivals(&self, id: SessionId) -> Option<(&[Vec<Written>], &[Written])>
         ensures { option_map (λ lists. flat_map (λ list. list.items) lists.0.now ++ lists.1.now) result
             ≡ option_map (λ s. s.arrivals) (session_in self.now.1.sessions id) }

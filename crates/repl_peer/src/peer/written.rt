@@ -16,7 +16,7 @@ use std::marker::Model;
 /// A local write or an arrival: a document's id and the revisions that were written, newest first.
 ///
 /// A peer may have millions of writes with long ancestries, so a write stores only the newest revision and the number
-/// of revisions. The other revisions are read from the document's tree, whose edges never change.
+/// of revisions. All other revisions of the write are read from the document's tree, whose edges never change.
 #[derive(Drop)]
 pub struct Written {
     id: DocId,
@@ -116,7 +116,7 @@ impl Written {
         Some(at)
     }
 
-    /// Returns the number of revisions.
+    /// Returns the number of revisions of the write.
     pub fn len(&self) -> usize
         ensures { result ≡ length self.now.ancestry }
     {

@@ -28,10 +28,11 @@ use rev_tree::{Origin, SessionId};
 use std::mem::replace;
 
 /// Settles the first documents of a parcel, for which arrivals are prepared, until a document cannot be stored. Returns
-/// their number. The caller settles that document individually and finds out why it stopped.
+/// the number of settled documents. The caller settles the document that could not be stored individually, and finds
+/// out why it could not be stored.
 ///
-/// The arrivals are added as one list, so the peer spends no time on each under its lock. If the allocation for the
-/// list of arrivals fails, no document is settled.
+/// The arrivals are added as one list, so that the peer does not add each arrival individually under its lock. If the
+/// allocation for the list of arrivals fails, no document is settled.
 pub(crate) fn settle_prepared<F: WriteFilter>(
     filter: &F,
     db: &mut Database,
@@ -116,7 +117,7 @@ fn put_ahead<F: WriteFilter>(
 }
 
 /// Stores the document at an index, from its prepared tree if possible. Returns false if the document cannot be stored.
-/// Nothing has changed in that case, but the prepared tree may have been dropped.
+/// If the call returns false, nothing has changed, but the prepared tree may have been dropped.
 fn put_next(
     db: &mut Database,
     docs: &[Doc],

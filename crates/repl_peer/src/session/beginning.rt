@@ -2,7 +2,8 @@
 use repl_log::RepId;
 use rev_tree::SessionId;
 
-/// What a session belongs to, which never changes (docs/PROFILE.md, "Sessions of a peer").
+/// The replication, the life, the base and the goal of a session, which never change (docs/PROFILE.md, "Sessions of a
+/// peer").
 #[derive(Debug, Drop)]
 pub struct Scope {
     /// The replication.

@@ -5,7 +5,7 @@ use rev_core::Rev;
 use std::alloc::Global;
 
 /// The remains of settled parcels: requests, documents, gone revisions and unused prepared trees. The remains are
-/// dropped with this value, and not while the peer is settling.
+/// dropped with the `DeferredDrops` value, and not while the peer is settling.
 #[derive(Drop)]
 pub struct DeferredDrops {
     asked: Option<Asked>,

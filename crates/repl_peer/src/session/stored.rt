@@ -59,7 +59,7 @@ pub(crate) fn check(session: &Session, parcel: &Parcel) -> Result<Checked, Targe
     })
 }
 
-/// Returns the index of the window with these bounds.
+/// Returns the index of the window with the given bounds.
 fn find_window(windows: &[StoredWindow], lo: u64, hi: u64) -> Option<usize>
     requires { (start : ℕ) × Consecutive start (windows_of windows.now) }
     ensures some { IfSome result (IsWindowAt (windows_of windows.now) lo hi) }
@@ -80,7 +80,7 @@ fn place_from(windows: &[StoredWindow], lo: u64) -> usize
     windows.partition_point(|window| window.lo() < lo)
 }
 
-/// Whether the counts of a session stay in range after adding these numbers.
+/// Whether the counts of a session stay in range after adding the given numbers.
 fn has_room(session: &Session, read: u64, checked: u64, found: u64) -> bool
     ensures { result
         ≡ (nat_le (session.now.counts.read + read) most

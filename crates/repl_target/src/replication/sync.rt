@@ -35,10 +35,10 @@ pub enum SyncFault {
 /// direction is a `replicate_alone` with a plan of its own.
 ///
 /// Suppose that the peers are consistent in both directions (docs/PROFILE.md, "Tied peers"), and that the call
-/// succeeds. For each document that both plans select and neither side has refused, each side then has every leaf of
-/// the other side. If also the two trees agreed before (no revision with two parents or two contents) and had complete
-/// histories, the document is the same on both sides: revisions, parents, contents of leaves and winner. The trees of
-/// such a document agree again and have complete histories.
+/// succeeds. For each document that both plans select and neither side has refused, each side has every leaf of the
+/// other side after the call. If the document's two trees agreed before the call and had complete histories, both sides
+/// have the same revisions, parents, contents of leaves and winner. Two trees agree if no revision has two parents or
+/// two contents. After the call, the trees of the document agree again and have complete histories.
 ///
 /// Consistent peers stay consistent in both directions, whatever the result. Each of the two peers also stays
 /// consistent with every third peer that it was consistent with, if the third peer has a UUID of its own.
