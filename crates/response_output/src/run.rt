@@ -217,9 +217,10 @@ fn run_chunks<R: ScriptRead, W: ScriptWrite>(
 ///
 /// # Errors
 ///
-/// - `Refused` if the input is not a response; the items before the rejected byte have been written.
-/// - `Device` with the fault `Read` if the reader failed in this call, or if 4,294,967,295 reads of at most 65,536
-///   bytes were made; with `Write` if the writer failed in this call; with `Memory` if an allocation failed.
+/// - `Refused` if the input is not a response. The items before the rejected byte have been written.
+/// - `Device` if a device or an allocation failed. The device's fault is `Read` if the reader failed in this call, or
+///   after 4,294,967,295 reads of at most 65,536 bytes. The fault is `Write` if the writer failed in this call, and
+///   `Memory` if an allocation failed.
 pub fn run_answers<R: ScriptRead, W: ScriptWrite>(
     alloc: Global,
     reading: &mut Reading,
@@ -229,15 +230,15 @@ pub fn run_answers<R: ScriptRead, W: ScriptWrite>(
 ) -> Result<u64, AnswerFault>
     requires begins { state_of reading.old ≡ start reading.old.wanted }
 
-    // If the input consists of CouchDB responses, the call writes the contents of these responses. It never rejects
-    // such input if it skips objects without documents.
+    // If the input consists of CouchDB responses, the call writes the contents of these responses. The call never
+    // rejects a CouchDB response if it skips objects without documents.
     ensures forms { (text : List ℕ) → (held : List Piece) → wants_documents reading.old.wanted ≡ true
         → is_strict reading.old.wanted ≡ false → R.left reader.old ≡ Some text
         → IsAnswered reading.old.wanted text held → ReadsAnswers (words_of_wording wording.old) held
         (W.held writer.old) (W.held writer.new) result }
 
     // If the caller requests only documents, the call writes the documents in the output of a script. If the caller
-    // requests changes, it writes the changes in that output.
+    // requests changes, the call writes the changes in the output of a script.
     ensures script { (text : List ℕ) → (held : List Piece) → wants_documents reading.old.wanted ≡ true
         → is_strict reading.old.wanted ≡ true → R.left reader.old ≡ Some text
         → IsScript reading.old.wanted text held → ReadsAnswers (words_of_wording wording.old) held

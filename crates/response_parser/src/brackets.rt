@@ -29,7 +29,7 @@ impl Reading {
         self.place = Place::Refused(why);
     }
 
-    /// Opens a list or an object, and sets the parser's place to one inside the list or object.
+    /// Opens a list or an object, and sets the parser's place to the given place inside the list or object.
     pub(crate) fn open(&mut self, place: Place)
         ensures { state_of self.new ≡ opened place (state_of self.old) }
     {
@@ -45,8 +45,8 @@ impl Reading {
         }
     }
 
-    /// Closes a list or an object. Sets the parser's place to one after the bracket, unless the outermost bracket was
-    /// closed.
+    /// Closes a list or an object. Sets the parser's place to the place after the bracket, unless the outermost bracket
+    /// was closed.
     pub(crate) fn close(&mut self, place: Place)
         ensures { state_of self.new ≡ closed place (state_of self.old) }
     {
@@ -140,7 +140,7 @@ impl Reading {
         }
     }
 
-    /// Reads a byte after an item.
+    /// Reads a byte after an item of a list.
     pub(crate) fn after_item(&mut self, byte: u8)
         ensures { state_of self.new ≡ after_item (state_of self.old) byte }
     {

@@ -37,7 +37,7 @@ impl Reading {
         }
     }
 
-    /// Starts the parser's text of a name or value with this byte.
+    /// Starts the parser's text of a name or value with a given byte.
     fn begin_text(&mut self, place: LinePlace, byte: u8) -> Result<(), AllocError>
         ensures { OnOk result (state_of self.new ≡ text_begun place (state_of self.old) byte) }
     {
@@ -280,7 +280,7 @@ fn is_rev_byte(byte: u8) -> bool
         || byte == b'.'
 }
 
-/// Whether the parser, at this place, has read no response yet.
+/// Whether a parser at the given place has read no response yet.
 fn is_first(place: Place) -> bool
     ensures { result ≡ is_first place }
 {

@@ -22,7 +22,7 @@ pub enum Wanted {
 /// The meaning of a member's name for the member's value.
 #[derive(Clone, Copy, Debug, PartialEq, Eq)]
 pub enum Name {
-    /// The object of this member is a document.
+    /// The object that has the member is a document.
     Plain,
     /// A document.
     Document,

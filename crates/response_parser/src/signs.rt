@@ -49,7 +49,7 @@ fn begins_sign(text: &[u8]) -> bool
         || is(text, b"HTTP")
 }
 
-/// Returns the reason for rejecting input that begins with this text, if the text identifies a known format.
+/// Returns the reason for rejecting input that begins with a given text, if the text identifies a known format.
 fn sign_of(text: &[u8]) -> Refusal
     ensures { result ≡ sign_of text.now }
 {

@@ -227,8 +227,8 @@ fn passes(name: Name, first: u8) -> bool
     }
 }
 
-/// Returns why the parser rejects a value: because its name requires a string and the value is not a string, or because
-/// it is the `reason` of a CouchDB error.
+/// Returns why the parser rejects a value. Either the value's name requires a string and the value is not a string, or
+/// the value is the `reason` of a CouchDB error.
 fn refusal_of(name: Name, first: u8, failed: bool) -> Option<Refusal>
     ensures { result ≡ refusal_of name first failed }
 {

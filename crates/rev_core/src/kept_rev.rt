@@ -61,7 +61,7 @@ impl KeptRev {
     }
 
     /// Converts a revision with a short signature, without allocating. Returns `None` if the signature is not short.
-    // This function is not inlined, because an edit takes more instructions if it is.
+    // The function is not inlined, because an edit would take more instructions with the inlined function.
     #[inline(never)]
     pub fn short(rev: &Rev) -> Option<KeptRev>
         ensures { result ≡ short_of rev.now }

@@ -16,7 +16,7 @@ use std::marker::Model;
 
 /// A revision id `N-sig`: a generation from 1 to 4,294,967,295, and a signature.
 ///
-/// A value of fixed size that is copied without allocating. Revisions are ordered by generation, then by signature.
+/// A `Rev` has a fixed size, and is copied without allocating. Revisions are ordered by generation, then by signature.
 #[derive(Clone, Copy, Debug)]
 pub struct Rev {
     generation: u32,

@@ -9,7 +9,7 @@ use crate::sig::Sig;
 /// The number of digits of a digest.
 const DIGITS: usize = 32;
 
-/// The number of bytes in two integers.
+/// The number of bytes in two 64-bit integers.
 const ROOM: usize = 16;
 
 /// A short signature, packed into two little-endian integers of eight bytes. `len` is the number of bytes of the
@@ -138,7 +138,7 @@ fn digits_of(bytes: &[u8; ROOM]) -> [u8; DIGITS]
     text
 }
 
-/// Returns the digit of a value.
+/// Returns the hexadecimal digit of a value.
 fn digit_of(value: u8) -> u8
     requires { value < 16 }
     ensures { result ≡ digit_of value }

@@ -20,7 +20,7 @@ const MOST_BYTES: usize = 64;
 
 /// A signature: 1 to 64 bytes, each an ASCII letter, a digit, `-`, `_` or `.`.
 ///
-/// A value of fixed size: the signature, followed by zeros. Signatures are ordered by their bytes.
+/// A `Sig` has a fixed size, and stores the signature followed by zeros. Signatures are ordered by their bytes.
 #[derive(Clone, Copy, Debug)]
 pub struct Sig {
     bytes: [u8; 64],

@@ -20,8 +20,8 @@ use std::marker::Model;
 /// The maximum number of nodes that a lookup scans. A tree with more nodes has an index.
 pub(crate) const MOST_WALKED: usize = 8;
 
-/// The maximum sum of the numbers of nodes and given revisions for which the missing revisions are counted. Up to this
-/// sum, space is reserved for the missing revisions alone.
+/// The maximum sum of the numbers of nodes and given revisions for which the missing revisions are counted. If the sum
+/// is not above the maximum, space is reserved for the missing revisions alone.
 const MOST_COUNTED: usize = 4;
 
 /// The maximum number of nodes of a tree, because the index of a parent, counted from 1, has 32 bits.
@@ -112,8 +112,8 @@ impl Nodes {
     }
 
     /// Reserves space for inserting an ancestry. If nodes and ancestry together are few, the call reserves exactly the
-    /// space for all of the ancestry's revisions. If they are very few, it reserves space only for the missing
-    /// revisions. The call fails if the tree could exceed `MOST_NODES`.
+    /// space for all of the ancestry's revisions. If nodes and ancestry are very few, the call reserves space only for
+    /// the missing revisions. The call fails if the tree could exceed `MOST_NODES`.
     #[tactic(auto, using(crate::proofs::Rooms::count_within))]
     pub(crate) fn make_room(&mut self, revs: &[Rev]) -> Result<(), AllocError>
         ensures items { self.new.items ≡ self.old.items }
@@ -136,7 +136,7 @@ impl Nodes {
         fit_index(&mut self.places);
     }
 
-    /// Appends a new revision with its origin and returns its index. The caller has reserved the space.
+    /// Appends a new revision with its origin and returns its index. The caller has reserved the space for the node.
     pub(crate) fn push(&mut self, rev: Rev, origin: Origin) -> usize
         requires new { place_of self.old.items rev ≡ None }
         requires room { HasRoom self.old 1 }
@@ -248,7 +248,7 @@ fn walked_to(nodes: &[Node], rev: &Rev) -> Option<usize>
     None
 }
 
-/// Extends the index from the first `known` nodes to all nodes. The caller has reserved the space.
+/// Extends the index from the first `known` nodes to all nodes. The caller has reserved the space in the index.
 fn index_rest(nodes: &[Node], places: &mut Places, known: usize)
     requires known { known ≤ length nodes.now }
     requires begun { places.old.entries ≡ index_for (revs_in (take known nodes.now)) }
@@ -271,7 +271,8 @@ fn index_rest(nodes: &[Node], places: &mut Places, known: usize)
     index_from(nodes, places, 0);
 }
 
-/// Whether each node is one generation below the previous node. The caller knows this fact for the first `known` nodes.
+/// Whether each node is one generation below the previous node. The caller has already compared the first `known`
+/// nodes.
 #[inline(never)]
 fn all_fall(nodes: &[Node], known: usize) -> bool
     requires known { known ≤ length nodes.now }
@@ -309,7 +310,7 @@ fn is_below(upper: &Node, lower: &Node) -> bool
 }
 
 /// Adds the nodes from position `first` on to the index, which has the nodes before that position. The caller has
-/// reserved the space.
+/// reserved the space in the index.
 fn index_from(nodes: &[Node], places: &mut Places, first: usize)
     requires first { first ≤ length nodes.now }
     requires begun { places.old.entries ≡ noted_from [] 0 (revs_in (take first nodes.now)) }
@@ -349,8 +350,9 @@ fn once_new(nodes: &[Node], rev: &Rev) -> usize
     }
 }
 
-/// Reserves space in the list for the revisions of an ancestry. If nodes and ancestry together are few, it reserves
-/// exactly the space for all revisions, and if they are very few, only for the missing revisions.
+/// Reserves space in the list for the revisions of an ancestry. If nodes and ancestry together are few, the call
+/// reserves exactly the space for all revisions. If nodes and ancestry are very few, the call reserves space only for
+/// the missing revisions.
 #[tactic(auto, using(crate::proofs::Rooms::count_within))]
 fn reserve_nodes(list: &mut Vec<Node>, revs: &[Rev]) -> Result<(), AllocError>
     ensures items { list.new.items ≡ list.old.items }

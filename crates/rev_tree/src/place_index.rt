@@ -83,7 +83,7 @@ impl Places {
         }
     }
 
-    /// Adds a hash with a position, unless the hash has an entry. The caller has reserved the space.
+    /// Adds a hash with a position, unless the hash has an entry. The caller has reserved the space for the entry.
     pub(crate) fn note(&mut self, mark: u64, place: usize)
         requires { 0 < self.old.spare }
         ensures entries { self.new.entries ≡ noted self.old.entries mark place }
@@ -96,7 +96,7 @@ impl Places {
         }
     }
 
-    /// Adds a new hash with a position. The caller has reserved the space.
+    /// Adds a new hash with a position. The caller has reserved the space for the hash.
     fn insert(&mut self, mark: u64, place: usize)
         requires room { 0 < self.old.spare }
         requires new { lookup (nat_eq mark) self.old.entries ≡ None }

@@ -16,7 +16,7 @@ use std::alloc::Global;
 #[derive(Drop)]
 pub(crate) struct Tournament {
     winners: Vec<u32>,
-    /// The number of nodes that take part.
+    /// The number of nodes that take part in the tournament.
     entered: usize,
 }
 

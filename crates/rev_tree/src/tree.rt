@@ -322,7 +322,7 @@ impl Tree {
     /// # Errors
     ///
     /// - `Contradiction`: a given child's known parent differs from the given one, as for `merge_answer`.
-    /// - `Memory`: an allocation failed. This error is not returned if the tree would stay the same.
+    /// - `Memory`: an allocation failed. The call does not return `Memory` if the tree would stay the same.
     ///
     /// After an error the tree is unchanged.
     pub fn merge(

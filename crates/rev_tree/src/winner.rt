@@ -15,8 +15,9 @@ impl Nodes {
     /// Returns the index of the winner's node after an ancestry was inserted. `before` is the index of the previous
     /// winner.
     ///
-    /// The winner is the ancestry's head if the head goes before the previous winner. Otherwise, if the previous winner
-    /// is still a leaf, it stays the winner. If neither holds, the winner is looked up among all leaves.
+    /// The winner is the ancestry's head if the head goes before the previous winner. If the head does not go before a
+    /// previous winner that is still a leaf, the previous winner stays the winner. If neither the head nor the previous
+    /// winner is the winner, the winner is looked up among all leaves.
     pub(crate) fn winner_after(&mut self, before: usize, head: usize) -> usize
         requires before { before < length self.old.items }
         requires head { head < length self.old.items }
