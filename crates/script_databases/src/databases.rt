@@ -176,7 +176,7 @@ impl Databases {
     ///
     /// # Errors
     ///
-    /// `NoDatabase` if the name is unknown; otherwise the error of the database.
+    /// `NoDatabase` if the name is unknown, or else the error of the database.
     pub fn load(&mut self, name: &str, doc: &Doc) -> Result<Put, Refusal>
         ensures answer { GivesOrMemory result (load_answer (peer_at self.old name.now) doc.now) }
         ensures ok { OnOk result (self.new ≡ loaded_at self.old name.now doc.now) }
@@ -194,7 +194,7 @@ impl Databases {
     ///
     /// # Errors
     ///
-    /// `NoDatabase` if the name is unknown; otherwise the error of the database.
+    /// `NoDatabase` if the name is unknown, or else the error of the database.
     pub fn edit(
         &mut self,
         name: &str,

@@ -11,8 +11,8 @@ use repl_target::TargetFault;
 use rev_core::RevFault;
 use std::alloc::{AllocError, AllocFailed};
 
-/// The reason why a line failed (docs/PROFILE.md, "Order of checks"). `name` returns the printed name. Some variants
-/// are not expected for any line, and exist so that each error of a call has a name.
+/// The reason why a line failed (docs/PROFILE.md, "Order of checks"). The method `name` returns the printed name of the
+/// error. Some variants are not expected for any line, and exist so that each error of a call has a name.
 #[derive(Clone, Copy, Debug, PartialEq, Eq)]
 pub enum Refusal {
     /// A window is already done. No line is expected to fail with this error.

@@ -27,7 +27,7 @@ pub struct Chunks {
 }
 
 impl Chunks {
-    /// Allocates the buffer. The new value has read nothing yet.
+    /// Allocates the buffer for chunks, without reading.
     pub fn new(alloc: Global) -> Result<Chunks, AllocError>
         ensures begun { IfOk result (λ c. c.turns ≡ 0) }
         ensures room { IfOk result AreChunks }

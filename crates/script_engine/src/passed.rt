@@ -26,7 +26,7 @@ pub(crate) enum Pass<'a> {
 impl Passed {
     ghost use Rattle.script_engine.specs.Passed.{passed_bytes};
 
-    /// Returns the history after this step.
+    /// Returns the history after a step.
     #[inline(always)]
     pub(crate) fn of(_pass: &Pass<'_>) -> Passed
         ensures { result.bytes ≡ passed_bytes _pass.now }

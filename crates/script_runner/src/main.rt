@@ -23,7 +23,8 @@ use std::thread::Threads;
 ///
 /// # Errors
 ///
-/// `OutOfMemory`: the output buffer cannot be allocated. Nothing has been read or written.
+/// `OutOfMemory`: the output buffer cannot be allocated. If the buffer cannot be allocated, nothing has been read or
+/// written.
 fn run_standard<'a, H>(
     rt: &'a H,
 ) -> io::Result<

@@ -1,5 +1,5 @@
-//! Conversions of revisions and other values from and to strings. `None` if the string is invalid or an allocation
-//! fails.
+//! Conversions of revisions and other values from and to strings. A conversion returns `None` if the string is invalid
+//! or an allocation fails.
 use rev_core::Rev;
 use std::alloc::Global;
 use std::fmt::Debug;

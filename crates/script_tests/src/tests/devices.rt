@@ -39,8 +39,8 @@ impl ScriptRead for NarrowReader<'_> {
 /// Each line has 16 bytes including the line end, and one call of the reader returns 16 bytes.
 const SIXTEEN: &str = "a line of these\na line of these\na line of these\n";
 
-/// Each row has lines, the number of successful reads, and the output up to the failure. Every complete line is handled
-/// before the next read.
+/// Each test row has lines, the number of successful reads, and the output up to the failure. Every complete line is
+/// handled before the next read.
 static READS: &[(&str, u64, &str)] = &[
     (SIXTEEN, 0, ""),
     (SIXTEEN, 1, "0\n"),
@@ -104,8 +104,8 @@ impl ScriptWrite for NarrowWriter {
     }
 }
 
-/// Each write fails in turn. The written text is a prefix of the output, and its length is the number of earlier
-/// writes.
+/// In successive runs, each write fails in turn. The written text is a prefix of the output, and its length is the
+/// number of earlier writes.
 #[test]
 fn stops_at_a_failed_write(rt: HostRuntime) -> Result<(), Fail> {
     let writes = ANSWERS.len() as u64;
@@ -163,8 +163,8 @@ impl ScriptWrite for GatheringWriter {
     }
 }
 
-/// Each row has the number of successful flushes and the flushed text. The engine flushes before the first read, before
-/// the read that finds the end, and after the last line, which has no line end.
+/// Each test row has the number of successful flushes and the flushed text. The engine flushes before the first read,
+/// before the read that finds the end, and after the last line, which has no line end.
 static FLUSHES: &[(u64, &str)] = &[
     (0, ""),
     (1, ""),

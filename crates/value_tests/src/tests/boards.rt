@@ -1,4 +1,4 @@
-//! The worked row of the progress board, its errors, and each public call once with ample memory.
+//! A worked example of the progress board, the board's errors, and each public call once with ample memory.
 use progress_board::{Board, BoardFault};
 use std::alloc::Global;
 use std::process::Abort;

@@ -1,4 +1,5 @@
-//! The worked rows of fronts: calls with their expected results. The rows of fronts use each public call at least once.
+//! Worked examples of fronts: calls with their expected results. The examples of fronts use each public call at least
+//! once.
 use crate::tests::texts::expect_answer;
 use range_front::Front;
 use std::alloc::Global;

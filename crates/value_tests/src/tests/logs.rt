@@ -1,4 +1,4 @@
-//! The worked rows of logs: calls with their expected results, and each public call once with ample memory.
+//! Worked examples of logs: calls with their expected results, and each public call once with ample memory.
 use crate::tests::texts::expect_answer;
 use repl_log::{Counts, Entry, Log, Logs, Moment, RepId, common, rep_id, write_log};
 use rev_tree::SessionId;
@@ -17,19 +17,19 @@ enum Call<'a> {
     Put(usize, u128, u64),
     /// Store the entry of session 1 that read one document, with a timestamp.
     PutOne(usize, u64),
-    /// Store the entry of a session, which read nothing, in the log of the replication from 1 into a database.
+    /// Store the entry of a session, which read nothing, in the log of the replication from database 1 into another.
     PutInto(u128, u128, u64),
-    /// Copy the log of the replication from 1 into a database, from a copy of all logs, as the next log.
+    /// Copy the log of the replication from database 1 into another, from a copy of all logs, as the next log.
     CopyInto(u128),
-    /// Read whether there is a log of the replication from 1 into a database.
+    /// Read whether there is a log of the replication from database 1 into another.
     HasInto(u128),
-    /// Read whether a log has exactly the entries of sessions with these sequences, newest first.
+    /// Read whether a log has exactly the entries of sessions with given sequences, newest first.
     Has(usize, &'a [(u128, u64)]),
     /// Compare the logs of a source and a target.
     Common(usize, usize),
     /// Write a copy of the replication id of the row `log_text`.
     Name,
-    /// Write a log of that replication.
+    /// Write a log of the replication of the row `log_text`.
     Write(usize),
     /// Create a timestamp, and read its seconds.
     Moment(u64),
@@ -118,7 +118,7 @@ impl Bench {
         }
     }
 
-    /// Stores an optional entry in the log of the replication from 1 into a database.
+    /// Stores an optional entry in the log of the replication from database 1 into another.
     fn put_into(&mut self, target: u128, entry: Option<Entry>) -> Option<String> {
         match entry {
             Some(entry) => shown(self.alloc, &self.all.put(&from_one(target), entry)),
@@ -126,7 +126,7 @@ impl Bench {
         }
     }
 
-    /// Stores a copy of the log of the replication from 1 into a database, from a copy of all logs.
+    /// Stores a copy of the log of the replication from database 1 into another, from a copy of all logs.
     fn keep_into(&mut self, target: u128) -> Option<String> {
         match copy_into(self.alloc, &self.all, target) {
             Some(log) => self.keep(log),
@@ -134,12 +134,12 @@ impl Bench {
         }
     }
 
-    /// Returns whether there is a log of the replication from 1 into a database.
+    /// Returns whether there is a log of the replication from database 1 into another.
     fn has_into(&self, target: u128) -> Option<String> {
         shown(self.alloc, &self.all.get(&from_one(target)).is_some())
     }
 
-    /// Returns whether a log has exactly the entries of these sessions, newest first.
+    /// Returns whether a log has exactly the entries of given sessions, newest first.
     fn has(&self, at: usize, sessions: &[(u128, u64)]) -> Option<String> {
         match self.logs.get(at) {
             Some(log) => has(self.alloc, log, sessions),
@@ -164,7 +164,7 @@ impl Bench {
     }
 }
 
-/// Copies the log of the replication from 1 into a database, from a copy of all logs.
+/// Copies the log of the replication from database 1 into another, from a copy of all logs.
 fn copy_into(alloc: Global, all: &Logs, target: u128) -> Option<Log> {
     match all.copy(alloc) {
         Ok(all) => all.copy_of(alloc, &from_one(target)).ok(),
@@ -172,7 +172,7 @@ fn copy_into(alloc: Global, all: &Logs, target: u128) -> Option<Log> {
     }
 }
 
-/// Returns the id of the replication of all documents from 1 into a database.
+/// Returns the id of the replication of all documents from database 1 into another.
 fn from_one(target: u128) -> RepId {
     RepId {
         source: 1,
@@ -211,7 +211,7 @@ fn one_document(moment: u64) -> Option<Entry> {
     })
 }
 
-/// Returns whether a log has exactly the entries of these sessions, newest first.
+/// Returns whether a log has exactly the entries of given sessions, newest first.
 fn has(alloc: Global, log: &Log, sessions: &[(u128, u64)]) -> Option<String> {
     let mut same = log.len() == sessions.len();
     for (i, &(session, recorded)) in sessions.iter().enumerate() {
@@ -272,7 +272,7 @@ fn common_session(rt: HostRuntime) {
     Bench::new(rt.alloc()).run(&rt, COMMON_ROWS);
 }
 
-/// An existing session is replaced in place.
+/// The entry of an existing session is replaced in place.
 static REPLACED_ROWS: Rows = &[
     (Call::Make, "made"),
     (Call::Put(0, 10, 9), "Ok(())"),

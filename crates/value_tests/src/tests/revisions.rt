@@ -1,4 +1,4 @@
-//! The worked rows of revisions: calls with their expected results, and each call once with ample memory.
+//! Worked examples of revisions: calls with their expected results, and each call once with ample memory.
 use crate::tests::texts::{ancestry, expect_answer, sigs};
 use md5::{Digest, Md5};
 use rev_core::{Ancestry, KeptRev, Rev, new_rev};

@@ -11,10 +11,10 @@ use test_support::shown;
 enum Call<'a> {
     /// Bytes.
     Read(&'a [u8]),
-    /// A text of arrays that are nested to this depth.
+    /// A text of arrays that are nested to a given depth.
     Nested(usize),
-    /// A text of an object with this number of names in falling order. Each name occurs twice, and its second value is
-    /// its number.
+    /// A text of an object with a given number of names in falling order. Each name of the object occurs twice, and the
+    /// second value of a name is the name's number.
     Falling(usize),
 }
 
@@ -157,7 +157,7 @@ fn append_null(alloc: Global, text: &mut String, number: usize) -> Option<()> {
     }
 }
 
-/// Appends a member whose name and value are a number, and the text after it.
+/// Appends a member whose name and value are a number, and the text after the member.
 fn append_number(alloc: Global, text: &mut String, number: usize, end: &str) -> Option<()> {
     match format!(in alloc; "\"{number:05}\":{number}{end}") {
         Ok(member) => text.push_str(member.as_str()).ok(),
@@ -165,7 +165,7 @@ fn append_number(alloc: Global, text: &mut String, number: usize, end: &str) -> 
     }
 }
 
-/// Returns the text of the same object with each name once, in rising order.
+/// Returns the text of an object of names in rising order, each name once.
 fn rising(alloc: Global, count: usize) -> Option<String> {
     let Ok(mut text) = "{".to_string(alloc) else {
         return None;
@@ -230,7 +230,7 @@ static NUMBERS: Rows = &[
     (Call::Read(b"1."), "NotJson"),
 ];
 
-/// Rows with invalid texts, followed by a valid text.
+/// Test rows with invalid texts, followed by a valid text.
 static REFUSED: Rows = &[
     (Call::Read(b""), "NotJson"),
     (Call::Read(b" \n"), "NotJson"),
