@@ -19,7 +19,7 @@ fn reserved(front: &mut Front) -> Result<(), AllocError> {
     }
 }
 
-/// The ends of the windows.
+/// The ends of the windows that are appended.
 static ENDS: &[u64] = &[2, 4, 6, 8, 10];
 
 /// Whether all windows could be appended.

@@ -125,7 +125,7 @@ fn is_above(alloc: Global, tree: &Tree, revs: &[Rev], leaf: Rev) -> bool {
     }
 }
 
-/// Whether a tree has all revisions.
+/// Whether a tree has all given revisions.
 fn has_all(alloc: Global, tree: &Tree, revs: &[Rev]) -> bool {
     match missing(alloc, tree, revs) {
         Ok(missing) => missing.as_slice().is_empty(),

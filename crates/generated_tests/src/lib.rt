@@ -1,4 +1,4 @@
-//! Randomized tests of several crates.
+//! Randomized tests of databases, peers, worlds, networks, revision trees and fronts.
 #![tactic(auto)]
 
 #[cfg(test)]

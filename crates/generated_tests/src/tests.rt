@@ -1,5 +1,5 @@
-//! Randomized tests of several crates. Each test compares a crate with an independent reference that was written from
-//! the definitions.
+//! Randomized tests of databases, peers, worlds, networks, revision trees and fronts. Each test compares calls with an
+//! independent reference that was written from the definitions.
 
 // Assertions of all modules.
 mod checks;

@@ -118,7 +118,7 @@ fn is_leaf(
     );
 }
 
-/// Asserts that the documents from an index on are the leaves of a tree above some revisions. Returns the index after
+/// Asserts that the documents from an index on are the leaves of a tree above given revisions. Returns the index after
 /// the compared documents.
 fn brings_leaves(
     rt: &impl Abort,
@@ -188,7 +188,8 @@ fn brings(
     docs
 }
 
-/// Asserts that a side returns the documents that its trees have for a request. Returns the number of documents.
+/// Asserts that a side returns the documents that its trees have for a request. Returns the number of
+/// returned documents.
 fn answers(rt: &impl Abort, alloc: Global, side: &Side, asked: &Asked) -> usize {
     let parcel = side.db.open_revs(alloc, asked).expect(rt, "memory");
     brings(rt, alloc, &side.plain, asked, &parcel)

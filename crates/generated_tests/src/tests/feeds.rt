@@ -12,7 +12,7 @@ use serde_json::Value;
 use std::alloc::Global;
 use std::process::Abort;
 
-/// Returns the id of a number.
+/// Returns the document id for a number.
 pub(crate) fn id(rt: &impl Abort, alloc: Global, number: usize) -> DocId {
     let number = number % IDS;
     let text = format!(in alloc; "d{number}").expect(rt, "memory");

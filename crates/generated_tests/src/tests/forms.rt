@@ -90,7 +90,7 @@ fn agree_on_leaves(rt: &impl Abort, alloc: Global, tree: &Tree, leaves: &[Rev]) 
     holds(rt, tree.winner() == leaves.first().copied(), "the winner");
 }
 
-/// Asserts that a tree has the leaves of the plain form above some revisions.
+/// Asserts that a tree has the leaves of the plain form above given revisions.
 fn agree_on_above(
     rt: &impl Abort,
     alloc: Global,

@@ -99,7 +99,7 @@ fn two_hundred_orders_agree(rt: HostRuntime) {
     }
 }
 
-/// Appends windows of two sequences.
+/// Appends windows of two sequences each.
 fn many(rt: &impl Abort, front: &mut Front, windows: u64) {
     for number in 0..windows {
         let hi = number.saturating_mul(2).saturating_add(2);
@@ -107,7 +107,7 @@ fn many(rt: &impl Abort, front: &mut Front, windows: u64) {
     }
 }
 
-/// Finishes the window with a number.
+/// Finishes the window of a front with a given number.
 fn finish(rt: &impl Abort, front: &mut Front, number: u64) {
     let lo = number.saturating_mul(2);
     let hi = lo.saturating_add(2);

@@ -161,7 +161,7 @@ fn agree(rt: &impl Abort, alloc: Global, tree: &Tree, reference: &Reference) {
     }
 }
 
-/// Returns the revisions at some indices.
+/// Returns the revisions at the given indices.
 fn revs(rt: &impl Abort, alloc: Global, places: &[usize]) -> Vec<Rev> {
     let mut revs = Vec::new(alloc);
     for place in places {
@@ -183,7 +183,7 @@ fn agree_on_missing(
     assert_are(rt, tree.missing(alloc, &revs), &missing);
 }
 
-/// Asserts that the leaves above some revisions are those of the reference.
+/// Asserts that the leaves above given revisions are those of the reference.
 fn agree_on_above(
     rt: &impl Abort,
     alloc: Global,
@@ -279,7 +279,7 @@ fn merge(
     is_refused
 }
 
-/// Performs fifty merges from one seed. Returns the number of failures.
+/// Performs fifty merges from one seed. Returns the number of merges that failed.
 fn merges(rt: &impl Abort, alloc: Global, seed: u64, tree: &mut Tree) -> usize {
     let mut rng = ChaCha8Rng::seed_from_u64(seed);
     let mut reference = Reference::new();

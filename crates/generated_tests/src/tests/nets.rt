@@ -163,8 +163,8 @@ fn assert_led(
     }
 }
 
-/// Replicates along random hops. Returns whether chains led from every peer to every other peer. If such chains exist,
-/// all peers must have the same documents.
+/// Replicates along random hops. Returns whether chains led from every peer to every other peer. If chains lead from
+/// every peer to every other peer, all peers must have the same documents.
 fn along_chance(
     rt: &impl Abort,
     alloc: Global,

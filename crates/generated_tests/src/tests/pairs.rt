@@ -183,7 +183,7 @@ struct How {
     deny: Option<usize>,
 }
 
-/// Returns the prefix by which a filter refuses the document with this number.
+/// Returns the prefix by which a filter refuses the document with a given number.
 pub(crate) fn prefix(rt: &impl Abort, alloc: Global, deny: Option<usize>) -> Option<String> {
     match deny {
         Some(number) => Some(format!(in alloc; "d{number}").expect(rt, "memory")),

@@ -10,7 +10,7 @@ use std::cmp::Ordering;
 /// The result of a merge. An error has the child, the known parent and the given parent of a contradiction.
 pub(crate) type PlainAnswer = Result<Merged, (Rev, Rev, Rev)>;
 
-/// The ancestries, the contents and the origins.
+/// The given ancestries, and the contents and origins of revisions.
 #[derive(Drop)]
 pub(crate) struct PlainTree {
     ancestries: Vec<Ancestry>,

@@ -90,7 +90,7 @@ impl Met {
         }
     }
 
-    /// Adds the counts of another list.
+    /// Adds the counts of another list of steps.
     pub(crate) fn add(&mut self, other: &Met) {
         self.restores = self.restores.saturating_add(other.restores);
         self.begins = self.begins.saturating_add(other.begins);
@@ -130,7 +130,7 @@ pub(crate) struct Sessions {
     ledger: Vec<(u128, Row)>,
 }
 
-/// Returns the number of bits of masks.
+/// Returns the number of bits that are set in masks.
 fn count(masks: &Masks) -> u64 {
     let mut all = 0u64;
     for mask in masks {
@@ -415,8 +415,8 @@ fn put_done(rt: &impl Abort, log: &mut Vec<Done>, done: Done) {
     }
 }
 
-/// Two sides, the target's sessions, the source's log, the messages, and backups of the source. Each list is oldest
-/// first.
+/// Two sides, the target's sessions, the source's log, the messages, and backups of the source. Each list has its
+/// oldest item first.
 #[derive(Drop)]
 pub(crate) struct PlainWorld {
     pub(crate) source: PlainSide,

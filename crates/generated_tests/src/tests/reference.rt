@@ -15,7 +15,7 @@ pub(crate) fn bit(place: usize) -> u32 {
     1 << (place % PLACES)
 }
 
-/// Returns the bits of indices.
+/// Returns a mask with the bits of the given indices.
 pub(crate) fn mask_of(places: &[usize]) -> u32 {
     let mut mask = 0;
     for place in places {

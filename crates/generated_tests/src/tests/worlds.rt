@@ -309,7 +309,7 @@ impl Dealer {
     }
 }
 
-/// Computes the revisions of the document that is edited repeatedly. The model does not interpret the strings of these
+/// Computes the revisions of the document that is edited repeatedly. The model does not interpret the strings of the
 /// revisions.
 fn make_chain(rt: &impl Abort, alloc: Global, chain: &mut Vec<Rev>) {
     for _ in 0..6u64 {
@@ -452,7 +452,7 @@ fn compare_peers(
     is_clean(rt, alloc, source, target, chosen.as_ref());
 }
 
-/// Creates a peer that refuses a prefix.
+/// Creates a peer that refuses document ids with a prefix.
 fn peer(alloc: Global, uuid: u128, deny: Option<String>) -> Peer<Rules> {
     Peer::new(alloc, uuid, Rules { deny })
 }

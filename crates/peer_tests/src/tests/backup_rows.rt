@@ -82,7 +82,7 @@ const AHEAD: Rows = &[
     ),
 ];
 
-/// The source is restored, after which its documents, local writes and log are those of the backup. After the restore,
+/// After the source is restored, its documents, local writes and log are those of the backup. After the restore,
 /// another document gets the sequence that d4 had.
 const PUT_BACK: Rows = &[
     (Call::Restore(SOURCE, FIRST), "restored"),

@@ -22,7 +22,7 @@ pub(crate) fn leaves(alloc: Global, db: &Database, id: &str) -> Option<String> {
     all_at(alloc, db, &id, leaves.as_slice())
 }
 
-/// Returns the documents at some revisions of a document.
+/// Returns the documents at the given revisions of a document.
 fn all_at(alloc: Global, db: &Database, id: &DocId, revs: &[Rev]) -> Option<String> {
     let mut all = Some(String::new(alloc));
     for rev in revs {

@@ -259,7 +259,7 @@ fn choose(alloc: Global, choices: &mut Vec<Chosen>, names: &[&str]) -> Option<St
     choose_ids(alloc, choices, ids)
 }
 
-/// Returns the id of a number.
+/// Returns the document id for a number.
 fn number_id(alloc: Global, number: u32) -> Option<DocId> {
     let Ok(text) = number.to_string(alloc) else {
         return None;

@@ -241,7 +241,7 @@ fn three(alloc: Global) -> Option<Vec<Peer<Rules>>> {
     Some(peers)
 }
 
-/// Writes at two of the peers.
+/// Makes local writes at two of the peers.
 fn write(alloc: Global, peers: &mut [Peer<Rules>]) -> Option<()> {
     let Some(doc) = doc(alloc, r#"{"_id":"d","_rev":"1-a"}"#) else {
         return None;
@@ -272,7 +272,7 @@ fn two_plans(session: u128) -> Option<[Plan; 2]> {
     Some([one, other])
 }
 
-/// Replicates the second peer into the third, and then all through the first.
+/// Replicates the second peer into the third, and then replicates all peers through the first.
 fn replicate(alloc: Global, peers: &mut [Peer<Rules>]) -> Option<()> {
     let Some(first) = plan(SessionId(1), 500, 0) else {
         return None;

@@ -136,7 +136,7 @@ fn a_refused_descendant_covers(rt: HostRuntime) {
         (Call::Covered(TARGET, "d", "1-a"), "true"),
         (Call::Record(TARGET, S1, 11), "1"),
     ];
-    // The target has no tree of the refused document, which is therefore requested and refused again.
+    // The refused document is not in the target's tree, so that it is requested and refused again.
     const LAST: Rows = &[
         (
             Call::Diff(TARGET, SECOND),

@@ -495,7 +495,7 @@ pub(crate) fn expect(rt: &impl Abort, alloc: Global, lists: &[Rows]) {
     }
 }
 
-/// Creates the filter that refuses a prefix.
+/// Creates the filter that refuses document ids with a prefix.
 fn rules(alloc: Global, deny: Option<&str>) -> Option<Rules> {
     match deny {
         Some(prefix) => match prefix.to_string(alloc) {

@@ -114,7 +114,7 @@ struct StopsOnce {
 }
 
 impl StopsOnce {
-    /// Creates the gate before its stop.
+    /// Creates a gate that has not stopped a run yet.
     fn new(kind: u64, window: u64, may_block: bool) -> StopsOnce {
         StopsOnce {
             kind,
@@ -242,7 +242,7 @@ static CLEAN: Rows = &[(Call::Audit(A, B), "clean")];
 
 static AT_GOAL: Rows = &[(Call::Common(A, B, REP), "11")];
 
-/// Asserts that a run stops at a kind of place of a window, where the gate stops it, and that an audit is then clean.
+/// Asserts that the gate stops a run at a kind of place of a window, and that an audit of the stopped run is clean.
 pub(crate) fn expect_stop<G: Gate + Sync, R: Abort + Threads + Wait + Sync>(
     rt: &R,
     alloc: Global,

@@ -324,7 +324,7 @@ fn outcome_text(alloc: Global, outcome: Result<Report, PoolFault>) -> Option<Str
     }
 }
 
-/// Loads the document with a number.
+/// Loads the document with a given number.
 fn load_number(alloc: Global, peer: &mut Peer<Rules>, number: u64) -> Option<String> {
     match format!(in alloc; "{{\"_id\":\"d{number}\",\"_rev\":\"1-a\"}}") {
         Ok(text) => load(alloc, peer, text.as_str()),

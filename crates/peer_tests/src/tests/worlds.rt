@@ -65,7 +65,7 @@ pub(crate) enum Question<'a> {
 /// Steps in order.
 pub(crate) type Acts = &'static [Act<'static>];
 
-/// Questions, each with its expected result.
+/// Questions about a world, each with its expected result.
 pub(crate) type Told = &'static [(Question<'static>, &'static str)];
 
 /// Creates the timestamp 0.
@@ -143,7 +143,7 @@ fn plain_step(act: Act) -> Option<Step> {
     }
 }
 
-/// Returns the steps of acts.
+/// Returns the steps that a list of acts names.
 fn steps(alloc: Global, acts: &[Act]) -> Option<Vec<Step>> {
     let mut all = Vec::new(alloc);
     for act in acts {
@@ -162,7 +162,7 @@ fn push_step(all: &mut Vec<Step>, step: Option<Step>) -> Option<()> {
     }
 }
 
-/// Takes the steps of acts.
+/// Takes the steps that a list of acts names.
 fn take(alloc: Global, world: &mut World<Rules>, acts: &[Act]) -> Option<()> {
     let Some(steps) = steps(alloc, acts) else {
         return None;
