@@ -54,7 +54,7 @@ pub enum PoolFault {
     /// A step failed.
     #[error(transparent)]
     Refused(TargetFault),
-    /// The gate returned `Stop` at this place.
+    /// The gate returned `Stop` at the variant's place.
     #[error("stopped by the gate")]
     Halted(Place),
     /// The first leaf of the source's feed above the start that a run left uncovered. No run returns the error `Hole`.

@@ -14,7 +14,7 @@ pub enum Place {
     Fetched(u64),
     /// A writer settled the window's parcel.
     Settled(u64),
-    /// A writer recorded the session at the target. The second number is the recorded sequence.
+    /// A writer recorded the session at the target. The second number of `Recorded` is the recorded sequence.
     Recorded(u64, u64),
 }
 

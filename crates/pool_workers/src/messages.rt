@@ -153,7 +153,7 @@ impl<S: SourceBrand> Found<S> {
         }
     }
 
-    /// Returns the number of documents.
+    /// Returns the number of the source's documents for the request.
     pub fn documents(&self) -> u128
         ensures { result ≡ length self.now.docs }
     {
@@ -227,7 +227,7 @@ impl<S: SourceBrand> Fetched<S> {
         })
     }
 
-    /// Returns the number of documents.
+    /// Returns the number of the source's documents for the request.
     pub fn documents(&self) -> u64
         ensures { result ≡ length self.now.docs }
     {

@@ -8,7 +8,8 @@ use std::collections::LinkedList;
 /// A message from a fetcher to a writer.
 #[derive(Drop)]
 pub enum ParcelMessage<S: SourceBrand> {
-    /// The source's documents for the window with this number, which the fetcher counted and the writer will read.
+    /// The source's documents for a window, with the window's number. The fetcher counted these documents, and the
+    /// writer will read them.
     Parcel { number: u64, fetched: Found<S> },
     /// The end of the parcels.
     End,

@@ -31,7 +31,7 @@ struct Ahead<S: SourceBrand> {
     stopped: Option<Halt>,
 }
 
-/// Sends the window with this number. Returns whether the window was sent.
+/// Sends the window with the given number. Returns whether the window was sent.
 fn send_window<S: SourceBrand, R: Wait>(
     rt: &R,
     channels: &Channels<S>,

@@ -26,9 +26,9 @@ use std::sync::ledger::{Book, Ledger, Share};
 
 /// The target of a run, which is the given target after calls with messages that come from the source. The ledger has
 /// the number of documents that the run's session has read. `more` is the number of windows that may still be stored,
-/// if the plan sets a limit. Each method is the call of the same name on the target, for the run's session. The method
-/// `append` also checks that the plan allows another window. The method `settle_counted` is `settle`, and adds the
-/// settled documents to a share of the ledger.
+/// if the plan sets a limit. Each method of `RunTarget` is the call of the same name on the target, for the run's
+/// session. The method `append` also checks that the plan allows another window. The method `settle_counted` is
+/// `settle`, and adds the settled documents to a share of the ledger.
 #[derive(Drop)]
 pub struct RunTarget<F: WriteFilter, S: SourceBrand, T: TargetBrand<F>, L: Ledger> {
     target: Peer<F>,

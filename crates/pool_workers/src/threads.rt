@@ -25,8 +25,9 @@ use std::sync::ledger::{Ledger, Share};
 use std::thread;
 use std::thread::{Scope, Threads};
 
-/// The values that the caller's thread owns before the workers start. The values are space for a count of each fetcher,
-/// the passes with all parts of both channels, the complete share of the ledger, and the seats of the board.
+/// The values that the caller's thread owns before the workers start. The caller's thread begins with space for a count
+/// of each fetcher, the passes with all parts of both channels, the complete share of the ledger, and the seats of the
+/// board.
 #[derive(Drop)]
 pub struct Owned<S: SourceBrand, L: Ledger> {
     pub counts: Vec<u64>,
@@ -36,8 +37,9 @@ pub struct Owned<S: SourceBrand, L: Ledger> {
     pub seats: Vec<BoardSeat>,
 }
 
-/// The values that the caller's thread owns after all workers have ended. The values are the passes with all parts of
-/// both channels, the complete share of the ledger, why reading ended early, and the results of both groups.
+/// The values that the caller's thread owns after all workers have ended. The caller's thread ends with the passes with
+/// all parts of both channels, the complete share of the ledger, why reading ended early, and the results of both
+/// groups.
 #[derive(Drop)]
 pub struct Ended<S: SourceBrand, L: Ledger> {
     pub windows: WindowPass<S>,

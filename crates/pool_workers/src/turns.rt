@@ -1,8 +1,8 @@
 //! Runs a fetcher and a writer on one thread in turn, also for a single pair on the thread that reads the windows.
 //!
 //! With one fetcher and one writer, no two documents are settled at the same time, and data read by one processor is
-//! not in the cache of another. Therefore no thread is started: the caller's thread takes each window through both
-//! channels before it reads the next one.
+//! not in the cache of another. No thread is started for a single pair. The caller's thread takes each window through
+//! both channels before it reads the next window.
 ghost use Rattle.std.specs.Prelude.{◌≡◌, ℕ, ◌+◌, ◌-◌, ◌<◌, ◌++◌, [], true, Option, None, Some, IfSome, option_copied, option_to_list, vec_capacity};
 ghost use Rattle.crossbeam_channel.specs.Claims.{view, IsSeatAt};
 ghost use Rattle.crossbeam_channel.specs.Ends.{sends_on};

@@ -21,7 +21,7 @@ pub struct Board {
 /// The greatest count, 2^53 - 1.
 const MOST: u64 = 9_007_199_254_740_991;
 
-/// Creates the board of a table.
+/// Creates a board from a table of counters.
 pub(crate) fn board_of(table: BoardTable, workers: usize) -> Board
     requires { (table.shared.key ≡ workers) × (table.shared.table_id.words ≡ workers + workers) × (0 < workers)
         × (workers ≤ 64) }

@@ -11,7 +11,7 @@ pub enum BoardFault {
     /// The number of workers or of viewers is not 1 to 64.
     #[error("workers and viewers must each be 1 to 64")]
     BadSeats,
-    /// The seat is a viewer's.
+    /// The seat is a viewer's seat, not a worker's.
     #[error("a viewer adds nothing")]
     NotWorker,
     /// The worker's read counter would exceed 2^53 - 1.

@@ -1,6 +1,6 @@
 //! The facts that a seat has about the counters, and the rule that the counters satisfy.
 //!
-//! No value of the types in this file exists at run time. The types represent knowledge in proofs.
+//! No value of the types in this file exists at run time. The types represent what proofs know about the counters.
 
 use atomic_table::{Play, Split, TableRule};
 use std::collections::LinkedList;

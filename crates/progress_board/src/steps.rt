@@ -25,7 +25,7 @@ pub(crate) fn look_at_read(table: &BoardTable, place: &mut Place, workers: usize
     table.shared.load::<LooksAtRead>(place, i)
 }
 
-/// Adds to this worker's read counter.
+/// Adds to the read counter of the seat's worker.
 pub(crate) fn add_to_read(
     table: &BoardTable,
     place: &mut Place,
@@ -61,7 +61,7 @@ pub(crate) fn look_at_settled(
     table.shared.load::<LooksAtSettled>(place, workers + i)
 }
 
-/// Adds to this worker's settled counter.
+/// Adds to the settled counter of the seat's worker.
 pub(crate) fn add_to_settled(
     table: &BoardTable,
     place: &mut Place,

@@ -18,7 +18,8 @@ use std::alloc::{AllocError, Global};
 /// is empty if the database does not have the document.
 ///
 /// A peer without documents and sessions, with enough sequences left, accepts the documents of all rows of a feed if
-/// they are loaded in order. After these loads, each selected document of the peer is as in the original database.
+/// they are loaded in order. After all documents are loaded, each selected document of the peer is as in the original
+/// database.
 pub fn documents_of(alloc: Global, database: &Database, id: &DocId) -> Result<Vec<Doc>, AllocError>
     ensures documents { IfOk result (λ v. v.items ≡ documents_at database.now id.now) }
     ensures documents_load_back { LoadBack database.now }

@@ -96,7 +96,7 @@ impl Log {
         ensures err { OnErr result (self.new ≡ self.old) }
         ensures log { IsLog self.new }
     {
-        // This call gives proofs the fact that no id occurs twice.
+        // The result is unused: the call only gives proofs the fact that no id occurs twice.
         let _len = self.entries.len();
         self.entries.insert(entry.session, entry)?;
         Ok(())
@@ -133,7 +133,7 @@ impl Log {
     pub fn recorded_of(&self, session: SessionId) -> Option<u64>
         ensures { result ≡ recorded_of self.now session }
     {
-        // This call gives proofs the fact that no id occurs twice.
+        // The result is unused: the call only gives proofs the fact that no id occurs twice.
         let _len = self.entries.len();
         let entry = self.entries.get(&session)?;
         Some(entry.recorded)

@@ -114,7 +114,7 @@ pub fn edit_at<F: WriteFilter>(
     }
 }
 
-/// This call gives proofs the invariant of each peer's database.
+/// The function has no effect, but gives proofs the invariant of each peer's database.
 fn hold_laws<F: WriteFilter>(peers: &[Peer<F>])
     ensures { AllLawful (peers_of peers.now) }
 {

@@ -10,13 +10,13 @@ use thiserror::Error;
 /// The reason why a call on a network failed.
 #[derive(Debug, Drop, Error)]
 pub enum NetFault {
-    /// The network has no peer at this index.
+    /// The network has no peer at the given index.
     #[error("no peer is at place {0}")]
     NoPeer(usize),
-    /// The peer at this index already has the UUID.
+    /// The peer at the given index already has the UUID.
     #[error("the peer at place {0} has this UUID")]
     SameUuid(usize),
-    /// The hop at this index failed, and the hops before it succeeded.
+    /// The hop at the given index failed, and the hops before it succeeded.
     #[error("hop {0}: {1}")]
     Hop(usize, TargetFault),
     /// The number of plans in a direction is not the number of peers other than the hub.

@@ -1,4 +1,4 @@
-//! The results and errors of this crate.
+//! The results and errors of calls on peers.
 ghost use Rattle.std.specs.Prelude.{◌≡◌};
 ghost use Rattle.repl_peer.specs.logs.Logs.{refused_by_log};
 ghost use Rattle.repl_peer.specs.session.Sessions.{refused_by_front};

@@ -186,7 +186,7 @@ impl<F: WriteFilter> Peer<F> {
         local::edit(&mut self.db, &mut self.locals, id, parent, deleted, body)
     }
 
-    // ---- calls of the database
+    // ---- database calls
 
     /// Returns a page of the changes feed (`Database::page`).
     pub fn page(
@@ -335,7 +335,7 @@ impl<F: WriteFilter> Peer<F> {
         ensures err { OnErr result (self.new.1 ≡ self.old.1) }
         ensures law { Lawful (F.refuses self.new.0) self.new.1 }
     {
-        // This call gives proofs the fact that the window satisfies its invariant.
+        // The result is unused: the call only gives proofs the fact that the window satisfies its invariant.
         let _hi = ready.window().hi();
         self.sessions.append(id, ready)
     }

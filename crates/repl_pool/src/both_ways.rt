@@ -45,7 +45,7 @@ pub struct SyncRan<F: WriteFilter> {
 /// whatever the result. Each of the two peers also stays consistent with every third peer that it was consistent with,
 /// if the third peer has a UUID of its own.
 ///
-/// The call blocks until both runs end, and it is not proved that they end.
+/// The call blocks until both runs end. It is not proved that the runs end.
 pub fn sync<F: WriteFilter + Send + Sync, G: Gate + Sync, R: Threads + Wait + Sync>(
     rt: &R,
     alloc: Global,

@@ -36,7 +36,7 @@ pub struct Ran<F: WriteFilter> {
     pub target: Peer<F>,
     /// The number of documents that each fetcher fetched. The list is empty if no fetcher was started.
     pub fetched: Vec<u64>,
-    /// The seats that the writers were given, in the given order. The list is empty after `run`.
+    /// The seats that the writers were given, in the given order. The list of seats is empty after `run`.
     pub seats: Vec<BoardSeat>,
     /// The report of the plan's session, or the error.
     pub outcome: Result<Report, PoolFault>,
@@ -47,7 +47,7 @@ pub struct Ran<F: WriteFilter> {
 pub struct Progress<'a> {
     /// The board.
     pub board: &'a Board,
-    /// The seats of this board's workers.
+    /// The seats of the board's workers.
     pub seats: Vec<BoardSeat>,
 }
 
@@ -302,7 +302,7 @@ fn run_with<F: WriteFilter + Send + Sync, G: Gate + Sync, R: Threads + Wait + Sy
 ///
 /// # Errors
 ///
-/// - `NoWorkers`, `TooManyWorkers`, `BadBatch`, `SamePeer`: as `check_run`, in this order. Both peers are unchanged.
+/// - `NoWorkers`, `TooManyWorkers`, `BadBatch`, `SamePeer`: as `check_run`, in this order, with both peers unchanged.
 /// - `Refused`: a step failed. If no worker failed or stopped, and all windows that the plan allows are settled but end
 ///   below the goal, the error is `Refused` of `Unfinished`.
 /// - `Halted`: the gate returned `Stop` at this place.

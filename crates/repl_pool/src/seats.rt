@@ -13,9 +13,9 @@ use std::alloc::Global;
 pub struct Seats {
     /// The board.
     pub board: Board,
-    /// The seats of its workers, by number.
+    /// The seats of the board's workers, by number.
     pub workers: Vec<BoardSeat>,
-    /// The seats of its viewers.
+    /// The seats of the board's viewers.
     pub viewers: Vec<BoardSeat>,
 }
 

@@ -245,7 +245,7 @@ fn read_windows<F: WriteFilter, G: WriteFilter>(
     Ok(())
 }
 
-/// Whether a plan allows another window after this number of windows.
+/// Whether a plan allows another window after a given number of windows.
 pub fn has_left(stop_after: Option<u64>, windows: u64) -> bool
     ensures { result ≡ has_left stop_after windows }
 {

@@ -105,7 +105,7 @@ impl<F: WriteFilter> Peer<F> {
         ensures law { Lawful (F.refuses self.new.0) self.new.1 }
     {
         let life = self.next_life(backup)?;
-        // This call gives proofs the fact that the backup satisfies its invariant.
+        // The result is unused: the call only gives proofs the fact that the backup satisfies its invariant.
         let _copy = backup.db();
         self.law();
         let alloc = *self.locals.allocator();

@@ -37,7 +37,7 @@ pub(crate) enum Came<'a> {
 impl GhostRevs {
     ghost use Rattle.repl_peer.specs.peer.Came.{came_revs};
 
-    /// Creates the ghost value of these revisions.
+    /// Creates the ghost value of the given revisions.
     #[inline(always)]
     pub(crate) fn of(_came: &Came<'_>) -> GhostRevs
         ensures { result.revs ≡ came_revs _came.now }

@@ -10,7 +10,7 @@ pub struct Scope {
     pub rep: RepId,
     /// The life of the source's database when the log that gave the start was read.
     pub life: u64,
-    /// The earlier session from whose recorded sequence this session starts, if there is one.
+    /// The earlier session from whose recorded sequence the session starts, if such a session exists.
     pub base: Option<SessionId>,
     /// The source's sequence up to which the session reads.
     pub goal: u64,

@@ -28,7 +28,7 @@ impl LedgerIndex {
         }
     }
 
-    /// Whether a revision is in the ancestry of a refused document with this id.
+    /// Whether a revision is in the ancestry of a refused document with the given id.
     pub(crate) fn has(&self, id: &DocId, rev: Rev) -> bool
         ensures { result ≡ is_ledgered self.now id.now rev }
     {

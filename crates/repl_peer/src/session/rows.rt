@@ -62,7 +62,7 @@ pub(crate) fn seq_from(rows: &[Row], id: &DocId, from: usize) -> (usize, u64)
     (place, rows[place].seq())
 }
 
-/// Whether each document has a row.
+/// Whether each document has a row in the window.
 pub(crate) fn all_have_rows(rows: &[Row], docs: &[Doc]) -> bool
     ensures { result ≡ list_all (λ d. list_any (λ row. bytes_eq row.id d.id) rows.now) docs.now }
 {

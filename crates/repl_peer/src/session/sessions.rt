@@ -105,7 +105,7 @@ impl Sessions {
         self.ledgered.has(id, rev)
     }
 
-    /// Returns the log entries of the sessions of a replication, newest first. The call scans only the sessions of this
+    /// Returns the log entries of the sessions of a replication, newest first. The call scans only the sessions of the
     /// replication.
     pub(crate) fn log(&self, alloc: Global, rep: &RepId) -> Result<Log, AllocError>
         ensures log { IfOk result (λ l. l ≡ log_of self.now rep.now) }
@@ -123,7 +123,7 @@ impl Sessions {
     }
 
     /// Returns the newest session of a replication that is also in the source's log, with the lesser of its two
-    /// recorded sequences. The call scans only the sessions of this replication, up to the session that it finds.
+    /// recorded sequences. The call scans only the sessions of the replication, up to the session that it finds.
     pub(crate) fn shared_with(&self, rep: &RepId, source: &Log) -> Option<(SessionId, u64)>
         ensures { result ≡ common source.now (log_of self.now rep.now) }
     {

@@ -83,7 +83,7 @@ impl DoneWindow {
         })
     }
 
-    /// Whether each document has a row.
+    /// Whether each document has a row in the window.
     fn has_rows_of(&self, docs: &[Doc]) -> bool
         ensures { result ≡ list_all (has_row self.now) docs.now }
     {
@@ -108,7 +108,7 @@ fn done_rows(alloc: Global, rows: &[Row]) -> Result<Vec<DoneRow>, AllocError>
     Ok(done)
 }
 
-/// Whether the window has a row with this id.
+/// Whether the window has a row with a given id.
 fn has_done_row(rows: &[DoneRow], id: &DocId) -> bool
     ensures { result ≡ list_any (λ row. bytes_eq row.id id.now) rows.now }
 {
@@ -206,7 +206,7 @@ impl StoredWindow {
         }
     }
 
-    /// Whether each document has a row.
+    /// Whether each document has a row in the window.
     pub(crate) fn has_rows_of(&self, docs: &[Doc]) -> bool
         ensures { result ≡ list_all (has_row self.now.window) docs.now }
     {
