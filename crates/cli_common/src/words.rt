@@ -27,8 +27,8 @@ pub fn flag<'a>(alloc: Global, name: &'a str, help: &'a str) -> Arg<'a>
         .help(help)
 }
 
-/// Defines a positional argument that does not appear in the help. A program accepts such an argument in order to print
-/// an error of its own, for example about a file name.
+/// Defines a positional argument that does not appear in the help. A program accepts a hidden positional argument in
+/// order to print an error of its own, for example about a file name.
 pub fn hidden_word<'a>(alloc: Global, name: &'a str) -> Arg<'a>
     ensures rule { rule_of result ≡ hidden_option name.entry.now }
     ensures local { result.global ≡ false }

@@ -33,8 +33,8 @@ pub trait Command<L>: Sized + Drop {
     // The possible results of the command, and the states that they leave.
     ghost answers: { Answering State Ask };
 
-    /// Reads the parameters from an object. Returns `None` if the object is not a command of this kind, and the line
-    /// then fails with `BadCommand`.
+    /// Reads the parameters from an object. Returns `None` if the object does not have the form of the command, and the
+    /// line fails with `BadCommand`.
     fn read(line: L) -> Option<Self>
         ensures { needed (option_map asked result) ≡ asked_in (seen line) };
 

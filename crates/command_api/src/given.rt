@@ -42,7 +42,7 @@ fn read_ids(alloc: Global, texts: &Vec<LineValue<'_>>) -> Result<Vec<DocId>, Ref
     Ok(ids)
 }
 
-/// Builds the selection of the documents with these ids.
+/// Builds the selection of the documents with the given ids.
 fn choose(ids: Vec<DocId>) -> Result<Option<Chosen>, Refusal>
     ensures { GivesOrMemory result (chosen_given ids.items) }
 {

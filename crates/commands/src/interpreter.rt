@@ -165,8 +165,8 @@ where
         (λ clean. (input : List ℕ) × (text : List ℕ) × (state : State) × Gives (R.left reader.old) input
         × Appends (W.held writer.old) (W.held writer.new) text
         × IsAnswered LinesAnswer (no_databases (program_of settings.now)) input clean text state) }
-    // All databases are consistent with each other before and after every line. Therefore no audit reports a hole, and
-    // if a session prints that it reached its goal, the target covers the source's selected feed.
+    // All databases are consistent with each other before and after every line. No audit therefore reports a hole. If a
+    // session prints that it reached its goal, the target covers the source's selected feed.
     ensures trust { IfOk result
         (λ clean. (input : List ℕ) × (text : List ℕ) × (state : State) × Gives (R.left reader.old) input
         × Appends (W.held writer.old) (W.held writer.new) text

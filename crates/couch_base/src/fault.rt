@@ -1,4 +1,4 @@
-//! The results and errors of this crate.
+//! The results and errors of calls on databases.
 ghost use Rattle.std.specs.Prelude.{◌≡◌};
 ghost use Rattle.couch_base.specs.declared.fault.BaseFault.TheVariants.{Memory};
 ghost use Rattle.couch_base.specs.Answers.{edit_refusal};

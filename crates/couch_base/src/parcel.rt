@@ -114,7 +114,7 @@ impl Parcel {
     }
 
     /// Splits the parcel into request, documents, gone revisions and prepared trees. The prepared trees are in the
-    /// order of the documents; there are none if the parcel was not prepared.
+    /// order of the documents. The list of trees is empty if the parcel was not prepared.
     pub fn into_parts(
         self,
     ) -> (
@@ -163,8 +163,8 @@ impl Parcel {
     }
 }
 
-/// Builds the trees that documents would have as new documents. Rows are searched in order. If a document has no row,
-/// this document and those after it get no tree.
+/// Builds the trees that documents would have as new documents. The call searches the rows in order. If a document has
+/// no row, this document and those after it get no tree.
 fn make_all(
     alloc: Global,
     session: SessionId,

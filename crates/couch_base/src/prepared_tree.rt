@@ -28,7 +28,7 @@ impl PreparedTree {
         ensures { IfOk result (IsMadeOf doc.now) }
     {
         let ancestry = doc.ancestry();
-        // This call gives proofs the fact that an ancestry has a revision.
+        // The result is unused: the call only gives proofs the fact that an ancestry has a revision.
         let _revs = ancestry.revs();
         let content = content_of(doc.deleted(), doc.body())?;
         let mut tree = Tree::new(alloc);

@@ -14,9 +14,9 @@ pub(crate) enum Ended {
     Done,
     /// Something is missing, refused or not found.
     Missing,
-    /// The input line of this number, from 1, does not have the form that the task reads.
+    /// The input line with the given number, from 1, does not have the form that the task reads.
     Wrong(u64),
-    /// The journal is damaged after this number of lines.
+    /// The journal is damaged after the given number of lines.
     Damaged(u64),
     /// The journal has no checksums.
     NoSums,

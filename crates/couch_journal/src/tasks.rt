@@ -26,7 +26,7 @@ pub(crate) enum Task<'a> {
     /// Prints the last state of each document of a journal, without verifying the journal's checksums if the Boolean is
     /// true.
     States(bool),
-    /// Prints the documents of the last states of a journal of this size.
+    /// Prints the documents of the last states of a journal of a given size.
     Select(u64),
     /// Prints the documents that have two or more live leaves.
     Conflicts,

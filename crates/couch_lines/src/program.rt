@@ -69,7 +69,8 @@ fn flushed<W: ScriptWrite>(writer: &mut W, first: Ended) -> Ended
     }
 }
 
-/// Returns the result of a run whose output could not be flushed. An earlier error stays the result.
+/// Returns the result of a run whose output could not be flushed. If an earlier error ended
+/// the run, the earlier error stays the result.
 fn unflushed(ended: Ended) -> Ended
     ensures { result ≡ unflushed ended }
 {
@@ -84,7 +85,8 @@ fn unflushed(ended: Ended) -> Ended
     }
 }
 
-/// Returns the result of a drawing whose output could not be flushed. An earlier error stays the result.
+/// Returns the result of a drawing whose output could not be flushed. If an earlier error ended
+/// the run, the earlier error stays the result.
 fn undrawn(ended: Result<bool, ScriptFault>) -> Result<bool, ScriptFault>
     ensures { result ≡ undrawn ended }
 {
@@ -94,7 +96,8 @@ fn undrawn(ended: Result<bool, ScriptFault>) -> Result<bool, ScriptFault>
     }
 }
 
-/// Returns the result of a conversion whose output could not be flushed. An earlier error stays the result.
+/// Returns the result of a conversion whose output could not be flushed. If an earlier error ended
+/// the run, the earlier error stays the result.
 fn unwritten(ended: Result<u64, AnswerFault>) -> Result<u64, AnswerFault>
     ensures { result ≡ unwritten ended }
 {

@@ -1,5 +1,5 @@
 //! The columns of a diagram. A generation with a fork or an end has a column of its own. The generations between two
-//! such columns share one column.
+//! columns with forks or ends share one column.
 
 use crate::document::Leaf;
 use crate::rows::Row;
@@ -25,8 +25,8 @@ pub fn axis_of(alloc: Global, leaves: &[Leaf], rows: &[Row]) -> Result<Vec<Cell>
     Ok(cells)
 }
 
-/// Returns the generations at which a row begins, ends or forks, in rising order. Each such generation has a column of
-/// its own.
+/// Returns the generations at which a row begins, ends or forks, in rising order. Each generation in the list has a
+/// column of its own.
 fn kept_of(alloc: Global, leaves: &[Leaf], rows: &[Row]) -> Result<Vec<u32>, AllocError> {
     let mut kept = Vec::new(alloc);
     for (leaf, row) in leaves.iter().zip(rows) {

@@ -83,7 +83,7 @@ impl Document {
         }
     }
 
-    /// Whether all leaves were read.
+    /// Whether all leaves of the document were read.
     pub fn is_whole(&self) -> bool
         ensures { result ≡ nat_le self.now.count (vec_len self.now.leaves) }
     {

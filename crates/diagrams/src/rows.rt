@@ -10,11 +10,11 @@ use std::alloc::{AllocError, Global};
 pub struct Row {
     /// The generation of the revision from which the row branches off, or 0 if the row does not branch off.
     pub hang: u32,
-    /// The row in which the revision is drawn from which this row branches off.
+    /// The row that has the revision from which this row branches off.
     pub parent: usize,
     /// The generation of the leaf's oldest known ancestor.
     pub first: u32,
-    /// The generations at which branches go below this row, in rising order. The branches belong to this row or to
+    /// The generations at which branches go below the row, in rising order. The branches belong to the row or to
     /// earlier rows.
     pub below: Vec<u32>,
 }
@@ -29,7 +29,7 @@ struct Branch {
 }
 
 impl Row {
-    /// Whether a branch at this generation goes below the row.
+    /// Whether a branch at a given generation goes below the row.
     pub fn is_open(&self, generation: u32) -> bool {
         self.below.contains(&generation)
     }
@@ -72,7 +72,7 @@ fn hang_of(before: &Leaf, leaf: &Leaf) -> u32 {
         .map_or(0, |rev| rev.generation())
 }
 
-/// Returns the last row in which a revision of this generation is drawn. The call drops the rows after that row,
+/// Returns the last row in which a revision of a given generation is drawn. The call drops the rows after that row,
 /// because a later leaf never branches off a dropped row, but off the row of the current leaf.
 fn parent_of(branches: &mut Vec<Branch>, hang: u32) -> usize {
     for _ in 0..branches.len() {

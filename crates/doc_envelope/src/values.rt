@@ -68,14 +68,14 @@ fn is_envelope_value(value: &Value<'_>) -> bool
     }
 }
 
-/// Whether an envelope may have each of these members.
+/// Whether an envelope may have each member of a list.
 fn all_may_stand(members: &[(&str, Value<'_>)]) -> bool
     ensures { result ≡ list_all (λ m. may_stand m.0.now (value_view m.1)) members.now }
 {
     members.iter().all(|m| may_stand(m.0, &m.1))
 }
 
-/// Whether an envelope may have this member.
+/// Whether an envelope may have a given member.
 fn may_stand(name: &str, value: &Value<'_>) -> bool
     ensures { result ≡ may_stand name.now (value_view value.now) }
 {

@@ -61,7 +61,7 @@ impl Chosen {
     ghost use Rattle.doc_json.specs.Answers.{GivesUnlessMemory};
     ghost use Rattle.doc_json.specs.Chosen.{chosen_answer, is_chosen, IsChoice};
 
-    /// Creates a selection of these documents. Sorts the ids and removes duplicates.
+    /// Creates a selection of the given documents. Sorts the ids and removes duplicates.
     ///
     /// # Errors
     ///

@@ -16,7 +16,7 @@ const FEWEST: usize = 8;
 /// The maximum number of ids for which a table is sized.
 const MOST: usize = 1024;
 
-/// The maximum number of entries.
+/// The maximum number of entries of the table.
 const PLACES: usize = MOST * PLACES_EACH;
 
 /// Returns the last eight bytes of a string, or all bytes of a shorter string.

@@ -233,7 +233,7 @@ fn first_sig<'v, V: JsonValue<'v>>(items: &'v Vec<V>) -> Option<Sig>
     }
 }
 
-/// Whether a revision has this generation and signature.
+/// Whether a revision has the given generation and signature.
 pub(crate) fn is_revision(rev: Rev, generation: u64, sig: Sig) -> bool
     ensures { result ≡ eq_by_cmp rev_cmp rev (record { generation = generation; sig = sig }) }
 {

@@ -46,7 +46,7 @@ impl<'a, T: Drop> Members<'a, T> {
         }
     }
 
-    /// Whether the list has many members and a member with this name would not be the last.
+    /// Whether the list has many members, and a member with the given name would not be the last member.
     #[inline(always)]
     fn is_full(&self, name: &str) -> bool
         requires { IsRising (entries_of self.now) }
@@ -184,7 +184,7 @@ fn order_behind(a: &str, b: &str) -> Ordering
     a.cmp(&b)
 }
 
-/// Whether a member with this name goes after all others.
+/// Whether a member with the given name goes after all other members.
 #[inline(always)]
 fn comes_last<T>(entries: &[(&str, T)], name: &str) -> bool
     requires { IsRising entries.now }

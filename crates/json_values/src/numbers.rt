@@ -8,7 +8,7 @@ ghost use Rattle.serde_json.specs.View.{number_view};
 use fast_float::Numeral;
 use serde_json::Number;
 
-/// The greatest value to which another digit is appended.
+/// The greatest value of a number to which the parser appends another digit.
 const FULL: u64 = 1_000_000_000_000_000_000;
 
 /// Parses a number token, if the number is in range.

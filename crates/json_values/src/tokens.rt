@@ -29,7 +29,7 @@ pub(crate) enum Place {
 }
 
 impl Place {
-    /// Whether an array or an object may end at this grammatical position.
+    /// Whether an array or an object may end at a given grammatical position.
     #[inline(always)]
     fn may_close(self) -> bool
         ensures { result ≡ closes_at self }
@@ -37,7 +37,7 @@ impl Place {
         matches!(self, Place::Fresh | Place::AfterValue)
     }
 
-    /// Whether a value or a name may begin at this grammatical position.
+    /// Whether a value or a name may begin at a given grammatical position.
     #[inline(always)]
     fn may_begin(self) -> bool
         ensures { result ≡ begins_at self }
@@ -46,7 +46,7 @@ impl Place {
     }
 }
 
-/// The tokens of a JSON text. Clauses see the remaining tokens.
+/// The tokens of a JSON text. Contract clauses see the tokens that are still to be read.
 #[derive(Drop)]
 pub(crate) struct Tokens<'a> {
     lexer: Lexer<'a>,

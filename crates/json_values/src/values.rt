@@ -16,7 +16,8 @@ use crate::tokens::Tokens;
 use json::Token;
 use std::alloc::Global;
 
-/// Reads the next value, of at most this nesting depth. The call tries a string first, because most values are strings.
+/// Reads the next value, of at most a given nesting depth. The call tries a string first, because most values are
+/// strings.
 #[cycle(read)]
 #[inline(always)]
 pub(crate) fn read_value<'a>(
@@ -62,8 +63,8 @@ fn read_no_text<'a>(
     }
 }
 
-/// Reads the next value if it is neither a string nor an integer. This is a separate function so that its callers are
-/// small enough to be inlined.
+/// Reads the next value if it is neither a string nor an integer. The function is separate so that the compiler can
+/// inline its callers.
 #[cycle(read)]
 #[inline(never)]
 fn read_other<'a>(

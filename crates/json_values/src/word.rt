@@ -11,7 +11,7 @@ use crate::run::{byte_at, digits_end};
 use json::Token;
 use serde_json::Number;
 
-/// The greatest value to which another digit is appended.
+/// The greatest value of a number to which the parser appends another digit.
 const FULL: u64 = 100_000_000_000_000_000;
 
 /// Whether a byte ends a number or a literal.
@@ -126,7 +126,7 @@ fn number<'a>(text: &'a str, from: usize) -> Option<(Token<'a>, usize)>
     }
 }
 
-/// Reads a literal with this name at an index, and returns it with its end.
+/// Reads a literal with a given name at an index, and returns the literal with its end.
 #[inline(always)]
 fn literal<'a>(
     text: &[u8],

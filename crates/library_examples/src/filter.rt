@@ -70,7 +70,7 @@ fn meet(rt: &HostRuntime, office: &mut Peer<Rules>, phone: &mut Peer<Small>) -> 
     Ok(())
 }
 
-/// Creates a plan for all documents, with this session number.
+/// Creates a plan for all documents, with a given session number.
 fn plan(session: u128) -> Result<Plan> {
     Ok(Plan {
         session: SessionId(session),

@@ -77,7 +77,7 @@ impl<'v, 'a> StreamingCommand<&'v Line<'a>> for Compare<'v, 'a> {
 /// The maximum number of rows per read.
 const PAGE: u64 = 100;
 
-/// The rest of the output of `compare`, and the totals so far.
+/// The part of the output of `compare` that is still to be printed, and the totals so far.
 #[derive(Drop)]
 pub struct CompareRest {
     pub source: String,

@@ -64,7 +64,7 @@ impl<'v, 'a> StreamingCommand<&'v Line<'a>> for Conflicts<'v> {
 /// The maximum number of rows per read.
 const PAGE: u64 = 100;
 
-/// The rest of the output of `conflicts`, and the counts of the documents so far.
+/// The part of the output of `conflicts` that is still to be printed, and the counts of the documents so far.
 #[derive(Drop)]
 pub struct ConflictsRest {
     pub db: String,

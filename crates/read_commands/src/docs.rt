@@ -70,7 +70,7 @@ impl<'v, 'a> StreamingCommand<&'v Line<'a>> for Docs<'v, 'a> {
 /// The maximum number of rows per read. The maximum is small because documents can be large.
 const PAGE: u64 = 16;
 
-/// The rest of the output of `docs`.
+/// The part of the output of `docs` that is still to be printed.
 #[derive(Drop)]
 pub struct DocsRest {
     pub db: String,

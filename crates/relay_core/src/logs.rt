@@ -207,7 +207,7 @@ pub(crate) fn after_target_log(alloc: Global, run: Run, response: Response) -> P
 }
 
 /// Continues a run after both logs were read. If the newest entry that both logs have is still the beginning of the
-/// window, both logs are stored. If the newest common entry is another one, a new window begins.
+/// window, both logs are stored. If the newest entry that both logs have is another entry, a new window begins.
 pub(crate) fn after_source_log(
     alloc: Global,
     run: Run,

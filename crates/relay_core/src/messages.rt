@@ -29,7 +29,7 @@ pub struct DocLeaves {
 pub struct ChangesPage {
     pub rows: Vec<DocLeaves>,
     pub last_seq: String,
-    /// Whether the feed ends with this page.
+    /// Whether the page is the last page of the feed.
     pub is_last: bool,
     /// The number of documents after this page, as the server's response gives it.
     pub pending: Option<String>,

@@ -230,8 +230,8 @@ pub fn run_answers<R: ScriptRead, W: ScriptWrite>(
 ) -> Result<u64, AnswerFault>
     requires begins { state_of reading.old ≡ start reading.old.wanted }
 
-    // If the input consists of CouchDB responses, the call writes the contents of these responses. The call never
-    // rejects a CouchDB response if it skips objects without documents.
+    // If the input consists of CouchDB responses, the call writes the contents of the responses. The call never rejects
+    // a CouchDB response if it skips objects without documents.
     ensures forms { (text : List ℕ) → (held : List Piece) → wants_documents reading.old.wanted ≡ true
         → is_strict reading.old.wanted ≡ false → R.left reader.old ≡ Some text
         → IsAnswered reading.old.wanted text held → ReadsAnswers (words_of_wording wording.old) held

@@ -83,7 +83,7 @@ impl Ancestry {
         self.revs[0]
     }
 
-    /// Whether the ancestry contains this revision.
+    /// Whether the ancestry contains a given revision.
     pub fn contains(&self, rev: Rev) -> bool
         ensures { result ≡ is_among rev self.now }
     {

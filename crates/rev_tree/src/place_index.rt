@@ -56,7 +56,7 @@ impl Places {
         Places { index: None }
     }
 
-    /// Returns the number of entries.
+    /// Returns the number of entries in the index.
     pub(crate) fn len(&self) -> usize
         ensures { result ≡ length self.now.entries }
     {

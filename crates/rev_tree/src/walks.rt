@@ -49,8 +49,8 @@ impl Nodes {
         Some(*self.node_at(at).rev())
     }
 
-    /// Returns the leaves that are one of the given revisions or descend from one of them. The order of the leaves
-    /// stays.
+    /// Returns the leaves that are one of the given revisions or descend from one of them. The result keeps the order
+    /// of the leaves.
     ///
     /// The result for each visited node is stored for the next leaves, so each node is visited once.
     pub(crate) fn those_above(

@@ -105,21 +105,21 @@ impl Databases {
         &self.settings
     }
 
-    /// Returns the peer with this name, if it exists.
+    /// Returns the peer with a given name, if it exists.
     pub fn find(&self, name: &str) -> Option<&Peer<Rules>>
         ensures { option_map (λ p. p.1) (option_copied result) ≡ peer_at self.now name.now }
     {
         self.by_name.get(name)
     }
 
-    /// Whether a peer with this name exists.
+    /// Whether a peer with a given name exists.
     pub fn has(&self, name: &str) -> bool
         ensures { result ≡ contains_key self.now.peers name.now }
     {
         self.by_name.contains_key(name)
     }
 
-    /// Whether a database has this UUID.
+    /// Whether a database has a given UUID.
     pub fn is_taken(&self, uuid: u128) -> bool
         ensures taken { result ≡ true → IsTaken self.now uuid }
         ensures free { result ≡ false → IsTaken self.now uuid → ⊥ }
@@ -142,7 +142,7 @@ impl Databases {
         id
     }
 
-    /// Creates an empty peer with this UUID and the filter from the settings.
+    /// Creates an empty peer with a given UUID and the filter from the settings.
     pub fn make(&self, alloc: Global, uuid: u128) -> Result<Peer<Rules>, AllocError>
         ensures { IfOk result (λ p. (p.1 ≡ new_peer uuid) × (deny_of p.0 ≡ self.now.program.deny)) }
     {
@@ -276,8 +276,8 @@ impl Databases {
 
     /// Replicates between two existing databases with the pool. The call blocks until the run has ended.
     ///
-    /// A plan that is rejected at the start changes nothing. A replication from a database to itself is rejected in
-    /// this way.
+    /// A plan that is rejected at the start changes nothing. A replication from a database to itself is rejected
+    /// at the start.
     pub fn replicate<H: Threads + Wait + Sync>(
         &mut self,
         rt: &H,
@@ -351,8 +351,8 @@ impl Databases {
 
     /// Replicates between two existing databases with one thread.
     ///
-    /// A plan that is rejected at the start changes nothing. A replication from a database to itself is rejected in
-    /// this way.
+    /// A plan that is rejected at the start changes nothing. A replication from a database to itself is rejected
+    /// at the start.
     pub fn replicate_alone(
         &mut self,
         alloc: Global,

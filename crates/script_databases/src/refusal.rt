@@ -37,7 +37,7 @@ pub enum Refusal {
     BadRevisions,
     /// A revision id has no signature.
     BadSig,
-    /// The database already has a backup of this name.
+    /// The database already has a backup of the given name.
     BackupExists,
     /// A counter of the progress board would exceed its maximum.
     BoardFull,
@@ -75,9 +75,9 @@ pub enum Refusal {
     LifeFull,
     /// An allocation failed.
     Memory,
-    /// The database has no backup of this name.
+    /// The database has no backup of the given name.
     NoBackup,
-    /// No database has this name.
+    /// No database has the given name.
     NoDatabase,
     /// A document's id is missing, empty, or not a string.
     NoId,
@@ -87,11 +87,11 @@ pub enum Refusal {
     NoRev,
     /// A session's base session does not exist. No line is expected to fail with this error.
     NoSuchBase,
-    /// The database has no document with this id.
+    /// The database has no document with the given id.
     NoSuchDocument,
-    /// The document has no such revision, or its content is unknown.
+    /// The document does not have the named revision, or the revision's content is unknown.
     NoSuchRevision,
-    /// The target has no such session.
+    /// The target does not have the named session.
     NoSuchSession,
     /// The number of workers is 0.
     NoWorkers,
@@ -115,7 +115,7 @@ pub enum Refusal {
     SeqFull,
     /// A new database's update sequence is above the maximum. No line is expected to fail with this error.
     SeqTooLarge,
-    /// The target already has this session.
+    /// The target already has the named session.
     SessionExists,
     /// A special member is unknown, or `_deleted` is not a Boolean.
     SpecialMember,
@@ -131,7 +131,7 @@ pub enum Refusal {
     Uncovered,
     /// A session has not reached its goal. No line is expected to fail with this error.
     Unfinished,
-    /// Another database has this UUID.
+    /// Another database has the given UUID.
     UuidTaken,
 }
 

@@ -61,7 +61,7 @@ enum Ending {
     Done(Report),
     /// The replication reached its goal, and its board was read after the end.
     Shown(Watched),
-    /// The plan stopped the replication, and every window up to this sequence is done.
+    /// The plan stopped the replication, and every window up to the variant's sequence is done.
     Stopped(u64),
 }
 

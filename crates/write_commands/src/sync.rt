@@ -113,8 +113,8 @@ fn shared_of(value: &LineValue<'_>) -> Option<Shared>
     })
 }
 
-/// Returns the parameters of one direction, with the session id of that direction. Neither direction stops early or
-/// prints counters.
+/// Returns the parameters of one direction, with the session id of that direction. Neither direction of a `sync` stops
+/// early or prints counters.
 fn options_of(shared: &Shared, session: Option<u128>) -> Options
     ensures { result ≡ way_options shared.now session }
 {
