@@ -144,9 +144,9 @@ fn fill(alloc: Global, source: &mut Peer<Rules>) -> Option<()> {
     Some(())
 }
 
-/// The observations of a replication of selected documents. The observations are the length of the replication id, the
-/// number of rows of the page, the recorded sequence, the target's sequence, and whether the target has only the
-/// selected documents.
+/// The observations of a replication of selected documents. The first observations are the length of the replication
+/// id, the number of rows of the page, and the recorded sequence. The last observations are the target's sequence, and
+/// whether the target has only the selected documents.
 type Seen = (usize, usize, u64, u64, bool);
 
 /// Returns the observations of two peers after a replication of selected documents.

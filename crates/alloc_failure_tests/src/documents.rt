@@ -94,7 +94,7 @@ fn edited(alloc: Global) -> bool {
     }
 }
 
-/// Whether a document is written as the text.
+/// Whether writing a document gives the expected text.
 fn is_text(alloc: Global, doc: &Doc) -> bool {
     match written(alloc, doc) {
         Ok(text) => text.as_slice() == TEXT,
@@ -102,7 +102,7 @@ fn is_text(alloc: Global, doc: &Doc) -> bool {
     }
 }
 
-/// Whether a copy of a document is written as the text.
+/// Whether writing a copy of a document gives the expected text.
 fn is_copied(alloc: Global, doc: &Doc) -> bool {
     match copied(alloc, doc) {
         Ok(copy) => is_text(alloc, &copy),
@@ -110,7 +110,7 @@ fn is_copied(alloc: Global, doc: &Doc) -> bool {
     }
 }
 
-/// Whether a copy of the document of a value is written as the text.
+/// Whether writing a copy of the document of a value gives the expected text.
 fn is_read(alloc: Global, value: &Value) -> bool {
     match read(alloc, value) {
         Ok(doc) => is_copied(alloc, &doc),

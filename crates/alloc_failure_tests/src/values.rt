@@ -40,7 +40,7 @@ fn is_its_document(reader: &mut ValueReader, alloc: Global, text: &[u8]) -> Resu
     }
 }
 
-/// Whether a document is written as a text.
+/// Whether writing a document gives a given text.
 fn is_written_as(alloc: Global, doc: &Doc, text: &[u8]) -> Result<bool, DocFault> {
     match write_doc(alloc, doc) {
         Ok(written) => Ok(written.as_slice() == text),

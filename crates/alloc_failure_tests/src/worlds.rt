@@ -15,8 +15,8 @@ const SESSION: SessionId = SessionId(1);
 /// The observations of a session, which are the number of its windows, its low water, and its recorded sequence.
 type Session = (usize, u64, u64);
 
-/// The observations of a world, which are the life of the source, the update sequences of its peers, the session if it
-/// has begun, and the sizes of the message bag.
+/// The life of a world's source, the update sequences of the world's peers, the session if it has begun, and the sizes
+/// of the message bag.
 #[derive(Clone, Copy, PartialEq, Eq)]
 struct Seen {
     life: u64,

@@ -10,9 +10,9 @@ use itoa::Buffer;
 use json_values::{LineValue, ValueReader, is_same_text};
 use std::alloc::{AllocError, Global};
 
-/// Appends one explanation: the number of the line, the error name, the command, member, document or database at fault
-/// if the line shows it, and the meaning of the name (docs/PROFILE.md, "Names of refusals"). The explanation has the
-/// line's strings as JSON strings.
+/// Appends one explanation, which has the number of the line, the error name, the part at fault if the line shows it,
+/// and the meaning of the name (docs/PROFILE.md, "Names of refusals"). The part at fault is a command, a member, a
+/// document or a database. The explanation has the line's strings as JSON strings.
 ///
 /// The contract guarantees that the explanation is one line without hidden characters. The contract does not say which
 /// text explains the reason.

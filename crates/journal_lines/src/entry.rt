@@ -18,7 +18,7 @@ pub enum Entry {
     Lacks(Leaves),
     /// A line with a document.
     Leaf(Leaf),
-    /// A line of any other form.
+    /// A journal line that is neither a state line, nor a lacks line, nor a line with a document.
     Wrong,
 }
 

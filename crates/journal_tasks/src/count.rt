@@ -2,7 +2,7 @@
 use journal_core::added;
 use std::alloc::AllocError;
 
-/// The number of lines that a task has read, and the first wrong one.
+/// The number of lines that a task has read, and the number of the first wrong line.
 #[derive(Drop)]
 pub(crate) struct Count {
     /// The number of lines that the task has read.

@@ -1,6 +1,5 @@
-//! A replication by threads with a progress display. A shop of a thousand orders and its copy are two peers, four
-//! fetchers and four writers copy the orders, and a viewer reads the progress meanwhile. The progress goes to standard
-//! error.
+//! A replication by threads with a progress display. A shop of a thousand orders and its copy are two peers. Four
+//! fetchers and four writers copy the orders, while a viewer reads the progress. The progress goes to standard error.
 ghost use Rattle.std.specs.Prelude.{◌≡◌, vec_len};
 ghost use Rattle.std.specs.List.{All};
 ghost use Rattle.progress_board.specs.Seats.{CameWith};

@@ -1,8 +1,8 @@
 //! Brands are type parameters with ghost members, which state a run's facts about its source and its target. One call
 //! chooses them.
 //!
-//! About a value behind a lock or in a channel, only the invariant of its type is known, and that invariant may refer
-//! to a brand's ghost members.
+//! For a value behind a lock or in a channel, contracts know only the invariant of its type. The invariant of a type
+//! may refer to a brand's ghost members.
 use std::marker::Brand;
 
 /// The brand for the source's database and the plan by which the run reads it.

@@ -25,8 +25,8 @@ use repl_target::{Peer, WriteFilter};
 use std::alloc::Global;
 use std::sync::ledger::Ledger;
 
-/// The result of a run, which has the target, the number of documents of each fetcher, the seats of the board, the
-/// error of a step, and whether all sent parcels were received.
+/// The target of a run, the number of documents of each fetcher, the seats of the board, the error of a step, and
+/// whether all sent parcels were received.
 #[derive(Drop)]
 pub struct Summed<F: WriteFilter> {
     pub target: Peer<F>,

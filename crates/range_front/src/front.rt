@@ -154,8 +154,8 @@ impl Front {
         is_window(self.start, &self.ends, lo, hi) && is_covered(self.mark, &self.ranges, hi)
     }
 
-    /// Returns the low water: the end of the longest prefix of windows that are all done, or the start if the first
-    /// window is not done (docs/PROFILE.md, "Windows and low water").
+    /// Returns the low water (docs/PROFILE.md, "Windows and low water"). The low water is the end of the longest prefix
+    /// of windows that are all done, or the start if the first window is not done.
     pub fn low_water(&self) -> u64
         ensures value { result ≡ low_water self.now.front }
         ensures front { IsFront self.now.front }

@@ -22,8 +22,8 @@ fn place_from(ranges: &[DoneRange], bound: u64) -> usize
     ranges.partition_point(|range| range.hi < bound)
 }
 
-/// Whether the window that ends at `hi` is done, because it is at or below the low water `mark`, or in one of the
-/// ranges above it.
+/// Whether the window that ends at `hi` is done. A done window is at or below the low water `mark`, or in one of the
+/// ranges above the low water.
 pub(crate) fn is_covered(mark: u64, ranges: &[DoneRange], hi: u64) -> bool
     requires { Apart mark ranges.now }
     ensures { result ≡ covers mark ranges.now hi }

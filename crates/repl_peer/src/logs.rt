@@ -28,9 +28,9 @@ pub fn rep_between<F: WriteFilter, G: WriteFilter>(
     RepId::new(source.db().uuid(), target.db().uuid(), chosen)
 }
 
-/// Returns the common checkpoint of a replication: the newest session of the target's log that is also in the source's
-/// log, with the lesser of its two recorded sequences (docs/PROFILE.md, "Common checkpoint"). Returns `None` if the
-/// logs share no session.
+/// Returns the common checkpoint of a replication (docs/PROFILE.md, "Common checkpoint"). The common checkpoint is the
+/// newest session of the target's log that is also in the source's log, with the lesser of its two recorded sequences.
+/// Returns `None` if the logs share no session.
 ///
 /// The call scans the target's sessions of the replication, newest first, up to the session that it finds. Does not
 /// allocate.

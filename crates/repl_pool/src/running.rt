@@ -287,10 +287,10 @@ fn run_with<F: WriteFilter + Send + Sync, G: Gate + Sync, R: Threads + Wait + Sy
 ///
 /// If the run succeeds, each leaf of the source's selected feed above the start is covered at the target. The report is
 /// that of the session, which began at the common checkpoint and is recorded at the source's update sequence. The
-/// fetchers' numbers of documents add up to the documents read. If the run succeeds, the target was empty and nothing
-/// was refused, each selected document has the same revisions, parents and contents of leaves as at the source. If the
-/// peers were consistent (docs/PROFILE.md, "Tied peers"), each leaf of the source's complete selected feed is covered,
-/// including those below the start.
+/// fetchers' numbers of documents add up to the documents read. If the run succeeds with an initially empty target and
+/// nothing was refused, each selected document has the same revisions, parents and contents of leaves as at the source.
+/// If the peers were consistent (docs/PROFILE.md, "Tied peers"), each leaf of the source's complete selected feed is
+/// covered, including those below the start.
 ///
 /// Whatever the result, the source changes only in its log. The returned target is the given target, or the given
 /// target after the session's begin and calls of the session with messages of the source. The target keeps everything

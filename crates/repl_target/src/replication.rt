@@ -68,8 +68,9 @@ impl Plan {
 /// all windows, the session is recorded, first at the target, then in the source's log.
 ///
 /// If the call succeeds, each leaf of the source's selected feed above the start is covered at the target, and the
-/// report is the session's. If the call succeeds, the target was empty and nothing was refused, each selected document
-/// has the same revisions, parents and contents of leaves as at the source. The source's database never changes.
+/// report is the session's. If the call succeeds with an initially empty target and nothing was refused, each selected
+/// document has the same revisions, parents and contents of leaves as at the source. The source's database never
+/// changes.
 ///
 /// Consistent peers (docs/PROFILE.md, "Tied peers") stay consistent for every selection and every result, so an audit
 /// after the call is clean. If the peers are consistent and the call succeeds, each leaf of the source's complete

@@ -32,8 +32,8 @@ ghost use Rattle.rev_tree.specs.Nodes.{Distinct, HasGained, HasRoom, IsLinked, c
 
 /// Nodes with their index. A tree never removes a node, so the positions of nodes do not change.
 ///
-/// The invariant of a tree's nodes is that no revision has two nodes, the index of each parent is in range, and a node
-/// is marked exactly if another node names it as its parent.
+/// The invariant of a tree's nodes is that no revision has two nodes, and that the index of each parent is in range. By
+/// the invariant, a node is marked exactly if another node names it as its parent.
 #[derive(Drop)]
 pub(crate) struct Nodes {
     list: Vec<Node>,

@@ -1,6 +1,6 @@
 //! A plain model of a world, written from docs/PROFILE.md, "Worlds", "Sessions of a peer", "Settling" and "Backup and
-//! restore": trees are bit masks, a feed is a scan of all documents, and messages and sessions are tables of plain
-//! rows.
+//! restore". In the plain model, trees are bit masks, a feed is a scan of all documents, and messages and sessions are
+//! tables of plain rows.
 use crate::tests::plain_sides::{
     ALL, IDS, Masks, Picked, PlainSide, Row, is_picked, next_above, take_leaf,
 };

@@ -82,8 +82,8 @@ impl Gate for Counts {
     }
 }
 
-/// Asserts that a run with a number of workers asks a gate, which may or may not block workers, exactly once at each
-/// place of a window, in order.
+/// Asserts that a run asks its gate exactly once at each place of a window, in order. The run has a given number of
+/// workers, which the gate may or may not block.
 fn expect_in_order<R: Abort + Threads + Wait + Sync>(
     rt: &R,
     alloc: Global,
@@ -120,10 +120,10 @@ fn each_place_once_and_in_order(rt: HostRuntime) {
     expect_in_order(&rt, rt.alloc(), 1, false);
 }
 
-/// A kind of place, by its number from 0, of a window.
+/// A kind of place, numbered from 0, and the number of a window.
 type Spot = (u64, u64);
 
-/// A worker at the first spot waits until the second one is reached.
+/// A worker at the first spot waits until the second spot is reached.
 type Holds = &'static [(Spot, Spot)];
 
 /// Returns the bit of a spot, among the first twelve windows.
