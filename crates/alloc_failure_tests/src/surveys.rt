@@ -95,7 +95,7 @@ fn of_document(
     ))
 }
 
-/// Returns the number of leaves in conflict, and of documents of the leaves.
+/// Returns the number of leaves in conflict, and the number of documents of all leaves.
 fn of_leaves(alloc: Global, database: &Database, id: &DocId) -> Option<(usize, usize)> {
     let Some(tree) = database.tree(id) else {
         return None;

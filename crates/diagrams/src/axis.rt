@@ -49,7 +49,7 @@ pub fn start_of(leaf: &Leaf, row: &Row) -> u32 {
     row.hang + 1
 }
 
-/// Builds a column for each kept generation, and a column for the generations between two kept ones.
+/// Builds a column for each listed generation, and one column for the generations between two listed generations.
 fn cells_of(alloc: Global, kept: &[u32]) -> Result<Vec<Cell>, AllocError> {
     let mut cells = Vec::new(alloc);
     let mut next = kept.first().copied().unwrap_or(0);

@@ -142,7 +142,8 @@ static WORDS: &[(&str, &[Member])] = &[
     ),
 ];
 
-/// The first reason that is found why an object is not a command.
+/// The reason why an object is not a command. If an object has several faults, the value is the fault that is found
+/// first.
 #[derive(Drop)]
 pub(crate) enum CommandFault<'v> {
     /// The object has no member `do` that is a string.

@@ -87,7 +87,7 @@ impl Select {
         self.damaged
     }
 
-    /// Whether the second copy of the journal differs from the first.
+    /// Whether the second copy of the journal differs from the first copy.
     pub fn differs(&self) -> bool {
         self.differs
     }

@@ -8,7 +8,7 @@ use std::sync::Wait;
 pub enum Place {
     /// A fetcher took the window.
     Took(u64),
-    /// A fetcher asked the target what it lacks of the window.
+    /// A fetcher requested the leaves of the window that the target lacks.
     Asked(u64),
     /// A fetcher counted the requested documents at the source.
     Fetched(u64),

@@ -104,7 +104,7 @@ impl<F: WriteFilter, S: SourceBrand, T: TargetBrand<F>, L: Ledger, G: Gate, R: W
     }
 
     /// Settles a parcel and records the low water at the target. The writer stops if the gate stops it or a call fails.
-    /// The board shows the documents as read before they are settled, and as settled before the gate is asked.
+    /// The board shows the documents as read before they are settled, and as settled before the gate is called.
     fn settle_and_record(
         &self,
         share: &mut Share<L>,
@@ -144,8 +144,8 @@ impl<F: WriteFilter, S: SourceBrand, T: TargetBrand<F>, L: Ledger, G: Gate, R: W
         }
     }
 
-    /// Reads a parcel at the source, prepares its documents before the lock is taken (if several writers settle),
-    /// settles it and records (`settle_and_record`).
+    /// Reads a parcel at the source, and prepares its documents before the lock is taken if several writers settle. The
+    /// call then settles the parcel, and records the low water (`settle_and_record`).
     fn read_and_settle(
         &self,
         share: &mut Share<L>,

@@ -116,7 +116,7 @@ pub enum TargetFault {
     /// The backup is of a database with another UUID.
     #[error("the copy is of another database")]
     ForeignBackup,
-    /// No life is left: the next one would exceed 9,007,199,254,740,991.
+    /// No life is left, because the next life would exceed 9,007,199,254,740,991.
     #[error("no life is left")]
     LifeFull,
     /// The window size of a plan is 0 or exceeds 10,000.

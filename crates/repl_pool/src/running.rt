@@ -276,8 +276,8 @@ fn run_with<F: WriteFilter + Send + Sync, G: Gate + Sync, R: Threads + Wait + Sy
 /// window at the target, and sends it to `plan.workers` fetchers, or to fewer if there may be fewer windows. Fetchers
 /// request the missing leaves at the target, count documents at the source, and send parcels to the same number of
 /// writers. The writers read and settle the parcels, and record the session. The target is behind a lock, and the
-/// source is shared. The gate is asked at each place, without a lock. If the gate says that it never blocks, a fetcher
-/// and a writer share one thread in turn.
+/// source is shared. Workers call the gate at each place, without a lock. If the gate says that it never blocks, a
+/// fetcher and a writer share one thread in turn.
 ///
 /// After all workers have ended, the caller's thread concludes the session, or records it if it cannot be concluded.
 /// The caller's thread then stores the session's entry in the source's log, unless the log has a newer entry of the
@@ -331,7 +331,7 @@ pub fn run<F: WriteFilter + Send + Sync, G: Gate + Sync, R: Threads + Wait + Syn
 
 /// Does the same as `run`, with a board on which viewers may read the progress meanwhile (`Board::read`). Each writer
 /// has the seat of a worker of the board. Before a writer settles a parcel, it adds the parcel's documents to its read
-/// counter. After settling, and before the gate is asked at `Settled`, the writer adds the settled documents to its
+/// counter. After settling, and before the gate is called at `Settled`, the writer adds the settled documents to its
 /// settled counter. No lock is taken for the board.
 ///
 /// There must be one seat for each worker of the plan. The seats are returned in order, whatever the outcome, and no

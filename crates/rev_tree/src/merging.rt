@@ -15,8 +15,8 @@ use crate::origin::Origin;
 use rev_core::Rev;
 
 impl Nodes {
-    /// Whether every given child has a known parent. Returns the first child whose known parent differs from the given
-    /// one as an error.
+    /// Whether every given child has a known parent. Returns an error with the first child whose known parent differs
+    /// from the given parent.
     ///
     /// A child's node stores the index of the known parent, so a known ancestry needs one lookup. For a new child, the
     /// call tries the parent of the last node first.

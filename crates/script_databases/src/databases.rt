@@ -247,8 +247,8 @@ impl Databases {
         Ok(seq)
     }
 
-    /// Restores the database `db` from its backup of this name, which is kept. Returns the new update sequence and life
-    /// (docs/PROFILE.md, "Backup and restore").
+    /// Restores the database `db` from its backup of a given name, and keeps the backup. Returns the new update
+    /// sequence and life (docs/PROFILE.md, "Backup and restore").
     ///
     /// # Errors
     ///

@@ -224,8 +224,8 @@ fn exchange(
     docs
 }
 
-/// Exchanges between a source and a target. The code is a separate function, because each further live variable beside
-/// a side lengthens the proof.
+/// Exchanges between a source and a target. The code is a separate function, because each further live variable in its
+/// caller lengthens the proof.
 fn with_target(rt: &impl Abort, alloc: Global, seed: u64, source: &mut Side) -> usize {
     let mut rng = ChaCha8Rng::seed_from_u64(seed);
     let mut target = Side::new(alloc, 2);

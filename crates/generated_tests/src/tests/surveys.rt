@@ -188,7 +188,7 @@ fn survey(rt: &impl Abort, alloc: Global, source: &Side, target: &Side) -> [u64;
 }
 
 /// Tests the calls of `repl_inspect` with a source and a target. The code is a separate function, because each further
-/// live variable beside a side lengthens the proof.
+/// live variable in its caller lengthens the proof.
 fn with_target(rt: &impl Abort, alloc: Global, seed: u64, source: &mut Side) -> [u64; 3] {
     let mut rng = ChaCha8Rng::seed_from_u64(seed);
     let mut target = Side::new(alloc, 2);

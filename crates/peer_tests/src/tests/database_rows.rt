@@ -356,7 +356,8 @@ fn copies_of_a_database(rt: HostRuntime) {
         (Call::WindowLife(0), "0"),
         (Call::WindowLife(1), "9"),
         (Call::Document(OTHER, "c", "1-d"), " c 1-d live {};"),
-        // A document that is written into a copy is in no other copy, and the life of the copy stays.
+        // A document that is written into a copy is in no other copy, and the write does not change the life of the
+        // copy.
         (
             Call::Put(OTHER, r#"{"_id":"a","_rev":"1-b"}"#),
             "Changed { seq: 6 }",

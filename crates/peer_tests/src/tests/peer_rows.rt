@@ -640,7 +640,7 @@ const TWELVE: Rows = &[
     ),
 ];
 
-/// Sessions at the target that recorded the sequences 9 and 5. The feed has no row below 12.
+/// Sessions at the target that recorded the sequences 9 and 5. The feed has no row below sequence 12.
 const RECORDED: Rows = &[
     (Call::Begin(TARGET, S1, TO_NINE, 10), "begun"),
     (Call::Page(SOURCE, 0, 9), "0 to 9:"),

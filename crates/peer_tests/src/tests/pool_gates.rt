@@ -315,7 +315,7 @@ static FULL: Rows = &[
     (Call::Fill(A, 20), "Changed { seq: 20 }"),
 ];
 
-// Both channels together hold eight windows. A writer that left after an error would block the fetchers for ever,
+// Both channels together hold eight windows. A writer that ended after an error would block the fetchers for ever,
 // although it would satisfy its contract.
 #[test]
 fn more_windows_than_channels_hold(rt: HostRuntime) {

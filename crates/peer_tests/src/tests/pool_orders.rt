@@ -25,8 +25,7 @@ const fn in_windows_of(batch: u64) -> How {
     }
 }
 
-/// For each window, the number of places at which the gate was asked in order, and the number of times it was asked out
-/// of order.
+/// For each window, the number of places at which the gate was called in order, and the number of calls out of order.
 #[derive(Drop)]
 struct Counts {
     places: Vec<AtomicU64>,
@@ -82,7 +81,7 @@ impl Gate for Counts {
     }
 }
 
-/// Asserts that a run asks its gate exactly once at each place of a window, in order. The run has a given number of
+/// Asserts that a run calls its gate exactly once at each place of a window, in order. The run has a given number of
 /// workers, which the gate may or may not block.
 fn expect_in_order<R: Abort + Threads + Wait + Sync>(
     rt: &R,
@@ -111,8 +110,8 @@ fn expect_in_order<R: Abort + Threads + Wait + Sync>(
     assert_eq!(rt; bench.fetchers() as u64, workers);
 }
 
-// A window's count reaches a kind of place only if the gate was asked exactly once at each earlier kind. The test makes
-// runs with two groups of threads, with pairs, and with a single worker on the caller's thread.
+// A window's count reaches a kind of place only if the gate was called exactly once at each earlier kind of place. The
+// test makes runs with two groups of threads, with pairs, and with a single worker on the caller's thread.
 #[test]
 fn each_place_once_and_in_order(rt: HostRuntime) {
     expect_in_order(&rt, rt.alloc(), 4, true);
