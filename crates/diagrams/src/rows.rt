@@ -72,8 +72,8 @@ fn hang_of(before: &Leaf, leaf: &Leaf) -> u32 {
         .map_or(0, |rev| rev.generation())
 }
 
-/// Returns the last row in which a revision of a given generation is drawn. The call drops the rows after that row,
-/// because a later leaf never branches off a dropped row, but off the row of the current leaf.
+/// Returns the last row in which a revision of a given generation is drawn. The call drops the rows after the returned
+/// row, because a later leaf never branches off a dropped row, but off the row of the current leaf.
 fn parent_of(branches: &mut Vec<Branch>, hang: u32) -> usize {
     for _ in 0..branches.len() {
         match branches.last() {

@@ -9,7 +9,8 @@ const MOST_BYTES: usize = 32;
 
 /// A string of at most 32 bytes, followed by zeros.
 ///
-/// The length has four bytes instead of the eight of a `usize`, because a database may have millions of ids.
+/// The length of an inline string has four bytes instead of the eight of a `usize`, because a database may have
+/// millions of ids.
 #[derive(Drop)]
 pub(crate) struct NearText {
     len: u32,

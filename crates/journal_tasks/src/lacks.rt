@@ -34,8 +34,8 @@ impl Lacks {
         self.note_entry(&entry, line)
     }
 
-    /// Reads a state line, which removes its document's lacks line, or a lacks line, which becomes its document's last
-    /// one.
+    /// Reads a state line or a lacks line. A state line removes its document's lacks line, and a lacks line becomes its
+    /// document's last lacks line.
     fn note_entry(&mut self, entry: &Entry, line: &[u8]) -> Result<(), AllocError> {
         match entry {
             Entry::State(leaves) => {

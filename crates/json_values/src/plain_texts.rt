@@ -6,9 +6,9 @@ ghost use Rattle.json_values.specs.Plain.{Narrows};
 /// no backslash and no control byte, so it can be written as JSON unchanged.
 #[derive(Clone, Copy, Drop)]
 pub struct PlainTexts {
-    /// All names of members.
+    /// Whether all names of members need no escapes.
     pub names: bool,
-    /// All strings of the line that are values.
+    /// Whether all strings of the line that are values need no escapes.
     pub values: bool,
 }
 

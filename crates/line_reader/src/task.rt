@@ -9,8 +9,8 @@ pub trait LineTask {
     // and the state after the line.
     ghost steps: { Self → List ℕ → List ℕ → Self → Type 0 };
 
-    // The effect of the end of the input, as a relation of the state before the end, the bytes after the last line end,
-    // the appended text, and the state after the end.
+    // The effect of the input's end, as a relation of the state before it, the bytes after the last line end, the
+    // appended text, and the state after it.
     ghost ends: { Self → List ℕ → List ℕ → Self → Type 0 };
 
     /// Reads a line, given without its line end, and appends text.

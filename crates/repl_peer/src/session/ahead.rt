@@ -28,8 +28,8 @@ use rev_tree::{Origin, SessionId};
 use std::mem::replace;
 
 /// Settles the first documents of a parcel, for which arrivals are prepared, until a document cannot be stored. Returns
-/// the number of settled documents. The caller settles the document that could not be stored individually, and finds
-/// out why it could not be stored.
+/// the number of settled documents. The caller settles the next document individually, and finds out why it could not
+/// be stored in bulk.
 ///
 /// The arrivals are added as one list, so that the peer does not add each arrival individually under its lock. If the
 /// allocation for the list of arrivals fails, no document is settled.
