@@ -39,7 +39,7 @@ fn finishes(front: &mut Front, lo: u64) -> bool {
 /// The beginnings of the windows to finish, in order.
 static BEGINNINGS: &[u64] = &[2, 6, 0, 4];
 
-/// Returns the low water after finishing, if all could be finished.
+/// Returns the low water after finishing, if all windows could be finished.
 fn ended(alloc: Global) -> Option<u64> {
     let mut front = Front::new(alloc, 0);
     let mut well = grows(&mut front);

@@ -183,7 +183,7 @@ fn look(world: &World<Rules>) -> Seen {
     }
 }
 
-/// Returns the index of the first remaining step, if the world is one of the expected ones.
+/// Returns the index of the first remaining step, if the world is in one of the expected states.
 fn left(seen: Seen) -> Option<usize> {
     for (life, source, target, session, sizes, place) in BEFORE {
         let before = Seen {
@@ -200,7 +200,7 @@ fn left(seen: Seen) -> Option<usize> {
     None
 }
 
-/// Takes all steps of a list. After a failed allocation, takes the remaining steps.
+/// Takes all steps of a list. If an allocation fails, the call takes the remaining steps after the failure.
 fn take(alloc: Global, world: &mut World<Rules>, steps: &[Step]) -> Option<()> {
     if world.run(alloc, steps).is_ok() {
         return Some(());

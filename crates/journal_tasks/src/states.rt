@@ -16,7 +16,7 @@ pub(crate) struct State {
     pub(crate) seq: String,
     /// The leaf revisions of the document.
     pub(crate) revs: Vec<String>,
-    /// Whether the state is that of a state line of the journal.
+    /// Whether a state line of the journal gives the state.
     pub(crate) named: bool,
 }
 

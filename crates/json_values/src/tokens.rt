@@ -246,8 +246,8 @@ impl<'a> Tokens<'a> {
         None
     }
 
-    /// Reads the next token if it is a string. If another token comes next, returns `None` and reads nothing. Returns
-    /// `Invalid` if the next token begins no value.
+    /// Reads the next token if it is a string. If another token comes next, the call returns `None` and reads nothing.
+    /// Returns `Invalid` if the next token begins no value.
     #[inline(always)]
     pub(crate) fn take_text(&mut self) -> Result<Option<&'a str>, Invalid>
         ensures text { MatchResult result

@@ -38,7 +38,8 @@ pub trait StreamingCommand<L>: Sized + Drop {
     fn read(line: L) -> Option<Self>
         ensures { needed (option_map asked result) ≡ asked_in (seen line) };
 
-    /// Checks the parameters, and returns the complete output as a rest. Every line may fail with `Memory`.
+    /// Checks the parameters, and returns a `Rest`, from which the complete output can be produced. Every line may fail
+    /// with `Memory`.
     fn begin(&self, alloc: Global, databases: &Databases) -> Result<Rest, Refusal>
         ensures told { MayTell answers databases.now (asked self.now) (told_from databases.now result) databases.now }
         ensures fits { IfOk result (λ rest. FitsRest databases.now rest) };

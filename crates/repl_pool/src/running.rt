@@ -338,7 +338,7 @@ pub fn run<F: WriteFilter + Send + Sync, G: Gate + Sync, R: Threads + Wait + Syn
 /// count has fallen. If the run succeeds, both counts, added up over the seats, have risen by the documents read in the
 /// report.
 ///
-/// In addition to the errors of `run`, returns `BoardFull` if a writer's read counter would exceed
+/// In addition to the errors of `run`, the call returns `BoardFull` if a writer's read counter would exceed
 /// 9,007,199,254,740,991. The parcel that would exceed the counter's maximum is not settled.
 pub fn run_on<F: WriteFilter + Send + Sync, G: Gate + Sync, R: Threads + Wait + Sync>(
     rt: &R,

@@ -155,7 +155,8 @@ impl Databases {
 
     /// Adds a peer under an unused name. The peer must have the filter from the settings.
     ///
-    /// All databases stay consistent if the peer has no sessions and no logs, and no other database has its UUID.
+    /// All databases stay consistent if the added peer has no sessions and no logs, and no other database has the
+    /// peer's UUID.
     pub fn add(&mut self, alloc: Global, name: &str, peer: Peer<Rules>) -> Result<(), AllocError>
         requires absent { peer_at self.old name.now ≡ None }
         requires filter { deny_of peer.0 ≡ self.old.program.deny }

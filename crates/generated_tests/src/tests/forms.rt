@@ -175,8 +175,8 @@ fn merge_and_read(
     agree(rt, alloc, tree, plain, asked.revs());
 }
 
-/// Performs fifty merges from one seed in both representations. After each merge, reads the given and other revisions,
-/// half of the time in a copy. After the last merge, reads every revision.
+/// Performs fifty merges from one seed in both representations. After each merge, the call reads the given and other
+/// revisions, half of the time in a copy. After the last merge, the call reads every revision.
 fn merges_alike(rt: &impl Abort, alloc: Global, seed: u64, tree: &mut Tree) {
     let mut rng = ChaCha8Rng::seed_from_u64(seed);
     let mut plain = PlainTree::new(alloc);

@@ -178,8 +178,8 @@ fn edits_refused_by_name(rt: HostRuntime) {
     static ROWS: Rows = &[
         (Call::Edit(A, "d", "1-a", false, "{}", 0), "NoSuchDocument"),
         (Call::Put(A, TWO), "Changed { seq: 1 }"),
-        // Edits that name a parent that is not a leaf, or a parent that is not in the tree, or no parent although there
-        // is a live leaf.
+        // The first edit names a parent that is not a leaf, and the second edit a parent that is not in the tree. The
+        // third edit names no parent, although the document has a live leaf.
         (Call::Edit(A, "d", "1-a", false, "{}", 0), "Conflict"),
         (Call::Edit(A, "d", "2-x", false, "{}", 0), "Conflict"),
         (Call::Edit(A, "d", "", false, "{}", 0), "Conflict"),
