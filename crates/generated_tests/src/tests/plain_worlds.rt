@@ -98,7 +98,7 @@ impl Met {
         self.entries = self.entries.saturating_add(other.entries);
     }
 
-    /// Returns the least of the counts of restores, sessions, windows and entries.
+    /// Returns the least of the four counts, which are those of restores, sessions, windows and entries.
     pub(crate) fn least(&self) -> u64 {
         self.restores
             .min(self.begins)
