@@ -37,7 +37,7 @@ module _ (old other t : TreeValue) (tree : IsTree other) (grown : IsGrownBy old 
   known : has other leaf ≡ true
   known = (and_parts _ _ is).0
 
-  -- The edges that are added are edges of tree `other`.
+  -- The edges that adding a leaf of tree `other` adds are edges of `other`.
   edge_at : (q : RevId) → is_among q revs ≡ true → find rev_cmp q (edges_of revs) ≡ get other.parents q
   edge_at q among = edges_walked other tree leaf.generation leaf q known (omega arith) among
 
@@ -117,8 +117,8 @@ module _ (a b b' a' : TreeValue) (there : IsGrownBy b a b') (back : IsGrownBy a 
 
 -- ---- the same
 
--- If trees s and t agree, and t has complete histories, a revision of t with a known parent in s has the same parent in
--- t.
+-- If trees s and t agree, and t has complete histories, each revision of t that has a known parent in s has that parent
+-- in t.
 module _ (s t : TreeValue) (ours : IsTree s) (theirs : IsTree t) (agree : Agree s t) (whole : IsWhole t) where
   same_parent : (c p : RevId) → has t c ≡ true → get s.parents c ≡ Some p → get t.parents c ≡ Some p
   same_parent c p there e = go (get t.parents c) refl

@@ -16,8 +16,8 @@ abbrev pub noted : List (ℕ × ℕ) → ℕ → ℕ → List (ℕ × ℕ)
 noted entries mark place =
     if is_some (lookup (nat_eq mark) entries) then entries else entries ++ (mark, place) ∷ []
 
--- The index entries after adding the hashes of revisions, whose positions start at i. In the index, each hash keeps its
--- first position.
+-- The index entries after adding the hashes of a list of revisions, whose positions start at i. In the index, each hash
+-- keeps its first position.
 abbrev pub noted_from : List (ℕ × ℕ) → ℕ → List RevId → List (ℕ × ℕ)
 noted_from entries i [] = entries
 noted_from entries i (r ∷ revs) = noted_from (noted entries (mark_of r) i) (i + 1) revs
@@ -28,8 +28,8 @@ falls [] = true
 falls (r ∷ []) = true
 falls (r ∷ (s ∷ revs)) = nat_eq r.generation (s.generation + 1) && falls (s ∷ revs)
 
--- The index of nodes whose revisions are `revs`. The index of nodes is empty if the nodes are few enough to be scanned.
--- The index of nodes is also empty if each revision is one generation below the previous one, because the generation
--- then determines the position.
+-- The index that maps the hashes of the nodes' revisions `revs` to the nodes' positions. The index of a tree's nodes is
+-- empty if the nodes are few enough to be scanned. The index of a tree's nodes is also empty if each revision is one
+-- generation below the previous one, because a revision's generation then determines the node's position.
 abbrev pub index_for : List RevId → List (ℕ × ℕ)
 index_for revs = if nat_lt MOST_WALKED (length revs) && not (falls revs) then noted_from [] 0 revs else []

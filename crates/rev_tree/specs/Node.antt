@@ -17,7 +17,7 @@ pub record NodeValue : Type 0 where
   pub origin : Origin
   pub has_child : Bool
 
--- The flags of a node, from its stored form.
+-- The flags of a node, decoded from the node's stored form.
 abbrev pub marks_of : Known → Marks
 marks_of (Bare marks counted) = marks
 marks_of (Full marks counted content) = marks
@@ -31,12 +31,13 @@ abbrev pub content_of : Known → Option ContentValue
 content_of (Bare marks counted) = None
 content_of (Full marks counted content) = Some content
 
--- The index of a node's parent, from its stored form: the index plus 1, or 0 if the parent is not known.
+-- The index of a node's parent, decoded from its stored form: the index plus 1, or 0 if the parent is not known.
 abbrev pub parent_of : ℕ → Option ℕ
 parent_of zero = None
 parent_of (suc place) = Some place
 
--- An origin from its stored form: a local write, or a session's feed with the two halves of the session's number.
+-- An origin, decoded from its stored form: a local write, or a session's feed with the two halves of the session's
+-- number.
 abbrev pub origin_of : Bool → ℕ → ℕ → ℕ → Origin
 origin_of false high low number = Local number
 origin_of true high low number = Feed (record { 0 = high * 2 ^ 64 + low }) number

@@ -35,21 +35,22 @@ place_of nodes r = finmap.find rev_cmp r (places_from 0 (revs_in nodes))
 abbrev pub node_of : List NodeValue → RevId → Option NodeValue
 node_of nodes r = finmap.find rev_cmp r (map (λ n. (n.rev, n)) nodes)
 
--- The revision at position i of a list, or `None` without a position.
+-- The revision at position i of a list, or `None` if no position is given.
 abbrev pub rev_at : List RevId → Option ℕ → Option RevId
 rev_at revs None = None
 rev_at revs (Some i) = slice_get revs i
 
--- The parent of node n: the revision at the position that n stores.
+-- The parent of node n: the revision at the position that n stores for its parent.
 abbrev pub parent_in : List RevId → NodeValue → Option RevId
 parent_in revs n = rev_at revs n.parent
 
--- A list with the entry of key r and value x, or the empty list if there is no value.
+-- A list with one map entry of key r and value x, or the empty list if there is no value.
 abbrev pub entry_of : {X : Type 0} → RevId → Option X → List (RevId × X)
 entry_of r None = []
 entry_of r (Some x) = (r, x) ∷ []
 
--- The entries of all nodes for which part f has a value. The key of a node's entry is the node's revision.
+-- The map entries of all nodes for which the function f gives a value. The key of a node's map entry is the node's
+-- revision.
 abbrev pub entries_of : {X : Type 0} → (NodeValue → Option X) → List NodeValue → List (RevId × X)
 entries_of f [] = []
 entries_of f (n ∷ nodes) = entry_of n.rev (f n) ++ entries_of f nodes
@@ -81,7 +82,7 @@ abbrev pub goes_before : NodeValue → Option NodeValue → Bool
 goes_before n None = true
 goes_before n (Some best) = is_lt (ordering_then (bool_cmp (deletes n) (deletes best)) (rev_cmp best.rev n.rev))
 
--- 1 if r is not in the list `known`, else 0.
+-- The number 1 if revision r is not in the list `known`, else 0.
 abbrev pub unless_among : List RevId → RevId → ℕ
 unless_among known r = cond (is_among r known) 0 1
 
@@ -101,8 +102,8 @@ pub record NodesValue : Type 0 where
   pub capacity : ℕ
   pub index_capacity : ℕ
 
--- A number `more` of nodes can be added without allocating. The index entries of all nodes fit, too, if there are too
--- many nodes to be scanned.
+-- A list of nodes has space for `more` further nodes. If there are then too many nodes to be scanned, the index has
+-- space for the entries of all nodes.
 pub record HasRoom (v : NodesValue) (more : ℕ) : Type 0 where
   pub few : length v.items + more < 2 ^ 32
   pub nodes : length v.items + more ≤ v.capacity

@@ -26,7 +26,7 @@ IsBefore x None = Unit {0}
 IsBefore None (Some b) = ⊥
 IsBefore (Some a) (Some b) = is_lt (key_cmp b a) ≡ false
 
--- The key of a tournament's stored player, or `None` for the value 0.
+-- The key of the player that a tournament stores as a number, or `None` if the number is 0.
 abbrev pub entry : List NodeValue → ℕ → Option Key
 entry nodes zero = None
 entry nodes (suc p) = option_map key_of (slice_get nodes p)
@@ -44,7 +44,7 @@ under nodes winners entered k =
     (cond (nat_lt (k - length winners) entered) (leaf_key (slice_get nodes (k - length winners))) None)
 
 -- The stored winners, and the leaves that take part, are nodes with a content. A node of the tournament has a content,
--- so its key does not change.
+-- so the node's key does not change.
 pub record IsHeld (nodes : List NodeValue) (winners : List ℕ) (entered : ℕ) : Type 0 where
   pub within : entered ≤ length nodes
   pub fits : entered ≤ length winners
@@ -52,12 +52,13 @@ pub record IsHeld (nodes : List NodeValue) (winners : List ℕ) (entered : ℕ) 
   pub contents : (i p : ℕ) (n : NodeValue) → get_or winners i 0 ≡ suc p → slice_get nodes p ≡ Some n → is_some n.content ≡ true
   pub leaves : (j : ℕ) (n : NodeValue) → j < entered → slice_get nodes j ≡ Some n → n.has_child ≡ false → is_some n.content ≡ true
 
--- The stored results of all matches except match x are right: neither player of a match goes before its winner.
+-- The stored results of all matches of a tournament except match x are right: neither player of a match goes before the
+-- match's winner.
 pub record IsPlayed (nodes : List NodeValue) (winners : List ℕ) (entered x : ℕ) : Type 0 where
   pub held : IsHeld nodes winners entered
   pub ordered : (k : ℕ) → 2 ≤ k → k / 2 < length winners → (k / 2 ≡ x → ⊥) → IsBefore (entry nodes (get_or winners (k / 2) 0)) (under nodes winners entered k)
 
--- The stored value w represents the player at index k.
+-- The stored number w represents the player at index k of the tournament.
 pub record IsEntry (nodes : List NodeValue) (winners : List ℕ) (entered k w : ℕ) : Type 0 where
   pub key : entry nodes w ≡ under nodes winners entered k
   pub within : w ≤ entered
@@ -69,15 +70,15 @@ pub record IsWinnerOf (nodes : List NodeValue) (one other w : ℕ) : Type 0 wher
   pub first : IsBefore (entry nodes w) (entry nodes one)
   pub second : IsBefore (entry nodes w) (entry nodes other)
 
--- The node at index `place` is a leaf, and no other leaf goes before it.
+-- The node at index `place` is a leaf, and no other leaf goes before it in the winner's order.
 pub record IsBestLeaf (nodes : List NodeValue) (place : ℕ) : Type 0 where
   pub node : NodeValue
   pub at : slice_get nodes place ≡ Some node
   pub leaf : node.has_child ≡ false
   pub best : (j : ℕ) (n : NodeValue) → slice_get nodes j ≡ Some n → n.has_child ≡ false → goes_before n (Some node) ≡ false
 
--- The invariant of the nodes, their index and their tournament. The position of a node in the list, counted from 1,
--- fits into 32 bits.
+-- The invariant of a tree's stored nodes, their index and their tournament. The position of a node in the list of
+-- nodes, counted from 1, fits into 32 bits.
 pub record IsIndexed (nodes : List NodeValue) (places : PlacesValue) : Type 0 where
   pub few : length nodes < 2 ^ 32
   pub index : places.entries ≡ index_for (revs_in nodes)

@@ -41,7 +41,7 @@ backup_answer p = if is_target p.sessions then Err faults.IsTarget else Ok (copy
 
 -- ---- restoring a backup
 
--- The greater of the lives of peer p's database and backup b's database.
+-- The greater of two lives, the life of peer p's database and the life of backup b's database.
 abbrev pub greater_life : PeerValue → BackupValue → ℕ
 greater_life p b = max p.db.life b.db.life
 

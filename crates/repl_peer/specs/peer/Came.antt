@@ -1,4 +1,4 @@
--- The revisions that a write brought, and how the peer stores them.
+-- The revisions that a write adds, and how the peer stores these revisions.
 use Rattle.std.specs.Prelude.{◌≡◌, ℕ, List, ◌∷◌, length, Some}
 use Rattle.std.specs.Option.{option_to_list}
 use Rattle.rev_core.specs.Rev.{RevId}
@@ -6,7 +6,7 @@ use Rattle.rev_core.specs.Ancestry.{FallsByOne, head_of}
 use Rattle.repl_peer.specs.declared.peer.ghost_revs.Came.{Came}
 use Rattle.repl_peer.specs.declared.peer.ghost_revs.Came.TheVariants as came
 
--- The revisions that a write brought: all of a document's ancestry, an edit's new revision with its parent, or the
+-- The revisions that a write adds: all of a document's ancestry, an edit's new revision with its parent, or the
 -- revisions of a copied write.
 abbrev pub came_revs : Came → List RevId
 came_revs (came.Whole revs) = revs.now

@@ -19,7 +19,8 @@ use Rattle.repl_peer.specs.declared.fault.Reason.TheVariants as reasons
 abbrev pub contradiction_of : DatabaseValue → Document → Option Contradiction
 contradiction_of db d = first_contradiction (tree_of db.docs d.id).parents (edges_of d.ancestry)
 
--- Why a peer refuses a document, if it does. A peer checks the filter before the document's tree.
+-- The reason why a peer refuses a document, if the peer refuses the document. A peer checks its filter for a document
+-- before it checks the document's tree.
 abbrev pub refusal_of : (Document → Bool) → DatabaseValue → Document → Option Reason
 refusal_of refuses db d =
     if refuses d then Some reasons.Filtered
@@ -66,7 +67,7 @@ abbrev pub first_unknown : (Id → RevId → Bool) → List RowValue → Option 
 first_unknown known [] = None
 first_unknown known (row ∷ rows) = option_or (unknown_in known row) (first_unknown known rows)
 
--- The first leaf of the rows that peer p does not cover.
+-- The first leaf of the given feed rows that peer p does not cover.
 abbrev pub first_uncovered : PeerValue → List RowValue → Option Leaf
 first_uncovered p rows = first_unknown (covers p) rows
 

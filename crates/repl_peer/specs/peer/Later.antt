@@ -1,4 +1,4 @@
--- A peer at two times: a revision that the peer covers stays covered.
+-- A peer before and after calls: a revision that the peer covers stays covered.
 use Rattle.std.specs.Prelude.{◌≡◌, ℕ, ◌≤◌, Some, slice_get}
 use Rattle.couch_base.specs.Lists.{Among}
 use Rattle.couch_base.specs.WriteLaws.{IsLater}
@@ -16,7 +16,8 @@ pub record Keeps (old new : SessionValue) : Type 0 where
   pub arrivals : (a : WrittenValue) → Among a old.arrivals → Among a new.arrivals
   pub ledger : (x : RefusedValue) → Among x old.ledger → Among x new.ledger
 
--- A peer after calls: its database is a later one, local writes keep their numbers, and sessions stay.
+-- A peer after calls: its database is a later state of the database, its local writes keep their numbers, and its
+-- sessions stay.
 pub record IsLaterPeer (old new : PeerValue) : Type 0 where
   pub db : IsLater old.db new.db
   pub locals : (n : ℕ) (x : WrittenValue) → slice_get old.locals n ≡ Some x → slice_get new.locals n ≡ Some x

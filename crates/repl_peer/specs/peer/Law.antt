@@ -22,7 +22,7 @@ window_bounds ws = map (λ w. (w.lo, w.hi)) ws
 -- The invariant of a session's stored windows `ws`, its front f, its recorded sequence n and its goal.
 pub record LawfulStore (f : FrontValue) (ws : List WindowValue) (n goal : ℕ) : Type 0 where
   -- A session's windows are consecutive from its start, end at or below the goal, and have rising rows. The front of a
-  -- session has the same windows as the session.
+  -- session has the session's windows.
   pub front : IsFront f
   pub bounds : window_bounds ws ≡ bounds f
   pub within : end_of f ≤ goal

@@ -35,7 +35,7 @@ pub record IsArrival (s : SessionValue) (id : Id) (r : RevId) : Type 0 where
   pub of : arrival.id ≡ id
   pub brings : is_among r arrival.ancestry ≡ true
 
--- A session of peer p has a row of document `id` at sequence `seq`, and an arrival of this document with revision r.
+-- A session of peer p has a row of document `id` at sequence `seq`, and an arrival of document `id` with revision r.
 pub record IsFed (p : PeerValue) (id : Id) (r : RevId) (session : SessionId) (seq : ℕ) : Type 0 where
   pub by : SessionValue
   pub held : Among by p.sessions
@@ -43,7 +43,7 @@ pub record IsFed (p : PeerValue) (id : Id) (r : RevId) (session : SessionId) (se
   pub listed : IsListed by id seq
   pub arrived : IsArrival by id r
 
--- The stated origin of revision r of document `id` is true for peer p.
+-- The origin that is stored for revision r of document `id` is true for peer p.
 abbrev pub ComesFrom : PeerValue → Id → RevId → Origin → Type 0
 ComesFrom p id r (Local n) = IsLocal p id r n
 ComesFrom p id r (Feed session seq) = IsFed p id r session seq

@@ -1,11 +1,12 @@
 -- Peers and their sessions, as specified in docs/PROFILE.md, "Sessions of a peer".
 --
 -- A peer is a database with the state that replication needs. A target has a session for each replication into it. A
--- session has the windows of the source's changes feed, and which of them are done. For each document that came, a
--- session records whether the target stored it (an arrival) or refused it (a ledger row). What a session claims to have
--- replicated can therefore be compared with the revisions that the target has. A source has a log for each replication
--- from it, with the sequence that the target recorded in each session. The common checkpoint of the next replication is
--- read from the logs of both sides. A peer also stores its local writes, so that each revision of a tree has an origin.
+-- session stores the windows of the source's changes feed, and which of these windows are done. For each document that
+-- it receives, a session records whether the target stored it (an arrival) or refused it (a ledger row). What a session
+-- claims to have replicated can therefore be compared with the revisions that the target has. A source has a log for
+-- each replication from it, with the sequence that the target recorded in each session. The common checkpoint of the
+-- next replication is read from the logs of both sides. A peer also stores its local writes, so that each revision of a
+-- tree has an origin.
 use Rattle.std.specs.Prelude.{ℕ, ◌==◌, Bool, nat_le, if◌then◌else◌, List, [], map, Option, Result, Ok, Err}
 use Rattle.std.specs.List.{find, list_any}
 use Rattle.rev_core.specs.Rev.{RevId}
@@ -84,7 +85,7 @@ session_in sessions id = find (is_of id) sessions
 abbrev pub holds : List SessionValue → SessionId → Bool
 holds sessions id = list_any (is_of id) sessions
 
--- The sessions after the session with t's id is replaced by t.
+-- A peer's sessions after the session with t's id is replaced by session t.
 abbrev pub with_session : List SessionValue → SessionValue → List SessionValue
 with_session sessions t = map (λ s. if is_of t.id s then t else s) sessions
 

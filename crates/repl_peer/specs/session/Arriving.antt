@@ -1,10 +1,10 @@
--- Documents that are settled in bulk. For bulk settling, the arrivals of the documents are prepared before, and added
--- as one list.
+-- Documents that are settled in bulk. For bulk settling, the arrivals of the documents are prepared in advance, and are
+-- added to the session as one list.
 use Rattle.std.specs.Prelude.{◌≡◌, ◌+◌, List, ◌++◌, map, length, take}
 use Rattle.doc_json.specs.Document.{Document}
 use Rattle.repl_peer.specs.peer.Peer.{WrittenValue, SessionValue, written_of}
 
--- The list `all` has the arrivals of the first documents of the list `docs`, one for each.
+-- The list `all` has one arrival for each of the first documents of the list `docs`.
 abbrev pub AreArrivalsOf : List Document → List WrittenValue → Type 0
 AreArrivalsOf docs all = all ≡ map written_of (take (length all) docs)
 

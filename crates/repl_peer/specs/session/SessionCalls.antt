@@ -14,7 +14,7 @@ use Rattle.repl_peer.specs.declared.session.beginning.Beginning.{Beginning}
 use Rattle.repl_peer.specs.declared.fault.TargetFault.{TargetFault}
 use Rattle.repl_peer.specs.declared.fault.TargetFault.TheVariants as faults
 
--- A peer's sessions after one of them, if it exists, was changed.
+-- A peer's sessions after a change of the found session, or unchanged if no session was found.
 abbrev pub changed : (SessionValue → SessionValue) → List SessionValue → Option SessionValue → List SessionValue
 changed change sessions None = sessions
 changed change sessions (Some s) = with_session sessions (change s)
@@ -33,7 +33,7 @@ begin_in sessions id b =
     if holds sessions id then Err faults.SessionExists
     else goal_answer b.start b.scope.goal (base_answer sessions b.scope.rep b.scope.base b.start)
 
--- The recorded sequence of a session's base, or `NoSuchBase` if there is no base session.
+-- The recorded sequence of a session's base, or `NoSuchBase` if the base does not exist.
 abbrev pub recorded_of : Option SessionValue → Result ℕ TargetFault
 recorded_of None = Err faults.NoSuchBase
 recorded_of (Some s) = Ok s.recorded

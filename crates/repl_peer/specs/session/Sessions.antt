@@ -15,7 +15,7 @@ use Rattle.repl_peer.specs.declared.fault.Report.{Report}
 use Rattle.repl_peer.specs.declared.fault.TargetFault.{TargetFault}
 use Rattle.repl_peer.specs.declared.fault.TargetFault.TheVariants as faults
 
--- A result is the expected one, or it is `Memory` and the expected one is `Ok`.
+-- A call's result is the expected result, or the result is `Memory` and the expected result is `Ok`.
 abbrev pub GivesUnlessMemory : {A : Type 0} → Result A TargetFault → Result A TargetFault → Type 0
 GivesUnlessMemory (Err faults.Memory) expected = IsOk expected
 GivesUnlessMemory result expected = result ≡ expected
@@ -35,7 +35,7 @@ on_found p change (Some s) = record p { sessions = with_session p.sessions (chan
 abbrev pub on_session : PeerValue → SessionId → (SessionValue → SessionValue) → PeerValue
 on_session p id change = on_found p change (session_in p.sessions id)
 
--- The result that a session gives, or `NoSuchSession` if there is no session.
+-- The result that a call gives for a session, or `NoSuchSession` if the peer does not have the session.
 abbrev pub found_answer : {A : Type 0} → (SessionValue → Result A TargetFault) → Option SessionValue
     → Result A TargetFault
 found_answer answer None = Err faults.NoSuchSession
@@ -47,7 +47,7 @@ session_answer p id answer = found_answer answer (session_in p.sessions id)
 
 -- ---- beginning
 
--- The check of a session's start, which must be at or below the recorded sequence of the base.
+-- The check of a session's start, which must be at or below the recorded sequence of the session's base.
 abbrev pub start_answer : ℕ → ℕ → Result (Unit {0}) TargetFault
 start_answer start recorded = if nat_lt recorded start then Err (faults.StartAboveBase recorded) else Ok tt
 
@@ -59,7 +59,8 @@ abbrev pub on_base : ℕ → Option SessionValue → Result (Unit {0}) TargetFau
 on_base start None = Err faults.NoSuchBase
 on_base start (Some s) = start_answer start s.recorded
 
--- The check of a session's start against its base. If a session has no base, its start must be 0.
+-- The check of a session's start against the session's base, an earlier session. If a session has no base, its start
+-- must be 0.
 abbrev pub base_answer : List SessionValue → RepId → Option SessionId → ℕ → Result (Unit {0}) TargetFault
 base_answer sessions rep None start = start_answer start 0
 base_answer sessions rep (Some base) start = on_base start (base_in sessions rep base)
@@ -89,7 +90,7 @@ new_session id b at = record {
   end_time = at;
 }
 
--- Peer p after adding session s as the newest one, unless the checks gave an error.
+-- Peer p after adding session s as the newest session, or the unchanged peer if the checks of s gave an error.
 abbrev pub begun : PeerValue → SessionValue → Result (Unit {0}) TargetFault → PeerValue
 begun p s (Ok done) = record p { sessions = s ∷ p.sessions }
 begun p s (Err fault) = p
@@ -106,8 +107,8 @@ next_in w s =
     if w.lo == end_of s.front then (if nat_lt s.goal w.hi then Err faults.PastGoal else Ok tt)
     else Err (faults.Gap (end_of s.front))
 
--- The result of appending window w to session s, if no allocation fails. A window that is appended must be from the
--- session's life.
+-- The result of appending window w to session s, if no allocation fails. A window that is appended to a session must be
+-- from the session's life.
 abbrev pub append_in : WindowValue → SessionValue → Result (Unit {0}) TargetFault
 append_in w s = if w.life == s.life then next_in w s else Err (faults.OtherLife s.life)
 

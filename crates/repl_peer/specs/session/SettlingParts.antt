@@ -26,13 +26,13 @@ use Rattle.repl_peer.specs.declared.session.ledger_index.LedgerIndex.{LedgerInde
 abbrev pub known_of : DatabaseValue → LedgerIndex → Id → RevId → Bool
 known_of db index id r = has (tree_of db.docs id) r || is_ledgered index id r
 
--- The new index has the revisions of the old index, and the revisions of a ledger's documents.
+-- The new index of refused revisions has the revisions of the old index, and the revisions of a ledger's documents.
 abbrev pub IndexesMore : LedgerIndex → List RefusedValue → LedgerIndex → Type 0
 IndexesMore old ledger new =
     (id : Id) (r : RevId) → is_ledgered new id r ≡ (is_ledgered old id r || in_ledger ledger id r)
 
--- A session keeps its id and its replication, and its ledger only grows. An index of the session's old ledger becomes
--- an index of its new ledger.
+-- A session keeps its id and its replication, and its ledger only grows. The index of refused revisions gains exactly
+-- the revisions that the session's ledger gains.
 pub record KeepsIndexed (old : SessionValue) (index : LedgerIndex) (new : SessionValue) (index' : LedgerIndex) : Type 0
   where
     pub id : new.id ≡ old.id
@@ -40,7 +40,7 @@ pub record KeepsIndexed (old : SessionValue) (index : LedgerIndex) (new : Sessio
     pub ledger : (i : Id) (r : RevId) → in_ledger old.ledger i r ≡ true → in_ledger new.ledger i r ≡ true
     pub indexed : (base : LedgerIndex) → IndexesMore base old.ledger index → IndexesMore base new.ledger index'
 
--- The row at index i is of document `id`.
+-- The row at index i of a list of rows is of document `id`.
 abbrev pub IsRowOf : List RowValue → Id → ℕ → Type 0
 IsRowOf rows id i = (row : RowValue) × (slice_get rows i ≡ Some row) × (bytes_eq row.id id ≡ true)
 
@@ -49,7 +49,7 @@ abbrev pub Consecutive : ℕ → List WindowValue → Type 0
 Consecutive lo [] = Unit {0}
 Consecutive lo (w ∷ ws) = (w.lo ≡ lo) × (lo < w.hi) × Consecutive w.hi ws
 
--- The first window with the bounds `lo` and `hi` is at index i.
+-- In a list of windows, the first window with the bounds `lo` and `hi` is at index i.
 pub record IsWindowAt (ws : List WindowValue) (lo hi i : ℕ) : Type 0 where
   pub window : WindowValue
   pub at : slice_get ws i ≡ Some window
@@ -57,11 +57,11 @@ pub record IsWindowAt (ws : List WindowValue) (lo hi i : ℕ) : Type 0 where
 
 -- ---- one document
 
--- The new index has exactly the revisions of the old index.
+-- The new index of refused revisions has exactly the revisions of the old index.
 abbrev pub IsSameIndex : LedgerIndex → LedgerIndex → Type 0
 IsSameIndex old new = (id : Id) (r : RevId) → is_ledgered new id r ≡ is_ledgered old id r
 
--- The new index has the revisions of the old index, and those of document d.
+-- The new index of refused revisions has the revisions of the old index, and the revisions of document d.
 abbrev pub IsIndexedWith : Document → LedgerIndex → LedgerIndex → Type 0
 IsIndexedWith d old new =
     (id : Id) (r : RevId) → is_ledgered new id r ≡ (is_ledgered old id r || (bytes_eq d.id id && is_among r d.ancestry))
@@ -69,7 +69,7 @@ IsIndexedWith d old new =
 abbrev pub settling_at : DatabaseValue → SessionValue → Settling
 settling_at db session = record { db = db; session = session }
 
--- Document d, whose new revisions get origin o, is settled.
+-- Settling document d, whose new revisions get origin o, changes the state `before` into the state `after`.
 pub record Steps (refuses : Document → Bool) (o : Origin) (d : Document) (before after : Settling) : Type 0 where
   pub goes : stops_at refuses before d ≡ false
   pub step : (w : WindowValue) → o ≡ fed w before.session.id d → after ≡ settle_one refuses w before d
@@ -115,7 +115,8 @@ pub record Passes (s : SessionValue) (parcel : ParcelValue) (place leaves asked 
   pub leaf_count : leaves ≡ leaf_count window
   pub asked_count : asked ≡ asked_count parcel.asked
 
--- The result of marking window w, and the new session t. A window is marked as done if each leaf of its rows is known.
+-- The result of marking window w as done, and the new session t. A window is marked as done if each leaf of its rows is
+-- known.
 abbrev pub Marks : (Id → RevId → Bool) → WindowValue → SessionValue → ℕ → ℕ → ℕ → Result (Unit {0}) TargetFault
     → SessionValue → Type 0
 Marks known w s leaves asked n (Ok done) t =
@@ -126,7 +127,7 @@ Marks known w s leaves asked n (Err (faults.Uncovered seq id rev)) t =
 Marks known w s leaves asked n (Err (faults.Stopped m rest causes.Memory)) t = (m ≡ n) × (rest.items ≡ []) × (t ≡ s)
 Marks known w s leaves asked n (Err fault) t = ⊥
 
--- The result and effect of settling a parcel after its checks have passed.
+-- The result and effect of settling a parcel after the parcel's checks have passed.
 abbrev pub PartsSettled : (Document → Bool) → (Id → RevId → Bool) → WindowValue → Settling → ParcelValue
     → Result Settled TargetFault → Settling → Type 0
 PartsSettled refuses known w before parcel (Ok settled) after = SettlesAndMarks refuses known w before parcel settled after
@@ -137,7 +138,7 @@ PartsSettled refuses known w before parcel (Err (faults.Stopped n rest cause)) a
     Reached refuses w before parcel.docs n rest.items after × Halts refuses w before parcel.docs n cause
 PartsSettled refuses known w before parcel (Err fault) after = ⊥
 
--- The result and effect of settling a parcel, given the outcome of its checks.
+-- The result and effect of settling a parcel, given the outcome of the parcel's checks.
 abbrev pub PartsSettle : (Document → Bool) → (Id → RevId → Bool) → Settling → ParcelValue
     → Result (SessionValue × WindowValue) TargetFault → Result Settled TargetFault → Settling → Type 0
 PartsSettle refuses known before parcel (Ok at) result after =
@@ -152,6 +153,6 @@ PartsGive refuses known before parcel result after =
 
 -- ---- the table of sessions
 
--- Peer p with the given database and sessions.
+-- Peer p after its database and its sessions are replaced.
 abbrev pub with_parts : PeerValue → DatabaseValue → List SessionValue → PeerValue
 with_parts p db sessions = record p { db = db; sessions = sessions }
