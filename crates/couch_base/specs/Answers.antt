@@ -5,7 +5,7 @@ use Rattle.rev_core.specs.declared.fault.RevFault.TheVariants as revs
 use Rattle.couch_base.specs.declared.fault.BaseFault.{BaseFault}
 use Rattle.couch_base.specs.declared.fault.BaseFault.TheVariants as faults
 
--- A result is the expected one, or it is `Memory` and the expected one is `Ok`.
+-- A call's result is the expected result, or the result is `Memory` and the expected result is `Ok`.
 abbrev pub GivesUnlessMemory : {A : Type 0} → Result A BaseFault → Result A BaseFault → Type 0
 GivesUnlessMemory (Err faults.Memory) expected = IsOk expected
 GivesUnlessMemory result expected = result ≡ expected

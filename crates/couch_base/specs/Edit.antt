@@ -31,7 +31,8 @@ edit_id before deleted body = named faults.GenerationFull (edit_rev before delet
 abbrev pub edit_revs : Option RevId → Bool → List ℕ → Result (List RevId) BaseFault
 edit_revs before deleted body = edit_id before deleted body >>= λ rev. Ok (rev ∷ option_to_list before)
 
--- The new revision of an edit and its parent, or the error, without checking whether a sequence is left.
+-- The new revision of an edit and the revision's parent, or the edit's error, without checking whether a sequence is
+-- left.
 abbrev pub edited : DatabaseValue → Id → Option RevId → Bool → List ℕ → Result (RevId × Option RevId) BaseFault
 edited db id parent deleted body = do
   before ← parent_answer (tree_in db.docs id) parent
@@ -67,7 +68,7 @@ needs_id (Err faults.Conflict) = false
 needs_id (Err faults.GenerationFull) = false
 needs_id answer = true
 
--- A result of an edit is the expected one, or it is `Memory` and the expected one depends on the new revision.
+-- The result of an edit is the expected result, or is `Memory` if the expected result depends on the new revision.
 abbrev pub EditGives : {A : Type 0} → Result A BaseFault → Result A BaseFault → Type 0
 EditGives (Err faults.Memory) expected = IsTrue (needs_id expected)
 EditGives result expected = result ≡ expected

@@ -6,8 +6,7 @@ use Rattle.std.proofs.lemmas.Slice.Eq.{bytes_eq-Decides}
 use Rattle.std.proofs.lemmas.List.Folds.{list_any-append, list_all-append}
 use Rattle.std.specs.Str.{bytes_eq}
 use Rattle.std.specs.List.{list_any, list_all, AllByRecursion}
--- The names `both_false`, `some_is` and `none_some` are those by which higher crates cite lemmas of the standard
--- library.
+-- Higher crates cite lemmas of the standard library by the names `both_false`, `some_is` and `none_some`.
 pub use Rattle.std.proofs.lemmas.Bool.{or_parts as both_false}
 pub use Rattle.std.proofs.lemmas.Option.{same_Some as some_is, none-some as none_some}
 use Rattle.rev_core.specs.Rev.{RevId}
@@ -48,8 +47,8 @@ none_filter q p (x ∷ xs) h =
 pub all_append : {X : Type 0} (p : X → Bool) (xs ys : List X) → list_all p xs ≡ true → list_all p ys ≡ true → list_all p (xs ++ ys) ≡ true
 all_append p xs ys h k = list_all-append p xs ys ∙ and_from _ _ h k
 
--- If f maps each element that passes test q to a value that satisfies p, all values mapped from these elements satisfy
--- p.
+-- If f(x) satisfies p for each x that passes test q, mapping f over the elements that pass q gives only values that
+-- satisfy p.
 pub all_made : {X Y : Type 0} (p : Y → Bool) (f : X → Y) (q : X → Bool) → ((x : X) → q x ≡ true → p (f x) ≡ true) → (xs : List X) → list_all p (map f (filter q xs)) ≡ true
 all_made p f q h [] = refl
 all_made p f q h (x ∷ xs) =
@@ -57,7 +56,7 @@ all_made p f q h (x ∷ xs) =
     (λ passes. and_from _ _ (h x passes) (all_made p f q h xs))
     (λ _. all_made p f q h xs)
 
--- If each revision of a list satisfies p, the test of all revisions of the list succeeds.
+-- If each revision of the list `revs` satisfies p, `list_all p revs` is true.
 pub all_members : (p : RevId → Bool) (revs : List RevId) → ((r : RevId) → is_among r revs ≡ true → p r ≡ true) → list_all p revs ≡ true
 all_members p [] h = refl
 all_members p (r ∷ revs) h = and_from _ _ (h r (ap (λ b. b || is_among r revs) (rev_tie_self r))) (all_members p revs (λ x m. h x (or_right _ _ m)))

@@ -12,7 +12,7 @@ abbrev pub Rises : ℕ → List ℕ → ℕ → Type 0
 Rises lo [] hi = lo ≤ hi
 Rises lo (n ∷ ns) hi = (lo < n) × Rises n ns hi
 
--- No element of a list is equal to a later one.
+-- No element of a list is equal to a later element of the list.
 abbrev pub EachOnce : {X : Type 0} → (X → X → Bool) → List X → Type 0
 EachOnce eq [] = Unit {0}
 EachOnce eq (x ∷ xs) = (list_any (eq x) xs ≡ false) × EachOnce eq xs

@@ -4,7 +4,7 @@ use Rattle.std.specs.List.{find, list_any, list_all, AllByRecursion}
 use Rattle.std.proofs.lemmas.Bool.{or_left, or_right, or_cases, and_parts, false≢true}
 use Rattle.std.proofs.lemmas.Option.{same_Some, none-some}
 use Rattle.couch_base.specs.Lists.{Among}
--- The names `at-append` and `at-end` are those by which higher crates cite two lemmas about list indexes.
+-- Higher crates cite two lemmas about list indexes by the names `at-append` and `at-end`.
 pub use Rattle.rev_tree.proofs.Places.{slice_get-append as at-append, slice_get-last as at-end}
 
 -- ---- concatenated and mapped lists
@@ -37,7 +37,7 @@ Among-mapped f x (y ∷ xs) (inr m) = inr (Among-mapped f x xs m)
 
 -- ---- tests
 
--- If a test of at least one element succeeds, the list has an element that passes the test.
+-- If `list_any p xs` is true, the list xs has an element that passes the test p.
 pub any_member : {X : Type 0} (p : X → Bool) (xs : List X) → list_any p xs ≡ true → (x : X) × Among x xs × (p x ≡ true)
 any_member p [] h = absurd (false≢true h)
 any_member p (x ∷ xs) h =

@@ -52,12 +52,13 @@ coded_parcel =
 
 -- ---- requesting
 
--- The requested revisions of document `id`, if there are any, followed by those of other documents.
+-- The requested revisions of document `id`, if there are any, followed by the requested revisions of the other
+-- documents.
 abbrev pub want_first : Id → List RevId → List WantedValue → List WantedValue
 want_first id [] others = others
 want_first id (r ∷ revs) others = record { id = id; revs = r ∷ revs } ∷ others
 
--- The leaves of the rows that the documents' trees do not have, in the order of the rows.
+-- The leaves in feed rows that are not in the trees of the given documents, in the order of the rows.
 abbrev pub wanted : List DocumentValue → List RowValue → List WantedValue
 wanted ds [] = []
 wanted ds (r ∷ rows) = want_first r.id (missing (tree_of ds r.id) r.leaves) (wanted ds rows)
@@ -77,7 +78,7 @@ abbrev pub leaf_document : Id → TreeValue → RevId → Document
 leaf_document id t leaf =
     record { id = id; ancestry = ancestors t leaf; deleted = is_deleted t leaf; body = body_at t leaf }
 
--- Document `id` at revision r, if tree t has a content of r.
+-- The document `id` at revision r, if the document's tree t has a content of r.
 abbrev pub document_in : Id → TreeValue → RevId → Option Document
 document_in id t r =
     option_map (λ (c : ContentValue). record { id = id; ancestry = ancestors t r; deleted = c.deleted; body = c.body })
@@ -95,7 +96,7 @@ abbrev pub fetched : List DocumentValue → List WantedValue → List Document
 fetched ds [] = []
 fetched ds (w ∷ ws) = opened w.id (tree_of ds w.id) w.revs ++ fetched ds ws
 
--- The requested revisions that the documents' trees do not have.
+-- The requested revisions that are not in the trees of the given documents.
 abbrev pub gone_of : List DocumentValue → List WantedValue → List (Id × RevId)
 gone_of ds [] = []
 gone_of ds (w ∷ ws) = map (λ r. (w.id, r)) (missing (tree_of ds w.id) w.revs) ++ gone_of ds ws
@@ -143,7 +144,7 @@ abbrev pub same_revision : Document → Document → Bool
 same_revision d e = bytes_eq d.id e.id && same_head d.ancestry e.ancestry
 
 -- The invariant of parcel p: each requested revision is fetched or gone, each fetched document was requested, and no
--- revision occurs twice.
+-- document is fetched twice at the same revision.
 pub record IsParcel (p : ParcelValue) : Type 0 where
   pub asked : IsAsked p.asked
   pub answered : list_all (is_answered p.docs p.gone) p.asked.docs ≡ true

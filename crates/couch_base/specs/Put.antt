@@ -36,7 +36,7 @@ is_changed (Ok (answers.Changed seq)) = true
 is_changed (Ok answers.Same) = false
 is_changed (Err fault) = false
 
--- A result of `put` is the expected one, or it is `Memory` and the expected one takes a sequence.
+-- The result of `put` is the expected result, or is `Memory` if the expected result takes a sequence.
 abbrev pub PutGives : Result Put BaseFault → Result Put BaseFault → Type 0
 PutGives (Err faults.Memory) expected = IsTrue (is_changed expected)
 PutGives result expected = result ≡ expected
@@ -45,8 +45,8 @@ PutGives result expected = result ≡ expected
 abbrev pub content_of : Bool → List ℕ → ContentValue
 content_of deleted body = record { deleted = deleted; body = body }
 
--- The database after a put of document d. If the merge of a put changes the tree and a sequence is left, the document
--- has the merged tree.
+-- The database after a put of document d. If the merge of a put changes the document's tree and a sequence is left, the
+-- document has the merged tree after the put.
 abbrev pub after_put : DatabaseValue → Document → Origin → DatabaseValue
 after_put db d o =
     if is_changed (put_answer db d) then with_tree db d.id

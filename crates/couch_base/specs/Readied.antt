@@ -7,7 +7,7 @@ use Rattle.couch_base.specs.Database.{IsDocumentTree}
 use Rattle.couch_base.specs.Put.{content_of}
 use Rattle.couch_base.specs.declared.prepared_tree.PreparedTree.{PreparedTree}
 
--- The prepared tree m is that of document d as a new document: d's ancestry and content, merged into an empty tree.
+-- The prepared tree m is the tree of document d as a new document: d's ancestry and content, merged into an empty tree.
 pub record IsMadeOf (d : Document) (m : PreparedTree) : Type 0 where
   pub key : m.key ≡ d.id
   pub tree : m.tree ≡ merged no_revisions d.ancestry (content_of d.deleted d.body) (Feed m.session m.seq)

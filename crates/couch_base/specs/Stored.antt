@@ -36,11 +36,11 @@ coded_table =
 abbrev pub id_at : List Id → ℕ → Id
 id_at ids i = unwrap_or (slice_get ids i) []
 
--- The index rows with the ids of documents instead of their positions.
+-- The index rows with the ids of documents instead of the documents' positions.
 abbrev pub named : List Id → List (ℕ × ℕ) → List (ℕ × Id)
 named ids index = map (λ e. (e.0, id_at ids e.1)) index
 
--- Whether an index row is live: the latest change of the document at its position has the row's sequence.
+-- Whether an index row is live: the latest change of the document at the row's position has the row's sequence.
 abbrev pub is_live : List (Id × Kept) → ℕ × ℕ → Bool
 is_live docs e = option_map_or (λ (d : Id × Kept). d.1.seq == e.0) (slice_get docs e.1) false
 
@@ -59,8 +59,8 @@ above a rows = filter (λ e. nat_lt a e.0) rows
 abbrev pub live_upto : List (Id × Kept) → ℕ → List (ℕ × ℕ) → List (ℕ × ℕ)
 live_upto docs b rows = filter (λ e. nat_le e.0 b) (live docs rows)
 
--- The index rows after a change of one of n documents. The index keeps all rows if there are at most 2 n + 1 for n
--- documents, otherwise only the live ones.
+-- The index rows after a change of one of n documents. The index of n documents keeps all rows if it has at most 2 n +
+-- 1 rows, otherwise only the live rows.
 abbrev pub swept : List (Id × Kept) → List (ℕ × ℕ) → List (ℕ × ℕ)
 swept docs rows = if nat_lt (length docs) (length rows / 2) then live docs rows else rows
 
@@ -82,7 +82,7 @@ seq_of o = option_map (λ (k : Kept). k.seq) o
 abbrev pub tree_at : Option Kept → TreeValue
 tree_at o = option_map_or (λ (k : Kept). k.tree) o no_revisions
 
--- The document of an index entry, which has a sequence and an id.
+-- The document that an index entry with a sequence and an id refers to.
 abbrev pub document : (Id → Option Kept) → ℕ × Id → DocumentValue
 document g e = record { id = e.1; seq = e.0; tree = tree_at (g e.1) }
 
@@ -97,7 +97,7 @@ documents_of t = documents (found t.entries) (feed_of t.entries t.rows)
 abbrev pub database_of : ℕ → ℕ → TableValue → DatabaseValue
 database_of uuid life t = record { uuid = uuid; life = life; update_seq = t.last; docs = documents_of t }
 
--- The feed row of an index entry, which has a sequence and a position.
+-- The feed row that belongs to an index entry with a sequence and a position.
 abbrev pub row_by : List (Id × Kept) → ℕ × ℕ → RowValue
 row_by docs e = row_of (document (found docs) (e.0, id_at (keys_of docs) e.1))
 
@@ -147,15 +147,15 @@ pub record IsPlace (docs : List (Id × Kept)) (id : Id) (place : Option ℕ) : T
   pub there : IfSome place (λ i. (k : Kept) × (slice_get docs i ≡ Some (id, k)) × (found docs id ≡ Some k))
   pub absent : place ≡ None → found docs id ≡ None
 
--- The map h from ids to documents is g, except that it has document k at `id`.
+-- The maps g and h from ids to documents are equal, except that h has document k at `id`.
 abbrev pub Sets : (Id → Option Kept) → (Id → Option Kept) → Id → Kept → Type 0
 Sets g h id k = (q : Id) → h q ≡ cond (bytes_eq id q) (Some k) (g q)
 
--- The feed's entries except that of document `id`.
+-- The feed's entries except the entry of document `id`.
 abbrev pub feed_without : Id → List (ℕ × Id) → List (ℕ × Id)
 feed_without id index = filter (λ e. not (bytes_eq e.1 id)) index
 
--- The effect of changing one document of a table, which takes the next sequence.
+-- The effect on a table of changing one document, which takes the next sequence.
 pub record IsWritten (old new : TableValue) (id : Id) (tree : TreeValue) : Type 0 where
   pub kept : IsKept new
   pub value : (uuid life : ℕ) → database_of uuid life new ≡ with_tree (database_of uuid life old) id tree

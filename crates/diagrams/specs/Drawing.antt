@@ -36,7 +36,8 @@ state_of l = (l.rev, l.wins, l.live)
 abbrev pub states : Document → List State
 states d = map state_of d.leaves.items
 
--- The leaves of a document after one more is added. The first leaf of a document in a picture is the winner.
+-- The leaves of a document in a picture after one leaf is added. The first leaf of a document in a picture is the
+-- winner.
 abbrev pub with_leaf : List State → RevId → Bool → List State
 with_leaf [] r live = (r, true, live) ∷ []
 with_leaf (s ∷ rest) r live = (s ∷ rest) ++ (r, false, live) ∷ []
@@ -51,8 +52,8 @@ pub record Holds (d : Document) (id : List ℕ) (leaves : List State) : Type 0 w
   pub named : string_bytes d.id ≡ id
   pub read : states d ≡ leaves
 
--- The effect of a line of a script's output: whether a document is open after the line, and which item, if any, the
--- line completes.
+-- The effect of a line of a script's output: whether a document is open after the line, and which item of the picture,
+-- if any, the line completes.
 pub data IsNext : Option Document → Told → Option Document → Option Whole → Type 0 where
   -- A line of a script's output that begins a document.
   opened : {old : Option Document} {id : String Global} {count : ℕ} {d : Document} → Holds d (string_bytes id) [] → d.count ≡ count
@@ -77,7 +78,7 @@ pub data IsNext : Option Document → Told → Option Document → Option Whole 
   row : {old : Option Document} {r : Row} → IsNext old (told.Row r) None (Some (wholes.Row r))
   -- A line of a script's output with a log.
   log : {old : Option Document} {l : Log} → IsNext old (told.Log l) None (Some (wholes.Log l))
-  -- A line of a script's output that shows in no picture.
+  -- A line of a script's output that no picture shows.
   other : {old : Option Document} → IsNext old told.Other None None
 
 -- ---- pictures
@@ -88,7 +89,7 @@ pub record IsPicture (form : Form) (db : Option (List ℕ)) (d : Document) (text
   pub each : IsPermutation (states d) (map state_of leaves)
   pub draws : Draws [] text (signs_of form db (string_bytes d.id) leaves)
 
--- The drawing of a complete item, or the empty text if there is no item.
+-- The drawing of a complete item of a picture, or the empty text if there is no item.
 abbrev pub IsDrawn : Form → Option (List ℕ) → Option Whole → List ℕ → Type 0
 IsDrawn form db None text = text ≡ []
 IsDrawn form db (Some (wholes.Tree d)) text = IsPicture form db d text
@@ -115,8 +116,8 @@ pub record Takes (old : Sketch) (line : List ℕ) (new : Sketch) (text : List �
   pub form : new.form ≡ old.form
   pub db : new.db ≡ old.db
 
--- The result of a line of a script's output: the drawing of what it completes, or an error. After a failed allocation
--- no document of the picture is open.
+-- The result of a line of a script's output: the drawing of the item that the line completes, or an error. After a
+-- failed allocation, no document of the picture waits for further leaves.
 abbrev pub Pictures : Answering Sketch (List ℕ)
 Pictures old line (Ok text) new = Takes old line new text
 Pictures old line (Err name) new =
@@ -143,7 +144,7 @@ pub record IsPictureOf (form : Form) (db : Option (List ℕ)) (input : List ℕ)
   pub safe : (shows : List ℕ) → IsSafe form (shown form (chars shows))
 
 -- A picture of the reader's remaining bytes is written. The last arguments of `IsPictured` are the reader's remaining
--- bytes, and what the writer has accepted, before and after.
+-- bytes, and the bytes that the writer has accepted before and after.
 pub record IsPictured (form : Form) (db : Option (List ℕ)) (clean : Bool) (left held held' : Option (List ℕ)) : Type 0 where
   pub input : List ℕ
   pub gives : Gives left input
@@ -164,7 +165,7 @@ IsDrawnUntil Memory form db input text = BeginsPicture (AnswersFirst Pictures (f
 IsDrawnUntil Cut form db input text = BeginsPicture (AnswersCut Pictures (first_sketch form db) input) text
 
 -- After an error, a prefix of a picture of the reader's remaining bytes is written. The last arguments of
--- `IsPicturedUntil` are the reader's remaining bytes, and what the writer has accepted, before and after.
+-- `IsPicturedUntil` are the reader's remaining bytes, and the bytes that the writer has accepted before and after.
 pub record IsPicturedUntil (fault : ScriptFault) (form : Form) (db : Option (List ℕ)) (left held held' : Option (List ℕ)) : Type 0 where
   pub input : List ℕ
   pub gives : Gives left input

@@ -81,28 +81,29 @@ abbrev pub shown_text : Form → List ℕ → List ℕ
 shown_text form text = encode_utf8_all (shown form (chars text))
 
 pub data Sign : Type 0 where
-  -- A sign of a picture that shows a document id.
+  -- A piece of a picture that shows a document id.
   title : Form → List ℕ → Sign
-  -- A sign of a picture that shows a leaf, whether it is the winner, and whether it is live.
+  -- A piece of a picture that shows a leaf, whether it is the winner, and whether it is live.
   leaf : Form → RevId → Bool → Bool → Sign
-  -- A sign of a picture that shows the command that resolves a leaf's conflict, with its database, document id and
-  -- revision.
+  -- A piece of a picture that shows the command that resolves a leaf's conflict, with the database, the document id and
+  -- the revision.
   edit : List ℕ → List ℕ → RevId → Sign
-  -- A sign of a picture that shows a finding of `compare`, with the document id.
+  -- A piece of a picture that shows a finding of `compare`, with the document id.
   found : Form → Finding → List ℕ → Sign
-  -- A sign of a picture that shows a revision of a finding.
+  -- A piece of a picture that shows a revision in a finding of `compare`.
   listed : RevId → Sign
-  -- A sign of a picture that shows the kind and the name of a line of numbers.
+  -- A piece of a picture that shows the kind and the name of a line of numbers.
   heading : Form → Table → List ℕ → Sign
-  -- A sign of a picture that shows the number of a column.
+  -- A piece of a picture that shows one number of a line, with its column.
   count : Column → ℕ → Sign
-  -- A sign of a picture that shows a part of a total as a bar.
+  -- A piece of a picture that shows a part of a total as a bar.
   bar : Form → ℕ → ℕ → Sign
-  -- A sign of a picture that shows a log, by its replication id.
+  -- A piece of a picture that shows a log by the log's replication id.
   log : Form → List ℕ → Sign
-  -- A sign of a picture that shows the start time of a session.
+  -- A piece of a picture that shows the start time of a session.
   moment : Form → List ℕ → Sign
-  -- A sign of a picture that shows the numbers of documents written and read, and the largest number read in the log.
+  -- A piece of a picture that shows the numbers of documents that a session wrote and read, and the largest number read
+  -- in the log.
   chart : Form → ℕ → ℕ → ℕ → Sign
 
 abbrev pub leaf_ink : Form → RevId → Bool → Bool → List ℕ
@@ -143,7 +144,7 @@ table_text tables.Compared = codes "compare"
 table_text tables.Info = codes "database "
 table_text tables.Session = codes "session "
 
--- A part of a total, on a scale of 400.
+-- A part of a total as a number from 0 to 400, in which 400 is the total.
 abbrev pub share : ℕ → ℕ → ℕ
 share part all = if all == 0 then 400 else (if nat_le 400 (part * 400 / all) then 400 else part * 400 / all)
 
@@ -208,7 +209,7 @@ ink_of (whole r) = rev_text r
 ink_of (short r) = short_text r
 ink_of (sign s) = sign_ink s
 
--- The sign that a piece of a picture is, if it is a sign.
+-- The sign of a piece of a picture, if the piece is a sign, that is, has a meaning.
 abbrev pub sign_in : Piece → List Sign
 sign_in (mark m) = []
 sign_in (number n) = []
@@ -274,6 +275,6 @@ signs_of_session form most e =
     moment form (string_bytes e.begun) ∷ chart form e.written e.read most ∷ count columns.Read e.read ∷ count columns.Written e.written
     ∷ count columns.Failed e.failed ∷ heading form tables.Session (string_bytes e.session) ∷ []
 
--- The signs of a log in a picture: its replication id, and those of each session.
+-- The signs of a log in a picture: its replication id, and the signs of each session.
 abbrev pub signs_of_log : Form → List ℕ → List Entry → List Sign
 signs_of_log form id es = log form id ∷ flat_map (signs_of_session form (most_from 1 es)) es

@@ -32,7 +32,7 @@ pub data IsEscaped : List ℕ → Type 0 where
   plain : {c : ℕ} {cs : List ℕ} → is_hidden c ≡ false → is_markup c ≡ false → IsEscaped cs → IsEscaped (c ∷ cs)
   named : (c : ℕ) {cs : List ℕ} → is_markup c ≡ true → IsEscaped cs → IsEscaped (entity_of c ++ cs)
 
--- An input text is safe in a picture of the given format.
+-- An input text is safe in a picture: no character is hidden, and in SVG markup characters occur only in entities.
 abbrev pub IsSafe : Form → List ℕ → Type 0
 IsSafe Text cs = IsSeen cs
 IsSafe Svg cs = IsEscaped cs

@@ -6,7 +6,7 @@ use Rattle.range_front.specs.declared.fault.FrontFault.{FrontFault}
 use Rattle.range_front.specs.declared.fault.FrontFault.TheVariants as faults
 
 -- A window of a front, given by its upper bound. A window of a front begins at the end of the previous window, or at
--- the front's start if it is the first.
+-- the front's start if it is the first window.
 pub record FrontWindow : Type 0 where
   pub hi : ℕ
   pub done : Bool
@@ -39,7 +39,7 @@ pub record Span : Type 0 where
   pub hi : ℕ
   pub done : Bool
 
--- Adjacent windows that begin at `lo`, with both bounds.
+-- A list of adjacent windows with both bounds, the first of which begins at `lo`.
 abbrev pub spans_from : ℕ → List FrontWindow → List Span
 spans_from lo [] = []
 spans_from lo (w ∷ ws) = record { lo = lo; hi = w.hi; done = w.done } ∷ spans_from w.hi ws
@@ -64,7 +64,7 @@ is_done f lo hi = list_any (λ s. (s.lo == lo) && ((s.hi == hi) && s.done)) (spa
 abbrev pub all_done : FrontValue → Bool
 all_done f = list_all (λ w. w.done) f.windows
 
--- The end of adjacent windows that begin at `start`.
+-- The end of a list of adjacent windows, the first of which begins at `start`.
 abbrev pub end_from : ℕ → List FrontWindow → ℕ
 end_from start [] = start
 end_from start (w ∷ ws) = end_from w.hi ws
@@ -107,7 +107,7 @@ appended f hi = record f { windows = f.windows ++ record { hi = hi; done = false
 abbrev pub append_answer : FrontValue → ℕ → Result (Unit {0}) FrontFault
 append_answer f hi = if nat_le hi (end_of f) then Err (faults.NotRising (end_of f)) else Ok tt
 
--- The windows that begin at `from`, after marking the window (lo, hi] as done.
+-- A list of adjacent windows from `from` on, after marking the window (lo, hi] as done.
 abbrev pub finished_from : ℕ → List FrontWindow → ℕ → ℕ → List FrontWindow
 finished_from from [] lo hi = []
 finished_from from (w ∷ ws) lo hi =
@@ -124,8 +124,8 @@ finish_answer f lo hi =
 
 -- ---- the invariant
 
--- The windows of a list are consecutive. Each window begins at the end of the previous one, the first at `lo`, and ends
--- above its beginning.
+-- The windows of a list are consecutive. Each window of the list begins at the end of the previous window, or at `lo`
+-- if it is the first, and ends above its beginning.
 abbrev pub IsConsecutive : ℕ → List Span → Type 0
 IsConsecutive lo [] = Unit {0}
 IsConsecutive lo (s ∷ ss) = (s.lo ≡ lo) × (s.lo < s.hi) × IsConsecutive s.hi ss

@@ -35,7 +35,7 @@ is_window-within f lo hi front window = window-within f.start f.windows lo hi fr
 pub is_window-is_done : (f : FrontValue) (lo hi : ℕ) → is_done f lo hi ≡ true → is_window f lo hi ≡ true
 is_window-is_done f lo hi done = done-window f.start f.windows lo hi done
 
--- Whether (lo, hi] is a window depends only on the bounds of the windows.
+-- Whether (lo, hi] is a window of a front depends only on the bounds of the front's windows.
 pub is_window-bounds : (f : FrontValue) (lo hi : ℕ) → is_window f lo hi ≡ list_any (λ (b : ℕ × ℕ). (b.0 == lo) && (b.1 == hi)) (bounds f)
 is_window-bounds f lo hi = window-bounds f.start f.windows lo hi
 
@@ -81,11 +81,11 @@ end_of-finished f lo hi = end-finished f.start f.windows lo hi
 pub bounds-finished : (f : FrontValue) (lo hi : ℕ) → bounds (finished f lo hi) ≡ bounds f
 bounds-finished f lo hi = bounds-finished_from f.start f.windows lo hi
 
--- After finishing a window, the done windows are those that were done before and the finished one.
+-- After finishing a window, the done windows are the finished window and the windows that were done before.
 pub is_done-finished : (f : FrontValue) (lo hi a b : ℕ) → is_done (finished f lo hi) a b ≡ (is_done f a b || (is_window f lo hi && ((lo == a) && (hi == b))))
 is_done-finished f lo hi a b = done-finished_from f.start f.windows lo hi a b
 
--- A window that is done after a call of `finish` was done before, or is the finished one.
+-- A window that is done after a call of `finish` was done before, or is the finished window.
 pub is_done-finished_cases : (f : FrontValue) (lo hi a b : ℕ) → is_done (finished f lo hi) a b ≡ true → (is_done f a b ≡ true) ⊎ ((lo ≡ a) × (hi ≡ b))
 is_done-finished_cases f lo hi a b done =
     elim (or_cases (is_done f a b) (is_window f lo hi && ((lo == a) && (hi == b))) (sym (is_done-finished f lo hi a b) ∙ done)) [

@@ -1,28 +1,29 @@
--- The stored form of a front: the ends of the windows, the low water, and the ranges of done windows above it.
+-- The stored form of a front: the ends of the windows, the low water, and the ranges of done windows above the low
+-- water.
 use Rattle.std.specs.Prelude.{◌≡◌, ◌⊎◌, ℕ, ◌<◌, Bool, false, ◌&&◌, ◌||◌, ◌==◌, nat_le, if◌then◌else◌, List, [], ◌∷◌, map}
 use Rattle.range_front.specs.declared.ranges.DoneRange.{DoneRange}
 use Rattle.range_front.specs.Front.{FrontWindow, FrontValue, IsFront}
 
 -- ---- the ends
 
--- Each end of a window is above the previous one, and the first is above `from`.
+-- In a list of windows' ends, each end is above the previous end, and the first end is above `from`.
 abbrev pub Rising : ℕ → List ℕ → Type 0
 Rising from [] = Unit {0}
 Rising from (e ∷ es) = (from < e) × Rising e es
 
--- Whether (lo, hi] is one of the windows that begin at `from` and end at `es`.
+-- Whether (lo, hi] is one of the adjacent windows from `from` on whose ends are `es`.
 abbrev pub has_window : ℕ → List ℕ → ℕ → ℕ → Bool
 has_window from [] lo hi = false
 has_window from (e ∷ es) lo hi = ((from == lo) && (e == hi)) || has_window e es lo hi
 
--- The bound x is `from` or one of the ends of windows.
+-- The bound x is `from` or one of the windows' ends.
 abbrev pub IsBound : ℕ → List ℕ → ℕ → Type 0
 IsBound from [] x = from ≡ x
 IsBound from (e ∷ es) x = (from ≡ x) ⊎ IsBound e es x
 
 -- ---- the ranges
 
--- The ranges of done windows rise, and touch neither each other nor `mark`.
+-- The ranges of done windows rise, and touch neither each other nor the low water `mark`.
 abbrev pub Apart : ℕ → List DoneRange → Type 0
 Apart mark [] = Unit {0}
 Apart mark (r ∷ rs) = (mark < r.lo) × (r.lo < r.hi) × Apart r.hi rs
@@ -32,19 +33,19 @@ abbrev pub AtBounds : ℕ → List ℕ → List DoneRange → Type 0
 AtBounds from es [] = Unit {0}
 AtBounds from es (r ∷ rs) = IsBound from es r.lo × IsBound from es r.hi × AtBounds from es rs
 
--- Whether x is at or below `mark`, or in one of the ranges above it.
+-- Whether the sequence x is at or below the low water `mark`, or in one of the ranges of done windows above `mark`.
 abbrev pub covers : ℕ → List DoneRange → ℕ → Bool
 covers mark [] x = nat_le x mark
 covers mark (r ∷ rs) x = if nat_le x r.lo then nat_le x mark else covers r.hi rs x
 
--- The end of the done windows from `hi` on, and the remaining ranges. If the first range begins at `hi`, it is not
--- among the remaining ranges.
+-- The end of the done windows that follow the bound `hi` without a gap, and the ranges of done windows after this end.
+-- If the first range does not begin at `hi`, the end is `hi`.
 abbrev pub absorbed : ℕ → List DoneRange → ℕ × List DoneRange
 absorbed hi [] = (hi, [])
 absorbed hi (r ∷ rs) = if r.lo == hi then (r.hi, rs) else (hi, r ∷ rs)
 
--- The ranges after adding (lo, hi] at r, the first range that ends at or above `lo`. If range r ends at `lo` or begins
--- at `hi`, it grows, otherwise it is unchanged.
+-- The ranges of done windows after adding (lo, hi] at r, the first range that ends at or above `lo`. If range r ends at
+-- `lo` or begins at `hi`, it grows, otherwise it is unchanged.
 abbrev pub put_at : DoneRange → List DoneRange → ℕ → ℕ → List DoneRange
 put_at r rs lo hi =
     if r.hi == lo then record { lo = r.lo; hi = (absorbed hi rs).0 } ∷ (absorbed hi rs).1
@@ -61,7 +62,7 @@ joined mark rs lo hi = if mark == lo then absorbed hi rs else (mark, put_in rs l
 
 -- ---- the front
 
--- The windows that end at `es`, which are done if the test is true of the end.
+-- The windows with the ends `es`, each of which is done if the test `done` is true of its end.
 abbrev pub marked : (ℕ → Bool) → List ℕ → List FrontWindow
 marked done es = map (λ hi. record { hi = hi; done = done hi }) es
 

@@ -149,7 +149,7 @@ done-append from (w ∷ ws) hi a b = ap (λ r. (eqb from a && (eqb w.hi b && w.d
 
 -- ---- a finished window
 
--- Finishing a window does not change the end of the windows.
+-- Finishing a window does not change the end of the front's windows.
 pub end-finished : (from : ℕ) (ws : List FrontWindow) (lo hi : ℕ) → end_from from (finished_from from ws lo hi) ≡ end_from from ws
 end-finished from [] lo hi = refl
 end-finished from (w ∷ ws) lo hi =
@@ -170,7 +170,7 @@ bounds-finished_from from (w ∷ ws) lo hi =
     (λ e. ap (λ bs. (from, w.hi) ∷ bs) (bounds-finished_from w.hi ws lo hi))
     (λ e. ap (λ bs. (from, w.hi) ∷ bs) (bounds-finished_from w.hi ws lo hi))
 
--- A window is done after a call of `finish` exactly if it was done before or is the finished one.
+-- A window is done after a call of `finish` exactly if it was done before or is the window that the call finished.
 pub done-finished_from : (from : ℕ) (ws : List FrontWindow) (lo hi a b : ℕ) → done_in from (finished_from from ws lo hi) a b ≡ (done_in from ws a b || (window_in from ws lo hi && (eqb lo a && eqb hi b)))
 done-finished_from from [] lo hi a b = refl
 done-finished_from from (w ∷ ws) lo hi a b =

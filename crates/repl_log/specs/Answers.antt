@@ -4,7 +4,7 @@ use Rattle.std.specs.declared.alloc.Global.{Global}
 use Rattle.repl_log.specs.declared.fault.LogFault.{LogFault}
 use Rattle.repl_log.specs.declared.fault.LogFault.TheVariants as faults
 
--- A result is the expected one, or it is `Memory` and the expected one is `Ok`.
+-- A call's result is the expected result, or the result is `Memory` and the expected result is `Ok`.
 abbrev pub GivesUnlessMemory : {A : Type 0} → Result A LogFault → Result A LogFault → Type 0
 GivesUnlessMemory (Err faults.Memory) expected = IsOk expected
 GivesUnlessMemory result expected = result ≡ expected

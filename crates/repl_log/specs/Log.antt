@@ -26,7 +26,7 @@ recorded_of log s = option_map (λ e. e.recorded) (entry_for log s)
 
 -- ---- the effect of `put`
 
--- The log after entry e has replaced the entry of its session.
+-- A log after entry e has replaced the log's entry of the same session.
 abbrev pub replaced : List EntryValue → EntryValue → List EntryValue
 replaced log e = map (λ x. if is_of e.session x then e else x) log
 
@@ -35,8 +35,8 @@ replaced log e = map (λ x. if is_of e.session x then e else x) log
 abbrev pub with_entry : List EntryValue → EntryValue → List EntryValue
 with_entry log e = if holds log e.session then replaced log e else e ∷ log
 
--- The result of a put of entry e, given the stored entry of its session. In a log, the recorded sequence of a session
--- must not fall.
+-- The result of a put of entry e into a log, given the log's entry of the same session, if there is one. In a log, the
+-- recorded sequence of a session must not fall.
 abbrev pub put_beside : EntryValue → Option EntryValue → Result (Unit {0}) LogFault
 put_beside e None = Ok tt
 put_beside e (Some stored) = if nat_lt e.recorded stored.recorded then Err (faults.Older stored.recorded) else Ok tt
@@ -55,17 +55,17 @@ ChangesOnly old new e = (s : SessionId) → entry_for new s ≡ (if is_of s e th
 abbrev pub shared : List EntryValue → List EntryValue → Option EntryValue
 shared source target = find (λ t. holds source t.session) target
 
--- The session of entry t, with the lesser of the recorded sequences of its entries t and s.
+-- The session of the entries t and s, with the lesser of the recorded sequences of t and s.
 abbrev pub lesser_of : EntryValue → EntryValue → SessionId × ℕ
 lesser_of t s = (t.session, min s.recorded t.recorded)
 
--- The session of the target's entry t with the lesser of its two recorded sequences, if the source's log has the
--- session.
+-- The session of the target's entry t with the lesser of the session's two recorded sequences, if the source's log has
+-- the session.
 abbrev pub checkpoint_at : List EntryValue → EntryValue → Option (SessionId × ℕ)
 checkpoint_at source t = option_map (lesser_of t) (entry_for source t.session)
 
--- The newest session of the target's log that is also in the source's log, with the lesser of its two recorded
--- sequences. If no session is in both logs, there is no common checkpoint.
+-- The newest session of the target's log that is also in the source's log, with the lesser of the session's two
+-- recorded sequences. If no session is in both logs, there is no common checkpoint.
 abbrev pub common : List EntryValue → List EntryValue → Option (SessionId × ℕ)
 common source target = option_and_then (checkpoint_at source) (shared source target)
 
@@ -81,10 +81,10 @@ pub record IsCommon (source target : List EntryValue) (s : SessionId) (n : ℕ) 
   -- The logs of source and target both have the session of the checkpoint.
   pub target_has : entry_for target s ≡ Some at_target
   pub source_has : entry_for source s ≡ Some at_source
-  -- The checkpoint's sequence n is the lesser of the two recorded sequences.
+  -- The checkpoint's sequence n is the lesser of the sequences that the two logs record for the session.
   pub lesser : n ≡ min at_source.recorded at_target.recorded
 
--- No session is in both logs.
+-- No session is in both logs of a replication.
 abbrev pub IsUnshared : List EntryValue → List EntryValue → Type 0
 IsUnshared source target = list_any (λ t. holds source t.session) target ≡ false
 

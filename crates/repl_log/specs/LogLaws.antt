@@ -145,7 +145,7 @@ common-IsCommon source (t ∷ target) c h =
       | false ↦ λ not_held found. later source target t c.0 c.1 not_held (common-IsCommon source target c found)
     ] refl h
 
--- The sequence of a common checkpoint is at most what either side recorded.
+-- The sequence of a common checkpoint is at most the sequence that either log records for the checkpoint's session.
 pub common-le : (source target : List EntryValue) (s : SessionId) (n : ℕ) (c : IsCommon source target s n) → (n ≤ c.at_source.recorded) × (n ≤ c.at_target.recorded)
 common-le source target s n c = let lesser = c.lesser in (omega arith, omega arith)
 
@@ -156,7 +156,7 @@ checkpoint_at-held source t =
       | None ↦ refl
     ] ∙ is_some-entry_for source t.session
 
--- Two logs have a common checkpoint exactly if a session is in both.
+-- Two logs have a common checkpoint exactly if a session is in both logs.
 pub is_some-common : (source target : List EntryValue) → is_some (common source target) ≡ list_any (λ t. holds source t.session) target
 is_some-common source [] = refl
 is_some-common source (t ∷ target) =
@@ -195,12 +195,14 @@ turned source target i x is =
     at_drop_more (λ (rest : List EntryValue). common source rest) target i x (slice_get_within target i x is)
     ∙ ap (λ (y : EntryValue). common source (y ∷ drop (i + 1) target)) (get_or_from_slice_get target i x x is)
 
--- If the source's log has the session of the entry at index i, this session is the common checkpoint.
+-- If the source's log has the session of the target's entry at index i, and no session of an earlier entry, this
+-- session is the common checkpoint.
 pub common-at : (source target : List EntryValue) (i recorded : ℕ) (x : EntryValue) → common source target ≡ common source (drop i target) → slice_get target i ≡ Some x → recorded_of source x.session ≡ Some recorded
     → common source target ≡ Some (x.session, min recorded x.recorded)
 common-at source target i recorded x so_far is held = so_far ∙ turned source target i x is ∙ common-shared source (drop (i + 1) target) x recorded held
 
--- If the source's log does not have the session of the entry at index i, the checkpoint is among the later entries.
+-- If the source's log has no session of the target's entries up to index i, the common checkpoint is in a later entry,
+-- if it exists.
 pub common-behind : (source target : List EntryValue) (i : ℕ) (x : EntryValue) → common source target ≡ common source (drop i target) → slice_get target i ≡ Some x → recorded_of source x.session ≡ None
     → common source target ≡ common source (drop (i + 1) target)
 common-behind source target i x so_far is none = so_far ∙ turned source target i x is ∙ common-passed source (drop (i + 1) target) x none

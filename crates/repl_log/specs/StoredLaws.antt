@@ -43,8 +43,8 @@ insert_entry-present s (e ∷ es) x y is =
       | false ↦ λ rest. ap (λ l. e ∷ l) (insert_entry-present s es x y rest)
     ] is
 
--- Theorems about stored values, given functions from a stored value to its value in contracts, and from that to its
--- session.
+-- Theorems about stored values, given a function from a stored value to its value in contracts, and one from this value
+-- to its session.
 module _ {X V : Type 0} (value : X → V) (session : V → SessionId) where
   abbrev named : SessionId → V → Bool
   named s v = (session v).0 == s.0
@@ -61,13 +61,13 @@ module _ {X V : Type 0} (value : X → V) (session : V → SessionId) where
   pub newest_first-cons : (e : SessionId × X) (es : List (SessionId × X)) → newest_first value (e ∷ es) ≡ newest_first value es ++ value e.1 ∷ []
   newest_first-cons e es = reverse_onto (map (λ (e : SessionId × X). value e.1) es) (value e.1) []
 
-  -- A value that is appended to a table is the newest.
+  -- A value that is appended to a table is the table's newest value.
   pub newest_first-push : (s : SessionId) (x : X) (es : List (SessionId × X)) → newest_first value (es ++ (s, x) ∷ []) ≡ value x ∷ newest_first value es
   newest_first-push s x es = ap reverse (map_push (λ (e : SessionId × X). value e.1) es (s, x)) ∙ reverse-append (map (λ (e : SessionId × X). value e.1) es) (value x ∷ [])
 
   -- ---- lookups
 
-  -- The value that a table has for a session, if the value passes a further test.
+  -- The value that a table has for a session, if this value passes a given test.
   abbrev pub chosen : (V → Bool) → Option X → Option V
   chosen q None = None
   chosen q (Some x) = if q (value x) then Some (value x) else None

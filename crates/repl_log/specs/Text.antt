@@ -20,8 +20,8 @@ id_digits n = encode_lower (to_be_bytes w128 n)
 
 -- ---- replication ids
 
--- The text of a selection in a replication id, which is `-`, and the lower-case hexadecimal digits of the JSON array of
--- its ids.
+-- The text of a selection in a replication id: `-`, then the lower-case hexadecimal digits of the JSON array of the
+-- selected ids.
 abbrev pub choice_digits : Choice → List ℕ
 choice_digits None = []
 choice_digits (Some ids) = 45 ∷ encode_lower (ids_text ids)
@@ -46,14 +46,14 @@ coded_rep =
     (λ r. (r.source, (r.target, r.chosen))) (λ p. record { source = p.0; target = p.1.0; chosen = p.1.1 })
     (λ _. refl)
 
--- The text of a replication id: the digits of the source's UUID, `-`, those of the target's UUID, and the text of the
--- selection.
+-- The text of a replication id: the digits of the source's UUID, `-`, the digits of the target's UUID, and the text of
+-- the selection.
 abbrev pub rep_text : RepId → List ℕ
 rep_text id = id_digits id.source ++ 45 ∷ (id_digits id.target ++ choice_digits id.chosen)
 
 -- ---- logs
 
--- A JSON object's members, in the order of the list.
+-- The members of a JSON object, in the order of the given list.
 abbrev pub members : List (List ℕ × Data) → Members
 members [] = no_members
 members (m ∷ ms) = member m.0 m.1 (members ms)
@@ -81,7 +81,7 @@ entry_with e session_id start_time end_time =
 abbrev pub entry_json : EntryValue → Data
 entry_json e = entry_with e (id_digits e.session.0) (time_text e.start_time) (time_text e.end_time)
 
--- The texts of log entries, separated by commas, with a comma before the first if `later` is true.
+-- The texts of log entries, separated by commas, with a comma before the first text if `later` is true.
 abbrev pub listed : Bool → List EntryValue → List ℕ
 listed later [] = []
 listed later (e ∷ es) = comma_if later ++ (compact_text (entry_json e) ++ listed true es)

@@ -4,7 +4,7 @@ use Rattle.httpdate.specs.declared.parts.Parts.{Parts}
 use Rattle.httpdate.specs.Calendar.{days_of_years, days_of_months, weekday}
 use Rattle.httpdate.specs.Text.{imf_fixdate}
 
--- The first number n from a given number on, at most `left` above it, with x < f (n + 1).
+-- The first number n with x < f (n + 1), starting at a given number and ending at most `left` above this number.
 unfoldable pub place_from : ℕ → ℕ → (ℕ → ℕ) → ℕ → ℕ
 place_from zero n f x = n
 place_from (suc left) n f x = if nat_lt x (f (n + 1)) then n else place_from left (n + 1) f x
@@ -13,7 +13,7 @@ place_from (suc left) n f x = if nat_lt x (f (n + 1)) then n else place_from lef
 unfoldable pub year_of : ℕ → ℕ
 year_of day = 1970 + place_from 8029 0 days_of_years day
 
--- The number of days that are before a day in the same year.
+-- The number of days in a day's year that are before the day.
 unfoldable pub day_of_year : ℕ → ℕ
 day_of_year day = day - days_of_years (year_of day - 1970)
 

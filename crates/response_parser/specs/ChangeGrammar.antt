@@ -9,7 +9,7 @@ use Rattle.response_parser.specs.Grammar.{IsPlainDocument}
 use Rattle.response_parser.specs.LineGrammar.{InOneLine}
 use Rattle.response_parser.specs.declared.place.Found.TheVariants.{Id, Rev}
 
--- Revisions with commas between them, up to the line end, each of which is reported in quotation marks.
+-- Revisions with commas between them, up to the line end. Each revision is reported in quotation marks.
 pub data AreRevs : List ℕ → List Piece → Type 0 where
   last_rev : {b : ℕ} (r : List ℕ) → is_rev_byte b ≡ true → list_all is_rev_byte r ≡ true
       → AreRevs (b ∷ (r ++ 10 ∷ [])) ((Rev, 34 ∷ b ∷ (r ++ 34 ∷ [])) ∷ [])

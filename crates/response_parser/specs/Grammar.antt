@@ -19,14 +19,14 @@ pub record IsValue (t u : List ℕ) : Type 0 where
   pub first : is_space (slice_index t 0) ≡ false
   pub json : is_json u ≡ true
 
--- A name after its opening quotation mark. The other parameters of `IsNamed` are the flag of a first name, the number d
--- of open lists and objects, and the meaning of the name.
+-- A name after its opening quotation mark. The other parameters of `IsNamed` are whether the name is the first of its
+-- object, the number d of open lists and objects, and the name's meaning.
 pub record IsNamed (wanted : Wanted) (first : Bool) (d : ℕ) (k : List ℕ) (name : Name) : Type 0 where
   pub string : EndsString k
   pub json : is_json (34 ∷ k) ≡ true
   pub says : name_of wanted first false false d (34 ∷ k) ≡ name
 
--- The contents of a named value: a document, if the name says so and the value is an object.
+-- The contents of a named value: a document, if the name's meaning is a document and the value is an object.
 pub data Holds (wanted : Wanted) : Name → List ℕ → List Piece → Type 0 where
   document : {u v : List ℕ} → (slice_index u 0 == 123) ≡ true → covered wanted u ≡ Some v → Holds wanted Document u ((found.Document, v) ∷ [])
   no_object : {u : List ℕ} → (slice_index u 0 == 123) ≡ false → Holds wanted Document u []

@@ -20,8 +20,8 @@ text_begun place s b = record s { place = Line place; text = b ∷ [] }
 abbrev pub is_lower : ℕ → Bool
 is_lower b = nat_le 97 b && nat_le b 122
 
--- The parser's state after a line end. If a response is required and the parser has read none, the parser returns to
--- its first place.
+-- The parser's state after a line end. If a response is required and the parser has not read a response, the parser
+-- returns to its initial place.
 abbrev pub line_ended : State → State
 line_ended s = at (cond (s.some || is_strict s.wanted) Between Start) s
 

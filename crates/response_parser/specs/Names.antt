@@ -12,7 +12,7 @@ use Rattle.response_parser.specs.declared.place.Found.TheVariants as found
 
 -- ---- names with quotation marks
 
--- The meaning of a name t if documents are requested. The flag `first` says whether the name t is the first one of its
+-- The meaning of a name t if documents are requested. The flag `first` says whether the name t is the first name of its
 -- object.
 abbrev pub document_name : Bool → List ℕ → Name
 document_name first t =
@@ -131,7 +131,7 @@ is_error Other = false
 is_error Foreign = false
 
 -- The kind of item that is found if a name has a value with the given first byte. The text of a document begins with a
--- brace, that of an id or a revision with a quotation mark.
+-- brace, and the text of an id or a revision begins with a quotation mark.
 abbrev pub found_of : Name → ℕ → Found
 found_of Plain first = found.Nothing
 found_of Document first = cond (first == 123) found.Document found.Nothing
@@ -163,8 +163,8 @@ passes Reason first = false
 passes Other first = false
 passes Foreign first = false
 
--- The error for a name's value, if there is one. The value of a name gives an error if it is no string but must be an
--- id or a revision, or if it is the reason of an error.
+-- The error for a name's value, if there is one. The value of a name gives an error if it must be an id or a revision
+-- but is not a string, or if it is the reason of CouchDB's error.
 abbrev pub refusal_of : Name → ℕ → Bool → Option Refusal
 refusal_of Plain first failed = None
 refusal_of Document first failed = None

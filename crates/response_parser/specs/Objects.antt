@@ -34,12 +34,12 @@ closed place s =
 abbrev pub list_closed : State → State
 list_closed s = closed AfterMember (record s { inner = false })
 
--- The parser's place after an object, which is an item of a list or the entry of a document.
+-- The parser's place after an object that is an item of a list or the entry of a document.
 abbrev pub behind_object : State → Place
 behind_object s = cond (s.diff && s.depth == 2) AfterMember AfterItem
 
--- The parser's state after an object closes. An object without a known member contains no document, and is skipped or
--- rejected.
+-- The parser's state after an object closes. The parser skips or rejects an object without a known member, which
+-- contains no document.
 abbrev pub object_closed : State → State
 object_closed s =
     cond s.known (closed (behind_object s) s)

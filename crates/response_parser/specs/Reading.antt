@@ -43,7 +43,8 @@ abbrev pub pieces : State → List ℕ → List Piece
 pieces s [] = []
 pieces s (b ∷ bytes) = given (step s b) ++ pieces (step s b) bytes
 
--- Whether the input may end at the given place of the parser, or else the error.
+-- The result of the input's end at the given place of the parser: success if the input may end there, otherwise an
+-- error.
 abbrev pub end_of : Place → Result (Unit {0}) Refusal
 end_of Start = Err NoAnswer
 end_of Begin = Ok tt
@@ -67,7 +68,7 @@ end_of (Revs place) = Err CutOff
 end_of (Line place) = Err CutOff
 end_of (Refused why) = Err why
 
--- Whether input that ends at the given place has a last line without a line end.
+-- Whether input that ends at the given place of the parser has a last line without a line end.
 abbrev pub has_rest : Place → Bool
 has_rest Start = false
 has_rest Begin = false

@@ -7,7 +7,7 @@ use Rattle.response_parser.specs.declared.place.Place.TheVariants.{Value, Quoted
 use Rattle.response_parser.specs.declared.place.Name.{Name}
 use Rattle.response_parser.specs.declared.place.Found.TheVariants.{Nothing}
 
--- The count n, increased once for each byte.
+-- The count n, increased once for each of the given bytes.
 abbrev pub more_by : ℕ → List ℕ → ℕ
 more_by n [] = n
 more_by n (b ∷ bytes) = more_by (more n) bytes
@@ -35,7 +35,8 @@ pub record Copies (s : State) (bytes : List ℕ) (name : Name) (quoted : Bool) (
   pub none : pieces s bytes ≡ []
 
 -- If the parser copied a value up to the position `from` of the bytes, it copies the value up to the position `to`. For
--- each position, parameters of `Continues` say whether it is within a string, and how many brackets are open.
+-- both positions, parameters of `Continues` say whether the position is within a string, and how many brackets are
+-- open.
 abbrev pub Continues : List ℕ → ℕ → Bool → ℕ → ℕ → Bool → ℕ → Type 0
 Continues bytes from q n to q' n' =
     (s : State) → (name : Name) → (q0 : Bool) → (n0 : ℕ) → IsInValue s name q0 n0 → Copies s (take from bytes) name q n

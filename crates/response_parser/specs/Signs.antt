@@ -1,6 +1,6 @@
 -- The first bytes of known formats that are not responses, as specified in docs/PROFILE.md, "CouchDB's answers". The
--- format Gzip is specified in RFC 1952, a status line in RFC 9112, and the delimiter of a part in RFC 2046. A byte
--- order mark is that of UTF-8 or UTF-16.
+-- format Gzip is specified in RFC 1952, a status line in RFC 9112, and the delimiter of a part in RFC 2046. The known
+-- byte order marks are the byte order marks of UTF-8 and UTF-16.
 use Rattle.std.specs.Prelude.{ℕ, ◌||◌, List, [], ◌∷◌, ◌++◌, Bool, cond, codes}
 use Rattle.std.specs.Str.{bytes_eq}
 use Rattle.response_parser.specs.State.{State}

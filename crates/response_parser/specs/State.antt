@@ -12,20 +12,20 @@ use Rattle.response_parser.specs.declared.place.Found.TheVariants.{Nothing}
 pub record State : Type 0 where
   pub wanted : Wanted
   pub place : Place
-  -- Whether the parser has read the end of a list or an object.
+  -- Whether the parser has already read the closing bracket of a list or an object in the input.
   pub some : Bool
   -- The number of lists and objects that are open at the parser's position.
   pub depth : ℕ
-  -- Whether the innermost object has a known member, and whether it has an id.
+  -- Whether the innermost open object has a known member, and whether this object has an id.
   pub known : Bool
   pub named : Bool
-  -- Whether the parser's last name is the first one of its object.
+  -- Whether the parser's last name is the first name of its object.
   pub first : Bool
-  -- Whether the innermost list is a document's list of revisions.
+  -- Whether the innermost open list is a document's list of revisions.
   pub inner : Bool
-  -- Whether the response is one of `_revs_diff`.
+  -- Whether the current response is a response of `_revs_diff`.
   pub diff : Bool
-  -- Whether the response has a member `error`.
+  -- Whether the current response has a member `error`.
   pub failed : Bool
   -- The number of brackets that are open within the parser's current value.
   pub nesting : ℕ

@@ -56,7 +56,8 @@ is_refused (Revs place) = false
 is_refused (Line place) = false
 is_refused (Refused why) = true
 
--- The parser's state before the effect of a byte. A byte is counted as read, unless a byte was rejected before.
+-- The parser's state after counting a byte as read, before the byte's further effect. The parser counts no byte after
+-- it has rejected a byte.
 abbrev pub begun : State → State
 begun s = record s { found = found.Nothing; taken = cond (is_refused s.place) s.taken (more s.taken) }
 

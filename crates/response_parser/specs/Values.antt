@@ -32,7 +32,7 @@ told found.Rev s = record s { found = found.Rev }
 abbrev pub passed_by : Name → ℕ → State → State
 passed_by name first s = record s { passed = cond (passes name first) (more s.passed) s.passed }
 
--- The parser's state after the value of a name. The parser stores a string that is CouchDB's error.
+-- The parser's state after the value of a name. The parser stores a value that is the string of CouchDB's error.
 abbrev pub error_kept : Name → ℕ → State → State
 error_kept name first s = cond (is_error name && first == 34) (record s { failed = true; error = s.text }) s
 
@@ -50,7 +50,8 @@ abbrev pub value_ended : Name → State → ℕ → State
 value_ended name s b =
     cond (is_json s.text) (value_judged (refusal_of name (slice_index s.text 0) s.failed) name s b) (refused NotJson s)
 
--- The parser's state after a document's closing brace. A document is found at its closing brace, unless it is a log.
+-- The parser's state after a document's closing brace. The parser reports a document at the document's closing brace,
+-- unless the document is a log.
 abbrev pub plain_found : State → State
 plain_found s = cond (wants_documents s.wanted && not (is_log s.text)) (document_found s) s
 

@@ -7,7 +7,7 @@ use Rattle.rev_core.specs.Rev.{RevId, IsRev, rev_cmp}
 use Rattle.rev_core.specs.declared.fault.RevFault.{RevFault}
 use Rattle.rev_core.specs.declared.fault.RevFault.TheVariants as faults
 
--- In a list of revisions, each generation is one above that of the next revision.
+-- In a list of revisions, each revision's generation is one above the generation of the next revision.
 abbrev pub FallsByOne : List RevId → Type 0
 FallsByOne [] = Unit {0}
 FallsByOne (r ∷ []) = Unit {0}
@@ -30,11 +30,11 @@ edges_of [] = []
 edges_of (r ∷ []) = []
 edges_of (r ∷ (s ∷ rest)) = (r, s) ∷ edges_of (s ∷ rest)
 
--- Whether revision r is the parent in one of the edges.
+-- Whether revision r is the parent in one of the given edges.
 abbrev pub has_parent : List (RevId × RevId) → RevId → Bool
 has_parent edges r = list_any (λ (e : RevId × RevId). eq_by_cmp rev_cmp r e.1) edges
 
--- Whether revision r is in a list.
+-- Whether revision r is in a list of revisions.
 abbrev pub is_among : RevId → List RevId → Bool
 is_among r revs = list_any (eq_by_cmp rev_cmp r) revs
 
@@ -43,7 +43,7 @@ abbrev pub numbered : ℕ → List (List ℕ) → List RevId
 numbered start [] = []
 numbered start (sig ∷ sigs) = record { generation = start; sig = sig } ∷ numbered (start - 1) sigs
 
--- The ancestry of a newest generation and signatures, or the error.
+-- The ancestry with a given newest generation and given signatures, or the error of building this ancestry.
 abbrev pub ancestry_read : ℕ → List (List ℕ) → Result (List RevId) RevFault
 ancestry_read start sigs =
     if length sigs == 0 then Err faults.NoIds

@@ -1,7 +1,7 @@
 -- A sequence of checks, in which each check passes a value on to the next, or gives an error.
 use Rattle.std.specs.Prelude.{Bool, true, false, ⊤, Option, Some, None, Result, Ok, Err}
 
--- The result of the check f of a value, or the error of the previous check.
+-- The result of applying the check f to the previous check's value, or the error of the previous check.
 infixl 10 ◌>>=◌
 abbrev pub ◌>>=◌ : {A B E : Type 0} → Result A E → (A → Result B E) → Result B E
 Ok x >>= f = f x

@@ -59,7 +59,7 @@ rev_eq_is a b = same_tests _ _
     (ap (λ t. t && pointwise nat_eq a.sig a.sig) (eq-eqb a.generation a.generation refl)
     ∙ (bytes_decides a.sig a.sig).1 refl))
 
--- The bytes of a revision that are hashed: those of its generation, then its signature.
+-- The bytes of a revision that are hashed: the bytes of its generation, then its signature.
 abbrev pub hashed : RevId → List (List ℕ)
 hashed r = fed.u32 r.generation ++ r.sig ∷ []
 

@@ -19,7 +19,7 @@ digits_of bytes = map (λ b. digit_of (b / 16)) bytes ++ map (λ b. digit_of (b 
 abbrev pub is_short : List ℕ → Bool
 is_short text = if length text == 32 then list_all is_hex_digit text else nat_le (length text) 16
 
--- The sixteen bytes of two 64-bit integers.
+-- The sixteen bytes of two 64-bit integers, in order.
 unfoldable pub bytes_in : ℕ → ℕ → List ℕ
 bytes_in front back = to_le_bytes w64 front ++ to_le_bytes w64 back
 

@@ -29,7 +29,7 @@ generation_read text = if is_generation text then Some (value_of text) else None
 abbrev pub is_dash : ℕ → Bool
 is_dash c = c == 45
 
--- The revision id of a generation, if there is one, and the string after the `-`, or the error.
+-- The revision id of a parsed generation and the string after the `-`, or the error of either part.
 abbrev pub with_sig : Option ℕ → List ℕ → Result RevId RevFault
 with_sig None text = Err faults.BadGeneration
 with_sig (Some n) text = if is_sig text then Ok (record { generation = n; sig = text }) else Err faults.BadSig
