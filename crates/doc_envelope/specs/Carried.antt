@@ -14,7 +14,7 @@ pub record IsByte (nesting b : ℕ) : Type 0 where
   pub opens : (b == 123 || b == 91) ≡ false
   pub closes : (b == 125 || b == 93) ≡ false
 
--- In a text within n brackets, strings are closed, and brackets are paired.
+-- In a text that is within n brackets, all strings are closed, and brackets are paired.
 pub data Paired : ℕ → List ℕ → Type 0 where
   nothing : {n : ℕ} → Paired n []
   byte : {n b : ℕ} {t : List ℕ} → IsByte n b → Paired n t → Paired n (b ∷ t)
@@ -22,7 +22,7 @@ pub data Paired : ℕ → List ℕ → Type 0 where
   object : {n : ℕ} {m t : List ℕ} → Paired (n + 1) m → Paired n t → Paired n (123 ∷ (m ++ 125 ∷ t))
   list : {n : ℕ} {m t : List ℕ} → Paired (n + 1) m → Paired n t → Paired n (91 ∷ (m ++ 93 ∷ t))
 
--- The text m is that of a member, and is not blank.
+-- The text m is the text of a member, and is not blank.
 pub record IsMember (m : List ℕ) : Type 0 where
   pub paired : Paired 0 m
   pub filled : is_blank m ≡ false
@@ -36,8 +36,8 @@ pub record HasMembers (x : List ℕ) (ms : List (List ℕ)) : Type 0 where
   pub members : AreMembers ms
   pub text : x ≡ object_of ms
 
--- One member `whole` holds the given other members with commas between them, in any spelling of its string. If an
--- envelope wraps no members, it has no member `whole`.
+-- One member `whole` holds the texts of the wrapped members with commas between them, in any spelling of its string. If
+-- an envelope wraps no members, it has no member `whole`.
 pub data Carries : List (List ℕ) → List (List ℕ) → Type 0 where
   none : Carries [] []
   whole : {w : List ℕ} (o : List ℕ) (os : List (List ℕ)) → has_name w whole_name ≡ true
@@ -48,8 +48,8 @@ abbrev pub AreOthers : List (List ℕ) → Type 0
 AreOthers [] = Unit {0}
 AreOthers (m ∷ ms) = (has_name m whole_name ≡ false) × AreOthers ms
 
--- The text t is an envelope of a document with the members ms. In an envelope, the members that stay outside come
--- first, unchanged and in order, and then the member that holds the others.
+-- The text t is an envelope of a document with the members ms. In an envelope, the unwrapped members come first,
+-- unchanged and in order, and then the member that holds the wrapped members.
 pub record Envelops (ms : List (List ℕ)) (t : List ℕ) : Type 0 where
   pub carrier : List (List ℕ)
   pub members : HasMembers t (filter stays ms ++ carrier)

@@ -24,8 +24,8 @@ stays m =
 abbrev pub goes : List ℕ → Bool
 goes m = not (stays m)
 
--- The member of an envelope that holds the wrapped members, if there are any: their texts with commas between them, as
--- one string.
+-- The member of an envelope that holds the wrapped members, if there are any. Its value is one string, the members'
+-- texts with commas between them.
 abbrev pub whole_of : List (List ℕ) → List (List ℕ)
 whole_of [] = []
 whole_of (m ∷ ms) = (whole_name ++ 58 ∷ quoted (joined (m ∷ ms))) ∷ []
@@ -33,8 +33,8 @@ whole_of (m ∷ ms) = (whole_name ++ 58 ∷ quoted (joined (m ∷ ms))) ∷ []
 abbrev pub envelope_of : List ℕ → List ℕ
 envelope_of x = object_of (filter stays (members_of x) ++ whole_of (filter goes (members_of x)))
 
--- Whether an envelope may have a member with the given name and value. Of an envelope's members, only the types of
--- `_deleted` and `whole` are checked.
+-- Whether an envelope may have a member with the given name and value. For an envelope's members `_deleted` and
+-- `whole`, the type of the value is checked, and for other members only the name.
 abbrev pub may_stand : List ℕ → Json → Bool
 may_stand name j =
     cond (bytes_eq name (codes "_id") || bytes_eq name (codes "_rev") || bytes_eq name (codes "_revisions")) true
@@ -73,7 +73,7 @@ if_any t = cond (is_blank t) None (Some t)
 abbrev pub string_of : List ℕ → Option (List ℕ)
 string_of t = cond (is_utf8 t) (option_and_then as_str (document t)) None
 
--- The text of a member, or of the members that it holds if it is named `whole`.
+-- The text of an envelope's member, or the texts of the members that it holds if its name is `whole`.
 abbrev pub unfolded_member : List ℕ → Option (List ℕ)
 unfolded_member m = cond (has_name m whole_name) (option_and_then if_any (string_of (value_of m whole_name))) (Some m)
 

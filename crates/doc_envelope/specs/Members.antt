@@ -16,7 +16,7 @@ opens b = b == 123 || b == 91
 abbrev pub closes : ℕ → Bool
 closes b = b == 125 || b == 93
 
--- Whether a byte ends a member in which n brackets are open, as a comma does, and the bracket that closes the object.
+-- Whether a byte ends a member in which n brackets are open: a comma, or the bracket that closes the member's object.
 abbrev pub ends_member : Mode → ℕ → ℕ → Bool
 ends_member Outside n b = n == 0 && (b == 44 || closes b)
 ends_member Quoted n b = false
@@ -39,12 +39,12 @@ unfoldable pub length_in : Mode → ℕ → List ℕ → ℕ
 length_in m n [] = 0
 length_in m n (b ∷ t) = cond (ends_member m n b) 0 (length_in (mode_behind m b) (nesting_behind m n b) t + 1)
 
--- The number of bytes of the first member.
+-- The number of bytes of the first member of an object's text.
 abbrev pub first_length : List ℕ → ℕ
 first_length t = length_in Outside 0 t
 
--- The members of a text up to the bracket that closes the object, given the part u of the first member that was read
--- before.
+-- The members of an object's text, up to the bracket that closes the object. The part u of the first member was read
+-- before the text.
 unfoldable pub members_in : Mode → ℕ → List ℕ → List ℕ → List (List ℕ)
 members_in m n u [] = cond (length u == 0) [] (u ∷ [])
 members_in m n u (b ∷ t) =
@@ -54,11 +54,11 @@ members_in m n u (b ∷ t) =
 abbrev pub is_blank : List ℕ → Bool
 is_blank m = list_all (λ b. b == 32) m
 
--- The members of an object, without blank ones.
+-- The texts of an object's members, without texts that are blank.
 abbrev pub members_of : List ℕ → List (List ℕ)
 members_of x = filter (λ m. not (is_blank m)) (members_in Outside 0 [] (drop 1 x))
 
--- The texts of members, with commas between them.
+-- The texts of the given members, with commas between them.
 abbrev pub joined : List (List ℕ) → List ℕ
 joined [] = []
 joined (m ∷ []) = m

@@ -1,4 +1,4 @@
--- The names of members, with their quotation marks, and the values of members.
+-- The names of an object's members, with the quotation marks, and the values of the members.
 use Rattle.std.specs.Prelude.{ℕ, ◌==◌, nat_eq, length, drop, take, List, [], ◌∷◌, Bool, cond, codes}
 use Rattle.std.specs.List.{starts_with}
 use Rattle.doc_envelope.specs.Members.{first_length}

@@ -4,11 +4,11 @@ use Rattle.json.specs.Print.{quoted}
 use Rattle.doc_envelope.specs.Members.{is_blank}
 use Rattle.doc_envelope.specs.Envelopes.{whole_name, stays, unfolded_member}
 
--- The text of an object without its closing brace, after member m is appended to t.
+-- The text of an object without its closing brace, after member m is appended to the text t.
 abbrev pub added : List ℕ → List ℕ → List ℕ
 added t m = cond (nat_lt 1 (length t)) (t ++ 44 ∷ m) (t ++ m)
 
--- The text of an envelope's string, after member m is appended to h.
+-- The text of the string in an envelope's member `whole`, after member m is appended to the text h.
 abbrev pub held_with : List ℕ → List ℕ → List ℕ
 held_with h m = cond (length h == 0) (h ++ m) (h ++ 44 ∷ m)
 
@@ -21,7 +21,7 @@ held_by h m = cond (is_blank m) h (cond (stays m) h (held_with h m))
 abbrev pub taken_with : List ℕ → List ℕ → Option (List ℕ)
 taken_with t m = cond (is_blank m) (Some t) (option_map (added t) (unfolded_member m))
 
--- The text after a member of n bytes and its comma.
+-- The rest of a text after a member of n bytes and the comma after it.
 abbrev pub behind_comma : List ℕ → ℕ → List ℕ
 behind_comma t n = cond (get_or t n 0 == 44) (drop (n + 1) t) []
 

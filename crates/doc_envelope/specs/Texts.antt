@@ -16,7 +16,7 @@ Spaces s = list_all is_space s ≡ true
 abbrev pub is_json : List ℕ → Bool
 is_json text = is_utf8 text && is_some (document text)
 
--- The text of a JSON string after its opening quotation mark, up to its closing one.
+-- The text of a JSON string after its opening quotation mark, up to its closing quotation mark.
 pub data EndsString : List ℕ → Type 0 where
   ends : EndsString (34 ∷ [])
   plain : {b : ℕ} {t : List ℕ} → (b == 34) ≡ false → (b == 92) ≡ false → EndsString t → EndsString (b ∷ t)
@@ -32,7 +32,7 @@ pub record IsPlain (nesting b : ℕ) : Type 0 where
   pub closes : (b == 125 || b == 93) ≡ false
 
 -- In the first text of `Closed`, strings are closed and brackets are paired, at most 128 deep. The second text of
--- `Closed` is the first one with a blank for each byte of white space outside of strings.
+-- `Closed` is the first text with a blank for each byte of white space outside of strings.
 pub data Closed : ℕ → List ℕ → List ℕ → Type 0 where
   nothing : {n : ℕ} → Closed n [] []
   space : {n b : ℕ} {t u : List ℕ} → is_space b ≡ true → Closed n t u → Closed n (b ∷ t) (32 ∷ u)

@@ -2,7 +2,7 @@
 use Rattle.std.specs.Prelude.{◌≡◌, ℕ, ◌+◌, ◌-◌, ◌*◌, ◌%◌, ◌<◌, Bool, true, false, List, [], ◌∷◌, length, drop, get_or}
 use Rattle.std.specs.List.{AllByRecursion}
 
--- The hash of a string, computed byte by byte from the value n.
+-- The hash of a string, computed byte by byte from the initial value n.
 abbrev pub place_from : ℕ → List ℕ → ℕ
 place_from n [] = n
 place_from n (b ∷ bs) = place_from ((n * 31 + b) % 8192) bs

@@ -11,7 +11,7 @@ abbrev pub plain_members : Members → Members
 plain_members no_members = no_members
 plain_members (member name d ms) = if is_special name then plain_members ms else member name d (plain_members ms)
 
--- Whether the name of a member of the object begins with `_`.
+-- Whether the name of a member of a JSON object begins with `_`.
 abbrev pub has_special : Members → Bool
 has_special no_members = false
 has_special (member name d ms) = is_special name || has_special ms
@@ -26,7 +26,7 @@ special_names =
 abbrev pub is_unknown : List ℕ → Bool
 is_unknown name = is_special name && not (list_any (bytes_eq name) special_names)
 
--- Whether the object has a special member that a document may not have.
+-- Whether a JSON object has a special member that a document may not have.
 abbrev pub has_unknown : Members → Bool
 has_unknown no_members = false
 has_unknown (member name d ms) = is_unknown name || has_unknown ms

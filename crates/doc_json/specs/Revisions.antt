@@ -17,12 +17,12 @@ abbrev pub rev_of_text : Option (List ℕ) → Result (Option RevId) DocFault
 rev_of_text None = Err faults.NoRev
 rev_of_text (Some text) = named faults.NoRev (rev_read text) >>= (λ r. Ok (Some r))
 
--- The result of reading the member `_rev`, `None` if the member is missing.
+-- The result of reading a document's member `_rev`, which is `None` if the member is missing.
 abbrev pub rev_member : Option Data → Result (Option RevId) DocFault
 rev_member None = Ok None
 rev_member (Some d) = rev_of_text (as_str d)
 
--- The signature that a string is, if there is a string and it is a signature.
+-- The signature that an optional string represents, if there is a string and it is a signature.
 abbrev pub sig_of : Option (List ℕ) → Option (List ℕ)
 sig_of None = None
 sig_of (Some text) = if is_sig text then Some text else None
@@ -32,8 +32,8 @@ abbrev pub sigs_of : Items → Option (List (List ℕ))
 sigs_of no_items = Some []
 sigs_of (item d ds) = option_and_then (λ sig. option_map (λ sigs. sig ∷ sigs) (sigs_of ds)) (sig_of (as_str d))
 
--- The ancestry of a start and signatures, or `BadRevisions`. The start of an ancestry must be a generation, and there
--- must be 1 to `start` signatures.
+-- The ancestry that has the generation `start` and the given signatures, or `BadRevisions`. The value `start` must be a
+-- generation, and there must be 1 to `start` signatures.
 abbrev pub numbered_from : Option ℕ → Option (List (List ℕ)) → Result (List RevId) DocFault
 numbered_from None sigs = Err faults.BadRevisions
 numbered_from (Some start) None = Err faults.BadRevisions
@@ -46,16 +46,16 @@ start_of d = option_and_then as_u64 (option_and_then as_number (get (codes "star
 abbrev pub ids_read : Data → Option (List (List ℕ))
 ids_read d = option_and_then sigs_of (option_and_then as_array (get (codes "ids") d))
 
--- The result of reading a value of `_revisions`.
+-- The result of reading a value of the member `_revisions`.
 abbrev pub revisions_read : Data → Result (List RevId) DocFault
 revisions_read d = numbered_from (start_of d) (ids_read d)
 
--- Whether r is the first revision of a list.
+-- Whether r is the first revision of a list of revisions.
 abbrev pub is_head : RevId → List RevId → Bool
 is_head r [] = false
 is_head r (s ∷ rest) = eq_by_cmp rev_cmp r s
 
--- Whether `_rev` is missing or is the newest revision of `_revisions`.
+-- Whether a document's member `_rev` is missing or is the newest revision of its member `_revisions`.
 abbrev pub agrees : Option RevId → List RevId → Bool
 agrees None revs = true
 agrees (Some r) revs = is_head r revs
@@ -68,11 +68,11 @@ abbrev pub alone : Option RevId → Result (List RevId) DocFault
 alone None = Err faults.NoRev
 alone (Some r) = Ok (r ∷ [])
 
--- The ancestry of a start and signatures, given the value of `_rev`.
+-- The ancestry that has the generation `start` and the given signatures, checked against the value of `_rev`.
 abbrev pub numbered_beside : Option RevId → Option ℕ → Option (List (List ℕ)) → Result (List RevId) DocFault
 numbered_beside rev start sigs = numbered_from start sigs >>= matched rev
 
--- The ancestry of a value of `_revisions`, given the value of `_rev`.
+-- The ancestry that a value of `_revisions` represents, checked against the value of `_rev`.
 abbrev pub revisions_beside : Option RevId → Data → Result (List RevId) DocFault
 revisions_beside rev d = revisions_read d >>= matched rev
 

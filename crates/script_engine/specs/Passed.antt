@@ -3,7 +3,7 @@ use Rattle.std.specs.Prelude.{ℕ, List, [], ◌++◌}
 use Rattle.script_engine.specs.declared.passed.Pass.{Pass}
 use Rattle.script_engine.specs.declared.passed.Pass.TheVariants as pass
 
--- The bytes of a stream's history after a step.
+-- The bytes of a stream's history after a step that may add bytes.
 abbrev pub passed_bytes : Pass → List ℕ
 passed_bytes pass.Nothing = []
 passed_bytes (pass.More before bytes) = before.now.bytes ++ bytes.now
