@@ -13,7 +13,7 @@ use Rattle.relay_core.specs.Messages.{Text}
 
 pub record HeadView : Type 0 where
   pub status : ℕ
-  -- The length of the response's body.
+  -- The length of a response's body, from the response's head.
   pub size : ℕ
   pub who : Option Side
   pub date : Text
@@ -29,7 +29,7 @@ word_in text = before_first is_space text
 abbrev pub rest_in : Text → Text
 rest_in text = after_first is_space text
 
--- The decimal digits of the text, after an optional plus, are the number n, which has at most `bits` bits.
+-- The text is an optional plus and the decimal digits of the number n, which has at most `bits` bits.
 abbrev pub IsNumber : ℕ → Text → ℕ → Type 0
 IsNumber bits text n =
     IsNumeral 10 (without_leading_plus text) × (digits_value 10 (without_leading_plus text) < 2 ^ bits)
@@ -40,7 +40,7 @@ abbrev pub side_in : Text → Option Side
 side_in name =
     if bytes_eq name (codes "source") then Some Source else if bytes_eq name (codes "target") then Some Target else None
 
--- The line is `STATUS BYTES WHO DATE`, in UTF-8, the head of a response.
+-- The line is the head of a response, `STATUS BYTES WHO DATE`, in UTF-8.
 pub record IsHead (line : Text) (head : HeadView) : Type 0 where
   pub text : IsUtf8 line
   pub status : IsNumber 16 (word_in line) head.status
@@ -50,7 +50,7 @@ pub record IsHead (line : Text) (head : HeadView) : Type 0 where
 
 -- ---- a response
 
--- The bytes are a line, a line feed, and further bytes `rest`.
+-- The given bytes are a line, a line feed, and further bytes `rest`.
 pub record IsLine (bytes line rest : List ℕ) : Type 0 where
   pub is : bytes ≡ line ++ 10 ∷ rest
   pub one : has_line_end line ≡ false

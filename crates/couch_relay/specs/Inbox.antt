@@ -16,7 +16,7 @@ pub record IsInbox (inbox : Inbox) : Type 0 where
   pub within : inbox.at ≤ length inbox.held.items
   pub some : 0 < length inbox.buffer.items
 
--- A reader returned bytes, which were appended to the history of the bytes that it has returned.
+-- A reader returned bytes, which were appended to the history of the bytes that the reader has returned.
 abbrev pub Took : Option (List ℕ) → Option (List ℕ) → Type 0
 Took old new = (bytes : List ℕ) × Appends old new bytes
 
@@ -24,18 +24,19 @@ Took old new = (bytes : List ℕ) × Appends old new bytes
 abbrev pub Filled : Option (List ℕ) → Option (List ℕ) → List ℕ → List ℕ → Type 0
 Filled old new before after = (bytes : List ℕ) × Appends old new bytes × (after ≡ before ++ bytes)
 
--- The bytes begin with a line of length `size`.
+-- The given bytes begin with a line of length `size`.
 abbrev pub HasLine : List ℕ → ℕ → Type 0
 HasLine bytes size = IsLine bytes (take size bytes) (drop (size + 1) bytes) × (size < length bytes)
 
 abbrev pub head_view : Head → HeadView
 head_view head = record { status = head.status; size = head.size; who = head.who; date = string_bytes head.date }
 
--- The bytes are the line of a response's head, and then `rest`.
+-- The given bytes are the line of a response's head, and then further bytes `rest`.
 abbrev pub BeginsWithHead : List ℕ → HeadView → List ℕ → Type 0
 BeginsWithHead bytes head rest = (line : List ℕ) × IsLine bytes line rest × IsHead line head
 
--- The bytes that were read after the pending bytes, and the head at the beginning of all these bytes, if there is one.
+-- The bytes that the reads returned, and the head at the beginning of the pending bytes followed by these bytes, if
+-- there is one.
 abbrev pub ReadsHead : Option (List ℕ) → Option (List ℕ) → Type 0 → List ℕ → List ℕ → Option Head → Type 0
 ReadsHead old new ended before after head =
     (bytes : List ℕ) × Appends old new bytes

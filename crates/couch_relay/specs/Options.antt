@@ -1,4 +1,4 @@
--- What the options of the command line set: docs/PROFILE.md, "Options of `couch_relay`".
+-- The options of the command line and their values, as specified in docs/PROFILE.md, "Options of `couch_relay`".
 use Rattle.std.specs.Prelude.{◌≡◌, ℕ, List, [], Option, Some, None, codes, unwrap_or, true}
 use Rattle.clap.specs.Words.{App, HasKind, Rule, fault_of, first_of, one_of, matches_of, new_rule, with_rule}
 use Rattle.clap.specs.declared.builder.action.ArgAction.TheVariants.{Set}
@@ -12,17 +12,17 @@ use Rattle.relay_core.specs.Messages.{Text}
 
 -- ---- the command line
 
--- A positional argument that must be given.
+-- The `clap` rule of a positional argument that must be given.
 abbrev pub argument : Text → Rule
 argument name = record (new_rule name) { action = Some Set; required = true }
 
--- An option with an integer value below 2 ^ 64.
+-- The `clap` rule of an option with an integer value below 2 ^ 64.
 abbrev pub number_option : Text → Rule
 number_option name =
     record (new_rule name)
     { long = Some name; action = Some Set; value_names = 1; parser = Some (vp.Unsigned 0 18446744073709551615) }
 
--- An option with a string value.
+-- The `clap` rule of an option with a string value.
 abbrev pub text_option : Text → Rule
 text_option name = record (new_rule name) { long = Some name; action = Some Set; value_names = 1 }
 
@@ -49,12 +49,13 @@ command_line = with_options (with_numbers (with_arguments (program_app (codes "c
 
 -- ---- the values of the options
 
--- The option's text is the decimal numeral of `n`; an option without a text has the value `default`.
+-- The text of an option is the decimal numeral of `n`, or n is `default` if the option has no text.
 abbrev pub IsValue : Option Text → ℕ → ℕ → Type 0
 IsValue None default n = n ≡ default
 IsValue (Some text) default n = IsNumber 64 text n
 
--- The options have the values of their texts. The functions `text` and `number` give the text of an option by its name.
+-- Each option has the value that its text gives. The functions `text` and `number` give the text of an option by its
+-- name.
 pub record AreGiven (text number : Text → Option Text) (o : Options) : Type 0 where
   pub source : o.source.now ≡ unwrap_or (text (codes "SOURCE")) []
   pub target : o.target.now ≡ unwrap_or (text (codes "TARGET")) []
@@ -73,8 +74,8 @@ pub record AreGiven (text number : Text → Option Text) (o : Options) : Type 0 
 abbrev pub Says : List Text → Options → Type 0
 Says words o = AreGiven (λ id. first_of id (matches_of command_line words)) (λ id. one_of id (matches_of command_line words)) o
 
--- The reason why the arguments give no options, which is `clap`'s error, or that no options have the values of the
--- arguments, or that an allocation failed.
+-- The reason why the arguments give no options: `clap`'s error, no options that have the arguments' values, or a failed
+-- allocation.
 abbrev pub Refuses : List Text → NoOptions → Type 0
 Refuses words (Words error) = HasKind (fault_of command_line words) error
 Refuses words NoNumber = (o : Options) → Says words o → ⊥

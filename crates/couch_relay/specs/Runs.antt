@@ -1,4 +1,4 @@
--- A run of the program `couch_relay`: what was read, what was written, and the exit status.
+-- A run of the program `couch_relay`: the bytes that were read, the bytes that were written, and the exit status.
 use Rattle.std.specs.Prelude.{◌≡◌, ◌==◌, ◌||◌, ◌⊎◌, ℕ, true, false, if◌then◌else◌, List, [], ◌∷◌, ◌++◌, Option, None, Some, map, string_bytes, Result, Ok, Err, MatchOption}
 use Rattle.std.specs.Io.KnownBytes.{Appends}
 use Rattle.std.specs.Str.{IsUtf8, trim}
@@ -32,15 +32,15 @@ abbrev pub BeginsWithResponse : RequestView → List ℕ → List ℕ → Dated 
 BeginsWithResponse q bytes rest d =
     (frame : List ℕ) × (bytes ≡ frame ++ rest) × IsResponse q frame (response_view d.response) (string_bytes d.date)
 
--- The bytes that were read after the pending bytes, and the response at the beginning of all these bytes, if there is
--- one.
+-- The bytes that the reads returned, and the response at the beginning of the pending bytes followed by these bytes, if
+-- there is one.
 abbrev pub Receives : RequestView → Option (List ℕ) → Option (List ℕ) → Type 0 → List ℕ → List ℕ → Option Dated → Type 0
 Receives q old new ended before after dated =
     (bytes : List ℕ) × Appends old new bytes
     × MatchOption dated (NoFrame ended (before ++ bytes)) (λ d. BeginsWithResponse q (before ++ bytes) after d)
 
--- Exchange e follows the earlier exchanges. The request of e was written after the earlier requests, and the response
--- to e was read after the earlier responses.
+-- The exchange e follows the earlier exchanges of a run. The request of e was written after the earlier requests, and
+-- the response to e was read after the earlier responses.
 pub record IsNext (o : RequestOptions) (e : Exchange) (earlier : List ℕ → List ℕ → Type 0) (read written : List ℕ) : Type 0 where
   pub read_before : List ℕ
   pub written_before : List ℕ
@@ -51,13 +51,13 @@ pub record IsNext (o : RequestOptions) (e : Exchange) (earlier : List ℕ → Li
   pub read_is : read ≡ read_before ++ frame
   pub written_is : written ≡ written_before ++ request_text o e.request
 
--- The bytes that were read and written in the given exchanges, the last exchange first.
+-- The bytes that were read and written in a list of exchanges, whose last exchange comes first.
 abbrev pub Exchanged : RequestOptions → List Exchange → List ℕ → List ℕ → Type 0
 Exchanged o [] read written = (read ≡ []) × (written ≡ [])
 Exchanged o (e ∷ h) read written = IsNext o e (Exchanged o h) read written
 
--- The bytes `read` and `written` are those of exchanges that were all allowed, and after which the next request is
--- allowed.
+-- The bytes `read` and `written` are the bytes of a list of exchanges, each of which was allowed. The next request is
+-- allowed after these exchanges.
 pub record IsRun (o : RequestOptions) (read written : List ℕ) (next : RequestView) : Type 0 where
   pub history : List Exchange
   pub exchanged : Exchanged o history read written
@@ -66,7 +66,7 @@ pub record IsRun (o : RequestOptions) (read written : List ℕ) (next : RequestV
 
 -- ---- end of a run
 
--- The exit status after a request, if no response follows the request.
+-- The exit status of a run that ends after a request without a response.
 abbrev pub status_after : RequestView → Option ℕ
 status_after (get_log side) = None
 status_after (get_changes since wait) = None
@@ -109,7 +109,7 @@ pub record RanUntil (o : RequestOptions) (input text : List ℕ) : Type 0 where
 
 -- ---- command line and selection
 
--- The request options o are those of the command line and the given selection.
+-- The request options o have the values of the command line and the given selection.
 pub record AreOptions (options : Options) (choice : Text) (o : RequestOptions) : Type 0 where
   pub path : string_bytes o.log_path
       ≡ log_path options.source.now options.target.now options.filter.now options.query.now choice options.salt.now
@@ -119,11 +119,11 @@ pub record AreOptions (options : Options) (choice : Text) (o : RequestOptions) :
   pub query : string_bytes o.query ≡ options.query.now
   pub choice_is : string_bytes o.choice ≡ choice
 
--- A byte of a text that is put on one line, with a blank instead of a line end.
+-- A byte of a text that is put on one line: a blank if the byte is a line end, otherwise the byte.
 abbrev pub on_line : ℕ → ℕ
 on_line b = if b == 10 || b == 13 then 32 else b
 
--- A text on one line: its line ends are spaces, and no white space is at its ends.
+-- A text on one line: its line ends are replaced by spaces, and white space at its beginning and end is removed.
 abbrev pub on_one_line : Text → Text
 on_one_line text = map on_line (trim text)
 
@@ -143,19 +143,19 @@ NoChoice ended input =
     NoFrame ended input
     ⊎ ((frame body rest : List ℕ) × (head : HeadView) × (input ≡ frame ++ rest) × IsFrame frame head body × ¬ IsUtf8 body)
 
--- The bytes that were read after the pending bytes, and the selection at the beginning of all these bytes, if there is
--- one.
+-- The bytes that the reads returned, and the selection at the beginning of the pending bytes followed by these bytes,
+-- if there is one.
 abbrev pub ReadsChoice : Option (List ℕ) → Option (List ℕ) → Type 0 → List ℕ → List ℕ → Option Text → Type 0
 ReadsChoice old new ended before after choice =
     (bytes : List ℕ) × Appends old new bytes
     × MatchOption choice (NoChoice ended (before ++ bytes)) (λ text. IsChoice (before ++ bytes) text after)
 
--- The selection at the beginning of the input, if the options require one.
+-- The selection at the beginning of the input, if the options require a selection.
 abbrev pub TakesChoice : Options → List ℕ → Text → List ℕ → Type 0
 TakesChoice options input choice rest =
     (options.choice ≡ true → IsChoice input choice rest) × (options.choice ≡ false → (choice ≡ []) × (rest ≡ input))
 
--- The bytes that were read after the pending bytes, and the selection, if the options require one.
+-- The bytes that the reads returned, and the selection that is read from the input, if the options require a selection.
 abbrev pub FindsChoice : Options → Option (List ℕ) → Option (List ℕ) → Type 0 → List ℕ → List ℕ → Option Text → Type 0
 FindsChoice options old new ended before after choice =
     (bytes : List ℕ) × Appends old new bytes
@@ -180,7 +180,7 @@ RunsUntil options input text =
 
 -- ---- the program
 
--- The input and the output of a run with these options, which ended with an exit status or was stopped by a fault.
+-- The input and the output of a run with the given options, which ended with an exit status or was stopped by a fault.
 abbrev pub RunsOptions : Options → Type 0 → List ℕ → List ℕ → Result ℕ ScriptFault → Type 0
 RunsOptions options ended input text (Ok status) = Runs options ended input text status
 RunsOptions options ended input text (Err fault) = RunsUntil options input text

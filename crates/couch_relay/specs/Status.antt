@@ -7,7 +7,7 @@ use Rattle.couch_relay.specs.declared.options.NoOptions.TheVariants.{Words, NoNu
 use Rattle.couch_relay.specs.declared.run.Ended.{Ended}
 use Rattle.couch_relay.specs.declared.run.Ended.TheVariants as end
 
--- The exit status of a command line that runs nothing, from the status that `cli_common` gives it: 3, unless it is 0.
+-- The exit status of a command line that starts no run: 0 if `cli_common` gives the status 0, otherwise 3.
 abbrev pub usage_status : ℕ → ℕ
 usage_status status = if status == 0 then 0 else 3
 
@@ -16,7 +16,7 @@ abbrev pub exit_status : Result ℕ ScriptFault → ℕ
 exit_status (Ok status) = status
 exit_status (Err fault) = 3
 
--- The exit status of the program: 3 if the arguments give no options, unless they request help.
+-- The exit status of the program, which is 3 if the arguments neither give options nor request help.
 abbrev pub ended_status : Ended → ℕ
 ended_status (end.NotRun (Words error)) = usage_status (kind_status (kind_of error))
 ended_status (end.NotRun NoNumber) = 3

@@ -74,7 +74,7 @@ Audits old ask told new = Reads (audit_told old ask) old told new × FindsNone o
 
 -- ---- the guarantee of `audit`, as specified in docs/PROFILE.md, "Tied databases"
 
--- An audit prints `clean`, or fails.
+-- An `audit` line prints `clean`, or fails with an error.
 abbrev pub IsClean : Told → Type 0
 IsClean (Ok text) = text ≡ codes "clean\n"
 IsClean (Err name) = Unit {0}

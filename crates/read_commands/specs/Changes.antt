@@ -31,7 +31,7 @@ changes_in d = do
 
 -- ---- its output
 
--- The line of `changes` for a document: its latest change, and its leaves.
+-- The line of `changes` for a document: the sequence of the document's latest change, and the document's leaves.
 abbrev pub row_line : RowValue → List ℕ
 row_line r = ended (codes "change " ++ decimal r.seq ++ codes " " ++ quoted r.id ++ codes " " ++ texts_of_revs r.leaves)
 

@@ -50,7 +50,7 @@ compare_in d = do
 
 -- ---- its output
 
--- The line of `compare` for the revision whose parent differs in the target, if there is one.
+-- The line of `compare` for the revision to which the target gives another parent, if there is such a revision.
 abbrev pub contradicts_line : List ℕ → Option Contradiction → List ℕ
 contradicts_line id None = []
 contradicts_line id (Some c) = revs_line (codes "contradicts") id (c.child ∷ [])
@@ -82,14 +82,14 @@ compare_text source target chosen =
     flat_map (compared_lines source target) (chosen_feed chosen source 0 source.update_seq)
     ++ compared_line (total_of (comparisons source target (chosen_feed chosen source 0 source.update_seq)))
 
--- The remaining output of `compare`, whose totals are those of all rows.
+-- The remaining output of `compare`, which ends with the totals of all rows.
 abbrev pub compare_left : State → CompareRest → List ℕ
 compare_left s r =
     left_in (peer_at s (string_bytes r.source)) (λ source. left_in (peer_at s (string_bytes r.target)) (λ target.
     flat_map (compared_lines source.db target.db) (rows_left source.db r.walk)
     ++ compared_line (total_of (comparisons source.db target.db (rows_walked source.db r.walk)))))
 
--- The totals that `compare` has counted are those of the rows that it has printed.
+-- The totals that `compare` has counted are the totals of the feed rows that it has printed.
 abbrev pub FitsCompare : State → CompareRest → Type 0
 FitsCompare s r =
     holds_in (peer_at s (string_bytes r.source)) (λ source. holds_in (peer_at s (string_bytes r.target)) (λ target.

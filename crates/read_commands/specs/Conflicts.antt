@@ -36,23 +36,24 @@ conflicts_in d = do
 
 -- ---- its output
 
--- The line of `conflicts` for a row's document: its live leaves, if there are two or more.
+-- The line of `conflicts` for the document of a feed row: the document's live leaves, if there are two or more.
 abbrev pub conflict_line : DatabaseValue → RowValue → List ℕ
 conflict_line db r = option_map_or (λ tree. revs_line (codes "conflict") r.id (conflicting tree)) (tree_in db.docs r.id) []
 
--- The last line of `conflicts`: the number of documents in conflict, and of all documents.
+-- The last line of `conflicts`: the number of documents in conflict, and the number of all documents.
 abbrev pub conflicts_line : Census → List ℕ
 conflicts_line c = ended (codes "conflicts " ++ decimal c.conflicts ++ codes " of " ++ decimal c.documents ++ codes " documents")
 
 abbrev pub conflicts_text : DatabaseValue → List ℕ
 conflicts_text db = flat_map (conflict_line db) (feed db 0 db.update_seq) ++ conflicts_line (census_of (trees db))
 
--- The remaining output of `conflicts`, whose counts are those of all documents.
+-- The remaining output of `conflicts`, which ends with the counts of all documents.
 abbrev pub conflicts_left : State → ConflictsRest → List ℕ
 conflicts_left s r =
     left_in (peer_at s (string_bytes r.db)) (λ l. flat_map (conflict_line l.db) (rows_left l.db r.walk) ++ conflicts_line (census_of (trees l.db)))
 
--- The counts of `conflicts` are those of the rows that it has printed, and it has no selection of documents.
+-- The counts of `conflicts` are the counts of the feed rows that it has processed. The command `conflicts` has no
+-- selection of documents.
 abbrev pub FitsConflicts : State → ConflictsRest → Type 0
 FitsConflicts s r =
     holds_in (peer_at s (string_bytes r.db)) (λ l. (earlier : List RowValue)

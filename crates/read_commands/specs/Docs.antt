@@ -50,7 +50,7 @@ docs_in d = do
 abbrev pub doc_line : Document → List ℕ
 doc_line d = ended (doc_text d)
 
--- The lines of `docs` for every leaf of a row's document, the winner first.
+-- The lines of `docs` for the document of a feed row, one for each leaf, the winner first.
 abbrev pub leaf_lines : DatabaseValue → RowValue → List ℕ
 leaf_lines db r = flat_map doc_line (documents_at db r.id)
 

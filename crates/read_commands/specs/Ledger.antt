@@ -21,8 +21,8 @@ use Rattle.read_commands.specs.declared.ledger.Ledger.{Ledger}
 
 -- ---- its parameters
 
--- The parameters of `ledger`, which prints the documents that a target refused in a session, given by the number of its
--- UUID.
+-- The parameters of `ledger`, which prints the documents that a target refused in a session, which is given by the
+-- number of the session's UUID.
 pub record LedgerAsk : Type 0 where
   pub target : List ℕ
   pub session : ℕ
@@ -43,7 +43,8 @@ ledger_in d = do
 abbrev pub rev_part : List ℕ → List ℕ → List ℕ → List ℕ
 rev_part word id rev = word ++ codes " " ++ quoted id ++ codes " " ++ rev
 
--- A part of a line of `ledger`: the known and the given parent of a revision.
+-- A part of a line of `ledger`: the parent of a revision that the target knows, and the parent that the refused
+-- document gives.
 abbrev pub parents_part : List ℕ → List ℕ → List ℕ
 parents_part known given = codes " known " ++ known ++ codes " given " ++ given
 

@@ -10,13 +10,13 @@ use Rattle.read_commands.specs.Docs.{docs_left}
 use Rattle.read_commands.specs.declared.rest.Rest.{Rest}
 use Rattle.read_commands.specs.declared.rest.Rest.TheVariants.{Compare, Conflicts, Docs}
 
--- The remaining text of an output, in the state in which the output was started.
+-- The text of the remaining output of a command, in the state in which the output was started.
 abbrev pub rest_left : State → Rest → List ℕ
 rest_left s (Compare r) = compare_left s r.value
 rest_left s (Conflicts r) = conflicts_left s r.value
 rest_left s (Docs r) = docs_left s r.value
 
--- The remaining part of an output was started in the given state.
+-- The remaining output of a command was started in the given state.
 abbrev pub FitsRest : State → Rest → Type 0
 FitsRest s (Compare r) = FitsCompare s r.value
 FitsRest s (Conflicts r) = FitsConflicts s r.value

@@ -1,5 +1,5 @@
--- When the relay may request a replication log to record a sequence. A history of the relay has its last exchange
--- first.
+-- When the relay may request a replication log to record a sequence. A history of the relay is a list of exchanges, the
+-- last exchange first.
 use Rattle.std.specs.Prelude.{ℕ, ◌≡◌, ◌+◌, ◌-◌, ◌^◌, ◌≤◌, ◌==◌, codes, Bool, true, false, ◌&&◌, ◌||◌, not, if◌then◌else◌, List, [], ◌∷◌, ◌++◌, Option, None, Some, min, bytes_eq}
 use Rattle.std.specs.List.{list_any}
 use Rattle.relay_core.specs.declared.messages.Side.{Side}
@@ -15,7 +15,7 @@ abbrev pub finds : RequestView → ResponseView → Text → Text → Bool
 finds (revs_diff docs) (missing_response missing) id leaf = are_distinct docs && (names docs id leaf && not (names missing id leaf))
 finds q r id leaf = false
 
--- Whether the target refused a request of one document as too large.
+-- Whether the target refused a request that transfers one document as too large.
 abbrev pub is_too_large : Side → ℕ → Bool
 is_too_large Target status = status == 413
 is_too_large Source status = false
@@ -33,7 +33,7 @@ is_found h id leaf = list_any (λ e. finds e.request e.response id leaf) h
 abbrev pub is_rejected : List Exchange → Text → Text → Bool
 is_rejected h id leaf = list_any (λ e. rejects e.request e.response id leaf) h
 
--- The target has each leaf of a page's rows, or refused it.
+-- The target has, or has refused, each leaf of a page's rows.
 abbrev pub AreSettled : List Exchange → List DocView → Type 0
 AreSettled h rows = (id leaf : Text) → names rows id leaf ≡ true → (is_found h id leaf || is_rejected h id leaf) ≡ true
 
@@ -43,18 +43,18 @@ not_found h rows = docs_where (λ id leaf. not (is_found h id leaf)) rows
 
 -- ---- the replication logs
 
--- The replication log that a response has, if it has one.
+-- The replication log that a response contains, if it contains one.
 abbrev pub log_in : ResponseView → Option LogView
 log_in (log_response log) = Some log
 log_in r = None
 
--- The replication log of a side after an exchange, given its log before.
+-- The replication log of one side after an exchange, given the log of this side before the exchange.
 abbrev pub log_after : Side → RequestView → ResponseView → Option LogView → Option LogView
 log_after Source (get_log Source) r before = log_in r
 log_after Target (get_log Target) r before = log_in r
 log_after side q r before = before
 
--- The replication log of a side, as its server last returned it.
+-- The replication log of one side, as the side's server last returned it.
 abbrev pub last_log : Side → List Exchange → Option LogView
 last_log side [] = None
 last_log side (e ∷ h) = log_after side e.request e.response (last_log side h)
@@ -76,8 +76,8 @@ seq_of (Some pair) = pair.1
 
 -- ---- progress of a run
 
--- Pages lead from sequence `begin` to sequence s. After each page of a run, the target had each leaf of the page, or
--- refused it. The number n counts the leaves of the pages up to s that the target refused and does not have.
+-- Pages lead from sequence `begin` to sequence s. After each page of a run, the target had, or refused, each leaf of
+-- the page. The number n counts the leaves of the pages up to s that the target refused and does not have.
 pub data Reached : Text → List Exchange → Text → ℕ → Type 0 where
   begun : {begin : Text} {h : List Exchange} {s : Text} {n : ℕ} → begin ≡ s → n ≡ 0 → Reached begin h s n
   paged : {begin : Text} {h : List Exchange} {s : Text} {n : ℕ} (before after rest : List Exchange) (since : Text) (wait : Option ℕ) (page : PageView) (m : ℕ) → h ≡ rest ++ (after ++ exchange_of (get_changes since wait) (page_response page) ∷ before) → Reached begin before since m → AreSettled after page.rows → page.last_seq ≡ s → n ≡ m + leaf_count (not_found after page.rows) → Reached begin h s n
@@ -100,8 +100,8 @@ pub record AreReady (h : List Exchange) (target source : LogView) (s : Text) (fa
   pub reached : Reached (seq_of (newest_common target.history source.history)) before s rejected
   pub counted : min rejected (2 ^ 64 - 1) ≤ failures
 
--- A log may be requested to record the sequence s that the pages reached. The history of a log that is put is the new
--- entry and the history that the log had when it was last read.
+-- A log may be requested to record the sequence s that the pages reached. The history of a log that is written is the
+-- new entry, followed by the log's history when it was last read.
 pub record IsReady (h : List Exchange) (side : Side) (log : LogView) (s : Text) (failures : ℕ) : Type 0 where
   pub target : LogView
   pub source : LogView

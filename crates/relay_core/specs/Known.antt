@@ -1,4 +1,4 @@
--- What a phase of the relay requests, and what is known of the history in the phase.
+-- The request of a phase of the relay, and what the phase knows about the history.
 use Rattle.std.specs.Prelude.{ℕ, ◌≡◌, ◌-◌, ◌^◌, ◌≤◌, true, if◌then◌else◌, List, [], ◌∷◌, ◌++◌, Option, None, Some, min, option_map, take, drop, slice_get, string_bytes}
 use Rattle.std.specs.Option.{option_map_or}
 use Rattle.relay_core.specs.declared.messages.Side.TheVariants.{Source, Target}
@@ -63,8 +63,9 @@ pub record IsRead (h : List Exchange) (begin since : Text) (failures : ℕ) (tar
   pub target_is : last_log Target later ≡ Some target
   pub reached : IsReachedFrom before begin since failures
 
--- The source returned a page, and its transfer is in progress. The documents `missing` are the leaves that the target
--- did not have when it was asked after the page. The target refused each leaf that the error rows of a transfer name.
+-- The source returned a page of changes, and the transfer of the page is in progress. The documents `missing` are the
+-- leaves that the target lacked when the relay requested its missing leaves after the page. The target refused each
+-- leaf that the error rows of a transfer name.
 pub record IsOpen (h : List Exchange) (begin since last : Text) (failures : ℕ) (missing : List DocView) (rows : List RowErrorView) : Type 0 where
   pub before : List Exchange
   pub after : List Exchange

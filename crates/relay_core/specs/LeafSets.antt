@@ -1,12 +1,12 @@
--- What sets of leaves and of ids contain. A key of a set is a reference to a text, or two references, to an id and a
--- leaf.
+-- The elements of sets of leaves and of sets of ids. A key of such a set is a reference to an id, or two references, to
+-- an id and a leaf.
 use Rattle.std.specs.Prelude.{Bool, ◌&&◌, List, bytes_eq}
 use Rattle.std.specs.Borrow.{Bor}
 use Rattle.std.specs.List.{list_any, list_all}
 use Rattle.relay_core.specs.Messages.{Text, DocView}
 use Rattle.relay_core.specs.Leaves.{has_text}
 
--- Whether one of the keys is the given leaf of the given id.
+-- Whether one of a set's keys is the given leaf of the given id.
 abbrev pub has_leaf : List (Bor Text × Bor Text) → Text → Text → Bool
 has_leaf keys id leaf = list_any (λ k. bytes_eq id k.0.now && bytes_eq leaf k.1.now) keys
 
@@ -14,6 +14,6 @@ has_leaf keys id leaf = list_any (λ k. bytes_eq id k.0.now && bytes_eq leaf k.1
 abbrev pub is_leaf_of : DocView → Text → Text → Bool
 is_leaf_of doc id leaf = bytes_eq doc.0 id && has_text doc.1 leaf
 
--- Whether each leaf of the documents passes a test.
+-- Whether each leaf of the given documents passes a test.
 abbrev pub all_leaves : (Text → Text → Bool) → List DocView → Bool
 all_leaves p docs = list_all (λ d. list_all (λ r. p d.0 r) d.1) docs

@@ -1,4 +1,4 @@
--- What lists of documents and of error rows say about a leaf of a document.
+-- Tests of whether a list of documents or of error rows names a leaf of a document.
 use Rattle.std.specs.Prelude.{ℕ, ◌+◌, Bool, true, false, ◌&&◌, ◌||◌, not, List, [], ◌∷◌, ◌++◌, Option, None, Some, codes, filter, map, length, bytes_eq}
 use Rattle.std.specs.List.{list_any, list_all}
 use Rattle.relay_core.specs.Messages.{Text, DocView, RowErrorView}
@@ -9,15 +9,15 @@ use Rattle.relay_core.specs.Messages.{Text, DocView, RowErrorView}
 abbrev pub has_text : List Text → Text → Bool
 has_text texts text = list_any (λ t. bytes_eq t text) texts
 
--- Whether one of the documents has the given id and the given leaf.
+-- Whether one of the documents of a list has the given id and the given leaf.
 abbrev pub names : List DocView → Text → Text → Bool
 names docs id leaf = list_any (λ d. bytes_eq d.0 id && has_text d.1 leaf) docs
 
--- Whether one of the documents has the given id.
+-- Whether one of the documents of a list has the given id.
 abbrev pub has_id : List DocView → Text → Bool
 has_id docs id = list_any (λ d. bytes_eq d.0 id) docs
 
--- Whether the documents have distinct ids.
+-- Whether the documents of a list have distinct ids.
 abbrev pub are_distinct : List DocView → Bool
 are_distinct [] = true
 are_distinct (d ∷ ds) = not (has_id ds d.0) && are_distinct ds
@@ -26,7 +26,7 @@ abbrev pub is_filled : List Text → Bool
 is_filled [] = false
 is_filled (r ∷ revs) = true
 
--- Whether each document has a leaf.
+-- Whether each document of a list has at least one leaf.
 abbrev pub have_leaves : List DocView → Bool
 have_leaves docs = list_all (λ d. is_filled d.1) docs
 
@@ -43,12 +43,12 @@ abbrev pub leaf_count : List DocView → ℕ
 leaf_count [] = 0
 leaf_count (d ∷ ds) = length d.1 + leaf_count ds
 
--- The document with the given id and leaves, or the empty list if there are no leaves.
+-- A list of one document with the given id and leaves, or the empty list if there are no leaves.
 abbrev pub doc_if_any : Text → List Text → List DocView
 doc_if_any id [] = []
 doc_if_any id (r ∷ revs) = (id, r ∷ revs) ∷ []
 
--- The leaves of the documents that pass a test, in order, without documents that have no such leaf.
+-- The given documents with only the leaves that pass a test, without documents that then have no leaf.
 abbrev pub docs_where : (Text → Text → Bool) → List DocView → List DocView
 docs_where p [] = []
 docs_where p (d ∷ ds) = doc_if_any d.0 (filter (λ r. p d.0 r) d.1) ++ docs_where p ds
@@ -58,7 +58,7 @@ docs_where p (d ∷ ds) = doc_if_any d.0 (filter (λ r. p d.0 r) d.1) ++ docs_wh
 abbrev pub is_refusal : RowErrorView → Bool
 is_refusal row = bytes_eq row.error (codes "forbidden") || bytes_eq row.error (codes "unauthorized")
 
--- Whether an error row about revision `rev`, or about all revisions, is about the given leaf.
+-- Whether an error row that names the revision `rev`, or no revision, is about the given leaf.
 abbrev pub is_about : Option Text → Text → Bool
 is_about None leaf = true
 is_about (Some rev) leaf = bytes_eq rev leaf
@@ -90,7 +90,7 @@ too_large_row id leaf = record { id = id; rev = Some leaf; error = codes "too_la
 abbrev pub too_large_rows : Text → List Text → List RowErrorView
 too_large_rows id revs = map (λ r. too_large_row id r) revs
 
--- Whether the list has exactly one document, and its id is `id`.
+-- Whether a list has exactly one document, and this document has the id `id`.
 abbrev pub is_alone : List DocView → Text → Bool
 is_alone [] id = false
 is_alone (d ∷ []) id = bytes_eq d.0 id

@@ -1,4 +1,4 @@
--- The messages between the relay and the two servers, as values without memory. A text in a message is a list of bytes.
+-- The messages between the relay and the two servers, as values of contracts. A text in a message is a list of bytes.
 use Rattle.std.specs.Prelude.{ℕ, Bool, List, Option}
 use Rattle.relay_core.specs.declared.messages.Side.{Side}
 use Rattle.relay_core.specs.declared.messages.Operation.{Operation}
@@ -42,7 +42,7 @@ pub data FaultView : Type 0 where
   bad_log : Side → FaultView
   refused : Text → Side → ℕ → Text → FaultView
   -- The fault of leaves that the target's response to a carry does not account for. The fault `unaccounted` has the id,
-  -- revision, error and reason of one such leaf, and the number of these leaves.
+  -- revision, error and reason of one leaf that the response omits, and the number of omitted leaves.
   unaccounted : Text → Text → Option (Text × Text) → ℕ → FaultView
   log_changed : FaultView
 
@@ -65,7 +65,7 @@ pub data RequestView : Type 0 where
   get_changes : Text → Option ℕ → RequestView
   revs_diff : List DocView → RequestView
   carry_docs : List DocView → RequestView
-  -- The request to put a log: the log as the server last returned it, and the entry that is put before its history.
+  -- The request to write a log: the log as the server last returned it, and the new entry before the log's history.
   put_log : Side → LogView → CheckpointView → RequestView
   tell : NoticeView → RequestView
   done : Option FaultView → Counts → Text → RequestView

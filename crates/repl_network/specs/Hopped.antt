@@ -11,7 +11,7 @@ use Rattle.repl_target.specs.replication.Leaves.{Leaves}
 use Rattle.repl_network.specs.declared.hop.Hop.{Hop}
 use Rattle.repl_network.specs.Nets.{IsAt}
 
--- The effect of a replication on its two peers, for every result, on one thread or several.
+-- The effect of a replication on its two peers, for every result, by one thread or by several threads.
 pub record Carried (refuses : Document → Bool) (source target : PeerValue) (plan : Plan) (source' target' : PeerValue) : Type 0
   where
     pub source_law : LawfulDatabase source.db
@@ -46,7 +46,7 @@ abbrev pub AllHopped : List PeerValue → List Hop → List PeerValue → Type 0
 AllHopped peers [] peers' = peers' ≡ peers
 AllHopped peers (hop ∷ hops) peers' = (mid : List PeerValue) × Ended peers hop mid × AllHopped mid hops peers'
 
--- The database of each peer satisfies its invariant.
+-- The database of each peer of the network satisfies the invariant of databases.
 abbrev pub AllLawful : List PeerValue → Type 0
 AllLawful peers = (n : ℕ) (p : PeerValue) → IsAt peers n p → LawfulDatabase p.db
 

@@ -12,7 +12,7 @@ abbrev pub gathers : ℕ → List Plan → List Hop
 gathers n [] = []
 gathers n (plan ∷ plans) = record { from = n + 1; to = 0; plan = plan } ∷ gathers (n + 1) plans
 
--- The hops from the hub to each other place.
+-- The hops from the hub to each place after the first.
 abbrev pub spreads : ℕ → List Plan → List Hop
 spreads n [] = []
 spreads n (plan ∷ plans) = record { from = 0; to = n + 1; plan = plan } ∷ spreads (n + 1) plans
@@ -21,7 +21,7 @@ abbrev pub AllPlansChoose : List Plan → Id → Type 0
 AllPlansChoose [] id = Unit {0}
 AllPlansChoose (plan ∷ plans) id = (is_chosen plan.chosen id ≡ true) × AllPlansChoose plans id
 
--- A document after synchronization by a hub: it is the same in all peers.
+-- After synchronization by a hub, a document is the same in all peers.
 pub record Shared (peers' : List PeerValue) (id : Id) : Type 0 where
   pub same : IsSameEverywhere peers' id
   pub agree : AllAgree peers' id

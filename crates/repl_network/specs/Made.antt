@@ -22,7 +22,7 @@ pub record EditValue : Type 0 where
 abbrev pub Makes : EditValue → RevId → Type 0
 Makes e r = edit_rev e.before e.deleted e.body ≡ Ok r
 
--- Each parent and each content in tree t was given by one of a set of edits, and the tree's histories are complete.
+-- Each parent and each content in tree t comes from an edit of the given set, and the histories of t are complete.
 pub record IsMadeBy (among : EditValue → Bool) (t : TreeValue) : Type 0 where
   pub parents : (c p : RevId) → get t.parents c ≡ Some p
       → (e : EditValue) × (among e ≡ true) × Makes e c × (e.before ≡ Some p)
@@ -39,7 +39,7 @@ HaveNoCollision among =
     (e f : EditValue) → among e ≡ true → among f ≡ true
     → edit_sig e.before e.deleted e.body ≡ edit_sig f.before f.deleted f.body → e ≡ f
 
--- An edit at a place of the network, if it does not fail, is one of a set of edits.
+-- An edit at a place of the network fails, or is in the given set of edits.
 abbrev pub IsOneOf : (EditValue → Bool) → List PeerValue → ℕ → Id → Option RevId → Bool → List ℕ → Type 0
 IsOneOf among peers place id parent deleted body =
     (p : PeerValue) → IsAt peers place p → (e : RevId × Option RevId) → edited p.db id parent deleted body ≡ Ok e
@@ -51,18 +51,18 @@ MadeAgree peers =
     (among : EditValue → Bool) → HaveNoCollision among → (id : Id) → AllMadeBy among peers id
     → AllAgree peers id × AllWhole peers id
 
--- Documents with another id than `id` stay made by the set of edits that made them.
+-- Documents whose id is not `id` are still made by the set of edits that made them.
 abbrev pub StaysMadeExcept : Id → List PeerValue → List PeerValue → Type 0
 StaysMadeExcept id peers peers' =
     (among : EditValue → Bool) (other : Id) → other ≢ id → AllMadeBy among peers other → AllMadeBy among peers' other
 
--- A document that a set of edits made stays so after an edit of document `id`. If the edit is of the same document, it
--- must be in the set of edits that made the document.
+-- A document that a set of edits made is still made by this set after an edit of document `id`. If the edit is of the
+-- document that the set of edits made, the edit must be in this set.
 abbrev pub StaysMadeByEdit : ℕ → Id → Option RevId → Bool → List ℕ → List PeerValue → List PeerValue → Type 0
 StaysMadeByEdit place id parent deleted body peers peers' =
     (among : EditValue → Bool) (at : Id) → (at ≡ id → IsOneOf among peers place id parent deleted body)
     → AllMadeBy among peers at → AllMadeBy among peers' at
 
--- Documents that were made by a set of edits are still made by this set after a call.
+-- After a call, documents that a set of edits made are still made by this set.
 abbrev pub StaysMade : List PeerValue → List PeerValue → Type 0
 StaysMade peers peers' = (among : EditValue → Bool) (id : Id) → AllMadeBy among peers id → AllMadeBy among peers' id

@@ -1,4 +1,4 @@
--- Networks of any number of peers, each at its place, as specified in docs/PROFILE.md, "Nets", and in CouchDB,
+-- Networks of any number of peers, each at a numbered place, as specified in docs/PROFILE.md, "Nets", and in CouchDB,
 -- "Replication and conflict model". Any two peers of a network may be replicated, in any order.
 use Rattle.std.specs.Prelude.{◌≡◌, ◌≢◌, ◌⊎◌, ℕ, ◌<◌, Bool, true, List, [], ◌∷◌, map, length, Option, Some, Ok, slice_get}
 use Rattle.rev_core.specs.Rev.{RevId}
@@ -38,7 +38,7 @@ pub record AreTied (peers : List PeerValue) : Type 0 where
   pub apart : (m n : ℕ) (p q : PeerValue) → IsAt peers m p → IsAt peers n q → p.db.uuid ≡ q.db.uuid → m ≡ n
   pub tied : (m n : ℕ) (p q : PeerValue) → IsAt peers m p → IsAt peers n q → m ≢ n → (c : Choice) → IsTiedPair p q c
 
--- The peer at place n has the UUID `uuid`.
+-- The peer at place n of the network has the UUID `uuid`.
 abbrev pub IsHeldAt : List PeerValue → ℕ → ℕ → Type 0
 IsHeldAt peers uuid n = (p : PeerValue) × IsAt peers n p × (p.db.uuid ≡ uuid)
 
@@ -46,7 +46,7 @@ IsHeldAt peers uuid n = (p : PeerValue) × IsAt peers n p × (p.db.uuid ≡ uuid
 abbrev pub IsHeld : List PeerValue → ℕ → Type 0
 IsHeld peers uuid = (n : ℕ) × (p : PeerValue) × IsAt peers n p × (p.db.uuid ≡ uuid)
 
--- All sessions and logs are of replications between two of the peers.
+-- All sessions and logs of a network's peers belong to replications between two of these peers.
 pub record AreClosed (peers : List PeerValue) : Type 0 where
   pub sessions : (n : ℕ) (p : PeerValue) → IsAt peers n p → (s : SessionValue) → Among s p.sessions
       → IsHeld peers s.rep.source
@@ -69,24 +69,24 @@ AllAgree peers id =
 abbrev pub AllWhole : List PeerValue → Id → Type 0
 AllWhole peers id = (n : ℕ) (p : PeerValue) → IsAt peers n p → IsWhole (tree_of p.db.docs id)
 
--- No peer has refused the document.
+-- No peer of the network has refused the document.
 abbrev pub IsRefusedNowhere : List PeerValue → Id → Type 0
 IsRefusedNowhere peers id = (n : ℕ) (p : PeerValue) → IsAt peers n p → HasRefusedNone p id
 
--- The document is the same in all peers.
+-- The document's trees are the same in all peers of the network.
 abbrev pub IsSameEverywhere : List PeerValue → Id → Type 0
 IsSameEverywhere peers id =
     (m n : ℕ) (p q : PeerValue) → IsAt peers m p → IsAt peers n q → SameDocument p.db q.db id
 
 -- ---- replications
 
--- Each hop's plan selects the document.
+-- The plan of each hop selects the document.
 abbrev pub AllChoose : List Hop → Id → Type 0
 AllChoose [] id = Unit {0}
 AllChoose (h ∷ hops) id = (is_chosen h.plan.chosen id ≡ true) × AllChoose hops id
 
--- A chain of hops leads from one place to another: some of the hops in order, each from the place that the previous one
--- led to.
+-- A chain of hops leads from one place to another: some of the listed hops in order, each from the place to which the
+-- previous hop leads.
 abbrev pub Leads : List Hop → ℕ → ℕ → Type 0
 Leads [] from to = from ≡ to
 Leads (h ∷ hops) from to = Leads hops from to ⊎ (from ≡ h.from) × Leads hops h.to to
@@ -99,9 +99,9 @@ LeadsEverywhere hops count = (m n : ℕ) → m < count → n < count → Leads h
 
 -- The effect of consecutive hops on a document that each plan selects and no peer has refused. The peers of the network
 -- must be consistent, and the document's trees must have agreed and had complete histories. If a chain of hops leads
--- from one place to another, the second has all revisions that the first had. If chains of hops lead everywhere, the
--- document is the same in all peers. Each revision was at a peer before the hops, and the document's trees again agree
--- and have complete histories.
+-- from one place to another, the second peer has all revisions of the document that the first peer had. If a chain of
+-- hops leads from every place to every other place, the document is the same in all peers. Each revision was at a peer
+-- before the hops, and the document's trees again agree and have complete histories.
 pub record Spreads (peers : List PeerValue) (hops : List Hop) (peers' : List PeerValue) (id : Id) : Type 0 where
   pub along : (m n : ℕ) (p q : PeerValue) → IsAt peers m p → IsAt peers' n q → Leads hops m n
       → (r : RevId) → has (tree_of p.db.docs id) r ≡ true → has (tree_of q.db.docs id) r ≡ true
@@ -122,11 +122,11 @@ Spread peers hops peers' =
 abbrev pub tree_alone : Document → TreeValue
 tree_alone d = merged no_revisions d.ancestry (content_of d.deleted d.body) (Local 0)
 
--- Document d gives no revision another parent or content than a peer of the network has.
+-- Document d gives no revision a parent or a content that differs from what a peer of the network has.
 abbrev pub FitsIn : List PeerValue → Document → Type 0
 FitsIn peers d = (n : ℕ) (p : PeerValue) → IsAt peers n p → Agree (tree_of p.db.docs d.id) (tree_alone d)
 
--- The history of document d is complete, or ends at a revision that the peer has.
+-- The history of document d is complete, or ends at a revision that the given peer has.
 abbrev pub IsRooted : DatabaseValue → Document → Type 0
 IsRooted db d =
     (r : RevId) → IsRoot (tree_alone d) r → (r.generation ≡ 1) ⊎ (has (tree_of db.docs d.id) r ≡ true)
@@ -134,13 +134,14 @@ IsRooted db d =
 abbrev pub IsRootedAt : List PeerValue → ℕ → Document → Type 0
 IsRootedAt peers place d = (p : PeerValue) → IsAt peers place p → IsRooted p.db d
 
--- The document of an edit gives no revision another parent or content than a peer has. An edit satisfies `EditFits` if
--- no two different edits have the same MD5.
+-- The document that an edit stores gives no revision a parent or a content that differs from what a peer has. An edit
+-- satisfies `EditFits` if no two different edits have the same MD5.
 abbrev pub EditFits : List PeerValue → ℕ → Id → Option RevId → Bool → List ℕ → Type 0
 EditFits peers place id parent deleted body =
     (p : PeerValue) → IsAt peers place p → (e : RevId × Option RevId) → edited p.db id parent deleted body ≡ Ok e
     → FitsIn peers (edit_document id e deleted body)
 
--- If the trees of a document agreed and had complete histories before a write, they still do after it.
+-- If the trees of a document agreed and had complete histories before a write, these trees agree and have complete
+-- histories after the write.
 abbrev pub KeepsAgreement : List PeerValue → List PeerValue → Id → Type 0
 KeepsAgreement peers peers' id = AllAgree peers id → AllWhole peers id → AllAgree peers' id × AllWhole peers' id

@@ -35,8 +35,8 @@ pub record IsHop {F : Type 0} (refuses : F → Document → Bool) (peers : List 
   pub others : (n : ℕ) → n ≢ hop.from → n ≢ hop.to → slice_get peers' n ≡ slice_get peers n
   pub replicates : Replicates (refuses target.0) source.1 target.1 hop.plan result source_then target_then
 
--- The result of a hop at an index of the list of hops. A hop first checks that its two places exist and differ, and the
--- replication follows.
+-- The result of a hop at an index of the list of hops. A hop first checks that its two places exist and differ, and
+-- then replicates.
 pub data TakesHop {F : Type 0} (refuses : F → Document → Bool) (at : ℕ) (peers : List (F × PeerValue)) (hop : Hop)
     : Result Report NetFault → List (F × PeerValue) → Type 0 where
   no_source : length peers ≤ hop.from → TakesHop refuses at peers hop (Err (faults.NoPeer hop.from)) peers
@@ -49,7 +49,7 @@ pub data TakesHop {F : Type 0} (refuses : F → Document → Bool) (at : ℕ) (p
   taken : {report : Report} {peers' : List (F × PeerValue)} → IsHop refuses peers hop (Ok report) peers'
       → TakesHop refuses at peers hop (Ok report) peers'
 
--- The effect of a list of hops in order, until one fails.
+-- The effect of a list of hops that are made in order, until one hop fails.
 abbrev pub TakesHops : {F : Type 0} → (F → Document → Bool) → ℕ → List (F × PeerValue) → List Hop
     → Result (Unit {0}) NetFault → List (F × PeerValue) → Type 0
 TakesHops refuses at peers [] result peers' = (result ≡ Ok tt) × (peers' ≡ peers)
@@ -73,12 +73,13 @@ TakesHub refuses peers there back result peers' =
 
 -- ---- writes
 
--- The result of a peer's call, with its error converted to one of the network.
+-- The result of a peer's call, with the peer's error converted to an error of the network.
 abbrev pub told : {T : Type 0} → Result T BaseFault → Result T NetFault
 told (Ok done) = Ok done
 told (Err why) = Err (faults.Write why)
 
--- The result of a call at a place of the network: that of the peer's call, or `NoPeer`.
+-- The result of a call at a place of the network: the result of the peer's call, or `NoPeer` if the place does not
+-- exist.
 abbrev pub AnswersAt : {T : Type 0} → List PeerValue → ℕ → (PeerValue → Result T BaseFault → Type 0) → Result T NetFault
     → Type 0
 AnswersAt {T = T} peers place gives result =
@@ -87,14 +88,14 @@ AnswersAt {T = T} peers place gives result =
 
 -- ---- peers
 
--- Why a peer is not added to the network: another peer has its UUID, or an allocation fails.
+-- The reason why a peer is not added to the network: another peer has the new peer's UUID, or an allocation fails.
 abbrev pub IsNotAdded : List PeerValue → ℕ → NetFault → Type 0
 IsNotAdded peers uuid why =
     ((place : ℕ) × IsHeldAt peers uuid place × (why ≡ faults.SameUuid place))
     ⊎ (¬ IsHeld peers uuid) × (why ≡ faults.Memory)
 
--- The result of an audit between two places of the network. An audit first checks that its two places exist, and the
--- audit of the two peers follows.
+-- The result of an audit between two places of the network. An audit first checks that its two places exist, and then
+-- audits the two peers.
 abbrev pub Audits : List PeerValue → ℕ → ℕ → Choice → Result Audit NetFault → Type 0
 Audits peers source target chosen result =
     (length peers ≤ source) × (result ≡ Err (faults.NoPeer source))

@@ -52,7 +52,7 @@ before_rev Diffs = codes ":["
 before_rev Docs = codes ",\"rev\":"
 before_rev Bodies = codes ",\"rev\":"
 
--- Whether the revisions of a document form one list, so that a request body ends before a document instead of after a
+-- Whether a request body has the revisions of a document as one list. Such a body ends before a document, not after a
 -- revision.
 abbrev pub has_lists : Form → Bool
 has_lists Loads = false

@@ -16,8 +16,8 @@ use Rattle.response_output.specs.declared.run.AnswerFault.TheVariants.{Refused, 
 
 -- ---- some bytes
 
--- The given bytes were read, and the items in them are written. The last two arguments of `Fed` are what the writer has
--- accepted, before and after.
+-- The given bytes were read, and the items in them are written. The last two arguments of `Fed` are the bytes that the
+-- writer has accepted before and after.
 pub record Fed (s : State) (w : Words) (bytes : List ℕ) (s' : State) (w' : Words) (held held' : Option (List ℕ)) : Type 0 where
   pub state : s' ≡ after s bytes
   pub words : w' ≡ words_behind w (pieces s bytes)
@@ -31,7 +31,7 @@ IsWhole Write missing = ⊤
 IsWhole Memory missing = missing ≡ []
 IsWhole Cut missing = ⊥
 
--- What the writer has accepted is a prefix of the texts of the given items.
+-- The bytes that the writer has accepted are a prefix of the texts of the given items.
 pub record Begins (fault : ScriptFault) (w : Words) (all : List Piece) (held held' : Option (List ℕ)) : Type 0 where
   pub told : List Piece
   pub untold : List Piece
@@ -44,7 +44,7 @@ pub record Begins (fault : ScriptFault) (w : Words) (all : List Piece) (held hel
 
 -- ---- the end
 
--- Everything that is written for the given items.
+-- The complete text that is written for the given items.
 abbrev pub all_text : Words → List Piece → List ℕ
 all_text w all = texts w all ++ last_text (words_behind w all)
 
@@ -64,7 +64,7 @@ EndsAnswers s w held held' (Err (Refused why at)) =
     Appends held held' [] × (end_of s.place ≡ Err why) × (at ≡ s.taken)
 EndsAnswers s w held held' (Err (Device fault)) = EndsInPart fault (last_text w) held held'
 
--- The end of a conversion, in which a last line without a line end is ended first.
+-- The effect of the end of the input on a conversion, which first adds a line end to a last line without one.
 abbrev pub Finishes : State → Words → Option (List ℕ) → Option (List ℕ) → Result ℕ AnswerFault → Type 0
 Finishes s w held held' (Ok passed) =
     Appends held held' (all_text w (pieces s (last_end s))) × (end_of (after s (last_end s)).place ≡ Ok tt)
@@ -77,31 +77,32 @@ Finishes s w held held' (Err (Device fault)) =
 
 -- ---- everything from a reader
 
--- The input is everything that the reader has left, with a line end added if the last line has none, and no byte of the
+-- The input is all remaining bytes of the reader, with a line end added if the last line has none, and no byte of the
 -- input is rejected.
 abbrev pub IsAll : Wanted → Option (List ℕ) → List ℕ → Type 0
 IsAll wanted left read =
     (input : List ℕ) × Gives left input × (read ≡ whole (start wanted) input) × (is_refused (after (start wanted) input).place ≡ false)
 
--- The input is everything that the reader has left, with a line end added if the last line has none, and bytes of the
--- input may be rejected.
+-- The input is all remaining bytes of the reader, with a line end added if the last line has none. Bytes of this input
+-- may be rejected.
 abbrev pub IsLeft : Wanted → Option (List ℕ) → List ℕ → Type 0
 IsLeft wanted left read = (input : List ℕ) × Gives left input × (read ≡ whole (start wanted) input)
 
--- The input is a prefix of what the reader has left, and its last byte is rejected.
+-- The input is a prefix of the reader's remaining bytes, and the last byte of this prefix is rejected.
 abbrev pub IsFront : Wanted → Option (List ℕ) → List ℕ → Type 0
 IsFront wanted left read =
     (rest : List ℕ) × Gives left (read ++ rest) × (is_refused (after (start wanted) read).place ≡ true)
 
 -- The input consists of complete responses, `passed` documents were skipped, and the items in the input are written.
--- The arguments of `Answered` are what the reader has left, and what the writer has accepted, before and after.
+-- The arguments of `Answered` are the reader's remaining bytes, and the bytes that the writer has accepted before and
+-- after.
 abbrev pub Answered : Wanted → Words → Option (List ℕ) → Option (List ℕ) → Option (List ℕ) → ℕ → Type 0
 Answered wanted w left held held' passed =
     (read : List ℕ) × IsAll wanted left read × Appends held held' (all_text w (pieces (start wanted) read))
     × (end_of (after (start wanted) read).place ≡ Ok tt) × (passed ≡ (after (start wanted) read).passed)
 
 -- The effect of a run that failed. If the input of a run is invalid at its last byte, the items before that byte are
--- written. If a device or an allocation failed, what is written is a prefix of the output for the complete input.
+-- written. If a device or an allocation failed, the written text is a prefix of the output for the complete input.
 abbrev pub Stopped : Wanted → Words → Option (List ℕ) → Option (List ℕ) → Option (List ℕ) → AnswerFault → Type 0
 Stopped wanted w left held held' (Refused why at) =
     (read : List ℕ) × (IsFront wanted left read ⊎ IsAll wanted left read)
@@ -116,20 +117,20 @@ abbrev pub Converts : Result ℕ AnswerFault → Wanted → Words → Option (Li
 Converts (Ok passed) wanted w left held held' = Answered wanted w left held held' passed
 Converts (Err fault) wanted w left held held' = Stopped wanted w left held held' fault
 
--- The effect of a run on responses with the given items, which are written, and the input is not rejected.
+-- The effect of a run on responses with the given items: the items are written, and the input is not rejected.
 abbrev pub ReadsAnswers : Words → List Piece → Option (List ℕ) → Option (List ℕ) → Result ℕ AnswerFault → Type 0
 ReadsAnswers w all held held' (Ok passed) = Appends held held' (all_text w all)
 ReadsAnswers w all held held' (Err (Refused why at)) = ⊥
 ReadsAnswers w all held held' (Err (Device fault)) = ⊤
 
--- The device that an error names failed, and the other device did not. The arguments of `CountsOf` are the reader's
--- counts of reads, before and after, then the failure counts of reader and writer.
+-- Of the reader and the writer, exactly the device that the error names failed. The arguments of `CountsOf` are the
+-- reader's counts of reads before and after, then the failure counts of reader and writer.
 abbrev pub CountsOf : AnswerFault → ℕ → ℕ → ℕ → ℕ → ℕ → ℕ → Type 0
 CountsOf (Refused why at) reads reads' reader reader' writer writer' = (reader' ≡ reader) × (writer' ≡ writer)
 CountsOf (Device fault) reads reads' reader reader' writer writer' = IsFaultOf fault reads reads' reader reader' writer writer'
 
 -- The writer failed exactly if the error names the writer. The arguments of `CountsOfWriter` are the writer's failure
--- counts, before and after.
+-- counts before and after the call.
 abbrev pub CountsOfWriter : Result ℕ AnswerFault → ℕ → ℕ → Type 0
 CountsOfWriter (Ok passed) writer writer' = writer' ≡ writer
 CountsOfWriter (Err (Refused why at)) writer writer' = writer' ≡ writer

@@ -18,7 +18,7 @@ pub record Words : Type 0 where
   -- The formatter's last document id, and whether it has written a revision of this document.
   pub id : List ℕ
   pub listed : Bool
-  -- The number of items in the formatter's open body.
+  -- The number of items in the formatter's open request body.
   pub count : ℕ
   -- The maximum number of items per request body, or 0 for no limit.
   pub size : ℕ
@@ -30,7 +30,7 @@ pub record Words : Type 0 where
 abbrev pub before : Words → List ℕ
 before w = cond (w.count == 0) (opening w.form) (separator w.form) ++ w.begins
 
--- Whether the formatter's body is full after one more item, so that it is then closed.
+-- Whether the formatter's request body is full, and is therefore closed, after one more item.
 abbrev pub is_full : Words → Bool
 is_full w = not (has_lists w.form) && more w.count == w.size
 
@@ -43,18 +43,18 @@ counted_up w = record w { count = cond (is_full w) 0 (more w.count); told = true
 abbrev pub id_kept : Words → List ℕ → Words
 id_kept w id = record w { id = id; listed = false }
 
--- The text that is written for a document, given the document's text.
+-- The text that the formatter writes for a document, given the document's own text.
 abbrev pub document_text : Words → List ℕ → List ℕ
 document_text w text = before w ++ (text ++ behind w)
 
 abbrev pub with_document : Words → List ℕ → Words
 with_document w text = counted_up (id_kept w (id_of text))
 
--- Whether the formatter's body of lists is full.
+-- Whether the formatter's request body of lists is full.
 abbrev pub is_over : Words → Bool
 is_over w = has_lists w.form && (nat_lt 0 w.count && w.count == w.size)
 
--- The text that closes a full body of lists before the next document.
+-- The text that closes a full request body of lists before the next document.
 abbrev pub over_text : Words → List ℕ
 over_text w = cond (is_over w) (closing w.form) []
 
@@ -69,7 +69,7 @@ first_rev_text w text =
 abbrev pub with_first_rev : Words → Words
 with_first_rev w = record (counted_up (over w)) { listed = true }
 
--- Whether a revision is a further one in the list of a document.
+-- Whether the next revision belongs to a document's list that has a revision already.
 abbrev pub is_further : Words → Bool
 is_further w = has_lists w.form && w.listed
 
@@ -102,7 +102,7 @@ abbrev pub words_behind : Words → List Piece → Words
 words_behind w [] = w
 words_behind w (p ∷ more) = words_behind (words_then w p.0 p.1) more
 
--- The text that the formatter writes at the end.
+-- The text that the formatter writes at the end of the output.
 abbrev pub last_text : Words → List ℕ
 last_text w = cond (nat_lt 0 w.count) (closing w.form) (cond w.told [] (empty w.form))
 
@@ -115,11 +115,11 @@ words_of form begins size = record { form = form; begins = begins; id = []; list
 abbrev pub loads_of : List ℕ → Words
 loads_of db = words_of Loads (codes "{\"do\":\"load\",\"db\":\"" ++ (db ++ codes "\",\"doc\":")) 0
 
--- The formatter of request bodies for `size` leaves.
+-- The formatter of request bodies for `size` leaves each.
 abbrev pub asked_of : ℕ → Words
 asked_of size = words_of Asked (codes "{\"id\":") size
 
--- The formatter of `_revs_diff` request bodies of `size` documents.
+-- The formatter of `_revs_diff` request bodies of `size` documents each.
 abbrev pub diffs_of : ℕ → Words
 diffs_of size = words_of Diffs [] size
 
@@ -127,6 +127,6 @@ diffs_of size = words_of Diffs [] size
 abbrev pub docs_of : List ℕ → Words
 docs_of db = words_of Docs (codes "{\"do\":\"doc\",\"db\":\"" ++ (db ++ codes "\",\"id\":")) 0
 
--- The formatter of `_bulk_docs` request bodies of `size` documents.
+-- The formatter of `_bulk_docs` request bodies of `size` documents each.
 abbrev pub bodies_of : ℕ → Words
 bodies_of size = words_of Bodies [] size
