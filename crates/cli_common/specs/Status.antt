@@ -4,7 +4,7 @@ use Rattle.std.specs.Prelude.{ℕ}
 use Rattle.clap.specs.declared.error.kind.ErrorKind.{ErrorKind}
 use Rattle.clap.specs.declared.error.kind.ErrorKind.TheVariants.{DisplayHelp, DisplayVersion, OutOfMemory}
 
--- The exit status for an error of `clap`, which is 0 for the requests of help and version.
+-- The exit status for an error of `clap`, which is 0 if help or the version was requested.
 abbrev pub kind_status : ErrorKind → ℕ
 kind_status OutOfMemory = 3
 kind_status DisplayHelp = 0

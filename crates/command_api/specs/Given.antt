@@ -1,4 +1,4 @@
--- What the values of a line give, and why they are invalid, as specified in docs/PROFILE.md, "Order of checks".
+-- The parsed values of a line, and the errors of invalid values, as specified in docs/PROFILE.md, "Order of checks".
 use Rattle.std.specs.Prelude.{ℕ, List, [], ◌∷◌, Option, Some, None, unwrap_or, Result, Ok, Err}
 use Rattle.serde_json.specs.Data.{Data, object, no_members}
 use Rattle.rev_core.specs.Rev.{RevId}
@@ -12,7 +12,7 @@ use Rattle.doc_json.specs.Document.{Document}
 use Rattle.script_databases.specs.Refusals.{told_as, doc_refusal, rev_refusal}
 use Rattle.script_databases.specs.declared.refusal.Refusal.{Refusal}
 
--- The document id that a string gives, or the error.
+-- The document id that a string gives, or the error of parsing the string.
 abbrev pub id_given : List ℕ → Result (List ℕ) Refusal
 id_given text = told_as doc_refusal (doc_id_read text)
 
@@ -28,23 +28,23 @@ ids_given (text ∷ texts) = do
   ids ← ids_given texts
   Ok (id ∷ ids)
 
--- The selection of a list of ids, or the error.
+-- The selection that a list of ids gives, or the error of creating this selection.
 abbrev pub chosen_given : List (List ℕ) → Result Choice Refusal
 chosen_given ids = some_of (told_as doc_refusal (chosen_answer ids))
 
--- The selection that an optional list of strings gives, which is all documents without a list.
+-- The selection that an optional list of strings gives, which is all documents if there is no list.
 abbrev pub choice_given : Option (List (List ℕ)) → Result Choice Refusal
 choice_given None = Ok None
 choice_given (Some texts) = do
   ids ← ids_given texts
   chosen_given ids
 
--- The revision id that an optional string gives, or the error.
+-- The revision id that an optional string gives, or the error of parsing the string.
 abbrev pub rev_given : Option (List ℕ) → Result (Option RevId) Refusal
 rev_given None = Ok None
 rev_given (Some text) = some_of (told_as rev_refusal (rev_read text))
 
--- The body that a JSON value gives, or the error.
+-- The body that a JSON value gives, or the error of reading the value.
 abbrev pub body_given : Data → Result (List ℕ) Refusal
 body_given d = told_as doc_refusal (body_read d)
 
@@ -52,7 +52,7 @@ body_given d = told_as doc_refusal (body_read d)
 abbrev pub body_given_or_empty : Option Data → Result (List ℕ) Refusal
 body_given_or_empty d = body_given (unwrap_or d (object no_members))
 
--- The document that an optional JSON value gives, or the error.
+-- The document that an optional JSON value gives, or the error of reading the value.
 abbrev pub document_given : Option Data → Result (Option Document) Refusal
 document_given None = Ok None
 document_given (Some d) = some_of (told_as doc_refusal (doc_read d))

@@ -8,7 +8,7 @@ use Rattle.script_databases.specs.declared.refusal.Refusal.{Refusal}
 use Rattle.script_databases.specs.declared.refusal.Refusal.TheVariants as why
 use Rattle.rev_core.specs.Checks.{or_refused}
 
--- The peer of a database name, or `NoDatabase`.
+-- The peer that has the given database name, or `NoDatabase`.
 abbrev pub database_of : State → List ℕ → Result PeerValue Refusal
 database_of s name = or_refused why.NoDatabase (peer_at s name)
 
@@ -21,7 +21,7 @@ told_of (Err refusal) = Err (name_of refusal)
 abbrev pub Refuses : Refusal → State → Told → State → Type 0
 Refuses refusal old told new = (told ≡ Err (name_of refusal)) × (new ≡ old)
 
--- The possible results of a line, whose request is valid or not. If a line's request is invalid, the line fails and
+-- The possible results of a line, for a valid or an invalid request. If a line's request is invalid, the line fails and
 -- leaves the state unchanged.
 abbrev pub AnswersIn : {L : Type 0} → Answering State L → Answering State (Result L Refusal)
 AnswersIn answers old (Ok ask) told new = answers old ask told new
@@ -31,7 +31,7 @@ AnswersIn answers old (Err refusal) told new = Refuses refusal old told new
 abbrev pub Reads : Result (List ℕ) Refusal → State → Told → State → Type 0
 Reads text old told new = (told ≡ told_of text) × (new ≡ old)
 
--- A script's line has a given output and leaves a given state, or it fails and leaves the state unchanged.
+-- A script's line has the given output and leads to the given state, or the line fails and leaves the state unchanged.
 abbrev pub Does : Result (List ℕ × State) Refusal → State → Told → State → Type 0
 Does (Ok done) old told new = (told ≡ Ok done.0) × (new ≡ done.1)
 Does (Err refusal) old told new = Refuses refusal old told new
@@ -44,7 +44,7 @@ abbrev pub told_hushed : Bool → Told → Told
 told_hushed quiet (Ok text) = Ok (hushed quiet text)
 told_hushed quiet (Err name) = Err name
 
--- A request has one of its results, without the output if the program is quiet.
+-- A request has one of its possible results, without the output if the program is quiet.
 abbrev pub UnlessQuiet : {L : Type 0} → Answering State L → Answering State L
 UnlessQuiet answers old ask told new =
     (loud : Told) × answers old ask loud new × (told ≡ told_hushed old.program.quiet loud)

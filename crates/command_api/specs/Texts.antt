@@ -15,7 +15,7 @@ ended text = text ++ 10 ∷ []
 abbrev pub quoted : List ℕ → List ℕ
 quoted text = compact_text (string text)
 
--- The text of an optional revision, which is empty without a revision.
+-- The text of an optional revision, or the empty text if there is no revision.
 abbrev pub text_of_any : Option RevId → List ℕ
 text_of_any rev = option_map_or rev_text rev []
 
@@ -31,6 +31,6 @@ line_of_revs word id revs = ended (word ++ codes " " ++ quoted id ++ codes " " +
 abbrev pub revs_line : List ℕ → List ℕ → List RevId → List ℕ
 revs_line word id revs = if length revs == 0 then [] else line_of_revs word id revs
 
--- The line of output with the last sequence of a feed.
+-- The output line of `changes` with the last sequence of a feed.
 abbrev pub last_line : ℕ → List ℕ
 last_line last = ended (codes "last " ++ decimal last)

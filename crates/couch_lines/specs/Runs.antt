@@ -23,7 +23,7 @@ use Rattle.couch_lines.specs.declared.tasks.Task.TheVariants.{Load, Ids, Diff, L
 use Rattle.couch_lines.specs.declared.run.Ended.{Ended}
 use Rattle.couch_lines.specs.declared.run.Ended.TheVariants.{NotRun, Ran, Drawn}
 
--- What a task looks for in its input.
+-- The kind of items that a task of `couch_lines` reads from its input.
 abbrev pub wanted_of : Task → Wanted
 wanted_of (Load db false) = Documents
 wanted_of (Load db true) = Enveloped
@@ -53,14 +53,15 @@ abbrev pub form_of : Bool → Form
 form_of true = Svg
 form_of false = Text
 
--- A task was run with the given result. The arguments of `IsDone` are the reader's remaining bytes, and what the writer
--- has accepted, before and after.
+-- A task of `couch_lines` was run with the given result. The arguments of `IsDone` are the reader's remaining bytes,
+-- and the bytes that the writer has accepted before and after.
 abbrev pub IsDone : Task → Option (List ℕ) → Option (List ℕ) → Option (List ℕ) → Result ℕ AnswerFault → Type 0
 IsDone task left held held' result = Converts result (wanted_of task) (words_of_task task) left held held'
 
 -- The guarantees of a task for input with known contents. A `load` task writes a `load` line for each document in
--- CouchDB responses, in order, by its text or in its envelope. The documents in a script's output are written into
--- bodies, and each leaf of its changes into a `doc` line. A task does not reject input with known contents.
+-- CouchDB responses, in order, with the document's text or envelope. A task for script output writes the output's
+-- documents into request bodies, or each leaf of its changes into a `doc` line. A task does not reject input with known
+-- contents.
 abbrev pub Makes : Task → Option (List ℕ) → Option (List ℕ) → Option (List ℕ) → Result ℕ AnswerFault → Type 0
 Makes (Load db whole) left held held' result = (answers : List ℕ) → (documents : List Piece) → left ≡ Some answers
     → IsAnswered (wanted_of (Load db whole)) answers documents → ReadsAnswers (loads_of (string_bytes db)) documents held held' result
@@ -75,7 +76,7 @@ Makes (Bulk n whole) left held held' result = (answers : List ℕ) → (document
 Makes (Trees db svg) left held held' result = ⊥
 
 -- The effect of a run with the given command line. If the command line has no task, or an allocation fails, the run
--- reads and writes no byte. If the command line has a task, the task is run, and only `trees` draws.
+-- reads and writes no byte. If the command line has a task, the task is run. Only the task `trees` draws a picture.
 abbrev pub RunsWords : List (List ℕ) → Option (List ℕ) → Option (List ℕ) → Option (List ℕ) → Option (List ℕ) → Ended → Type 0
 RunsWords words left left' held held' (NotRun why) = Refuses words why × (left' ≡ left) × (held' ≡ held)
 RunsWords words left left' held held' (Ran run) =
@@ -84,8 +85,8 @@ RunsWords words left left' held held' (Drawn ended) =
     (db : Option (String Global)) × (svg : Bool) × Says words (Trees db svg)
     × PicturedBy ended (form_of svg) (option_map string_bytes db) left held held'
 
--- The device that an error names failed in the run, and the other device did not. The arguments of `RunCounts` are the
--- reader's counts of reads, before and after, then the failure counts of the reader and of the writer.
+-- Of the reader and the writer, exactly the device that an error names failed in the run. The arguments of `RunCounts`
+-- are the reader's counts of reads before and after, then the failure counts of the reader and of the writer.
 abbrev pub RunCounts : Result ℕ AnswerFault → ℕ → ℕ → ℕ → ℕ → ℕ → ℕ → Type 0
 RunCounts (Ok passed) reads reads' reader reader' writer writer' = (reader' ≡ reader) × (writer' ≡ writer)
 RunCounts (Err fault) reads reads' reader reader' writer writer' = CountsOf fault reads reads' reader reader' writer writer'
@@ -107,9 +108,9 @@ IfDone (Ran run) holds = OnOk run.ended holds
 IfDone (Drawn ended) holds = OnOk ended holds
 
 -- A run of the program `couch_lines` on its standard streams. The arguments of `RunsStandard` are the command line, the
--- bytes that the reads returned, and whether they came to the end of the input. Further arguments of `RunsStandard` are
--- the bytes that the output has accepted, and how the run ended. If the last output of a run cannot be flushed, a part
--- of it is missing, and the run ends as `unflushed` says.
+-- bytes that the reads returned, and whether the reads reached the end of the input. Further arguments of
+-- `RunsStandard` are the bytes that the output has accepted, and how the run ended. If the last output of a run cannot
+-- be flushed, a part of this output is missing, and the run ends as `unflushed` says.
 abbrev pub RunsStandard : List (List ℕ) → List ℕ → Type 0 → List ℕ → Ended → Type 0
 RunsStandard words input all text ended =
     (first : Ended) × (rest : List ℕ) × RunsWords words (Some input) (Some []) (Some []) (Some (text ++ rest)) first

@@ -11,12 +11,14 @@ use Rattle.couch_lines.specs.declared.options.NoTask.TheVariants.{Words, Unknown
 use Rattle.couch_lines.specs.declared.run.Ended.{Ended}
 use Rattle.couch_lines.specs.declared.run.Ended.TheVariants.{NotRun, Ran, Drawn}
 
--- The exit status of `couch_lines` after a conversion, which says whether something was skipped.
+-- The exit status of `couch_lines` after a conversion, given the conversion's result, which says whether a document was
+-- skipped.
 abbrev pub status_of : Result ℕ AnswerFault → ℕ
 status_of (Ok passed) = cond (passed == 0) 0 1
 status_of (Err fault) = 3
 
--- The exit status of `couch_lines` after a drawing, which says whether memory was insufficient for a line.
+-- The exit status of `couch_lines` after a drawing, given the drawing's result, which says whether memory was
+-- insufficient for a line.
 abbrev pub drawn_status : Result Bool ScriptFault → ℕ
 drawn_status (Ok true) = 0
 drawn_status (Ok false) = 1

@@ -21,7 +21,7 @@ is_name_byte b =
 abbrev pub is_name : List ℕ → Bool
 is_name text = nat_lt 0 (length text) && nat_le (length text) 32 && list_all is_name_byte text
 
--- The number of items per body: the number in the text, or the default without a text.
+-- The number of items per request body: the number in the given text, or the default if there is no text.
 abbrev pub IsSize : ℕ → Option (List ℕ) → ℕ → Type 0
 IsSize absent None n = n ≡ absent
 IsSize absent (Some text) n =
@@ -91,7 +91,7 @@ Asks word second third whole svg task = (n : Named) × (word ≡ Some (word_of n
 
 -- ---- arguments without a task
 
--- The named task does not take the given arguments, or an allocation failed.
+-- The named task does not accept the given arguments, or an allocation failed.
 abbrev pub FitsNone : Named → Option (List ℕ) → Bool → Bool → NoTask → Type 0
 FitsNone n word whole svg (Words error) = ⊥
 FitsNone n word whole svg Unknown = ⊥
@@ -105,8 +105,8 @@ NamesNone n word Unknown = ⊥
 NamesNone n word (Wrong m) = (m ≡ n) × ((db : List ℕ) → IsNamed word db → ⊥)
 NamesNone n word Memory = Unit {0}
 
--- The first argument of a command line is not a task, or the task does not take the other arguments, or an allocation
--- failed.
+-- The first argument of a command line is not a task, or this task does not accept the further arguments, or an
+-- allocation failed.
 abbrev pub AskNothing : Option (List ℕ) → Option (List ℕ) → Option (List ℕ) → Bool → Bool → NoTask → Type 0
 AskNothing word second third whole svg (Words error) = ⊥
 AskNothing word second third whole svg Unknown = (n : Named) → word ≡ Some (word_of n) → ⊥
@@ -137,7 +137,7 @@ SaysBy text flag drawn task =
     (whole : Bool) × (svg : Bool) × IsFlag flag whole × IsFlag drawn svg
     × Asks (text (codes "task")) (text (codes "of")) (text (codes "further")) whole svg task
 
--- The command line has no task, given the texts of its arguments and flags, or an allocation failed.
+-- The texts of the command line's arguments and flags give no task, or an allocation failed.
 abbrev pub RefusesBy : (List ℕ → Option (List ℕ)) → Option (List ℕ) → Option (List ℕ) → NoTask → Type 0
 RefusesBy text flag drawn why =
     (whole : Bool) × (svg : Bool) × IsFlag flag whole × IsFlag drawn svg
@@ -157,8 +157,8 @@ Says words task = SaysBy (text_said words) (flag_said words (codes "whole")) (fl
 abbrev pub Refused : List (List ℕ) → NoTask → Type 0
 Refused words why = RefusesBy (text_said words) (flag_said words (codes "whole")) (flag_said words (codes "svg")) why
 
--- Why the program has no task, which is `clap`'s error for the command line, that the command line names no task, or
--- that an allocation failed.
+-- The reason why the program has no task: `clap`'s error for the command line, a command line without a task, or a
+-- failed allocation.
 abbrev pub Refuses : List (List ℕ) → NoTask → Type 0
 Refuses words (Words error) = HasKind (fault_of command_line words) error
 Refuses words Unknown = Refused words Unknown

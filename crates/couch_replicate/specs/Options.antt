@@ -1,4 +1,4 @@
--- What the options of `couch_replicate` set, as specified in docs/PROFILE.md, "Options".
+-- The options of `couch_replicate` and their values, as specified in docs/PROFILE.md, "Options".
 use Rattle.std.specs.Prelude.{◌≡◌, ◌^◌, ◌<◌, ℕ, List, Bool, Option, Some, None, codes, option_map, string_bytes, true, false}
 use Rattle.std.specs.Str.Parse.{without_leading_plus, IsNumeral, digits_value}
 use Rattle.clap.specs.Words.{App, HasKind, Rule, fault_of, first_of, one_of, matches_of, new_rule, with_rule}
@@ -10,11 +10,11 @@ use Rattle.couch_replicate.specs.declared.options.NoSettings.{NoSettings}
 use Rattle.couch_replicate.specs.declared.options.Options.{Options}
 use Rattle.couch_replicate.specs.declared.options.NoSettings.TheVariants.{Words, NoNumber, File, Memory}
 
--- The rule of the option `--deny`.
+-- The `clap` rule of the option `--deny`.
 abbrev pub deny_option : Rule
 deny_option = record (new_rule (codes "deny")) { long = Some (codes "deny"); action = Some Set; value_names = 1 }
 
--- An option with an integer value below 2 ^ 64.
+-- The `clap` rule of an option with an integer value below 2 ^ 64.
 abbrev pub number_option : List ℕ → Rule
 number_option name =
     record (new_rule name)
@@ -34,7 +34,7 @@ IsNumber (Some text) default n =
     IsNumeral 10 (without_leading_plus text) × (digits_value 10 (without_leading_plus text) < 2 ^ 64)
     × (n ≡ digits_value 10 (without_leading_plus text))
 
--- The settings are those of the options' texts, and there is no positional argument.
+-- The settings have the values that the options' texts give, and there is no positional argument.
 abbrev pub AreSettings : (List ℕ → Option (List ℕ)) → (List ℕ → Option (List ℕ)) → Settings → Type 0
 AreSettings text number s =
     (text (codes "file") ≡ None) × (option_map string_bytes s.deny ≡ text (codes "deny")) × IsNumber (number (codes "seed")) 0 s.seed
@@ -42,26 +42,26 @@ AreSettings text number s =
     × IsNumber (number (codes "workers")) 4 s.workers × IsNumber (number (codes "batch")) 500 s.batch
     × IsFlag (number (codes "quiet")) s.quiet
 
--- The settings and the reports on standard error are those of the options.
+-- The settings, and the choice of reports on standard error, have the values of the options.
 abbrev pub AreOptions : (List ℕ → Option (List ℕ)) → (List ℕ → Option (List ℕ)) → Options → Type 0
 AreOptions text number o = AreSettings text number o.settings
     × IsFlag (number (codes "explain")) o.explain × IsFlag (number (codes "progress")) o.progress
 
--- The options are those that the arguments of a command line say.
+-- The options have the values that the arguments of a command line give.
 abbrev pub Says : List (List ℕ) → Options → Type 0
 Says words o = AreOptions (λ id. first_of id (matches_of options words)) (λ id. one_of id (matches_of options words)) o
 
 -- ---- arguments without settings
 
--- No settings match the options' texts, for example because there is a positional argument, or an allocation failed.
+-- The options' texts give no settings, for example because there is a positional argument, or an allocation failed.
 abbrev pub SetNothing : (List ℕ → Option (List ℕ)) → (List ℕ → Option (List ℕ)) → NoSettings → Type 0
 SetNothing text number (Words error) = ⊥
 SetNothing text number NoNumber = (s : Settings) → AreSettings text number s → ⊥
 SetNothing text number File = text (codes "file") ≡ None → ⊥
 SetNothing text number Memory = Unit {0}
 
--- Why the arguments give no options, which is `clap`'s error for the arguments, that no options match them, or that an
--- allocation failed.
+-- The reason why the arguments give no options: `clap`'s error for the arguments, no options that match the arguments,
+-- or a failed allocation.
 abbrev pub Refuses : List (List ℕ) → NoSettings → Type 0
 Refuses words (Words error) = HasKind (fault_of options words) error
 Refuses words NoNumber = (o : Options) → Says words o → ⊥

@@ -17,10 +17,10 @@ use Rattle.couch_replicate.specs.declared.run.Ended.{Ended}
 use Rattle.couch_replicate.specs.declared.run.Ended.TheVariants.{NotRun, Ran}
 
 -- The output of a script with the given settings, and the output's guarantees. After an error the program's output is a
--- prefix of the script's complete output. After the errors `Read` and `Memory`, this prefix of the script's output ends
--- between two lines' outputs. After the error `Read`, the program's output is the output of all lines that were read.
--- The argument `given` says which bytes the script has, and `taken` which bytes were read of it. The other arguments of
--- `Answered` are what the writer was given, before and after.
+-- prefix of the script's complete output. After the errors `Read` and `Memory`, the program's output ends between the
+-- outputs of two lines. After the error `Read`, the program's output is the output of all lines that were read. The
+-- argument `given` says which bytes the script has, and `taken` says which of these bytes were read. The other
+-- arguments of `Answered` are the bytes that the writer was given before and after.
 abbrev pub Answered : Program → (List ℕ → Type 0) → (List ℕ → Type 0) → Option (List ℕ) → Option (List ℕ)
     → Result Bool ScriptFault → Type 0
 Answered program given taken held held' (Ok clean) =
@@ -33,12 +33,12 @@ Answered program given taken held held' (Err fault) =
     × Appends held held' text × AnswersEnded TrustedLines (no_databases program) input text state)
 
 -- The effect of a run of `couch_replicate` with the given command line. If the command line gives no settings, no byte
--- is read or written. If the command line gives settings, a script is run with them, and its output has been passed on,
--- unless a write failed. The guarantees of a run are about the bytes that the reader has left, and about those that its
--- reads returned. If a run of a script succeeded, its input has ended. The arguments of `RunsWords` about the reader
--- are its remaining bytes and what its reads returned, each before and after. A further argument of `RunsWords` says
--- whether the reads came to the end. The arguments of `RunsWords` about the writer are what it was given before and
--- after, and what it passed on.
+-- is read or written. If the command line gives settings, a script is run with these settings. The script's output has
+-- been passed on, unless a write failed. The guarantees of a run are about the reader's remaining bytes, and about the
+-- bytes that its reads returned. If a run of a script succeeded, its input has ended. The arguments of `RunsWords`
+-- about the reader are its remaining bytes and the bytes that its reads returned, each before and after the run. A
+-- further argument of `RunsWords` says whether the reads reached the input's end. The arguments of `RunsWords` about
+-- the writer are the bytes that it was given before and after the run, and the bytes that it passed on.
 abbrev pub RunsWords : List (List ℕ) → Option (List ℕ) → Option (List ℕ) → Option (List ℕ) → Option (List ℕ) → Type 0
     → Option (List ℕ) → Option (List ℕ) → Option (List ℕ) → Ended → Type 0
 RunsWords words left left' took took' at_end held held' sent (NotRun why) =
@@ -49,8 +49,8 @@ RunsWords words left left' took took' at_end held held' sent (Ran ended) =
     × Answered (program_of o.settings) (λ input. Appends took took' input) (λ input. Appends took took' input) held held'
     ended × OnOk ended at_end × IsSent ended held' sent
 
--- What `couch_replicate` does with standard input and output. The arguments of `RunsStandard` are the command line, the
--- bytes read, whether they came to the end of the input, and the bytes that standard output accepted.
+-- The effect of `couch_replicate` on standard input and output. The arguments of `RunsStandard` are the command line,
+-- the bytes read, whether the reads reached the input's end, and the bytes that standard output accepted.
 abbrev pub RunsStandard : List (List ℕ) → List ℕ → Type 0 → List ℕ → Ended → Type 0
 RunsStandard words input at_end text (NotRun why) = Refuses words why × (input ≡ []) × (text ≡ [])
 RunsStandard words input at_end text (Ran ended) =

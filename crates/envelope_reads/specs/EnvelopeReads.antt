@@ -9,7 +9,7 @@ use Rattle.doc_json.specs.Document.{Document}
 use Rattle.doc_json.specs.declared.fault.DocFault.{DocFault}
 use Rattle.doc_envelope.specs.Envelopes.{enveloped}
 
--- The document in a JSON value, if there is a value, or the error of reading it.
+-- The document in an optional JSON value, or the error of reading the document.
 abbrev pub read_if_any : Option Data → Result (Option Document) DocFault
 read_if_any None = Ok None
 read_if_any (Some value) = doc_read value >>= λ doc. Ok (Some doc)

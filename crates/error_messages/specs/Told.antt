@@ -2,15 +2,16 @@
 use Rattle.std.specs.Prelude.{◌≡◌, ℕ, List, ◌++◌, codes, decimal, encode_utf8_all}
 use Rattle.visible_text.specs.Visible.{IsSeen}
 
--- The new text is the old one followed by UTF-8 without hidden characters, and therefore without a line end.
+-- The new text is the old text followed by UTF-8 without hidden characters, and therefore without a line end.
 abbrev pub AddsSeen : List ℕ → List ℕ → Type 0
 AddsSeen old new = (more : List ℕ) × IsSeen more × (new ≡ old ++ encode_utf8_all more)
 
--- How an explanation begins: the number of the line, and the name of the error.
+-- The beginning of an explanation: the number of the line, and the name of the error.
 abbrev pub beginning : ℕ → List ℕ → List ℕ
 beginning number name = codes "line " ++ decimal number ++ codes ": " ++ name ++ codes ": "
 
--- The new text is the old one followed by one line: its beginning, a reason without hidden characters, and a line end.
+-- The new text is the old text followed by one line, which has the given beginning, a reason without hidden characters,
+-- and a line end.
 abbrev pub IsTold : ℕ → List ℕ → List ℕ → List ℕ → Type 0
 IsTold number name old new =
     (reason : List ℕ) × IsSeen reason × (new ≡ old ++ beginning number name ++ encode_utf8_all reason ++ codes "\n")

@@ -6,8 +6,8 @@ use Rattle.journal_lines.specs.Leafs.{HeadView, head_view, line_head}
 use Rattle.journal_lines.specs.declared.entry.Entry.{Entry}
 use Rattle.journal_lines.specs.declared.entry.Entry.TheVariants as entries
 
--- The meaning of a journal line: the leaves of a document, the requested leaves of which some are lacking, the head of
--- a document, or no meaning.
+-- The meaning of a journal line: the leaves of a document, leaves that are lacking, the head of a document, or no
+-- meaning.
 pub data EntryView : Type 0 where
   state : LeavesView → EntryView
   lacks : LeavesView → EntryView

@@ -25,7 +25,7 @@ abbrev pub knows_at : List ℕ → ℕ → List (List ℕ) → Bool
 knows_at rev start [] = false
 knows_at rev start (name ∷ names) = bytes_eq rev (rev_at start name) || knows_at rev (start - 1) names
 
--- Whether a revision is the leaf or one of the leaf's ancestors.
+-- Whether a revision is the given leaf or one of the leaf's ancestors.
 abbrev pub knows_rev : LeafView → List ℕ → Bool
 knows_rev leaf rev = bytes_eq rev leaf.0 || knows_at rev leaf.1 leaf.2
 
@@ -36,7 +36,7 @@ HeadView = List ℕ × LeafView × Bool
 abbrev pub head_view : Leaf → HeadView
 head_view leaf = (string_bytes leaf.id, leaf_view leaf, leaf.deleted)
 
--- The newest generation and the signatures of a stored ancestry.
+-- The newest generation and the signatures that a stored ancestry represents.
 abbrev pub ancestry_view : ℕ × Vec (String Global) Global → ℕ × List (List ℕ)
 ancestry_view p = (p.0, texts_of p.1.items)
 

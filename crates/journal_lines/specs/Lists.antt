@@ -7,7 +7,7 @@ use Rattle.json.specs.Print.{quoted}
 use Rattle.journal_lines.specs.Texts.{cut_at_blank, is_token, text_in}
 use Rattle.journal_lines.specs.declared.leaves.Leaves.{Leaves}
 
--- What a journal line with leaves names: a sequence, the id of a document, and revisions.
+-- The contents of a journal line with leaves: a sequence, the id of a document, and revisions.
 abbrev pub LeavesView : Type 0
 LeavesView = List ℕ × List ℕ × List (List ℕ)
 
@@ -17,7 +17,7 @@ texts_of texts = map string_bytes texts
 abbrev pub leaves_view : Leaves → LeavesView
 leaves_view leaves = (string_bytes leaves.seq, string_bytes leaves.id, texts_of leaves.revs.items)
 
--- The list that begins with an item, if both the item and the list exist.
+-- A list with an item before its first item, if both the item and the list exist.
 abbrev pub with_first : {A : Type 0} → Option A → Option (List A) → Option (List A)
 with_first None xs = None
 with_first (Some x) None = None
@@ -28,7 +28,7 @@ abbrev pub each_item : {A : Type 0} → (Json → Option A) → Items → Option
 each_item reads no_items = Some []
 each_item reads (item j js) = with_first (reads j) (each_item reads js)
 
--- The list xs followed by a second list, if the second list exists.
+-- The list xs followed by a second list, or `None` if the second list is absent.
 abbrev pub prepend : {A : Type 0} → List A → Option (List A) → Option (List A)
 prepend xs None = None
 prepend xs (Some ys) = Some (xs ++ ys)
@@ -46,7 +46,7 @@ abbrev pub named_items : List ℕ → Items → Option LeavesView
 named_items seq no_items = None
 named_items seq (item j js) = named_by seq (as_str j) (revs_json js)
 
--- The id and the revisions that a JSON list names.
+-- The document id and the revisions that a JSON list names.
 abbrev pub named_in : List ℕ → Json → Option LeavesView
 named_in seq null = None
 named_in seq (boolean b) = None
@@ -76,7 +76,7 @@ leaves_by (Some parts) = leaves_at (option_and_then token (text_in parts.0)) (te
 abbrev pub leaves_in : List ℕ → Option LeavesView
 leaves_in rest = leaves_by (cut_at_blank rest)
 
--- The revisions of a list as JSON, each after a comma.
+-- The revisions of a list as JSON strings, each after a comma.
 abbrev pub revs_text : List (List ℕ) → List ℕ
 revs_text revs = flat_map (λ rev. codes "," ++ quoted rev) revs
 

@@ -19,18 +19,18 @@ both (Some x) (Some y) = Some (x, y)
 both None y = None
 both (Some x) None = None
 
--- Whether a list is one or more decimal digits.
+-- Whether a list of bytes is one or more decimal digits.
 abbrev pub are_digits : List ℕ → Bool
 are_digits ds = nat_lt 0 (length ds) && list_all (λ c. nat_lt (digit_value c) 10) ds
 
--- The number that digits write, if the number has at most 64 bits.
+-- The number that a list of decimal digits represents, if the number has at most 64 bits.
 abbrev pub number_of_digits : List ℕ → Option ℕ
 number_of_digits ds = if are_digits ds && nat_lt (digits_value 10 ds) (2 ^ 64) then Some (digits_value 10 ds) else None
 
--- The number of a JSON value, if it has no sign, point or exponent, and at most 64 bits.
+-- The number of a JSON value, if this number has no sign, point or exponent, and at most 64 bits.
 abbrev pub number_in : Json → Option ℕ
 number_in j = option_and_then (λ s. number_of_digits (without_leading_plus s)) (as_number j)
 
--- The number of a JSON object's member, if it has no sign, point or exponent, and at most 64 bits.
+-- The number of a JSON object's member, if this number has no sign, point or exponent, and at most 64 bits.
 abbrev pub number_at : List ℕ → Json → Option ℕ
 number_at name j = option_and_then number_in (get name j)

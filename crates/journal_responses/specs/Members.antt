@@ -5,7 +5,7 @@ use Rattle.json.specs.Json.{Json, null, boolean, number, string, array, object}
 use Rattle.json.specs.Find.{get}
 use Rattle.journal_lines.specs.Lists.{token}
 
--- The sequence that a JSON value is: the content of a string, or the text of a number.
+-- The sequence that a JSON value represents: the content of a string, or the text of a number.
 abbrev pub seq_in : Json → Option (List ℕ)
 seq_in null = None
 seq_in (boolean b) = None

@@ -16,7 +16,7 @@ is_plain text = list_all (λ b. nat_le 32 b && not (b == 127)) text
 abbrev pub plain : List ℕ → Option (List ℕ)
 plain text = if is_plain text then Some text else None
 
--- The revision of a change in a row of changes, if it has no control character.
+-- The revision of a change in a row of changes, if the revision has no control character.
 abbrev pub rev_in : Json → Option (List ℕ)
 rev_in change = option_and_then plain (text_at (codes "rev") change)
 
@@ -24,7 +24,7 @@ rev_in change = option_and_then plain (text_at (codes "rev") change)
 abbrev pub each_once : List (List ℕ) → List (List ℕ)
 each_once revs = fold add_rev [] revs
 
--- A list of revisions, if it is not empty.
+-- The given list of revisions, or `None` if the list is empty.
 abbrev pub some_revs : List (List ℕ) → Option (List (List ℕ))
 some_revs revs = if nat_eq (length revs) 0 then None else Some revs
 
@@ -33,7 +33,7 @@ some_revs revs = if nat_eq (length revs) 0 then None else Some revs
 abbrev pub changes_in : Items → Option (List (List ℕ))
 changes_in changes = option_and_then some_revs (each_item rev_in changes)
 
--- The sequence of a row of changes, which is `-` if it is missing or `null`.
+-- The sequence of a row of changes, or `-` if the sequence is missing or `null`.
 abbrev pub row_seq : Option Json → Option (List ℕ)
 row_seq None = Some (codes "-")
 row_seq (Some null) = Some (codes "-")
@@ -53,7 +53,7 @@ row_in row = option_map row_by (both (text_at (codes "id") row) (both (row_seq (
 abbrev pub rows_in : Json → Option (List LeavesView)
 rows_in page = option_and_then (each_item row_in) (items_at (codes "results") page)
 
--- The number of documents after a page of changes, which is `-` if it is missing or `null`.
+-- The number of documents after a page of changes, or `-` if the number is missing or `null`.
 abbrev pub pending_in : Option Json → Option (List ℕ)
 pending_in None = Some (codes "-")
 pending_in (Some null) = Some (codes "-")

@@ -5,11 +5,11 @@ use Rattle.json.specs.Find.{get}
 use Rattle.json.specs.Print.{quoted}
 use Rattle.journal_responses.specs.Members.{text_at, text_or}
 
--- The value of a JSON object's member, or the empty text if it is not a string.
+-- The value of a JSON object's member, or the empty text if the value is not a string.
 abbrev pub word_at : List ℕ → Json → List ℕ
 word_at name j = text_or [] (text_at name j)
 
--- Whether an entry of the response says that a document was refused.
+-- Whether an item of a `_bulk_docs` response says that a document was refused.
 abbrev pub is_refused : Json → Bool
 is_refused entry = is_some (get (codes "error") entry)
 

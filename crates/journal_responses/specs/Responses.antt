@@ -1,4 +1,4 @@
--- What a server's response is, and why it is not the requested one.
+-- The contents of a server's response, or the reason why the response is not the requested one.
 use Rattle.std.specs.Prelude.{◌≡◌, ℕ, List, Option, None, Some, codes, option_and_then, string_bytes, ⊤}
 use Rattle.json.specs.Json.{Json, document}
 use Rattle.journal_lines.specs.Texts.{text_in}
@@ -27,15 +27,15 @@ IsErrorOf error reason NotJson = ⊥
 IsErrorOf error reason Other = ⊥
 IsErrorOf error reason Memory = ⊥
 
--- What a JSON value is if it is not the requested response: an error of CouchDB, another value, or not known because an
--- allocation failed.
+-- The kind of a JSON value that is not the requested response: an error of CouchDB, another value, or not known because
+-- an allocation failed.
 abbrev pub IsSaid : Json → Said → Type 0
 IsSaid j (Error error reason) = error_in j ≡ Some (string_bytes error, string_bytes reason)
 IsSaid j NotJson = ⊥
 IsSaid j Other = error_in j ≡ None
 IsSaid j Memory = ⊤
 
--- A server's response is not the requested one, or an allocation failed.
+-- A server's response is not the requested response, or an allocation failed.
 abbrev pub IsOther : Said → Type 0
 IsOther (Error error reason) = ⊤
 IsOther NotJson = ⊤

@@ -10,6 +10,7 @@ WantedView = List ℕ × Bool
 abbrev pub wanted_view : Wanted → WantedView
 wanted_view wanted = (string_bytes wanted.rev, wanted.received)
 
--- A requested revision after a leaf was received. If a leaf was received, it and its ancestors count as received.
+-- The state of a requested revision after a leaf was received. If a leaf was received, the leaf and its ancestors count
+-- as received.
 abbrev pub received_by : LeafView → WantedView → WantedView
 received_by leaf wanted = (wanted.0, wanted.1 || knows_rev leaf wanted.0)

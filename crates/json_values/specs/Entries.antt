@@ -16,8 +16,8 @@ names_of es = map (λ e. e.0.now) es
 abbrev pub IsRising : {T : Type 0} → List (Entry T) → Type 0
 IsRising es = IsStrictlySortedBy (slice_cmp nat_cmp) (names_of es)
 
--- The members of an object with one more. If the object has a member of this name already, that member keeps its
--- position and gets the new value.
+-- The members of an object after a member is set. If the object has a member of this name already, that member keeps
+-- its position and gets the new value.
 abbrev pub put_entry : {T : Type 0} → Bor (List ℕ) → T → List (Entry T) → List (Entry T)
 put_entry k v es = insert_entry (λ a b. slice_cmp nat_cmp a.now b.now) es k v
 

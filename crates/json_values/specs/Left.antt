@@ -1,4 +1,4 @@
--- The tokens that remain to be read, and what is known about the strings that were read.
+-- The tokens of a JSON text that remain to be read, and which of the read strings are known to need no escapes.
 use Rattle.std.specs.Prelude.{ℕ, List, refl}
 use Rattle.std.specs.Coded.{Coded, code_by, coded×, coded_list, coded_ℕ}
 use Rattle.json.specs.Token.{Token, tokens_code}

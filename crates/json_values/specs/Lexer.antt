@@ -1,4 +1,4 @@
--- The text that remains from the next lexeme on, and what is known about the strings that were read.
+-- The JSON text that remains from the next lexeme on, and which of the read strings are known to need no escapes.
 use Rattle.std.specs.Prelude.{◌≡◌, ◌+◌, ◌≤◌, length, drop, get_or, true}
 use Rattle.std.specs.Str.{IsUtf8}
 use Rattle.json.specs.Lex.{class}

@@ -5,12 +5,12 @@ use Rattle.std.specs.declared.cmp.Ordering.TheVariants.{Less}
 use Rattle.std.specs.Cmp.Lexicographic.{slice_cmp}
 use Rattle.serde_json.specs.Data.{Data, null, boolean, number, string, array, object, Items, no_items, item, Members, no_members, member}
 
--- Each name of an object's members is greater than k.
+-- Each name of an object's members is greater than the name k.
 abbrev pub AllBehind : List ℕ → Members → Type 0
 AllBehind k no_members = ⊤
 AllBehind k (member l d ms) = (slice_cmp nat_cmp k l ≡ Less) × AllBehind k ms
 
--- At any depth, each name of an object is greater than the names before it.
+-- In every object at any depth, each name is greater than the names before it.
 abbrev mutual
   pub IsOrdered : Data → Type 0
   IsOrdered null = ⊤

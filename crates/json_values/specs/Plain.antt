@@ -11,7 +11,7 @@ use Rattle.json_values.specs.declared.plain_texts.PlainTexts.{PlainTexts}
 abbrev pub PlainIf : Bool → List ℕ → Type 0
 PlainIf known s = known ≡ true → prefix_len is_plain s ≡ length s
 
--- At any depth, the strings that are claimed to need no escapes need no escapes.
+-- At any depth of a JSON value, the strings that the flags claim to need no escapes need none.
 abbrev mutual
   pub ArePlain : PlainTexts → Data → Type 0
   ArePlain known null = ⊤

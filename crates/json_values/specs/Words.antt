@@ -20,7 +20,7 @@ WordAt d i r w =
 abbrev pub IsLiteral : List ℕ → spec.Token → Type 0
 IsLiteral name t = (0 < length name) × (is_good t ≡ true) × ((r : List ℕ) → ends_word r ≡ true → lex between r ≡ drop 1 (lex between (name ++ r)))
 
--- The number n is written in d from index i up to index `end`.
+-- The text d has the number n from index i up to index `end`.
 pub record IntegerAt (d : List ℕ) (i : ℕ) (n : Num) (end : ℕ) : Type 0 where
   pub within : i < length d
   pub from : i ≤ end

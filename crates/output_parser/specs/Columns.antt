@@ -7,7 +7,7 @@ use Rattle.output_parser.specs.declared.told.Column.TheVariants as columns
 use Rattle.output_parser.specs.declared.told.Table.{Table}
 use Rattle.output_parser.specs.declared.told.Table.TheVariants as tables
 
--- The text before the number of a column in a line of numbers, without the blank.
+-- The caption before the number of a column in a line of numbers, without the blank.
 abbrev pub column_text : Column → List ℕ
 column_text columns.ComparedDocuments = codes "compared"
 column_text columns.ComparedLeaves = codes " documents"
@@ -47,7 +47,8 @@ pub record EndsIn (column : Column) (n : ℕ) (front text : List ℕ) : Type 0 w
   pub form : text ≡ front ++ named (column_text column) word
   pub number : IsNumber word n
 
--- The text ends with the given columns and numbers, listed from the last one, and `front` is the text before them.
+-- The text ends with the given columns and numbers, listed from the last column, and `front` is the text before these
+-- columns.
 abbrev pub Ends : List Column → List ℕ → List ℕ → List ℕ → Type 0
 Ends columns numbers front text = InTurn EndsIn columns numbers front text
 

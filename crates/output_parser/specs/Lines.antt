@@ -35,12 +35,12 @@ pub record LeafParts (line own : List ℕ) (live : Bool) (list : List ℕ) : Typ
   pub word : lacks 32 own ≡ true
   pub form : line ≡ codes "leaf " ++ (own ++ 32 ∷ (state_text live ++ list))
 
--- The first revision of the list has the text `own`.
+-- The first revision of a list of revisions has the text `own`.
 abbrev pub BeginsWith : List ℕ → List RevId → Type 0
 BeginsWith own [] = ⊥
 BeginsWith own (r ∷ rest) = own ≡ rev_text r
 
--- A line about a leaf, in which the list of revisions is an ancestry that begins with the leaf.
+-- A `leaf` line, in which the list of revisions is an ancestry that begins with the leaf.
 pub record IsLeafLine (line : List ℕ) (live : Bool) (revs : List RevId) : Type 0 where
   pub own : List ℕ
   pub list : List ℕ
@@ -76,7 +76,7 @@ NoRow line table = (name numbers : List ℕ) → IsRow table line name numbers �
 abbrev pub NoLog : List ℕ → Type 0
 NoLog line = (id : List ℕ) (entries : List Logged) → IsLog line id entries → ⊥
 
--- The contents of a line of a script's output that does not describe a tree.
+-- The contents of a line of a script's output that does not describe a document's tree.
 abbrev pub TellsMore : List ℕ → Told → Type 0
 TellsMore line (told.Document id count) = ⊥
 TellsMore line (told.Leaf live revs) = ⊥

@@ -7,8 +7,8 @@ use Rattle.output_parser.specs.declared.told.Entry.{Entry}
 use Rattle.output_parser.specs.declared.told.Member.{Member}
 use Rattle.output_parser.specs.declared.told.Member.TheVariants as members
 
--- The text of a log before a member's value. The byte after a member's value is a comma, or the quotation mark that
--- ends a string.
+-- The text of a log that precedes the value of a session's member. The byte after a member's value is a comma, or the
+-- quotation mark that ends a string.
 abbrev pub member_text : Member → List ℕ
 member_text members.Failed = codes "{\"doc_write_failures\":"
 member_text members.Read = codes "\"docs_read\":"
@@ -34,7 +34,7 @@ all_members =
     members.Failed ∷ members.Read ∷ members.Written ∷ members.End ∷ members.EndTime ∷ members.Checked ∷ members.Found
     ∷ members.Recorded ∷ members.Session ∷ members.Start ∷ members.StartTime ∷ []
 
--- The text begins with a member of the given value, and `after` is the text that follows the member.
+-- The text begins with a session's member that has the given value, and `after` is the text that follows the member.
 pub record IsMember (member : Member) (value after text : List ℕ) : Type 0 where
   pub form : text ≡ member_text member ++ (value ++ member_end member ∷ after)
   pub lacks_end : lacks (member_end member) value ≡ true
@@ -53,7 +53,7 @@ logged e = record { session = string_bytes e.session; begun = string_bytes e.beg
 abbrev pub texts_of : List (Bor (List ℕ)) → List (List ℕ)
 texts_of values = map (λ (v : Bor (List ℕ)). v.now) values
 
--- The values of the members of a log's entry describe session e.
+-- The values of the members of a log entry describe the session e.
 pub record Values (values : List (List ℕ)) (e : Logged) : Type 0 where
   pub failed : IsNumber (get_or values 0 []) e.failed
   pub read : IsNumber (get_or values 1 []) e.read
@@ -63,7 +63,7 @@ pub record Values (values : List (List ℕ)) (e : Logged) : Type 0 where
   pub session_utf8 : IsUtf8 e.session
   pub begun_utf8 : IsUtf8 e.begun
 
--- The text begins with session e, and `after` is the text after the session's closing brace.
+-- The text begins with the session e of a log, and `after` is the text after the session's closing brace.
 pub record IsEntry (e : Logged) (after text : List ℕ) : Type 0 where
   pub values : List (List ℕ)
   pub listed : InTurn IsMember all_members values (125 ∷ after) text

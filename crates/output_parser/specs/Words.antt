@@ -8,11 +8,11 @@ use Rattle.rev_core.specs.Text.{rev_text}
 abbrev pub lacks : ℕ → List ℕ → Bool
 lacks b text = list_all (λ x. not (x == b)) text
 
--- A name, a blank, and a word.
+-- The text of a name, a blank, and a further part.
 abbrev pub named : List ℕ → List ℕ → List ℕ
 named name word = name ++ 32 ∷ word
 
--- The text is the number n of at most 64 bits, in decimal.
+-- The text is the decimal form of the number n, which has at most 64 bits.
 abbrev pub IsNumber : List ℕ → ℕ → Type 0
 IsNumber text n = (text ≡ decimal n) × (n < 2 ^ 64)
 

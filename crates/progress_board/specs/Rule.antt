@@ -5,7 +5,7 @@ use mathlib.Core.Option.{some}
 use lib.ListN.{get_elem?}
 use Rattle.progress_board.specs.declared.rule.SeatView.{SeatView}
 
--- The maximum of each count of the board.
+-- The maximum of each counter of the board.
 abbrev pub most : ℕ
 most = 9007199254740991
 
@@ -13,23 +13,23 @@ abbrev pub seat_view : Bool → Bool → ℕ → List ℕ → List ℕ → SeatV
 seat_view deals works number reads settles =
     record { deals = deals; works = works; number = number; reads = reads; settles = settles }
 
--- What the seat that creates the seats of k workers knows, before it creates the seat of worker n.
+-- The knowledge of the seat that creates the seats of k workers, before it creates the seat of worker n.
 abbrev pub dealer : ℕ → ℕ → SeatView
 dealer k n = seat_view true false n (replicate k 0) (replicate k 0)
 
--- What the creating seat knows after it created a worker's seat.
+-- The knowledge of the seat that creates the other seats, after it created a worker's seat.
 abbrev pub dealt : SeatView → SeatView
 dealt v = seat_view v.deals v.works (v.number + 1) v.reads v.settles
 
--- What a new worker's seat knows about the board's counters.
+-- The knowledge of a new worker's seat about the board's counters.
 abbrev pub hired : SeatView → SeatView
 hired v = seat_view false true v.number (replicate (length v.reads) 0) (replicate (length v.reads) 0)
 
--- What a new viewer's seat knows about the board's counters.
+-- The knowledge of a new viewer's seat about the board's counters.
 abbrev pub viewer : SeatView → SeatView
 viewer v = seat_view false false 0 (replicate (length v.reads) 0) (replicate (length v.reads) 0)
 
--- What a worker's seat knows after the worker has added n to its read counter.
+-- The knowledge of a worker's seat after the worker has added n to its read counter.
 abbrev pub added_read : SeatView → ℕ → SeatView
 added_read v n =
     seat_view v.deals v.works v.number (slice_set v.reads v.number (slice_index v.reads v.number + n)) v.settles
@@ -38,22 +38,23 @@ abbrev pub added_settled : SeatView → ℕ → SeatView
 added_settled v n =
     seat_view v.deals v.works v.number v.reads (slice_set v.settles v.number (slice_index v.settles v.number + n))
 
--- A load of worker i's read counter returned n. The number n that a seat loads is its new bound, and is not below the
--- old one. A worker sees its own counter on the board exactly.
+-- A load of worker i's read counter returned n. The number n that a seat loads is the seat's new lower bound of the
+-- counter, and is not below the old bound. A worker sees its own counter on the board exactly.
 abbrev pub SeesRead : SeatView → ℕ → ℕ → SeatView → Type 0
 SeesRead v i n w =
     (w ≡ seat_view v.deals v.works v.number (slice_set v.reads i n) v.settles)
     × (slice_index v.reads i ≤ n) × (n ≤ most) × (v.works ≡ true → v.number ≡ i → n ≡ slice_index v.reads i)
 
--- A load of worker i's settled counter returned n. The number n that a seat loads is its new bound and is not below the
--- old one, and worker i has read at least n. A worker sees its own counter on the board exactly.
+-- A load of worker i's settled counter returned n. The number n that a seat loads is the seat's new lower bound of the
+-- counter, and is not below the old bound. Worker i has read at least n documents. A worker sees its own counter on the
+-- board exactly.
 abbrev pub SeesSettled : SeatView → ℕ → ℕ → SeatView → Type 0
 SeesSettled v i n w =
     (w ≡ seat_view v.deals v.works v.number (slice_set v.reads i (max (slice_index v.reads i) n))
     (slice_set v.settles i n))
     × (slice_index v.settles i ≤ n) × (n ≤ most) × (v.works ≡ true → v.number ≡ i → n ≡ slice_index v.settles i)
 
--- What a seat knows about the board's counters is true.
+-- The knowledge of a seat about the board's counters is true.
 pub record Fits (k : ℕ) (words : List ℕ) (v : SeatView) : Type 0 where
   pub read_size : length v.reads ≡ k
   pub settle_size : length v.settles ≡ k
@@ -70,8 +71,8 @@ pub record Fits (k : ℕ) (words : List ℕ) (v : SeatView) : Type 0 where
 abbrev pub InOrder : ℕ → List ℕ → Type 0
 InOrder k words = (j : ℕ) → j < k → (slice_index words (k + j) ≤ slice_index words j) × (slice_index words j ≤ most)
 
--- The invariant of a board: the counters are in order, what each seat knows is true, and the workers' numbers are
--- distinct.
+-- The invariant of a board: no settled counter exceeds its worker's read counter, the knowledge of each seat is true,
+-- and the workers' numbers are distinct.
 pub record Kept (k : ℕ) (words : List ℕ) (views : List SeatView) : Type 0 where
   pub size : length words ≡ k + k
   pub order : InOrder k words

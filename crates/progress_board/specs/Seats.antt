@@ -8,7 +8,7 @@ use Rattle.progress_board.specs.declared.fault.BoardFault.{BoardFault}
 use Rattle.progress_board.specs.declared.fault.BoardFault.TheVariants as faults
 use Rattle.progress_board.specs.Rule.{most}
 
--- Seat s belongs to board b.
+-- The seat s belongs to the board b.
 abbrev pub CameWith : Board → BoardSeat → Type 0
 CameWith b s = (s.place.table_id ≡ b.table.shared.table_id) × (length s.place.me.0.reads ≡ b.workers)
 
@@ -20,7 +20,7 @@ seen_read s = sum s.place.me.0.reads
 abbrev pub seen_settled : BoardSeat → ℕ
 seen_settled s = sum s.place.me.0.settles
 
--- No count that a seat has seen has fallen between the views v and w.
+-- No sum that a seat has seen has fallen between the seat's views v and w.
 abbrev pub IsLater : SeatView → SeatView → Type 0
 IsLater v w =
     ((j : ℕ) → slice_index v.reads j ≤ slice_index w.reads j)
@@ -30,7 +30,7 @@ IsLater v w =
 abbrev pub SameSeat : BoardSeat → BoardSeat → Type 0
 SameSeat s t = (t.works ≡ s.works) × (t.number ≡ s.number) × (t.read ≡ s.read) × (t.settled ≡ s.settled)
 
--- A worker's own counters are at most the totals that it has read.
+-- A worker's own counters are at most the totals that the worker has seen.
 abbrev pub SeesItself : BoardSeat → ℕ → ℕ → Type 0
 SeesItself s settled read = s.works ≡ true → (s.settled ≤ settled) × (s.read ≤ read)
 
@@ -57,7 +57,8 @@ new_fault workers viewers = if are_seats workers viewers then faults.Memory else
 
 -- ---- new seats
 
--- Seat number i of a new table with counters of k workers, which is that of worker i if i < n, else a viewer's.
+-- Seat number i of a new table with counters of k workers, which is the seat of worker i if i < n, else the seat of a
+-- viewer.
 abbrev pub IsSeat : TableId → ℕ → ℕ → ℕ → BoardSeat → Type 0
 IsSeat table k n i s =
     (s.place.table_id ≡ table) × (s.works ≡ nat_lt i n) × (i < n → s.number ≡ i) × (s.read ≡ 0) × (s.settled ≡ 0)
@@ -66,8 +67,8 @@ IsSeat table k n i s =
 abbrev pub SeatsAre : TableId → ℕ → ℕ → List BoardSeat → Type 0
 SeatsAre table k n seats = (i : ℕ) (d : BoardSeat) → i < length seats → IsSeat table k n i (slice_index_or seats i d)
 
--- Seat number i of a new board b. The seats of a new board are first the workers', by number, and then the viewers'. No
--- seat of a new board has added or seen any documents.
+-- Seat number i of a new board b. The seats of a new board are first the workers' seats, by the workers' numbers, and
+-- then the viewers' seats. No seat of a new board has added or seen any documents.
 pub record IsNew (b : Board) (i : ℕ) (s : BoardSeat) : Type 0 where
   pub came : CameWith b s
   pub works : s.works ≡ nat_lt i b.workers

@@ -43,8 +43,7 @@ ledger_in d = do
 abbrev pub rev_part : List ℕ → List ℕ → List ℕ → List ℕ
 rev_part word id rev = word ++ codes " " ++ quoted id ++ codes " " ++ rev
 
--- A part of a line of `ledger`: the parent of a revision that the target knows, and the parent that the refused
--- document gives.
+-- A part of a line of `ledger`: the parent of a revision that the target knows, and the parent that the document gives.
 abbrev pub parents_part : List ℕ → List ℕ → List ℕ
 parents_part known given = codes " known " ++ known ++ codes " given " ++ given
 

@@ -8,7 +8,7 @@ use Rattle.json.specs.Print.{print}
 use Rattle.relay_core.specs.declared.messages.Counts.{Counts}
 use Rattle.relay_core.specs.Messages.{Text, EntryView, LogView, CheckpointView}
 
--- The path of both logs, from the MD5 of six texts, of which each but the last is followed by a line feed.
+-- The path of both replication logs, from the MD5 of six texts with line feeds between them.
 abbrev pub log_path : Text → Text → Text → Text → Text → Text → Text
 log_path source target filter query choice salt =
     codes "/_local/sandermauve-" ++ encode_lower (md5 (source ++ 10 ∷ (target ++ 10 ∷ (filter ++ 10 ∷ (query ++ 10 ∷ (choice ++ 10 ∷ salt))))))
@@ -21,7 +21,7 @@ counts_tokens c =
     ∷ key (codes "docs_written") ∷ number (decimal c.docs_written)
     ∷ key (codes "doc_write_failures") ∷ number (decimal c.doc_write_failures) ∷ []
 
--- The members of a log with a session, a sequence, and the version of the log's format.
+-- The members of a log that have a session, a sequence, and the version of the log's format.
 abbrev pub position_tokens : Text → Text → List Token
 position_tokens session seq =
     key (codes "session_id") ∷ string session ∷ key (codes "source_last_seq") ∷ string seq
@@ -51,13 +51,13 @@ is_of_session session r = bytes_eq r.0 session
 abbrev pub is_recorded : Text → Text → Recorded → Bool
 is_recorded session seq r = bytes_eq r.0 session && bytes_eq r.1 seq
 
--- Whether an entry of the history is kept, given the entries that are kept before it. A history keeps at most 50
--- entries, at most two of a session, and of a session none twice with the same sequence.
+-- Whether an entry of a log's history is kept, given the entries that are kept before it. A history keeps at most 50
+-- entries, and at most two entries of a session. Entries of one session that are kept have different sequences.
 abbrev pub may_keep : List Recorded → EntryView → Bool
 may_keep kept e =
     nat_lt (length kept) 50 && nat_lt (count_by (is_of_session e.session) kept) 2 && not (list_any (is_recorded e.session e.seq) kept)
 
--- The entries of a history that are kept, newest first, if the entries in `kept` are kept before them.
+-- The entries of a log's history that are kept, newest first, if the entries in `kept` are kept before these entries.
 abbrev pub thinned : List Recorded → List EntryView → List EntryView
 thinned kept [] = []
 thinned kept (e ∷ es) = if may_keep kept e then e ∷ thinned (kept ++ recorded_of e ∷ []) es else thinned kept es

@@ -1,5 +1,5 @@
--- The text of a request, which is a line that says who does what, and a line with the body, as specified in
--- docs/PROFILE.md, "Relay" and "Requests of the relay".
+-- The text of a request, which is a head line with the server and the operation, and a line with the body, as specified
+-- in docs/PROFILE.md, "Relay" and "Requests of the relay".
 use Rattle.std.specs.Prelude.{ℕ, List, [], ◌∷◌, ◌++◌, Option, None, Some, Bool, ◌==◌, length, if◌then◌else◌, codes, decimal, string_bytes}
 use Rattle.json.specs.Print.{print}
 use Rattle.percent_encoding.specs.Percent.{percent_encode}
@@ -33,7 +33,7 @@ abbrev pub changes_method : Text → Text
 changes_method [] = codes "GET"
 changes_method (c ∷ cs) = codes "POST"
 
--- The path of a `_changes` request with its parameters, of which the last three are given with their names.
+-- The path of a `_changes` request with its parameters. The last three parameters are given with their names.
 abbrev pub path_with : ℕ → Text → Text → Text → Text → Text
 path_with batch since wait filter query =
     codes "/_changes?style=all_docs&limit=" ++ decimal batch ++ codes "&seq_interval=" ++ decimal batch

@@ -45,7 +45,7 @@ fault_name (refused id side status words) = codes "refused"
 fault_name (unaccounted id rev error count) = codes "unaccounted"
 fault_name log_changed = codes "log_changed"
 
--- The error of a row in a fault's message, or the empty text without an error.
+-- The error of a response row in a fault's message, or the empty text if the row has no error.
 abbrev pub row_error_text : Option (Text × Text) → Text
 row_error_text None = []
 row_error_text (Some e) = codes ", " ++ e.0 ++ codes ": " ++ e.1

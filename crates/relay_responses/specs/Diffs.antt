@@ -9,7 +9,7 @@ use Rattle.relay_responses.specs.Read.{items_at, each_item, with_first}
 
 -- ---- named leaves
 
--- The members of an object, appended to the members `found`. In the list of members, each name occurs once, with its
+-- The members of a JSON object, appended to the members `found`. In the resulting list, each name occurs once, with its
 -- last value.
 abbrev pub last_members : List (Text × Json) → Members → List (Text × Json)
 last_members found no_members = found
@@ -18,8 +18,8 @@ last_members found (member k j ms) = last_members (insert_entry bytes_eq found k
 abbrev pub doc_of : Text → List Text → DocView
 doc_of id revs = (id, revs)
 
--- The document that a member of the response names. The name of the member is the document's id, and its list `missing`
--- has the leaves.
+-- The document that a member of a `_revs_diff` response names. The name of the member is the document's id, and the
+-- list `missing` in its value has the leaves.
 abbrev pub missing_at : Text × Json → Option DocView
 missing_at m = option_map (doc_of m.0) (option_and_then (each_item as_str) (items_at (codes "missing") m.1))
 

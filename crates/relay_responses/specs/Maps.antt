@@ -1,4 +1,4 @@
--- The values of the maps of a response. A key of such a map is a reference to a text.
+-- The values that the maps of a response represent. A key of a response's map is a reference to a text.
 use Rattle.std.specs.Prelude.{List, [], Option, None, Some, map}
 use Rattle.std.specs.Borrow.{Bor}
 use Rattle.std.specs.Global.{Global}
@@ -20,7 +20,7 @@ values_in entries = map (λ e. (e.0.now, value_view e.1.now)) entries
 abbrev pub docs_in : {S : Type 0} → List (Bor Text × IndexSet (Bor Text) S) → List DocView
 docs_in entries = map (λ e. (e.0.now, texts_in e.1.keys)) entries
 
--- The leaves of an optional set, which are no leaves without a set.
+-- The leaves of an optional set, or the empty list if there is no set.
 abbrev pub texts_or_none : {S : Type 0} → Option (IndexSet (Bor Text) S) → List Text
 texts_or_none None = []
 texts_or_none (Some known) = texts_in known.keys

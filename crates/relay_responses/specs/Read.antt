@@ -27,11 +27,11 @@ both (Some x) None = None
 
 -- ---- sequences
 
--- The digits of a number's text, if the text has only digits.
+-- The text of a JSON number, if the text has only digits.
 abbrev pub digits_in : Text → Option Text
 digits_in s = if list_all is_ascii_digit s then Some s else None
 
--- The first of two values, if there is one, otherwise the second.
+-- The first of two optional values if it is present, otherwise the second.
 abbrev pub or_else : Option Text → Option Text → Option Text
 or_else (Some x) o = Some x
 or_else None o = o
@@ -60,7 +60,7 @@ abbrev pub some_items : {A : Type 0} → (Json → Option A) → Items → List 
 some_items reads no_items = []
 some_items reads (item j js) = option_map_or (λ x. x ∷ some_items reads js) (reads j) (some_items reads js)
 
--- The list xs followed by a second list, if the second list exists.
+-- The list xs followed by a second list, or `None` if the second list is absent.
 abbrev pub prepend : {A : Type 0} → List A → Option (List A) → Option (List A)
 prepend xs None = None
 prepend xs (Some ys) = Some (xs ++ ys)

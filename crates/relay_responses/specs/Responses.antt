@@ -38,14 +38,14 @@ words_in body = option_map_or words_of (option_and_then (λ j. both (text_at (co
 abbrev pub json_response : Operation → Text → (Json → ResponseView) → ResponseView
 json_response operation body f = option_map_or f (json_in body) (fault_response (not_json operation))
 
--- The response that f gives for a JSON body, if the status is one of three, otherwise a fault.
+-- The response that f gives for a JSON body, or a fault if the status is not a success or the body is not JSON.
 abbrev pub read_as : Side → Operation → ℕ → Text → (Json → ResponseView) → ResponseView
 read_as side operation status body f =
     if status == 0 then fault_response (unanswered side operation)
     else if is_success status then json_response operation body f
     else fault_response (bad_status side operation status (words_in body))
 
--- The response that f gives for a value, or the fault if there is no value.
+-- The response that f gives for an optional value, or the given fault if there is no value.
 abbrev pub or_fault : {A : Type 0} → (A → ResponseView) → FaultView → Option A → ResponseView
 or_fault f fault o = option_map_or f o (fault_response fault)
 

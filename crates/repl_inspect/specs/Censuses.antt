@@ -12,7 +12,7 @@ use Rattle.repl_inspect.specs.declared.census.Census.{Census}
 abbrev pub is_gone : TreeValue → Bool
 is_gone tree = length (live tree) == 0
 
--- The census of a database: the numbers of documents, of deleted ones, of those in conflict, of leaves and of
+-- The census of a database: the numbers of documents, of deleted documents, of documents in conflict, of leaves and of
 -- revisions.
 abbrev pub census_of : List TreeValue → Census
 census_of trees = record {
@@ -23,6 +23,6 @@ census_of trees = record {
   revisions = counted (sum_by (λ (t : TreeValue). len t.origins) trees);
 }
 
--- The trees of a database's documents.
+-- The revision trees of a database's documents, as a list.
 abbrev pub trees : DatabaseValue → List TreeValue
 trees db = map (λ (d : DocumentValue). d.tree) db.docs

@@ -1,5 +1,6 @@
 -- What a target lacks of a source's document, as specified in docs/PROFILE.md, "Missing revisions" and "Merging", and
--- in CouchDB, "Replication Protocol", `_revs_diff`. A comparison of a document uses its two trees, not logs.
+-- in CouchDB, "Replication Protocol", `_revs_diff`. A comparison of a document uses the document's trees in both
+-- databases, not logs.
 use Rattle.std.specs.Prelude.{ℕ, Bool, false, not, ◌&&◌, List, [], ◌∷◌, filter, length, Option, None}
 use Rattle.std.proofs.Math.Bool.{beq}
 use Rattle.std.specs.Option.{option_map_or, option_or}
@@ -11,9 +12,10 @@ use Rattle.rev_tree.specs.Content.{ContentValue}
 use Rattle.rev_tree.specs.Tree.{TreeValue, leaves, ancestors, missing, first_contradiction}
 use Rattle.rev_tree.specs.declared.fault.Contradiction.{Contradiction}
 
--- The comparison of a document at a source and a target. A comparison has the number of the source's leaves, and those
--- that the target's tree lacks. A comparison also has the first revision of the lacking leaves' ancestries to which the
--- target gives another parent. Finally, a comparison has the leaves whose contents are known on both sides and differ.
+-- The comparison of a document at a source and a target. A comparison has the number of the source's leaves, and the
+-- leaves that the target's tree lacks. A comparison also has the first revision of the missing leaves' ancestries to
+-- which the target gives another parent. Finally, a comparison has the leaves whose contents are known on both sides
+-- and differ.
 pub record ComparisonValue : Type 0 where
   pub leaves : ℕ
   pub missing : List RevId

@@ -1,4 +1,4 @@
--- Worlds whose messages and stored windows are the source's own, as specified in docs/PROFILE.md, "Worlds" and "Tied
+-- Worlds whose messages and stored windows come from the source, as specified in docs/PROFILE.md, "Worlds" and "Tied
 -- windows and messages".
 use Rattle.std.specs.Prelude.{◌≡◌, ℕ, ◌≤◌, List, [], Bool, false, Some, None, Result, slice_get}
 use Rattle.doc_json.specs.Document.{Document}
@@ -20,7 +20,7 @@ use Rattle.repl_peer.specs.declared.fault.TargetFault.{TargetFault}
 use Rattle.repl_world.specs.Bags.{IsBag}
 use Rattle.repl_world.specs.Worlds.{WorldValue, rep_of}
 
--- The invariants that the parts of world w have by their types.
+-- The invariants that the parts of world w satisfy by their types.
 pub record IsWorld (refuses : Document → Bool) (w : WorldValue) : Type 0 where
   pub source : LawfulDatabase w.source.db
   pub target : Lawful refuses w.target
@@ -41,24 +41,24 @@ pub record OwnParcel (w : WorldValue) (place : ℕ) (p : ParcelValue) : Type 0 w
   pub tied : window.life ≡ w.source.db.life → IsTiedParcel w.target.db window p
 
 pub record Tied (w : WorldValue) : Type 0 where
-  -- The two peers of the world are consistent, with each backup of the source.
+  -- The target of the world is consistent with the source and with each backup of the source.
   pub peers : IsTiedWith w.backups w.source w.target w.chosen
   -- No window or log of the bag is from a later life than the source's database.
   pub window_lives : (x : WindowValue) → Among x w.bag.windows → x.life ≤ w.source.db.life
   pub log_lives : (g : ℕ × List EntryValue) → Among g w.bag.logs → g.0 ≤ w.source.db.life
-  -- The windows of the source's life in the bag are consistent with the source's current database, and so are their
-  -- requests and parcels.
+  -- The bag's windows from the source's life, and the requests and parcels of these windows, are consistent with the
+  -- source's current database.
   pub windows : (x : WindowValue) → Among x w.bag.windows → x.life ≡ w.source.db.life
       → IsTiedWindow w.source.db w.chosen x
   pub asked : (a : ℕ × AskedValue) → Among a w.bag.asked → OwnAsked w a.0 a.1
   pub parcels : (p : ℕ × ParcelValue) → Among p w.bag.parcels → OwnParcel w p.0 p.1
   pub logs : (g : ℕ × List EntryValue) → Among g w.bag.logs → g.0 ≡ w.source.db.life
       → AreTiedEntries w.source.db w.target (rep_of w) g.1
-  -- Each entry of the bag was the entry of a session of the target.
+  -- Each log entry in the bag was the entry of a session of the target.
   pub entries : (e : EntryValue) → Among e w.bag.entries → IsSentEntry w.target e
 
--- The target has no session of the replication, and the source no entry of it. The two peers may have sessions and
--- entries of other selections.
+-- The target has no session of the replication, and the source no log entry of the replication. The two peers may have
+-- sessions and log entries of other selections.
 pub record HoldNone (source target : PeerValue) (chosen : Choice) : Type 0 where
   pub sessions : (s : SessionValue) → Among s target.sessions → s.rep ≡ rep_between source target chosen → ⊥
   pub log : source_log source (rep_between source target chosen) ≡ []
@@ -75,9 +75,9 @@ NeverUncovered refuses w =
     → (result : Result Settled TargetFault) (now : PeerValue) → SettleGives refuses w.target s.id p.1 result now
     → is_uncovered result ≡ false
 
--- The guarantees of a consistent world. In a consistent world, what both logs claim is covered for the source's own
--- feed, and so is the common checkpoint. An audit in a consistent world finds no leaf that is not covered. Settling a
--- parcel for its own window never returns `Uncovered` in a consistent world.
+-- The guarantees of a consistent world. In a consistent world, the target covers the source's feed up to the sequences
+-- that both logs claim, and up to the common checkpoint. An audit in a consistent world finds no leaf that is not
+-- covered. Settling a parcel for its own window never returns `Uncovered` in a consistent world.
 pub record IsTrustworthy (refuses : Document → Bool) (w : WorldValue) : Type 0 where
   pub tied : Tied w
   pub honest : LogsAreHonest w.source w.target w.chosen

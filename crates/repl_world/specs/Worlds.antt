@@ -1,12 +1,12 @@
 -- Two peers and a bag of messages, and the effect of each step, as specified in docs/PROFILE.md, "Worlds".
 --
 -- A replication exchanges messages: pages of the source's feed, requests for what the target lacks, parcels of
--- documents, and log entries. Messages between two databases may be late, repeated, reordered or lost. A world is both
--- peers with every message that was ever sent and not lost. A step is one call on a peer, with any message of the bag.
--- A message stays in the bag when it is used, so it can be used again, and steps need not follow each other. A world
--- also has backups of the source. If a backup is restored, the source's database begins another life. A crash loses all
--- messages, but the peers and the backups stay. What holds after every list of steps holds for every exchange between
--- the two databases, even if other clients write to them meanwhile.
+-- documents, and log entries. Messages between two databases may be late, repeated, reordered or lost. A world has two
+-- peers, and every message that was ever sent and not lost. A step is one call on a peer, with any message of the bag.
+-- A message stays in the bag when a step uses it, so further steps can use the message again, in any order. A world
+-- also has backups of the source. If a backup of the source is restored, the source's database begins a new life. A
+-- crash loses all messages, but the peers and the backups stay. A statement that holds after every list of steps holds
+-- for every exchange between the two databases, even if other clients write to them meanwhile.
 use Rattle.std.specs.Prelude.{◌≡◌, ◌⊎◌, ℕ, ◌==◌, ◌≤◌, List, [], ◌∷◌, ◌++◌, Bool, if◌then◌else◌, Option, Some, None, IfSome, Result, Ok, Err, take, slice_get}
 use Rattle.rev_tree.specs.declared.origin.SessionId.{SessionId}
 use Rattle.doc_json.specs.Document.{Document}
@@ -85,8 +85,8 @@ abbrev pub settles : (Document → Bool) → WorldValue → SessionId → Option
 settles refuses w session None = w
 settles refuses w session (Some p) = record w { target = after_settle refuses w.target session p.1 }
 
--- The world after settling ran out of memory after n documents, or after all that can be settled if these are fewer
--- than n.
+-- The world after settling ran out of memory after n documents, or after all documents that can be settled if their
+-- number is less than n.
 abbrev pub stops : (Document → Bool) → WorldValue → SessionId → ℕ → Option (ℕ × ParcelValue) → WorldValue
 stops refuses w session n None = w
 stops refuses w session n (Some p) = record w { target = after_some refuses w.target session p.1 n }
@@ -95,13 +95,13 @@ stops refuses w session n (Some p) = record w { target = after_some refuses w.ta
 abbrev pub entry_in : PeerValue → SessionId → Result EntryValue TargetFault
 entry_in p session = session_answer p session (λ (s : SessionValue). Ok (entry_of s))
 
--- The world after a session is recorded and its new entry is added to the bag.
+-- The world after a session is recorded and the session's new entry is added to the bag.
 abbrev pub records : WorldValue → SessionId → ℕ → WorldValue
 records w session at =
     let now = after_record w.target session at in
     record w { target = now; bag = told w.bag (entry_in now session) }
 
--- The world after a session is concluded. If concluding a session succeeds, its entry is added to the bag.
+-- The world after a session is concluded. If concluding a session succeeds, the session's entry is added to the bag.
 abbrev pub concludes : WorldValue → SessionId → ℕ → WorldValue
 concludes w session at =
     let now = after_conclude w.target session at in
@@ -125,7 +125,8 @@ reads_log w = record w { bag = with_log w.bag (log_of_source w) }
 abbrev pub agreed : WorldValue → List EntryValue → Option (SessionId × ℕ)
 agreed w log = common log (target_log w.target (rep_of w))
 
--- The parameters of a session that begins at the common checkpoint with a log of the bag, in the life of that log.
+-- The parameters of a new session of the target, which begins at the common checkpoint of its log and a log of the bag,
+-- in the life of the bag's log.
 abbrev pub beginning_in : WorldValue → ℕ → ℕ × List EntryValue → Beginning
 beginning_in w goal log = record {
   scope = record { rep = rep_of w; life = log.0; base = base_at (agreed w log.1); goal = goal };
@@ -171,8 +172,8 @@ run refuses w (step ∷ steps) = run refuses (happens refuses w step) steps
 
 -- ---- failed allocations
 
--- The effect of a step that ran out of memory. Such a step changes the world only if it settles a parcel, and then it
--- may have settled a part of the parcel's documents.
+-- The effect of a step that ran out of memory. A step that runs out of memory changes the world only if it settles a
+-- parcel, and may then have settled a part of the parcel's documents.
 abbrev pub IsStopped : (Document → Bool) → WorldValue → SessionId → Option (ℕ × ParcelValue) → WorldValue → Type 0
 IsStopped refuses w session parcel now =
     (now ≡ w)
@@ -184,7 +185,7 @@ CutShort refuses w (Settle session parcel) now = IsStopped refuses w session (sl
 CutShort refuses w step now = now ≡ w
 
 -- The effect of a run that ran out of memory in one of its steps. If a run runs out of memory, the steps before the
--- current one are done, and the current one is partial.
+-- current step are done, and the current step may be done partly.
 abbrev pub StoppedIn : (Document → Bool) → WorldValue → List Step → WorldValue → Type 0
 StoppedIn refuses w steps now =
     (k : ℕ) × (step : Step) × (slice_get steps k ≡ Some step) × CutShort refuses (run refuses w (take k steps)) step now

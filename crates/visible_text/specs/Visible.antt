@@ -42,7 +42,7 @@ visible_char c = if is_hidden c then escape_of c else c ∷ []
 abbrev pub visible : List ℕ → List ℕ
 visible cs = flat_map visible_char cs
 
--- A character as it is written in a JSON string.
+-- The form of a character in a JSON string without hidden characters.
 abbrev pub quoted_char : ℕ → List ℕ
 quoted_char c = if c == 34 then 92 ∷ 34 ∷ [] else if c == 92 then 92 ∷ 92 ∷ [] else visible_char c
 

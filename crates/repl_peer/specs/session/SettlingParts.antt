@@ -26,13 +26,13 @@ use Rattle.repl_peer.specs.declared.session.ledger_index.LedgerIndex.{LedgerInde
 abbrev pub known_of : DatabaseValue → LedgerIndex → Id → RevId → Bool
 known_of db index id r = has (tree_of db.docs id) r || is_ledgered index id r
 
--- The new index of refused revisions has the revisions of the old index, and the revisions of a ledger's documents.
+-- The new ledger index has the revisions of the old ledger index, and the revisions of a ledger's documents.
 abbrev pub IndexesMore : LedgerIndex → List RefusedValue → LedgerIndex → Type 0
 IndexesMore old ledger new =
     (id : Id) (r : RevId) → is_ledgered new id r ≡ (is_ledgered old id r || in_ledger ledger id r)
 
--- A session keeps its id and its replication, and its ledger only grows. The index of refused revisions gains exactly
--- the revisions that the session's ledger gains.
+-- A session keeps its id and its replication, and its ledger only grows. The ledger index gains exactly the revisions
+-- that the session's ledger gains.
 pub record KeepsIndexed (old : SessionValue) (index : LedgerIndex) (new : SessionValue) (index' : LedgerIndex) : Type 0
   where
     pub id : new.id ≡ old.id
@@ -57,11 +57,11 @@ pub record IsWindowAt (ws : List WindowValue) (lo hi i : ℕ) : Type 0 where
 
 -- ---- one document
 
--- The new index of refused revisions has exactly the revisions of the old index.
+-- The new ledger index has exactly the revisions of the old ledger index.
 abbrev pub IsSameIndex : LedgerIndex → LedgerIndex → Type 0
 IsSameIndex old new = (id : Id) (r : RevId) → is_ledgered new id r ≡ is_ledgered old id r
 
--- The new index of refused revisions has the revisions of the old index, and the revisions of document d.
+-- The new ledger index has the revisions of the old ledger index, and the revisions of document d.
 abbrev pub IsIndexedWith : Document → LedgerIndex → LedgerIndex → Type 0
 IsIndexedWith d old new =
     (id : Id) (r : RevId) → is_ledgered new id r ≡ (is_ledgered old id r || (bytes_eq d.id id && is_among r d.ancestry))

@@ -19,12 +19,12 @@ use Rattle.repl_peer.specs.declared.session.ledger_index.LedgerIndex.{LedgerInde
 abbrev pub sessions_of : List (SessionId × SessionValue) → List SessionValue
 sessions_of es = newest_first (λ s. s) es
 
--- The index of refused revisions has exactly the revisions of the documents in the sessions' ledgers.
+-- The ledger index has exactly the revisions of the documents in the sessions' ledgers.
 abbrev pub Indexes : LedgerIndex → List SessionValue → Type 0
 Indexes ledgered sessions = (id : Id) (r : RevId) → is_ledgered ledgered id r ≡ in_ledgers sessions id r
 
--- No session id occurs twice in the table, each session is stored under its own id, and the index has the revisions of
--- the sessions' ledgers.
+-- No session id occurs twice in the table, each session is stored under its own id, and the ledger index has the
+-- revisions of the sessions' ledgers.
 pub record IsTableOf (ledgered : LedgerIndex) (es : List (SessionId × SessionValue)) : Type 0 where
   pub once : IsDistinct at_session (keys_of es)
   pub keyed : IsKeyed (λ s. s.id) es
