@@ -56,8 +56,8 @@ abbrev pub Exchanged : RequestOptions → List Exchange → List ℕ → List �
 Exchanged o [] read written = (read ≡ []) × (written ≡ [])
 Exchanged o (e ∷ h) read written = IsNext o e (Exchanged o h) read written
 
--- The bytes `read` and `written` are the bytes of a list of exchanges, each of which was allowed. The next request is
--- allowed after these exchanges.
+-- The bytes `read` and `written` are the bytes of a list of exchanges, each of which was allowed. After the last
+-- exchange, the next request is allowed, too.
 pub record IsRun (o : RequestOptions) (read written : List ℕ) (next : RequestView) : Type 0 where
   pub history : List Exchange
   pub exchanged : Exchanged o history read written

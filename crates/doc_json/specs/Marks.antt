@@ -7,7 +7,7 @@ abbrev pub place_from : ℕ → List ℕ → ℕ
 place_from n [] = n
 place_from n (b ∷ bs) = place_from ((n * 31 + b) % 8192) bs
 
--- The table index of an id, computed from its last eight bytes.
+-- The index of an id in the table of selected ids, computed from the id's last eight bytes.
 abbrev pub place_of : ℕ → List ℕ → ℕ
 place_of places id = place_from 0 (drop (length id - 8) id) % places
 

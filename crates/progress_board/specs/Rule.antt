@@ -39,15 +39,15 @@ added_settled v n =
     seat_view v.deals v.works v.number v.reads (slice_set v.settles v.number (slice_index v.settles v.number + n))
 
 -- A load of worker i's read counter returned n. The number n that a seat loads is the seat's new lower bound of the
--- counter, and is not below the old bound. A worker sees its own counter on the board exactly.
+-- counter, and is not below the old bound. For its own counter, a worker loads exactly its own count.
 abbrev pub SeesRead : SeatView → ℕ → ℕ → SeatView → Type 0
 SeesRead v i n w =
     (w ≡ seat_view v.deals v.works v.number (slice_set v.reads i n) v.settles)
     × (slice_index v.reads i ≤ n) × (n ≤ most) × (v.works ≡ true → v.number ≡ i → n ≡ slice_index v.reads i)
 
 -- A load of worker i's settled counter returned n. The number n that a seat loads is the seat's new lower bound of the
--- counter, and is not below the old bound. Worker i has read at least n documents. A worker sees its own counter on the
--- board exactly.
+-- counter, and is not below the old bound. Worker i has read at least n documents. For its own
+-- counter, a worker loads exactly its own count.
 abbrev pub SeesSettled : SeatView → ℕ → ℕ → SeatView → Type 0
 SeesSettled v i n w =
     (w ≡ seat_view v.deals v.works v.number (slice_set v.reads i (max (slice_index v.reads i) n))

@@ -45,7 +45,7 @@ absorbed hi [] = (hi, [])
 absorbed hi (r ∷ rs) = if r.lo == hi then (r.hi, rs) else (hi, r ∷ rs)
 
 -- The ranges of done windows after adding (lo, hi] at r, the first range that ends at or above `lo`. If range r ends at
--- `lo` or begins at `hi`, it grows, otherwise it is unchanged.
+-- `lo` or begins at `hi`, r grows, otherwise r is unchanged.
 abbrev pub put_at : DoneRange → List DoneRange → ℕ → ℕ → List DoneRange
 put_at r rs lo hi =
     if r.hi == lo then record { lo = r.lo; hi = (absorbed hi rs).0 } ∷ (absorbed hi rs).1

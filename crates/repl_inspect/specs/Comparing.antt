@@ -1,6 +1,6 @@
--- What a target lacks of a source's document, as specified in docs/PROFILE.md, "Missing revisions" and "Merging", and
--- in CouchDB, "Replication Protocol", `_revs_diff`. A comparison of a document uses the document's trees in both
--- databases, not logs.
+-- The comparison of a source's document with a target, as specified in docs/PROFILE.md, "Missing revisions" and
+-- "Merging", and in CouchDB, "Replication Protocol", `_revs_diff`. A comparison of a document uses the document's trees
+-- in both databases, not logs.
 use Rattle.std.specs.Prelude.{ℕ, Bool, false, not, ◌&&◌, List, [], ◌∷◌, filter, length, Option, None}
 use Rattle.std.proofs.Math.Bool.{beq}
 use Rattle.std.specs.Option.{option_map_or, option_or}

@@ -43,8 +43,8 @@ insert_entry-present s (e ∷ es) x y is =
       | false ↦ λ rest. ap (λ l. e ∷ l) (insert_entry-present s es x y rest)
     ] is
 
--- Theorems about stored values, given a function from a stored value to its value in contracts, and one from this value
--- to its session.
+-- Theorems about stored values, given a function from stored values to values of contracts, and a function from values
+-- of contracts to sessions.
 module _ {X V : Type 0} (value : X → V) (session : V → SessionId) where
   abbrev named : SessionId → V → Bool
   named s v = (session v).0 == s.0

@@ -1,4 +1,4 @@
--- Several bytes of a value that the parser reads at once.
+-- The effect of several bytes of a value that the parser reads at once.
 use Rattle.std.specs.Prelude.{◌≡◌, ℕ, ◌==◌, length, take, List, [], ◌∷◌, ◌++◌, Bool, true, false}
 use Rattle.response_parser.specs.State.{State, more}
 use Rattle.response_parser.specs.Reading.{after, pieces}

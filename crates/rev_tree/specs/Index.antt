@@ -10,7 +10,7 @@ use Rattle.rev_tree.specs.declared.nodes.TheConstants.{MOST_WALKED}
 abbrev pub mark_of : RevId → ℕ
 mark_of r = (hasher.finish (hasher.write hasher.initial r.sig) + r.generation) % 2 ^ 64
 
--- The index entries after adding a hash with the position of its node, or the same entries if they have the hash
+-- The index entries after adding a hash with the position of its node, or the unchanged entries if they have the hash
 -- already.
 abbrev pub noted : List (ℕ × ℕ) → ℕ → ℕ → List (ℕ × ℕ)
 noted entries mark place =

@@ -51,8 +51,8 @@ pub record LawfulSession (refuses : Document → Bool) (p : PeerValue) (s : Sess
   pub counts : LawfulCounts s.arrivals s.ledger s.counts
   pub open counts use *
 
--- Session s has no base and starts at 0, or it starts at most at the recorded sequence of its base, an earlier session
--- of the same replication.
+-- Session s has no base and starts at 0, or s starts at or below the recorded sequence of its base, an earlier session
+-- of its replication.
 abbrev pub IsBased : List SessionValue → SessionValue → Type 0
 IsBased earlier s =
     (s.base ≡ None) × (s.front.start ≡ 0)

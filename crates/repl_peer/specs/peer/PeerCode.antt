@@ -29,7 +29,8 @@ coded_written =
     code_by (Id × List RevId) (coded× coded_id (coded_list coded_rev)) (λ w. (w.id, w.ancestry))
     (λ p. record { id = p.0; ancestry = p.1 }) (λ _. refl)
 
--- Why a document was refused, encoded as data: the three revisions of a contradiction, or a value for the filter.
+-- The reason why a document was refused, encoded as data: the three revisions of a contradiction, or a value that means
+-- the filter.
 abbrev reason_parts : Reason → Unit {0} ⊎ (RevId × (RevId × RevId))
 reason_parts Filtered = inl tt
 reason_parts (Contradicting child known given) = inr (child, (known, given))

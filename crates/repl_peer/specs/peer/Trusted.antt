@@ -1,4 +1,4 @@
--- What every peer guarantees, as specified in docs/PROFILE.md, "The peer's law".
+-- The guarantees of every peer, as specified in docs/PROFILE.md, "The peer's law".
 use Rattle.std.specs.Prelude.{◌≡◌, ◌⊎◌, ◌≤◌, Bool, true}
 use Rattle.rev_core.specs.Rev.{RevId}
 use Rattle.rev_core.specs.Ancestry.{is_among}

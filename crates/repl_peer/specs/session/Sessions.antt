@@ -51,7 +51,7 @@ session_answer p id answer = found_answer answer (session_in p.sessions id)
 abbrev pub start_answer : ℕ → ℕ → Result (Unit {0}) TargetFault
 start_answer start recorded = if nat_lt recorded start then Err (faults.StartAboveBase recorded) else Ok tt
 
--- The peer's session with id `base`, if it is of the same replication.
+-- The peer's session with id `base`, if this session belongs to the given replication.
 abbrev pub base_in : List SessionValue → RepId → SessionId → Option SessionValue
 base_in sessions rep base = find (λ s. is_of base s && same_rep s.rep rep) sessions
 
@@ -144,7 +144,7 @@ report_of s = record {
   counts = s.counts;
 }
 
--- The result of concluding session s: a report if its low water is its goal, otherwise `Unfinished`.
+-- The result of concluding session s: a report if the low water of s is its goal, otherwise `Unfinished`.
 abbrev pub conclude_in : SessionValue → Result Report TargetFault
 conclude_in s =
     if low_water s.front == s.goal then Ok (report_of (record s { recorded = low_water s.front }))
