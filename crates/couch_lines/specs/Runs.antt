@@ -101,7 +101,7 @@ EndedCounts (NotRun why) reads reads' reader reader' writer writer' =
 EndedCounts (Ran run) reads reads' reader reader' writer writer' = RunCounts run.ended reads reads' reader reader' writer writer'
 EndedCounts (Drawn ended) reads reads' reader reader' writer writer' = DrawnCounts ended reads reads' reader reader' writer writer'
 
--- The statement `holds` is true if the run succeeded.
+-- If the run succeeded, the statement `holds` is true.
 abbrev pub IfDone : Ended → Type 0 → Type 0
 IfDone (NotRun why) holds = ⊤
 IfDone (Ran run) holds = OnOk run.ended holds

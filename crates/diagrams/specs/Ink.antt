@@ -254,7 +254,8 @@ counts_of (c ∷ cs) (n ∷ ns) = count c n ∷ counts_of cs ns
 counts_of cs ns = []
 
 -- The bar of a line of numbers. In a line of `compare`, the bar's filled part is the leaves that the target has. In a
--- line of a session, the bar's filled part is the documents written among those read.
+-- line of a session, the bar's filled part is the number of documents written, and its length the number of documents
+-- read.
 abbrev pub bars_of : Form → Table → List ℕ → List Sign
 bars_of form tables.Compared ns = bar form (get_or ns 1 0 - get_or ns 2 0) (get_or ns 1 0) ∷ []
 bars_of form tables.Info ns = []

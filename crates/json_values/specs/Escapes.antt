@@ -12,7 +12,7 @@ mode after_u = in_string
 mode (after_high h) = in_string
 
 -- Reading the escape at index i of d gives r: the character r.0, and the index r.1 after the escape. With its
--- backslash, an escape is at least as long as the character. The lexer skips an escape in a string.
+-- backslash, an escape is at least as long as the character that it denotes. The lexer skips an escape in a string.
 abbrev pub Escape : List ℕ → Within → ℕ → Option (ℕ × ℕ) → Type 0
 Escape d within i r =
     MatchOption r (content within (drop i d) ≡ None) (λ p.

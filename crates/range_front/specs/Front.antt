@@ -98,7 +98,7 @@ range_count f = run_count false (above_low_water f.windows)
 abbrev pub no_windows : ℕ → FrontValue
 no_windows start = record { start = start; windows = [] }
 
--- Front f after appending the window from its end to `hi`, which is not done.
+-- Front f after appending a window from the end of f to `hi`, which is not done.
 abbrev pub appended : FrontValue → ℕ → FrontValue
 appended f hi = record f { windows = f.windows ++ record { hi = hi; done = false } ∷ [] }
 

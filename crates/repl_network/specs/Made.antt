@@ -45,7 +45,8 @@ IsOneOf among peers place id parent deleted body =
     (p : PeerValue) → IsAt peers place p → (e : RevId × Option RevId) → edited p.db id parent deleted body ≡ Ok e
     → among (record { before = e.1; deleted = deleted; body = body }) ≡ true
 
--- Documents that were made by a set of edits without a collision agree in all peers and have complete histories.
+-- If no two edits of a set have the same MD5, the documents that this set made agree in all peers and have complete
+-- histories.
 abbrev pub MadeAgree : List PeerValue → Type 0
 MadeAgree peers =
     (among : EditValue → Bool) → HaveNoCollision among → (id : Id) → AllMadeBy among peers id

@@ -17,7 +17,7 @@ abbrev pub or_refused : {A E : Type 0} → E → Option A → Result A E
 or_refused e None = Err e
 or_refused e (Some x) = Ok x
 
--- A result in which every error is replaced by e.
+-- A result in which every error is replaced by the error e.
 abbrev pub named : {A E F : Type 0} → F → Result A E → Result A F
 named e (Ok x) = Ok x
 named e (Err why) = Err e

@@ -20,8 +20,7 @@ abbrev pub IsRoot : TreeValue → RevId → Type 0
 IsRoot t r = (has t r ≡ true) × (get t.parents r ≡ None)
 
 -- Tree t has grown from tree `old` by data of tree `other`. Tree t keeps the edges of `old`, and all revisions, edges
--- and contents of t are from `old` or `other`. A root of tree t is a root of the tree that it is from, `old` or
--- `other`.
+-- and contents of t are from `old` or `other`. Each root of tree t is a root of `old` or of `other`.
 pub record IsGrownBy (old other t : TreeValue) : Type 0 where
   pub kept : (c p : RevId) → get old.parents c ≡ Some p → get t.parents c ≡ Some p
   pub revs : (r : RevId) → has t r ≡ true → (has old r ≡ true) ⊎ (has other r ≡ true)
