@@ -36,7 +36,7 @@ coded_table =
 abbrev pub id_at : List Id → ℕ → Id
 id_at ids i = unwrap_or (slice_get ids i) []
 
--- The index rows with the ids of documents instead of the documents' positions.
+-- The rows of an index with the ids of documents instead of the documents' positions.
 abbrev pub named : List Id → List (ℕ × ℕ) → List (ℕ × Id)
 named ids index = map (λ e. (e.0, id_at ids e.1)) index
 
@@ -51,16 +51,16 @@ live docs rows = filter (is_live docs) rows
 abbrev pub feed_of : List (Id × Kept) → List (ℕ × ℕ) → List (ℕ × Id)
 feed_of docs rows = named (keys_of docs) (live docs rows)
 
--- The index rows above sequence a.
+-- The rows of a database's index above sequence a.
 abbrev pub above : ℕ → List (ℕ × ℕ) → List (ℕ × ℕ)
 above a rows = filter (λ e. nat_lt a e.0) rows
 
--- The live index rows at or below sequence b.
+-- The live rows of a database's index at or below sequence b.
 abbrev pub live_upto : List (Id × Kept) → ℕ → List (ℕ × ℕ) → List (ℕ × ℕ)
 live_upto docs b rows = filter (λ e. nat_le e.0 b) (live docs rows)
 
--- The index rows after a change of one of n documents. The index of n documents keeps all rows if it has at most 2 n +
--- 1 rows, otherwise only the live rows.
+-- The rows of a database's index after a change of one of n documents. The index of n documents keeps all rows if it
+-- has at most 2 n + 1 rows, otherwise only the live rows.
 abbrev pub swept : List (Id × Kept) → List (ℕ × ℕ) → List (ℕ × ℕ)
 swept docs rows = if nat_lt (length docs) (length rows / 2) then live docs rows else rows
 
@@ -109,7 +109,7 @@ row_of_kept id k = row_of (record { id = id; seq = k.seq; tree = k.tree })
 abbrev pub rows_within : TableValue → ℕ → ℕ → List RowValue
 rows_within t a b = map (row_by t.entries) (live_upto t.entries b (above a t.rows))
 
--- The index has exactly the documents of the table, each at the sequence of its latest change.
+-- The index of a table has exactly the documents of the table, each at the sequence of its latest change.
 pub record IsTable (g : Id → Option Kept) (index : List (ℕ × Id)) (hi : ℕ) : Type 0 where
   pub rising : Rises 0 (map (λ e. e.0) index) hi
   pub within : hi ≤ most
@@ -126,7 +126,7 @@ abbrev pub InOrder : List (ℕ × ℕ) → Type 0
 InOrder [] = Unit {0}
 InOrder (e ∷ rows) = ((x : ℕ × ℕ) → Among x rows → e.0 < x.0) × InOrder rows
 
--- The index rows are valid: document positions are below n, and sequences rise and are below s.
+-- The rows of a database's index are valid: document positions are below n, and sequences rise and are below s.
 pub record AreRows (n s : ℕ) (rows : List (ℕ × ℕ)) : Type 0 where
   pub places : ArePlaces n rows
   pub below : AllBelow s rows

@@ -19,7 +19,8 @@ use Rattle.couch_relay.specs.Options.{Says, Refuses}
 
 -- ---- an exchange
 
--- The bytes are the head and the body of a response to request q, and the response has the given meaning and date.
+-- The given bytes are the head and the body of a response to request q, and the response has the given meaning and
+-- date.
 pub record IsResponse (q : RequestView) (bytes : List ℕ) (response : ResponseView) (date : Text) : Type 0 where
   pub head : HeadView
   pub body : List ℕ
@@ -27,7 +28,7 @@ pub record IsResponse (q : RequestView) (bytes : List ℕ) (response : ResponseV
   pub response_is : response ≡ response_in q head.status head.who body
   pub date_is : date ≡ head.date
 
--- The bytes are the response to request q, and then `rest`.
+-- The given bytes are the response to request q, and then further bytes `rest`.
 abbrev pub BeginsWithResponse : RequestView → List ℕ → List ℕ → Dated → Type 0
 BeginsWithResponse q bytes rest d =
     (frame : List ℕ) × (bytes ≡ frame ++ rest) × IsResponse q frame (response_view d.response) (string_bytes d.date)
@@ -127,7 +128,7 @@ on_line b = if b == 10 || b == 13 then 32 else b
 abbrev pub on_one_line : Text → Text
 on_one_line text = map on_line (trim text)
 
--- The input is a response with a selection of documents, and then `rest`.
+-- The given input is a response with a selection of documents, and then further bytes `rest`.
 pub record IsChoice (input : List ℕ) (choice : Text) (rest : List ℕ) : Type 0 where
   pub frame : List ℕ
   pub head : HeadView

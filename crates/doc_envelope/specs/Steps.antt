@@ -21,7 +21,7 @@ held_by h m = cond (is_blank m) h (cond (stays m) h (held_with h m))
 abbrev pub taken_with : List ℕ → List ℕ → Option (List ℕ)
 taken_with t m = cond (is_blank m) (Some t) (option_map (added t) (unfolded_member m))
 
--- The rest of a text after a member of n bytes and the comma after it.
+-- The rest of a text after a member of n bytes and the comma that follows the member.
 abbrev pub behind_comma : List ℕ → ℕ → List ℕ
 behind_comma t n = cond (get_or t n 0 == 44) (drop (n + 1) t) []
 

@@ -25,7 +25,7 @@ put_entry k v es = insert_entry (λ a b. slice_cmp nat_cmp a.now b.now) es k v
 abbrev pub IsPlaceOf : {T : Type 0} → List ℕ → List (Entry T) → ℕ → Type 0
 IsPlaceOf {T} k es i = (name : Bor (List ℕ)) → name.now ≡ k → (v : T) → (e : Entry T) → slice_get es i ≡ Some e → put_entry name v es ≡ slice_set es i (e.0, v)
 
--- In the order of names, a member named k must be inserted at index i.
+-- To keep members in the order of their names, a member named k must be inserted at index i.
 abbrev pub IsGapFor : {T : Type 0} → List ℕ → List (Entry T) → ℕ → Type 0
 IsGapFor {T} k es i = (name : Bor (List ℕ)) → name.now ≡ k → (v : T) → put_entry name v es ≡ take i es ++ (name, v) ∷ drop i es
 

@@ -57,8 +57,7 @@ new_fault workers viewers = if are_seats workers viewers then faults.Memory else
 
 -- ---- new seats
 
--- Seat number i of a new table with counters of k workers, which is the seat of worker i if i < n, else the seat of a
--- viewer.
+-- Seat number i of a new table with counters of k workers: the seat of worker i if i < n, else a viewer's seat.
 abbrev pub IsSeat : TableId → ℕ → ℕ → ℕ → BoardSeat → Type 0
 IsSeat table k n i s =
     (s.place.table_id ≡ table) × (s.works ≡ nat_lt i n) × (i < n → s.number ≡ i) × (s.read ≡ 0) × (s.settled ≡ 0)

@@ -57,7 +57,7 @@ entry_for-replaced log e s held =
       | false ↦ λ other. entry_for-replaced_other log e s other
     ] refl
 
--- The log after a put of entry e has e for its session, and the old entries for all other sessions.
+-- The log after a put of entry e has e as the entry of e's session, and the old entries of all other sessions.
 pub ChangesOnly-with_entry : (log : List EntryValue) (e : EntryValue) → ChangesOnly log (with_entry log e) e
 ChangesOnly-with_entry log e s =
     elim (holds log e.session) as (λ b. holds log e.session ≡ b → entry_for (cond b (replaced log e) (e ∷ log)) s ≡ cond (is_of s e) (Some e) (entry_for log s)) [
@@ -195,14 +195,14 @@ turned source target i x is =
     at_drop_more (λ (rest : List EntryValue). common source rest) target i x (slice_get_within target i x is)
     ∙ ap (λ (y : EntryValue). common source (y ∷ drop (i + 1) target)) (get_or_from_slice_get target i x x is)
 
--- If the source's log has the session of the target's entry at index i, and no session of an earlier entry, this
--- session is the common checkpoint.
+-- If the target's entry at index i is the first entry whose session is in the source's log, this session is the common
+-- checkpoint.
 pub common-at : (source target : List EntryValue) (i recorded : ℕ) (x : EntryValue) → common source target ≡ common source (drop i target) → slice_get target i ≡ Some x → recorded_of source x.session ≡ Some recorded
     → common source target ≡ Some (x.session, min recorded x.recorded)
 common-at source target i recorded x so_far is held = so_far ∙ turned source target i x is ∙ common-shared source (drop (i + 1) target) x recorded held
 
--- If the source's log has no session of the target's entries up to index i, the common checkpoint is in a later entry,
--- if it exists.
+-- If the source's log has no session of the target's entries up to index i, the common checkpoint, if it exists, is in
+-- a later entry.
 pub common-behind : (source target : List EntryValue) (i : ℕ) (x : EntryValue) → common source target ≡ common source (drop i target) → slice_get target i ≡ Some x → recorded_of source x.session ≡ None
     → common source target ≡ common source (drop (i + 1) target)
 common-behind source target i x so_far is none = so_far ∙ turned source target i x is ∙ common-passed source (drop (i + 1) target) x none

@@ -16,8 +16,8 @@ use Rattle.response_output.specs.declared.run.AnswerFault.TheVariants.{Refused, 
 
 -- ---- some bytes
 
--- The given bytes were read, and the items in them are written. The last two arguments of `Fed` are the bytes that the
--- writer has accepted before and after.
+-- The given bytes were read, and the items in these bytes were written. The last two arguments of `Fed` are the bytes
+-- that the writer has accepted before and after.
 pub record Fed (s : State) (w : Words) (bytes : List ℕ) (s' : State) (w' : Words) (held held' : Option (List ℕ)) : Type 0 where
   pub state : s' ≡ after s bytes
   pub words : w' ≡ words_behind w (pieces s bytes)
@@ -77,18 +77,18 @@ Finishes s w held held' (Err (Device fault)) =
 
 -- ---- everything from a reader
 
--- The input is all remaining bytes of the reader, with a line end added if the last line has none, and no byte of the
--- input is rejected.
+-- The input of a conversion is all remaining bytes of the reader, with a line end added if the last line has none. No
+-- byte of the input is rejected.
 abbrev pub IsAll : Wanted → Option (List ℕ) → List ℕ → Type 0
 IsAll wanted left read =
     (input : List ℕ) × Gives left input × (read ≡ whole (start wanted) input) × (is_refused (after (start wanted) input).place ≡ false)
 
--- The input is all remaining bytes of the reader, with a line end added if the last line has none. Bytes of this input
--- may be rejected.
+-- The input of a conversion is all remaining bytes of the reader, with a line end added if the last line has none.
+-- Bytes of the input may be rejected.
 abbrev pub IsLeft : Wanted → Option (List ℕ) → List ℕ → Type 0
 IsLeft wanted left read = (input : List ℕ) × Gives left input × (read ≡ whole (start wanted) input)
 
--- The input is a prefix of the reader's remaining bytes, and the last byte of this prefix is rejected.
+-- The input of a conversion is a prefix of the reader's remaining bytes, and the last byte of this prefix is rejected.
 abbrev pub IsFront : Wanted → Option (List ℕ) → List ℕ → Type 0
 IsFront wanted left read =
     (rest : List ℕ) × Gives left (read ++ rest) × (is_refused (after (start wanted) read).place ≡ true)

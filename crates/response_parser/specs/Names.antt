@@ -164,7 +164,7 @@ passes Other first = false
 passes Foreign first = false
 
 -- The error for a name's value, if there is one. The value of a name gives an error if it must be an id or a revision
--- but is not a string, or if it is the reason of CouchDB's error.
+-- but is not a string. The reason of CouchDB's error gives an error, too.
 abbrev pub refusal_of : Name → ℕ → Bool → Option Refusal
 refusal_of Plain first failed = None
 refusal_of Document first failed = None

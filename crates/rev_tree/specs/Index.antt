@@ -10,14 +10,14 @@ use Rattle.rev_tree.specs.declared.nodes.TheConstants.{MOST_WALKED}
 abbrev pub mark_of : RevId → ℕ
 mark_of r = (hasher.finish (hasher.write hasher.initial r.sig) + r.generation) % 2 ^ 64
 
--- The index entries after adding a hash with the position of its node, or the unchanged entries if they have the hash
--- already.
+-- The entries of a tree's index after adding a hash with the position of its node, or the unchanged entries if they
+-- have the hash already.
 abbrev pub noted : List (ℕ × ℕ) → ℕ → ℕ → List (ℕ × ℕ)
 noted entries mark place =
     if is_some (lookup (nat_eq mark) entries) then entries else entries ++ (mark, place) ∷ []
 
--- The index entries after adding the hashes of a list of revisions, whose positions start at i. In the index, each hash
--- keeps its first position.
+-- The entries of a tree's index after adding the hashes of a list of revisions, whose positions start at i. In the
+-- index, each hash keeps its first position.
 abbrev pub noted_from : List (ℕ × ℕ) → ℕ → List RevId → List (ℕ × ℕ)
 noted_from entries i [] = entries
 noted_from entries i (r ∷ revs) = noted_from (noted entries (mark_of r) i) (i + 1) revs
