@@ -60,8 +60,8 @@ IsDone task left held held' result = Converts result (wanted_of task) (words_of_
 
 -- The guarantees of a task for input with known contents. A `load` task writes a `load` line for each document in
 -- CouchDB responses, in order, with the document's text or envelope. A task for script output writes the output's
--- documents into request bodies, or each leaf of its changes into a `doc` line. A task does not reject input with known
--- contents.
+-- documents into request bodies, or each leaf of its changes into a `doc` line. If the contents of the input are known,
+-- the task does not reject the input.
 abbrev pub Makes : Task → Option (List ℕ) → Option (List ℕ) → Option (List ℕ) → Result ℕ AnswerFault → Type 0
 Makes (Load db whole) left held held' result = (answers : List ℕ) → (documents : List Piece) → left ≡ Some answers
     → IsAnswered (wanted_of (Load db whole)) answers documents → ReadsAnswers (loads_of (string_bytes db)) documents held held' result

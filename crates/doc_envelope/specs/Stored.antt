@@ -1,4 +1,4 @@
--- The values that the stored envelope buffers represent.
+-- The values in contracts that the stored buffers of envelopes represent.
 use Rattle.std.specs.Prelude.{◌≡◌, ℕ, List, [], ◌∷◌, ◌++◌, Bool, true}
 use Rattle.doc_envelope.specs.Printed.{IsPrinted}
 use Rattle.doc_envelope.specs.declared.envelope.Envelope.{Envelope}

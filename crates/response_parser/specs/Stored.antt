@@ -1,4 +1,4 @@
--- The state that a stored parser represents.
+-- The parser's state in contracts that a stored parser represents.
 use Rattle.response_parser.specs.State.{State}
 use Rattle.response_parser.specs.declared.reading.Reading.{Reading}
 

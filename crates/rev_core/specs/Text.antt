@@ -14,7 +14,7 @@ is_digit c = nat_le 48 c && nat_le c 57
 abbrev pub with_digit : ℕ → ℕ → ℕ
 with_digit n c = n * 10 + (c - 48)
 
--- The value of a string of decimal digits.
+-- The number that a string of decimal digits denotes.
 abbrev pub value_of : List ℕ → ℕ
 value_of digits = fold with_digit 0 digits
 

@@ -1,5 +1,5 @@
--- A tournament among the leaves of a tree. A player of a tournament is stored as the index of its node, counted from 1,
--- and 0 means that there is no player.
+-- A tournament, a tree of comparisons among the leaves of a revision tree. A player of a tournament is stored as the
+-- index of its node, counted from 1, and 0 means that there is no player.
 use Rattle.std.specs.Prelude.{◌≡◌, ℕ, zero, suc, ◌-◌, ◌/◌, ◌<◌, ◌≤◌, ◌^◌, ◌⊎◌, Bool, true, false, cond, List, length, get_or, Option, Some, None, is_some, option_map, nat_lt, slice_get}
 use Rattle.std.specs.declared.cmp.Ordering.{Ordering}
 use Rattle.std.specs.Ordering.{is_lt, bool_cmp, ordering_then}
