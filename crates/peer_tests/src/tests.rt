@@ -1,4 +1,4 @@
-//! Tests of databases and peers. Each test is a table of calls with their expected results as strings.
+//! Tests of databases and peers. Each test is a table of calls, each with its expected result as a string.
 //!
 //! A bench holds the databases or peers of a test, and the values that were read and fetched from them. A call is an
 //! enum value. A proof therefore covers each kind of call once, and a test is data without a proof of its own.
@@ -15,7 +15,7 @@ mod peers;
 mod backup_rows;
 mod backups;
 
-// Selections of documents, and replications with them.
+// Tests of selections of documents, and of replications that copy only the selected documents.
 mod choice_rows;
 mod choices;
 
@@ -32,13 +32,13 @@ mod carried;
 mod pool_rows;
 mod pools;
 
-// Observing, blocking and stopping a run of the pool.
+// Tests whose gates observe, block or stop a run of the pool.
 mod pool_boards;
 mod pool_gates;
 mod pool_orders;
 mod pool_schedules;
 
-// Values that move into a thread and back.
+// Tests in which values are moved into a thread and back.
 mod crossings;
 
 // Networks of peers.

@@ -1,16 +1,16 @@
-//! Test rows for backups, with a source that is restored, and data from the source's other lives. Each call in the test
-//! rows has ample memory.
+//! Test rows for backups, in which a source is restored, and calls receive data from other lives of the source. No
+//! allocation fails in the test rows.
 use crate::tests::peers::{Call, Lists, Rep, Rows, expect};
 use rev_tree::SessionId;
 
-/// The indices of the source, of the target, and of a third peer.
+/// The indices at which a bench has the source, the target, and a third peer.
 const SOURCE: usize = 0;
 
 const TARGET: usize = 1;
 
 const OTHER: usize = 2;
 
-/// The indices of the first, second and further backups or windows.
+/// The indices of the first, the second, and later backups or windows of a bench.
 const FIRST: usize = 0;
 
 const SECOND: usize = 1;
@@ -83,7 +83,7 @@ const AHEAD: Rows = &[
 ];
 
 /// After the source is restored, its documents, local writes and log are those of the backup. After the restore,
-/// another document gets the sequence that d4 had.
+/// another document gets the sequence that the document d4 had before the restore.
 const PUT_BACK: Rows = &[
     (Call::Restore(SOURCE, FIRST), "restored"),
     (Call::Life(SOURCE), "1"),
@@ -108,12 +108,12 @@ fn other_life_refused(rt: HostRuntime) {
             Call::PutEntryOf(SOURCE, REP, TARGET, S2),
             "OtherLife { now: 1 }",
         ),
-        // The error `Older` would also apply, but the call checks for it later.
+        // The condition of the error `Older` also holds, but the call checks that condition later.
         (Call::PutEntry(SOURCE, REP, S1, 1), "OtherLife { now: 1 }"),
         (Call::SourceLog(SOURCE, REP), "1 at 3;"),
         (Call::Page(SOURCE, 3, 4), "3 to 4: 4 e 1-a;"),
-        // The call would check later that the windows of the second session end at 6, and that the third session is
-        // missing.
+        // The call would also find that the second session's windows end at 6 and that the third session is missing,
+        // but it checks this later.
         (Call::Append(TARGET, S2, SECOND), "OtherLife { now: 0 }"),
         (Call::Append(TARGET, S3, SECOND), "NoSuchSession"),
         (
@@ -135,7 +135,7 @@ fn other_life_refused(rt: HostRuntime) {
 fn copies_are_refused_by_name(rt: HostRuntime) {
     const ROWS: Rows = &[
         (Call::Backup(TARGET), "IsTarget"),
-        // The error `ForeignBackup` would also apply, but the call checks for it later.
+        // The condition of the error `ForeignBackup` also holds, but the call checks that condition later.
         (Call::Restore(TARGET, FIRST), "IsTarget"),
         (Call::Peer(3, None), "made"),
         (Call::Restore(OTHER, FIRST), "ForeignBackup"),
@@ -152,7 +152,7 @@ fn copies_are_refused_by_name(rt: HostRuntime) {
 fn a_life_is_above_both(rt: HostRuntime) {
     const ROWS: Rows = &[
         (Call::Backup(SOURCE), "1 at 4"),
-        // The source is restored from the first backup again, and then from the second backup.
+        // The source is restored a second time from the first backup, and then from the second backup.
         (Call::Restore(SOURCE, FIRST), "restored"),
         (Call::Life(SOURCE), "2"),
         (Call::Numbers(SOURCE), "1 at 3"),
@@ -172,7 +172,7 @@ fn a_life_is_above_both(rt: HostRuntime) {
             Call::Verdict(OTHER, r#"{"_id":"d1","_rev":"1-a"}"#),
             "Refuse",
         ),
-        // A session begins at the common checkpoint of both logs, for logs of any lives.
+        // A session begins at the common checkpoint of both logs, whichever lives of the source the logs are from.
         (Call::BeginPlan(S4, 10), "3"),
     ];
     static LISTS: Lists = &[COPIED, AHEAD, PUT_BACK, ROWS];

@@ -1,4 +1,4 @@
-//! Reads a peer's leaves of a document, and its refused documents.
+//! Reads the leaves of a peer's document, and the documents that the peer refused.
 use crate::tests::texts::{doc_text, joined};
 use couch_base::Database;
 use doc_json::DocId;
@@ -39,7 +39,7 @@ fn at(alloc: Global, db: &Database, id: &DocId, rev: Rev) -> Option<String> {
     }
 }
 
-/// Returns the refused documents of an id in a session, in order and with reasons.
+/// Returns the documents with an id that a session refused, in order, each with its reason.
 pub(crate) fn refused(
     alloc: Global,
     peer: &Peer<Rules>,
@@ -52,7 +52,7 @@ pub(crate) fn refused(
     }
 }
 
-/// Returns the documents of an id in a ledger, with reasons.
+/// Returns the documents with an id in a ledger, each with the reason for which it was refused.
 fn refused_of(alloc: Global, rows: &[Refused], id: &str) -> Option<String> {
     let mut all = Some(String::new(alloc));
     for row in rows {
@@ -63,7 +63,7 @@ fn refused_of(alloc: Global, rows: &[Refused], id: &str) -> Option<String> {
     all
 }
 
-/// Returns a refused document and the reason.
+/// Returns the text of a refused document and of the reason for which it was refused.
 fn refused_text(alloc: Global, row: &Refused) -> Option<String> {
     joined(doc_text(alloc, row.doc()), shown(alloc, &row.reason()))
 }

@@ -1,4 +1,5 @@
-//! Test rows for selections, for pages and replications of selected documents, and for the replications' logs.
+//! Test rows for selections of documents, for pages and replications of selected documents, and for the logs of such
+//! replications.
 use crate::tests::choices::{Call, Rows, expect};
 use rev_tree::SessionId;
 
@@ -36,7 +37,7 @@ fn choices_made(rt: HostRuntime) {
         (Call::Has(Some(3), "é"), "true"),
         (Call::Has(None, "d3"), "true"),
         (Call::Choose(&[]), "NoneChosen"),
-        // A repeated id is not counted.
+        // A selection counts an id that is given twice only once.
         (Call::ChooseMany(999), "999"),
         (Call::ChooseMany(1_000), "1000"),
         (Call::Has(Some(6), "1000"), "true"),
@@ -74,7 +75,7 @@ fn replication_ids(rt: HostRuntime) {
     expect(&rt, rt.alloc(), LISTS);
 }
 
-/// Four documents at the source.
+/// The calls that store four documents at the source.
 const FOUR: Rows = &[
     (
         Call::Load(r#"{"_id":"d1","_rev":"1-a"}"#),
@@ -101,7 +102,7 @@ fn pages_under_a_choice(rt: HostRuntime) {
         (Call::Choose(&["d9"]), "1 d9"),
         (Call::Page(0, 4, 2, Some(0)), "0 to 2: 2 d2 1-a;"),
         (Call::Page(2, 4, 2, Some(0)), "2 to 4: 4 d4 1-a;"),
-        // A page may end after its last row, and may have no rows.
+        // A page's end may be above the sequence of its last row, and a page may have no rows.
         (Call::Page(0, 4, 3, Some(0)), "0 to 3: 2 d2 1-a;"),
         (Call::Page(0, 4, 1, Some(0)), "0 to 1:"),
         (Call::Page(2, 3, 500, Some(0)), "2 to 3:"),
@@ -120,7 +121,8 @@ fn pages_under_a_choice(rt: HostRuntime) {
     expect(&rt, rt.alloc(), LISTS);
 }
 
-/// The replications of the rows `chosen_copied` copy two documents, then all documents, and then the two again.
+/// In the rows `chosen_copied`, the first replication copies two selected documents, the second all documents, and the
+/// third the selected two again.
 const COPIED: Rows = &[
     (Call::Choose(&["d4", "d2", "d2"]), "2 d2 d4"),
     (Call::Choose(&["d2", "d4"]), "2 d2 d4"),

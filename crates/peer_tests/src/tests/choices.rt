@@ -22,11 +22,11 @@ pub(crate) enum Call<'a> {
     Load(&'a str),
     /// Load a document into the target.
     LoadTarget(&'a str),
-    /// Select documents, as the next selection.
+    /// Select documents by id, and store the selection as the bench's next selection.
     Choose(&'a [&'a str]),
-    /// Select the documents with numbers from 1 on, with the first id given twice, as the next selection.
+    /// Select a number of documents, numbered from 1, with the first id given twice, as the bench's next selection.
     ChooseMany(u32),
-    /// Copy a selection, as the next selection.
+    /// Copy a selection, and store the copy as the bench's next selection.
     Copy(usize),
     /// Read whether two selections are equal.
     Equal(usize, usize),
@@ -34,18 +34,18 @@ pub(crate) enum Call<'a> {
     Has(Under, &'a str),
     /// Read the text of the id of the replication from the source into the target.
     Text(Under),
-    /// Read a page of the source above a sequence and up to a goal, which scans a given number of rows.
+    /// Read a page of the source above a sequence and up to a goal by scanning a given number of the feed's rows.
     Page(u64, u64, u64, Under),
-    /// Replicate the source into the target by one thread, given the session and the number of rows that a window
-    /// scans.
+    /// Replicate the source into the target with one thread, given the session id and the number of feed rows that each
+    /// window scans.
     Replicate(SessionId, u64, Under),
     /// Begin a session at the target.
     Begin(SessionId, Under),
-    /// Append to a session at the target a page of the source above a sequence, up to a goal.
+    /// Read a page of the source above a sequence and up to a goal, and append the page to a session at the target.
     Append(SessionId, u64, u64, Under),
     /// Audit the target.
     Audit(Under),
-    /// Read the first hole of the target above a sequence of the source.
+    /// Read the first leaf above a sequence of the source that the target does not cover.
     HoleAbove(u64, Under),
     /// Compare the logs of the replication.
     Common(Under),
@@ -55,7 +55,7 @@ pub(crate) enum Call<'a> {
     TargetLog(Under),
 }
 
-/// The calls of a test, each with its expected result.
+/// The calls of a test, and each call's expected result.
 pub(crate) type Rows = &'static [(Call<'static>, &'static str)];
 
 /// A source, a target, and selections.
@@ -78,7 +78,7 @@ impl Bench {
         }
     }
 
-    /// Performs the calls in order, and asserts each result.
+    /// Performs the calls in order, and asserts that each returns its expected result.
     fn run(&mut self, rt: &impl Abort, calls: &[(Call, &str)]) {
         for (i, (call, wanted)) in calls.iter().enumerate() {
             expect_answer(rt, i, self.answer(call), wanted);
@@ -198,8 +198,8 @@ fn rep_text(alloc: Global, rep: &RepId) -> Option<String> {
     }
 }
 
-/// Returns the selection at an index. The result is `Some(None)` for all documents, and `None` if no selection has the
-/// index.
+/// Returns the selection at an index. The result is `Some(None)` if the call is for all documents, and `None` if no
+/// selection has the given index.
 fn chosen(choices: &[Chosen], under: Under) -> Option<Option<&Chosen>> {
     match under {
         Some(at) => choices.get(at).map(Some),
@@ -207,7 +207,7 @@ fn chosen(choices: &[Chosen], under: Under) -> Option<Option<&Chosen>> {
     }
 }
 
-/// Creates the selection of ids, and returns their number, and the ids if they are few.
+/// Creates a selection of ids, and returns the number of ids, followed by the ids if the selection is small.
 fn choose_ids(alloc: Global, choices: &mut Vec<Chosen>, ids: Vec<DocId>) -> Option<String> {
     match Chosen::new(ids) {
         Ok(chosen) => keep(alloc, choices, chosen),
@@ -215,7 +215,7 @@ fn choose_ids(alloc: Global, choices: &mut Vec<Chosen>, ids: Vec<DocId>) -> Opti
     }
 }
 
-/// Stores a selection, and returns the number of its ids, and the ids if they are few.
+/// Stores a selection, and returns the number of its ids, followed by the ids if the selection is small.
 fn keep(alloc: Global, choices: &mut Vec<Chosen>, chosen: Chosen) -> Option<String> {
     let text = ids_text(alloc, chosen.ids());
     let Ok(()) = choices.push(chosen) else {
@@ -224,7 +224,7 @@ fn keep(alloc: Global, choices: &mut Vec<Chosen>, chosen: Chosen) -> Option<Stri
     text
 }
 
-/// Returns the number of ids, and the ids if they are few.
+/// Returns the number of a selection's ids, followed by the ids if the selection is small.
 fn ids_text(alloc: Global, ids: &[DocId]) -> Option<String> {
     let mut all = shown(alloc, &ids.len());
     if ids.len() < 10 {
@@ -235,7 +235,7 @@ fn ids_text(alloc: Global, ids: &[DocId]) -> Option<String> {
     all
 }
 
-/// Returns a space and an id.
+/// Returns a space followed by an id.
 fn id_text(alloc: Global, id: &DocId) -> Option<String> {
     format!(in alloc; " {}", id.text()).ok()
 }
@@ -267,7 +267,7 @@ fn number_id(alloc: Global, number: u32) -> Option<DocId> {
     DocId::parse(alloc, text.as_str()).ok()
 }
 
-/// Selects the documents with numbers from 1 on, with the first id given twice.
+/// Selects a number of documents, numbered from 1, with the first id given twice.
 fn choose_many(alloc: Global, choices: &mut Vec<Chosen>, count: u32) -> Option<String> {
     let mut ids = Vec::new(alloc);
     for number in 0..count {
@@ -334,7 +334,7 @@ fn page_of(
     source.page(alloc, since, goal, 500, chosen).ok()
 }
 
-/// Appends an optional window to a session.
+/// Appends a window to a session, if the window exists.
 fn store(
     alloc: Global,
     target: &mut Peer<Rules>,
@@ -399,7 +399,7 @@ fn begin(
     }
 }
 
-/// Performs lists of calls on a new bench, and asserts each result.
+/// Performs lists of calls on a new bench, and asserts that each call returns its expected result.
 pub(crate) fn expect(rt: &impl Abort, alloc: Global, lists: &[Rows]) {
     let mut bench = Bench::new(alloc);
     for calls in lists {

@@ -1,4 +1,4 @@
-//! Values that move into a thread and back.
+//! Moves parcels and backups into a thread and back.
 use crate::tests::backups::restore;
 use crate::tests::carried::leaves;
 use crate::tests::peers::load;
@@ -14,7 +14,7 @@ const DOCUMENT: &str = r#"{"_id":"d","_revisions":{"start":2,"ids":["b","a"]},"v
 
 const LATER: &str = r#"{"_id":"d","_revisions":{"start":3,"ids":["c","b","a"]},"v":2}"#;
 
-/// Returns the request of an empty database for the leaves of a database with the document.
+/// Returns an empty database's request for the leaves of a database that has the document.
 fn parcel(alloc: Global) -> Option<Parcel> {
     let mut source = Database::new(alloc, 1);
     let Some(document) = doc(alloc, DOCUMENT) else {
@@ -32,7 +32,7 @@ fn parcel(alloc: Global) -> Option<Parcel> {
     source.open_revs(alloc, &asked).ok()
 }
 
-/// Moves a parcel into a thread, which reads it and returns it with its text.
+/// Moves a parcel into a thread, and returns the parcel and the text that the thread read from it.
 fn read_parcel<R: Threads>(
     rt: &R,
     alloc: Global,
@@ -57,7 +57,7 @@ fn a_parcel_goes_into_a_thread_and_back(rt: HostRuntime) {
     expect_answer(&rt, 1, parcel_text(rt.alloc(), &parcel), TEXT);
 }
 
-/// Moves a backup of a peer into a thread, which reads it and returns it with the numbers of its database.
+/// Moves a peer's backup into a thread, and returns the backup and the UUID and update sequence that the thread read.
 fn read_backup<R: Threads>(
     rt: &R,
     alloc: Global,

@@ -1,16 +1,16 @@
-//! Test rows for databases: pages, puts, edits, requests and fetches. Each call in the test rows has ample memory.
+//! Test rows for databases: pages, puts, edits, requests and fetches. No allocation fails in the test rows.
 use crate::tests::databases::{Bench, Call, Rows, expect};
 
-/// The first database of a bench, the source of fetches.
+/// The index of the first database of a bench, from which documents are fetched.
 const A: usize = 0;
 
-/// The second database, which requests the leaves that it lacks.
+/// The index of the second database of a bench, which requests the leaves that it lacks.
 const B: usize = 1;
 
 /// The index of the first value that was read or fetched.
 const FIRST: usize = 0;
 
-/// Three documents at the sequences 1, 2 and 5.
+/// Calls that store three documents, whose sequences are 1, 2 and 5.
 static THREE: Rows = &[
     (
         Call::Put(A, r#"{"_id":"a","_rev":"1-a"}"#),
@@ -35,7 +35,7 @@ static THREE: Rows = &[
     (Call::Numbers(A), "7 at 5"),
 ];
 
-/// The document d with the leaves 2-b and 2-a above 1-r in A.
+/// Calls that store, in database A, the document d with the leaves 2-b and 2-a, whose parent is 1-r.
 static BOTH: Rows = &[
     (
         Call::Put(
@@ -50,7 +50,7 @@ static BOTH: Rows = &[
     ),
 ];
 
-/// The complete feed of `BOTH`, and the request of an empty database B.
+/// Calls that read the complete feed of `BOTH`, and the request of an empty database B for the feed's leaves.
 static BOTH_ASKED: Rows = &[
     (Call::Page(A, 0, 2, 10), "0 to 2: 2 d 2-b,2-a;"),
     (Call::Diff(B, FIRST), "0 to 2: d 2-b,2-a;"),
@@ -121,7 +121,7 @@ fn puts_as_given(rt: HostRuntime) {
 
 #[test]
 fn edits_of_each_kind(rt: HostRuntime) {
-    // The signatures are MD5 of the parent, the kind and the body.
+    // The signature of each new revision is the MD5 of its parent, its kind (live or deleted) and its body.
     const FIRST_EDIT: &str = "1-a7b2c897c2eeb544e2e818194f53a9e3";
     const SECOND_EDIT: &str = "2-cb54dc74c0a7939aa02f5c29b5058e05";
     const GONE: &str = "3-5978dd13991326701fd91ce8b9f1cd04";
@@ -129,7 +129,7 @@ fn edits_of_each_kind(rt: HostRuntime) {
     const DEAD: &str = "1-e2ee0f94de389cef87fb74faf99cc2e1";
     const LIVE: &str = "2-e7915e5a79f14ff8d97a52f9ef488bbf";
     static ROWS: Rows = &[
-        // The first edit of a document, then an edit of its leaf.
+        // The first edit creates a document, and the second edit changes its leaf.
         (Call::Edit(A, "d", "", false, "{}", 0), FIRST_EDIT),
         (
             Call::Edit(A, "d", FIRST_EDIT, false, r#"{"n":1}"#, 1),
@@ -159,7 +159,7 @@ fn edits_of_each_kind(rt: HostRuntime) {
             "no parent, Local(0), live {}",
         ),
         (Call::Numbers(A), "0 at 4"),
-        // A first edit may delete, and a deleted leaf may be named as parent.
+        // The first edit of a document may be a deletion, and an edit may name a deleted leaf as its parent.
         (Call::Edit(A, "e", "", true, "{}", 4), DEAD),
         (Call::Edit(A, "e", DEAD, false, "{}", 5), LIVE),
         (
@@ -195,7 +195,7 @@ fn edits_refused_by_name(rt: HostRuntime) {
 
 #[test]
 fn an_edit_that_is_there(rt: HostRuntime) {
-    // A put stores the revision that the edit would create, without the revision's parent.
+    // A put stores, without its parent, the revision that the edit would create.
     const THERE: &str = r#"{"_id":"d","_rev":"2-1c600d37126a8e6d3c67d6f7a6a5c299"}"#;
     static ROWS: Rows = &[
         (
@@ -229,7 +229,8 @@ fn at_the_last_sequences(rt: HostRuntime) {
         (Call::Numbers(B), "8 at 9007199254740991"),
         (Call::Tree(A, "d"), "no document"),
         (Call::Put(A, LAST), "Changed { seq: 9007199254740991 }"),
-        // A put that changes nothing takes no sequence. A contradiction is reported before a missing sequence.
+        // A put that changes nothing uses no update sequence. A put with a contradicting ancestry returns that error
+        // even if the database has no sequence left.
         (Call::Put(A, LAST), "Same"),
         (Call::Put(A, OTHER), "Contradiction 2-b,1-a,1-x"),
         (Call::Put(A, r#"{"_id":"e","_rev":"1-a"}"#), "SeqFull"),
@@ -263,8 +264,8 @@ fn a_fetched_document_has_its_ancestry_and_content(rt: HostRuntime) {
         (Call::Put(A, DELETED), "Changed { seq: 3 }"),
         (Call::Page(A, 0, 3, 10), "0 to 3: 3 d 2-a,3-c;"),
         (Call::Diff(B, FIRST), "0 to 3: d 2-a,3-c;"),
-        // The live leaf comes before the deleted leaf. The known ancestry of the deleted leaf is longer than the given
-        // ancestry.
+        // A request or fetch lists the live leaf before the deleted leaf. The tree knows a longer ancestry of the
+        // deleted leaf than the ancestry that was put.
         (
             Call::Fetch(A, FIRST),
             r#"0 to 3: d 2-a,1-r live {"n":1}; d 3-c,2-b,1-r deleted {};"#,
@@ -305,7 +306,7 @@ fn known_ancestor_not_asked(rt: HostRuntime) {
 
 #[test]
 fn pages_of_few_documents_with_high_sequences(rt: HostRuntime) {
-    // No call fails because a number is large.
+    // Calls with the largest sequences and generations do not fail.
     const MOST: u64 = 18_446_744_073_709_551_615;
     const LAST: u64 = 9_007_199_254_740_990;
     static ROWS: Rows = &[
@@ -338,7 +339,7 @@ fn pages_of_few_documents_with_high_sequences(rt: HostRuntime) {
 fn copies_of_a_database(rt: HostRuntime) {
     /// The greatest life.
     const LAST: u64 = 9_007_199_254_740_991;
-    // The second database is an equal copy, and the third database is a copy in another life.
+    // The second database is a copy of the first in the same life, and the third database is a copy in another life.
     const SAME: usize = 1;
     const OTHER: usize = 2;
     const LATEST: usize = 3;
@@ -356,8 +357,7 @@ fn copies_of_a_database(rt: HostRuntime) {
         (Call::WindowLife(0), "0"),
         (Call::WindowLife(1), "9"),
         (Call::Document(OTHER, "c", "1-d"), " c 1-d live {};"),
-        // A document that is written into a copy is in no other copy, and the write does not change the life of the
-        // copy.
+        // A document that is written into one copy is in no other copy, and the written copy stays in its life.
         (
             Call::Put(OTHER, r#"{"_id":"a","_rev":"1-b"}"#),
             "Changed { seq: 6 }",
@@ -366,7 +366,7 @@ fn copies_of_a_database(rt: HostRuntime) {
         (Call::Life(OTHER), "9"),
         (Call::Tree(A, "a"), "1-a of 1"),
         (Call::Tree(SAME, "a"), "1-a of 1"),
-        // A copy of a copy has the life of the copied copy.
+        // If a copy is copied, the new copy has the life of the first copy.
         (Call::Copy(OTHER, None), "made"),
         (Call::Life(LATEST), "9"),
         (Call::Numbers(LATEST), "7 at 6"),

@@ -11,17 +11,17 @@ use std::alloc::Global;
 use std::process::Abort;
 use test_support::{rev, rev_text, shown};
 
-/// A call on a database, which is named by index, as windows, requests and parcels are.
+/// A call on a database. The index of an item names the database, the window, the request or the parcel.
 #[derive(Clone, Copy)]
 pub(crate) enum Call<'a> {
-    /// Create the next database with a UUID and a sequence.
+    /// Create the bench's next database with a UUID and an update sequence.
     DatabaseAt(u128, u64),
     /// Put a document.
     Put(usize, &'a str),
-    /// Edit a document, given its id, the parent (an empty string for none), the deleted flag, the body, and the number
-    /// of the local write.
+    /// Edit a document, given its id, the parent revision (an empty string for none), the deleted flag, the body, and
+    /// the number of the local write.
     Edit(usize, &'a str, &'a str, bool, &'a str, u64),
-    /// Copy a database, as the next database, optionally into another life.
+    /// Copy a database, optionally into another life, and store the copy as the bench's next database.
     Copy(usize, Option<u64>),
     /// Read the UUID and the update sequence.
     Numbers(usize),
@@ -35,15 +35,16 @@ pub(crate) enum Call<'a> {
     Node(usize, &'a str, &'a str),
     /// Read the document at a revision.
     Document(usize, &'a str, &'a str),
-    /// Read a page above a sequence and up to a goal, of at most a given number of rows, as the next window.
+    /// Read a page of at most a given number of rows, above a sequence and up to a goal, and store it as the next
+    /// window.
     Page(usize, u64, u64, u64),
-    /// Request the leaves of a window that a database lacks, as the next request.
+    /// Compute the request for the leaves of a window that a database lacks, and store it as the next request.
     Diff(usize, usize),
-    /// Fetch the documents for a request from a database, as the next parcel.
+    /// Fetch the documents for a request from a database, and store them as the next parcel.
     Fetch(usize, usize),
 }
 
-/// The calls of a test, each with its expected result.
+/// The calls of a test, and each call's expected result.
 pub(crate) type Rows = &'static [(Call<'static>, &'static str)];
 
 /// The windows, requests and parcels that were read and fetched.
@@ -89,7 +90,7 @@ impl Bench {
         }
     }
 
-    /// Performs the calls in order, and asserts each result.
+    /// Performs the calls in order, and asserts that each returns its expected result.
     pub(crate) fn run(&mut self, rt: &impl Abort, calls: &[(Call, &str)]) {
         for (i, (call, wanted)) in calls.iter().enumerate() {
             expect_answer(rt, i, self.answer(call), wanted);
@@ -171,7 +172,7 @@ fn read(alloc: Global, db: &Database, call: &Call) -> Option<String> {
     }
 }
 
-/// Creates the next database, at a sequence.
+/// Creates the bench's next database, with a given update sequence.
 fn make_at(alloc: Global, databases: &mut Vec<Database>, uuid: u128, seq: u64) -> Option<String> {
     match Database::new_at(alloc, uuid, seq) {
         Ok(db) => made_text(alloc, databases.push(db).ok()),
@@ -182,7 +183,7 @@ fn make_at(alloc: Global, databases: &mut Vec<Database>, uuid: u128, seq: u64) -
 /// The greatest life: 2^53 - 1.
 const LAST_LIFE: u64 = 9_007_199_254_740_991;
 
-/// Copies a database, as the next database, optionally into a life.
+/// Copies a database, optionally into a given life, and stores the copy as the bench's next database.
 fn copy(
     alloc: Global,
     databases: &mut Vec<Database>,
@@ -207,7 +208,7 @@ fn copied(alloc: Global, db: &Database, life: Option<u64>) -> Option<Database> {
     }
 }
 
-/// Reads a page, as the next window.
+/// Reads a page of the feed, and stores it as the bench's next window.
 fn page(
     alloc: Global,
     db: &Database,
@@ -248,7 +249,7 @@ fn fetched(alloc: Global, db: &Database, asked: &Asked) -> Option<Parcel> {
     db.open_revs(alloc, asked).ok()
 }
 
-/// Returns the string for a created value.
+/// Returns the string that says whether a value was created.
 pub(crate) fn made_text(alloc: Global, kept: Option<()>) -> Option<String> {
     match kept {
         Some(()) => "made".to_string(alloc).ok(),
@@ -301,7 +302,8 @@ pub(crate) fn keep_parcel(
     text
 }
 
-/// Performs lists of calls on a new bench with databases of the given UUIDs, and asserts each result.
+/// Performs lists of calls on a new bench with databases of the given UUIDs, and asserts that each call returns its
+/// expected result.
 pub(crate) fn expect(rt: &impl Abort, alloc: Global, uuids: &[u128], lists: &[Rows]) {
     let mut bench = Bench::new(rt, alloc, uuids);
     for calls in lists {
@@ -325,7 +327,7 @@ pub(crate) fn edit_text(alloc: Global, answer: Result<Rev, BaseFault>) -> Option
     }
 }
 
-/// Parses a parent. An empty string gives `Some(None)`, and a string that is not a revision gives `None`.
+/// Parses a parent. The result is `Some(None)` for an empty string, and `None` for a string that is not a revision.
 pub(crate) fn parent_of(text: &str) -> Option<Option<Rev>> {
     if text.is_empty() {
         return Some(None);

@@ -1,5 +1,5 @@
-//! Calls on peers with large values. Large values are tested because no contract can exclude that a call returns
-//! `Memory` although memory is left.
+//! Calls on peers with large values. Large values are tested because the contracts allow a call to return `Memory` even
+//! if no allocation fails.
 use crate::tests::databases::{edit_text, put_text};
 use crate::tests::plans::plan;
 use crate::tests::records::{fault_text, report_text};
@@ -33,7 +33,7 @@ fn sigs(alloc: Global, length: u32) -> Option<Vec<Sig>> {
     Some(sigs)
 }
 
-/// Returns the document d with an ancestry from a generation downwards, with an empty body.
+/// Returns the document d with an empty body, and with an ancestry from a given generation down.
 fn doc(alloc: Global, start: u32, sigs: &[Sig]) -> Option<Doc> {
     let Ok(id) = DocId::parse(alloc, "d") else {
         return None;
@@ -47,7 +47,7 @@ fn doc(alloc: Global, start: u32, sigs: &[Sig]) -> Option<Doc> {
     Some(Doc::new(id, ancestry, false, body))
 }
 
-/// Loads d with an ancestry of a given length, down to generation 1.
+/// Loads the document d with an ancestry of a given length, whose oldest revision has generation 1.
 pub(crate) fn load_long(alloc: Global, peer: &mut Peer<Rules>, length: u32) -> Option<String> {
     let Some(sigs) = sigs(alloc, length) else {
         return None;
@@ -58,7 +58,7 @@ pub(crate) fn load_long(alloc: Global, peer: &mut Peer<Rules>, length: u32) -> O
     put_text(alloc, peer.load(&doc))
 }
 
-/// Loads d with the signature of a number, of generation 1.
+/// Loads the document d with a revision of generation 1, whose signature has the digits of a number.
 fn load_leaf(alloc: Global, peer: &mut Peer<Rules>, number: u32) -> Option<String> {
     let Some(sig) = sig(alloc, number) else {
         return None;

@@ -1,5 +1,5 @@
-//! The rows of networks. Test rows for networks, which spread documents through a hub, have a broken chain, a refused
-//! document and an incomplete history, and provoke each error.
+//! The rows of networks. Test rows for networks. Documents spread through a hub, a chain of hops is broken, a document
+//! is refused, a history is incomplete, and each error occurs.
 use crate::tests::nets::{Call, Lists, Rows, expect, of_slice};
 
 /// Four peers.
@@ -10,7 +10,7 @@ const FOUR: Rows = &[
     (Call::Add(4, None), "3"),
 ];
 
-/// The revisions that edits with the body {"v":1} create: a first revision, and a child of 1-a.
+/// The revisions that edits with the body {"v":1} create as a document's first revision and as a child of 1-a.
 const FIRST: &str = "1-125e243b9a90308f8be767a220f77ae9";
 
 const SECOND: &str = "2-04e04b58ba493e5eb3fd86e7cf77b40e";
@@ -75,7 +75,7 @@ fn a_broken_chain_brings_nothing_to_its_end(rt: HostRuntime) {
             Call::Load(0, r#"{"_id":"d","_rev":"1-a"}"#),
             "Changed { seq: 1 }",
         ),
-        // The second hop of the chain from 0 to 2 is taken before the first hop.
+        // Of the chain from peer 0 to peer 2, the second hop is replicated before the first hop.
         (Call::Along(&[(1, 2), (0, 1), (3, 2)]), "done"),
         (Call::Tree(1, "d"), "1-a of 1"),
         (Call::Tree(2, "d"), "no document"),
@@ -104,7 +104,7 @@ fn a_refused_document_stays_away_and_others_go_on(rt: HostRuntime) {
             Call::Load(1, r#"{"_id":"d","_rev":"1-a"}"#),
             "Changed { seq: 2 }",
         ),
-        // A refused document is not an error of the call, and all peers have d.
+        // The call returns no error although a document is refused, and all peers have the document d.
         (Call::Hub(2, 2), "done"),
         (Call::Tree(0, "x1"), "no document"),
         (Call::Tree(2, "x1"), "no document"),
@@ -124,7 +124,7 @@ fn a_refused_document_stays_away_and_others_go_on(rt: HostRuntime) {
         ),
         (Call::Tree(2, "x1"), "no document"),
         (Call::Audit(1, 0), "clean"),
-        // The document x1 reaches the peer by another chain of hops.
+        // The peer gets the document x1 through another chain of hops.
         (Call::Along(&[(1, 2)]), "done"),
         (
             Call::Tree(2, "x1"),
@@ -203,7 +203,7 @@ fn hops_that_are_refused(rt: HostRuntime) {
             Call::Load(0, r#"{"_id":"d","_rev":"1-a"}"#),
             "Changed { seq: 1 }",
         ),
-        // The hops before the failed hop keep their effect, and the hops after the failed hop are not taken.
+        // The hops before the failed hop keep their effect, and the hops after the failed hop are not replicated.
         (Call::Along(&[(0, 1), (1, 1), (1, 2)]), "hop 1: SamePeer"),
         (Call::Tree(1, "d"), "1-a of 1"),
         (Call::Tree(2, "d"), "no document"),
@@ -215,7 +215,7 @@ fn hops_that_are_refused(rt: HostRuntime) {
             Call::Load(0, r#"{"_id":"f","_rev":"1-a"}"#),
             "Changed { seq: 3 }",
         ),
-        // A replication that stops below its goal is an error.
+        // If a hop's replication stops below its goal, the call returns an error.
         (
             Call::AlongTwoRows(&[(0, 2), (2, 3)]),
             "hop 0: Unfinished { low_water: 2 }",

@@ -14,7 +14,7 @@ use std::alloc::Global;
 use std::process::Abort;
 use test_support::{rev_text, shown};
 
-/// The source and the target of a hop.
+/// The indices of a hop's source and target peer.
 type Places = (usize, usize);
 
 /// A call on a network, whose peers are named by index. Each replication in a test has the next session number.
@@ -24,15 +24,16 @@ pub(crate) enum Call<'a> {
     Add(u128, Option<&'a str>),
     /// Load a document.
     Load(usize, &'a str),
-    /// Edit a document, given its id, the parent (an empty string for none) and the body.
+    /// Edit a document, given its id, the parent revision (an empty string for none) and the body.
     Edit(usize, &'a str, &'a str, &'a str),
     /// Replicate along hops.
     Along(&'a [Places]),
-    /// Replicate along hops, in windows of one row, at most two for each replication.
+    /// Replicate along hops, with windows of one row and at most two windows for each replication.
     AlongTwoRows(&'a [Places]),
-    /// Replicate through the hub, with the given numbers of plans for the two directions.
+    /// Replicate all peers through the hub, given the number of plans into the hub and the number of plans out of the
+    /// hub.
     Hub(usize, usize),
-    /// Audit the second peer, as a target, against the first peer, as its source.
+    /// Audit a replication from the first peer, the source, into the second peer, the target.
     Audit(usize, usize),
     /// Read the tree of a document.
     Tree(usize, &'a str),
@@ -40,7 +41,7 @@ pub(crate) enum Call<'a> {
     Leaves(usize, &'a str),
 }
 
-/// The calls of a test, each with its expected result.
+/// The calls of a test, and each call's expected result.
 pub(crate) type Rows = &'static [(Call<'static>, &'static str)];
 
 /// Lists of calls that are performed in order.
@@ -125,7 +126,7 @@ impl Bench {
         }
     }
 
-    /// Creates the plan of the next session, in windows of one row if it stops early.
+    /// Creates the plan of the next session, with windows of one row if the replication stops early.
     fn next_plan(&mut self, stop_after: Option<u64>) -> Option<Plan> {
         self.session = self.session.saturating_add(1);
         let batch = if stop_after.is_some() { 1 } else { 500 };
@@ -215,7 +216,7 @@ pub(crate) fn net_fault_text(alloc: Global, fault: NetFault) -> Option<String> {
     }
 }
 
-/// Performs lists of calls on a new network, and asserts each result.
+/// Performs lists of calls on a new network, and asserts that each call returns its expected result.
 pub(crate) fn expect(rt: &impl Abort, alloc: Global, lists: Lists) {
     let mut bench = Bench {
         alloc,
@@ -313,7 +314,7 @@ fn replicated(alloc: Global) -> Option<String> {
     all
 }
 
-/// Asserts the effect of writes and replications on a slice of peers.
+/// Asserts the trees of the peers of a slice after writes and replications.
 pub(crate) fn of_slice(rt: &impl Abort, alloc: Global) {
     const WANTED: &str = " d 1-a live {}; e 1-a7b2c897c2eeb544e2e818194f53a9e3 live {};";
     let mut all = String::new(alloc);

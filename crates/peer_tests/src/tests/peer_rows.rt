@@ -1,9 +1,8 @@
-//! Test rows for peers, with local writes, sessions, each error, logs and audits. Each call in the test rows has ample
-//! memory.
+//! Test rows for peers, with local writes, sessions, each error, logs and audits. No allocation fails in the test rows.
 use crate::tests::peers::{Beginning, Call, Lists, Rep, Rows, expect};
 use rev_tree::SessionId;
 
-/// The indices of the source, of the target, and of a third peer in most rows.
+/// The indices that the source, the target and a third peer have in most rows.
 const SOURCE: usize = 0;
 
 const TARGET: usize = 1;
@@ -30,7 +29,7 @@ const REP: Rep = Rep {
     target: 2,
 };
 
-/// A second replication to the peer with UUID 2.
+/// A replication from another peer to the peer with UUID 2.
 const OTHER_REP: Rep = Rep {
     source: 3,
     target: 2,
@@ -39,8 +38,8 @@ const OTHER_REP: Rep = Rep {
 /// The document d at 1-a.
 const D: &str = r#"{"_id":"d","_rev":"1-a"}"#;
 
-/// The edit of d at 1-a with an empty body. The signature of the edit's revision is the MD5 of the parent, the kind and
-/// the body.
+/// The revision that an edit of d at 1-a with an empty body creates. The signature of the edit's revision is the MD5 of
+/// the parent, the kind and the body.
 const NEXT: &str = "2-1c600d37126a8e6d3c67d6f7a6a5c299";
 
 /// A session of `REP` without a base, from 0 to 1.
@@ -67,7 +66,7 @@ const FROM_ONE: Beginning = Beginning {
     goal: 2,
 };
 
-/// A source of d at 1-a, an empty target, and another peer.
+/// Calls that create a source with the document d at 1-a, an empty target, and a third peer.
 const THREE: Rows = &[
     (Call::Peer(1, None), "made"),
     (Call::Peer(2, None), "made"),
@@ -83,7 +82,7 @@ const ASKED: Rows = &[
     (Call::Diff(TARGET, FIRST), "0 to 1: d 1-a;"),
 ];
 
-/// The source edits d, and a fetch of the requested revision returns the revision's descendant.
+/// The source edits d, and a fetch of the requested revision then returns the descendant of that revision.
 const MOVED: Rows = &[
     (Call::Edit(SOURCE, "d", "1-a", false, "{}"), NEXT),
     (Call::Numbers(SOURCE), "1 at 2"),
@@ -136,7 +135,7 @@ fn a_refused_descendant_covers(rt: HostRuntime) {
         (Call::Covered(TARGET, "d", "1-a"), "true"),
         (Call::Record(TARGET, S1, 11), "1"),
     ];
-    // The refused document is not in the target's tree, so that it is requested and refused again.
+    // The target's tree does not have the refused document, so a later session requests and refuses it again.
     const LAST: Rows = &[
         (
             Call::Diff(TARGET, SECOND),
@@ -156,7 +155,7 @@ fn a_refused_descendant_covers(rt: HostRuntime) {
     expect(&rt, rt.alloc(), LISTS);
 }
 
-/// A sequence after which one change is possible.
+/// The update sequence below the maximum by one, after which a database can change once.
 const LAST_BUT_ONE: u64 = 9_007_199_254_740_990;
 
 #[test]
@@ -181,8 +180,8 @@ fn sequences_run_out(rt: HostRuntime) {
         (Call::Diff(TARGET, FIRST), "0 to 2: d 1-a; e 1-a;"),
         (Call::Fetch(SOURCE, FIRST), FETCHED),
     ];
-    // The first document takes the last sequence, and the second document gets none. If the parcel is settled again,
-    // the first document is an arrival again.
+    // The first document of the parcel gets the last update sequence, and the second document gets no sequence. If the
+    // parcel is settled a second time, its first document is recorded as an arrival a second time.
     const STOPPED: &str = "Stopped 1, rest e, SeqFull";
     const TWICE: &str =
         "session 1 from 0 to 0 checked 0 found 0 read 2 written 2 failed 0, 10 to 11";
@@ -193,7 +192,7 @@ fn sequences_run_out(rt: HostRuntime) {
         (Call::Settle(TARGET, S1, FIRST), STOPPED),
         (Call::Entry(TARGET, S1), TWICE),
         (Call::Covered(TARGET, "e", "1-a"), "false"),
-        // A refused document takes no sequence.
+        // A refused document uses no update sequence of the target.
         (
             Call::Begin(OTHER, S1, Beginning { goal: 2, ..TO_ONE }, 10),
             "begun",
@@ -302,7 +301,8 @@ fn a_session_from_beginning_to_end(rt: HostRuntime) {
         ),
     ];
     const THEN: Rows = &[
-        // One document is filtered, and the ancestry of d contradicts its tree, in which 2-c has the parent 1-b.
+        // The filter refuses one document, and the ancestry of d contradicts the tree of d, in which 2-c has the parent
+        // 1-b.
         (Call::Settle(TARGET, S1, FIRST), "written 1 failed 2"),
         (Call::Covered(TARGET, "secret", "1-a"), "true"),
         (Call::Covered(TARGET, "d", "3-d"), "true"),
@@ -518,7 +518,7 @@ fn a_foreign_document_is_refused_before_a_done_window(rt: HostRuntime) {
     const ROWS: Rows = &[
         (Call::Fetch(SOURCE, FIRST), "0 to 1: d 1-a live {};"),
         (Call::Settle(TARGET, S1, FIRST), "written 1 failed 0"),
-        // The window is done, and the other source's document has no row in that window.
+        // The call returns an error for a done window if the other source's document has no row in the window.
         (Call::Load(OTHER, E), "Changed { seq: 1 }"),
         (Call::Page(OTHER, 0, 1), "0 to 1: 1 e 1-a;"),
         (Call::Diff(TARGET, SECOND), "0 to 1: e 1-a;"),
@@ -549,7 +549,8 @@ fn the_leaves_of_a_done_window_are_let_go(rt: HostRuntime) {
     expect(&rt, rt.alloc(), LISTS);
 }
 
-// A test with a hostile parcel, like the two tests before it. The parcel was fetched before another client wrote.
+// A parcel of a hostile source has a document that has no row in the window. The parcel was fetched before another
+// client wrote.
 #[test]
 fn a_parcel_of_another_leaf_leaves_its_window_uncovered(rt: HostRuntime) {
     const ROWS: Rows = &[
@@ -586,7 +587,7 @@ fn a_parcel_of_what_a_third_party_wrote_counts(rt: HostRuntime) {
     expect(&rt, rt.alloc(), LISTS);
 }
 
-/// A source at sequence 12 with one document, which changed each time, and an empty target.
+/// Calls that create an empty target, and a source whose only document changed 12 times.
 const TWELVE: Rows = &[
     (Call::Peer(1, None), "made"),
     (Call::Peer(2, None), "made"),
@@ -665,7 +666,7 @@ const RECORDED: Rows = &[
 #[test]
 fn common_session(rt: HostRuntime) {
     const ROWS: Rows = &[
-        // The third session, which the source does not know.
+        // The third session of the target, of which the source's log has no entry.
         (
             Call::Begin(TARGET, S3, Beginning { goal: 12, ..TO_ONE }, 10),
             "begun",
@@ -698,7 +699,8 @@ fn common_session(rt: HostRuntime) {
         (Call::Common(SOURCE, TARGET, REP), "2 at 4"),
         (Call::PutEntry(SOURCE, REP, S2, 3), "Older { stored: 4 }"),
         (Call::SourceLog(SOURCE, REP), "2 at 4;1 at 9;"),
-        // The entry of an existing session is replaced in place, also by an entry with the same sequence.
+        // A new entry of a session replaces the log's entry of that session, even if both entries recorded the same
+        // sequence.
         (Call::PutEntry(SOURCE, REP, S1, 9), "put"),
         (Call::PutEntry(SOURCE, REP, S1, 10), "put"),
         (Call::SourceLog(SOURCE, REP), "2 at 4;1 at 10;"),
@@ -720,7 +722,7 @@ fn an_audit_is_clean(rt: HostRuntime) {
             Call::Conclude(TARGET, S1, 11),
             "session 1 from 0 to 1 checked 1 found 1 read 1 written 1 failed 0",
         ),
-        // At first the logs have no common session, and later they have one.
+        // The logs of source and target have no common session at first, and one common session later.
         (Call::Audit(SOURCE, TARGET), "clean"),
         (Call::PutEntryOf(SOURCE, REP, TARGET, S1), "put"),
         (Call::Common(SOURCE, TARGET, REP), "1 at 1"),
@@ -737,7 +739,7 @@ fn an_audit_is_clean(rt: HostRuntime) {
 fn an_audit_finds_a_hole(rt: HostRuntime) {
     const E: &str = r#"{"_id":"e","_rev":"1-a"}"#;
     const ROWS: Rows = &[
-        // The session gets windows of another source than its replication names.
+        // The session stores windows of a source that is not the source of its replication.
         (Call::Load(OTHER, E), "Changed { seq: 1 }"),
         (Call::Begin(TARGET, S1, TO_ONE, 10), "begun"),
         (Call::Page(OTHER, 0, 1), "0 to 1: 1 e 1-a;"),

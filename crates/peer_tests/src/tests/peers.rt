@@ -46,16 +46,16 @@ pub(crate) struct Beginning {
     pub(crate) goal: u64,
 }
 
-/// A call on a peer, which is named by index, as windows, requests and parcels are.
+/// A call on a peer. The index of an item names the peer, the window, the request or the parcel.
 #[derive(Clone, Copy)]
 pub(crate) enum Call<'a> {
     /// Create the next peer with a UUID and the prefix that its filter refuses.
     Peer(u128, Option<&'a str>),
-    /// Create the next peer, with a database at a sequence.
+    /// Create the bench's next peer, whose database has a given update sequence.
     PeerAt(u128, Option<&'a str>, u64),
     /// Load a document.
     Load(usize, &'a str),
-    /// Edit a document, given its id, the parent (an empty string for none), the deleted flag, and the body.
+    /// Edit a document, given its id, the parent revision (an empty string for none), the deleted flag, and the body.
     Edit(usize, &'a str, &'a str, bool, &'a str),
     /// Read the UUID and the update sequence.
     Numbers(usize),
@@ -69,11 +69,11 @@ pub(crate) enum Call<'a> {
     Verdict(usize, &'a str),
     /// Read whether a revision of a document is covered.
     Covered(usize, &'a str, &'a str),
-    /// Read a page above a sequence, up to a goal, of at most 500 rows, as the next window.
+    /// Read a page of at most 500 rows, above a sequence and up to a goal, and store it as the next window.
     Page(usize, u64, u64),
-    /// Request the leaves of a window that a peer lacks, as the next request.
+    /// Compute the request for the leaves of a window that a peer lacks, and store it as the next request.
     Diff(usize, usize),
-    /// Fetch the documents for a request from a peer, as the next parcel.
+    /// Fetch the documents for a request from a peer, and store them as the next parcel.
     Fetch(usize, usize),
     /// Begin a session with a timestamp.
     Begin(usize, SessionId, Beginning, u64),
@@ -87,33 +87,36 @@ pub(crate) enum Call<'a> {
     Conclude(usize, SessionId, u64),
     /// Read the entry of a session.
     Entry(usize, SessionId),
-    /// Read the windows of a session, and which of them are complete.
+    /// Read the windows of a session, and whether each still has its complete rows.
     Windows(usize, SessionId),
     /// Read the log of a replication into a peer.
     TargetLog(usize, Rep),
     /// Read the log of a replication from a peer.
     SourceLog(usize, Rep),
-    /// Store in the log of a replication from a peer the entry of a session that recorded up to a sequence.
+    /// Create the entry of a session that recorded up to a sequence, and store it in the log of a replication from a
+    /// peer.
     PutEntry(usize, Rep, SessionId, u64),
     /// Store the target's entry of a session in the log of a replication from a peer.
     PutEntryOf(usize, Rep, usize, SessionId),
-    /// Back up a peer, as the next backup. The result is the database's UUID and update sequence.
+    /// Back up a peer, and store the backup as the bench's next backup. The result of a backup is the UUID and the
+    /// update sequence of its database.
     Backup(usize),
     /// Restore a peer from a backup.
     Restore(usize, usize),
     /// Compare the logs of a replication at its source and its target.
     Common(usize, usize, Rep),
-    /// Audit the second peer, as a target, against the first peer, as its source.
+    /// Audit a replication from the first peer, the source, into the second peer, the target.
     Audit(usize, usize),
     /// Check a plan between two peers, with a given maximum number of rows of a window.
     CheckPlan(usize, usize, u64),
-    /// Begin the session of a plan at the second peer, from the first, with a timestamp.
+    /// Begin the session of a plan at the second peer, with the first peer as its source, at a timestamp.
     BeginPlan(SessionId, u64),
-    /// Store the entry of a session of the second peer in the log of the first.
+    /// Read the entry of a session of the second peer, and store it in the first peer's log.
     RecordAtSource(SessionId),
-    /// Read the first hole of the second peer, as a target, above a sequence of the first peer, as its source.
+    /// Read the first leaf above a sequence of the first peer, the source, that the second peer, the target, does not
+    /// cover.
     HoleAbove(usize, usize, u64),
-    /// Replicate the first peer into the second, given the session and the maximum number of rows of a window.
+    /// Replicate the first peer into the second, given the session id and the maximum number of rows of a window.
     Replicate(SessionId, u64),
     /// Load d with a given number of revisions in its ancestry.
     LoadLong(usize, u32),
@@ -125,12 +128,12 @@ pub(crate) enum Call<'a> {
     Sizes(usize),
 }
 
-/// The calls of a test, each with its expected result.
+/// The calls of a test, and each call's expected result.
 pub(crate) type Rows = &'static [(Call<'static>, &'static str)];
 
 /// Lists of calls that are performed in order.
 ///
-/// A test has all its lists in one static, because a proof processes each list that a test names.
+/// A test has all its lists in one static, because the prover processes each list that a test names separately.
 pub(crate) type Lists = &'static [Rows];
 
 /// Peers, their backups, and the values that were read and fetched from them.
@@ -153,7 +156,7 @@ impl Bench {
         }
     }
 
-    /// Performs the calls in order, and asserts each result.
+    /// Performs the calls in order, and asserts that each returns its expected result.
     fn run(&mut self, rt: &impl Abort, calls: &[(Call, &str)]) {
         for (i, (call, wanted)) in calls.iter().enumerate() {
             expect_answer(rt, i, self.answer(call), wanted);
@@ -310,7 +313,7 @@ fn compare(
     }
 }
 
-/// Performs a call on the first peer, as the source, and the second peer, as the target.
+/// Performs a call on two peers, of which the first is the source and the second is the target.
 fn of_first_two(alloc: Global, peers: &mut Vec<Peer<Rules>>, call: &Call) -> Option<String> {
     let Some((source, others)) = peers.split_first_mut() else {
         return None;
@@ -339,7 +342,7 @@ pub(crate) fn make(
     made_text(alloc, peers.push(Peer::new(alloc, uuid, rules)).ok())
 }
 
-/// Creates the next peer, with a database at a sequence.
+/// Creates the bench's next peer, whose database has a given update sequence.
 pub(crate) fn make_at(
     alloc: Global,
     peers: &mut Vec<Peer<Rules>>,
@@ -356,7 +359,7 @@ pub(crate) fn make_at(
     }
 }
 
-/// Reads a page, as the next window.
+/// Reads a page of the feed, and stores it as the bench's next window.
 fn page(
     alloc: Global,
     peer: &Peer<Rules>,
@@ -396,7 +399,7 @@ fn fetched(alloc: Global, peer: &Peer<Rules>, asked: &Asked) -> Option<Parcel> {
     peer.open_revs(alloc, asked).ok()
 }
 
-/// Appends a copy of an optional window.
+/// Appends a copy of a window to a session, if the window exists.
 fn append(
     alloc: Global,
     peer: &mut Peer<Rules>,
@@ -415,7 +418,7 @@ fn append(
     }
 }
 
-/// Settles a copy of an optional parcel.
+/// Settles a copy of a parcel in a session, if the parcel exists.
 fn settle(
     alloc: Global,
     peer: &mut Peer<Rules>,
@@ -434,7 +437,7 @@ fn settle(
     }
 }
 
-/// Stores an entry of a target at its source.
+/// Stores an entry of a target's session in the source's log.
 fn put_of(
     alloc: Global,
     peers: &mut Vec<Peer<Rules>>,
@@ -487,7 +490,7 @@ pub(crate) fn source_log(alloc: Global, peer: &Peer<Rules>, rep: &RepId) -> Opti
     log_text(alloc, &log)
 }
 
-/// Performs lists of calls on a new bench, and asserts each result.
+/// Performs lists of calls on a new bench, and asserts that each call returns its expected result.
 pub(crate) fn expect(rt: &impl Abort, alloc: Global, lists: &[Rows]) {
     let mut bench = Bench::new(alloc);
     for calls in lists {

@@ -1,9 +1,9 @@
-//! Test rows for plans, with errors, the start of a session, the session's entry at the source, and the scan above a
-//! sequence.
+//! Test rows for plans, in which errors occur, a session begins, its entry is stored at the source, and a scan looks
+//! for uncovered leaves.
 use crate::tests::peers::{Call, Lists, Rep, Rows, expect};
 use rev_tree::SessionId;
 
-/// The indices of the source, of the target, and of a peer that refuses d.
+/// The indices at which a bench has the source, the target, and a peer that refuses the document d.
 const SOURCE: usize = 0;
 
 const TARGET: usize = 1;
@@ -26,7 +26,7 @@ const REP: Rep = Rep {
     target: 2,
 };
 
-/// A source of d at 1-a and e at 1-b, and two peers without documents.
+/// Calls that create a source with d at 1-a and e at 1-b, and two peers without documents.
 const THREE: Rows = &[
     (Call::Peer(1, None), "made"),
     (Call::Peer(2, None), "made"),
@@ -48,7 +48,7 @@ fn plans_refused(rt: HostRuntime) {
         (Call::CheckPlan(SOURCE, TARGET, 10_001), "BadBatch"),
         (Call::CheckPlan(SOURCE, TARGET, 1), "can begin"),
         (Call::CheckPlan(SOURCE, TARGET, 10_000), "can begin"),
-        // The call checks the batch before the UUIDs.
+        // The call checks the plan's window size before it compares the UUIDs.
         (Call::CheckPlan(SOURCE, SOURCE, 0), "BadBatch"),
         (Call::CheckPlan(SOURCE, SOURCE, 500), "SamePeer"),
     ];

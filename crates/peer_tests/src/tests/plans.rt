@@ -55,7 +55,7 @@ pub(crate) fn begin(
     }
 }
 
-/// Stores the entry of a session of a target in the log of its source.
+/// Stores the entry of a target's session in the source's log.
 pub(crate) fn record(
     alloc: Global,
     source: &mut Peer<Rules>,

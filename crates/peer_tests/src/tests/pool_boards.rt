@@ -16,12 +16,12 @@ use std::sync::atomic::{AtomicBool, Ordering};
 use std::thread;
 use std::thread::{Threads, yield_now};
 
-/// The indices of the source and of the target.
+/// The indices at which a bench has the source and the target.
 const A: usize = 0;
 
 const B: usize = 1;
 
-/// A run in windows of two rows.
+/// The plan of a run whose windows have two rows.
 const TWO_ROWS: How = How {
     session: SessionId(1),
     workers: None,
@@ -32,14 +32,14 @@ const TWO_ROWS: How = How {
 /// The maximum number of times one thread polls for another.
 const TURNS: u32 = 1_000_000;
 
-/// A source of two documents of one revision each, and an empty target.
+/// Calls that create an empty target, and a source with two documents of one revision each.
 static TWO: Rows = &[
     (Call::Peer(1, None), "made"),
     (Call::Peer(2, None), "made"),
     (Call::Fill(A, 2), "Changed { seq: 2 }"),
 ];
 
-/// A source of forty documents of one revision each, and an empty target.
+/// Calls that create an empty target, and a source with forty documents of one revision each.
 static FORTY: Rows = &[
     (Call::Peer(1, None), "made"),
     (Call::Peer(2, None), "made"),
@@ -55,7 +55,7 @@ const WELL_FORTY: &str =
 /// The seats of four viewers.
 type Viewers = (BoardSeat, BoardSeat, BoardSeat, BoardSeat);
 
-/// Polls until a flag is set, at most `TURNS` times, and returns whether it was set.
+/// Polls a flag at most `TURNS` times until the flag is true, and returns whether it became true.
 fn wait_for(told: &AtomicBool) -> bool {
     for _ in 0..TURNS {
         if told.load(Ordering::SeqCst) {
@@ -66,7 +66,7 @@ fn wait_for(told: &AtomicBool) -> bool {
     false
 }
 
-/// A gate that blocks the first window's writer, after it has settled, until the board was read.
+/// A gate that blocks the writer of the first window after settling, until a viewer has read the board.
 #[derive(Drop)]
 struct HoldsSettled {
     held: AtomicBool,
@@ -75,7 +75,7 @@ struct HoldsSettled {
 }
 
 impl HoldsSettled {
-    /// Creates the gate with no flag set.
+    /// Creates the gate with all its flags false.
     fn new() -> HoldsSettled {
         HoldsSettled {
             held: AtomicBool::new(false),
@@ -99,7 +99,7 @@ impl Gate for HoldsSettled {
     }
 }
 
-/// Reads the board when the gate blocks the writer, and sets the gate's flag.
+/// Reads the board while the gate blocks the writer, and then sets the gate's flag, which releases the writer.
 fn read_while_held(board: &Board, gate: &HoldsSettled, viewer: BoardSeat) -> (u64, u64)
     requires { CameWith board.now viewer }
 {
@@ -110,8 +110,8 @@ fn read_while_held(board: &Board, gate: &HoldsSettled, viewer: BoardSeat) -> (u6
     seen
 }
 
-/// Performs a run on a board while a viewer reads during the block. Returns how the run ended, and the totals that were
-/// read.
+/// Performs a run on a board, which a viewer reads while the gate blocks the writer. Returns how the run ended, and the
+/// totals that the viewer read from the board.
 fn run_held<R: Abort + Threads + Wait + Sync>(
     rt: &R,
     bench: &mut Bench,
@@ -195,7 +195,8 @@ fn board_for_four(alloc: Global, workers: usize) -> Option<(Board, Vec<BoardSeat
     Some((board, seats, (a, b, c, d)))
 }
 
-/// Reads the board repeatedly. Returns whether no total fell, and the settled total never exceeded the read total.
+/// Reads the board repeatedly. Returns whether no total of the board decreased, and the total of settled documents
+/// never exceeded the total of read documents.
 fn sees_no_fall(board: &Board, viewer: BoardSeat) -> bool
     requires { CameWith board.now viewer }
 {
@@ -212,8 +213,8 @@ fn sees_no_fall(board: &Board, viewer: BoardSeat) -> bool
     true
 }
 
-/// Performs a run on a board while four viewers read in loops. Returns how the run ended, and the number of viewers for
-/// which no total fell.
+/// Performs a run on a board while four viewers read in loops. Returns how the run ended, and the number of viewers
+/// that saw no total of the board decrease.
 fn run_watched<R: Abort + Threads + Wait + Sync>(
     rt: &R,
     bench: &mut Bench,

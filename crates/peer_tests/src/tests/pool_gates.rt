@@ -11,7 +11,7 @@ use std::sync::Wait;
 use std::sync::atomic::{AtomicBool, AtomicU64, Ordering};
 use std::thread::{Threads, yield_now};
 
-/// The indices of the source and of the target.
+/// The indices at which a bench has the source and the target.
 const A: usize = 0;
 
 const B: usize = 1;
@@ -24,7 +24,7 @@ const REP: Rep = Rep {
 
 const S1: SessionId = SessionId(1);
 
-/// A run in windows of two rows.
+/// The plan of a run whose windows have two rows.
 const TWO_ROWS: How = How {
     session: S1,
     workers: None,
@@ -41,7 +41,7 @@ const AGAIN: How = How {
 /// The maximum number of times a gate polls while it blocks a worker.
 const TURNS: u32 = 1_000_000;
 
-/// A source of four documents of one revision each, and an empty target.
+/// Calls that create an empty target, and a source with four documents of one revision each.
 static FOUR: Rows = &[
     (Call::Peer(1, None), "made"),
     (Call::Peer(2, None), "made"),
@@ -51,7 +51,7 @@ static FOUR: Rows = &[
 /// The result of a successful run of the replication.
 const WELL: &str = "session 1 from 0 to 4 checked 4 found 4 read 4 written 4 failed 0, fetched 4";
 
-/// Polls until a flag is set, at most `TURNS` times.
+/// Polls a flag at most `TURNS` times, until the flag is true.
 fn hold(told: &AtomicBool, ran_out: &AtomicBool) {
     for _ in 0..TURNS {
         if told.load(Ordering::SeqCst) {
@@ -73,7 +73,7 @@ struct HoldsFetched {
 }
 
 impl HoldsFetched {
-    /// Creates the gate with no flag set.
+    /// Creates the gate with all its flags false.
     fn new() -> HoldsFetched {
         HoldsFetched {
             second: AtomicBool::new(false),
@@ -101,14 +101,14 @@ impl Gate for HoldsFetched {
     }
 }
 
-/// A gate that stops once, at a kind of place of a window. The kinds of places are took, asked, fetched, settled and
-/// recorded, numbered from 0.
+/// A gate that stops the run once, at a given stage of a given window. The stages of a window are took, asked, fetched,
+/// settled and recorded, numbered from 0.
 #[derive(Drop)]
 struct StopsOnce {
     kind: u64,
     window: u64,
-    /// Whether the gate claims that it may block, although it never does. If the gate claims that it may block, each
-    /// worker is a thread of its own, even if there are few workers.
+    /// Whether the gate claims that it may block a worker, although it never does. If the gate claims that it may
+    /// block, each worker is a thread of its own, even if there are few workers.
     may_block: bool,
     stopped: AtomicBool,
 }
@@ -125,7 +125,7 @@ impl StopsOnce {
     }
 }
 
-/// Returns the kind of a place, and its window.
+/// Returns the number of the stage that a place names, and the window of the place.
 pub(crate) fn kind_of(place: Place) -> (u64, u64) {
     match place {
         Place::Took(window) => (0, window),
@@ -154,8 +154,8 @@ impl Gate for StopsOnce {
     }
 }
 
-/// A gate that counts the recordings of windows of one row, and notes whether a recording has another low water than
-/// the end of its window.
+/// A gate that counts the recordings in a run with windows of one row. The gate notes whether a recording's low water
+/// differs from its window's end.
 #[derive(Drop)]
 struct CountsRecordings {
     count: AtomicU64,
@@ -208,7 +208,7 @@ fn windows_done_out_of_order(rt: HostRuntime) {
     assert_eq!(rt; gate.at_first.load(Ordering::SeqCst), 4);
 }
 
-// A count of fetched documents that is copied from the report would be 0.
+// If the run copied the count of fetched documents from the report, the count would be 0.
 #[test]
 fn fetched_is_counted_where_a_run_stops(rt: HostRuntime) {
     const HALTED: &str = "Halted(Fetched(0)), fetched 2";
@@ -229,7 +229,7 @@ fn fetched_is_counted_where_a_run_stops(rt: HostRuntime) {
     }
 }
 
-/// The beginning of the result of a stop at each kind of place.
+/// For each stage, the beginning of the result that a stop at this stage has.
 static STOPPED: [&str; 5] = [
     "Halted(Took(",
     "Halted(Asked(",
@@ -242,7 +242,7 @@ static CLEAN: Rows = &[(Call::Audit(A, B), "clean")];
 
 static AT_GOAL: Rows = &[(Call::Common(A, B, REP), "11")];
 
-/// Asserts that the gate stops a run at a kind of place of a window, and that an audit of the stopped run is clean.
+/// Asserts that the gate stops a run at a stage of a window, and that an audit of the stopped run finds no error.
 pub(crate) fn expect_stop<G: Gate + Sync, R: Abort + Threads + Wait + Sync>(
     rt: &R,
     alloc: Global,
@@ -263,7 +263,7 @@ pub(crate) fn expect_stop<G: Gate + Sync, R: Abort + Threads + Wait + Sync>(
     bench.run(rt, CLEAN);
 }
 
-/// Asserts that a further run begins at the common checkpoint and ends at the goal, as both logs then say.
+/// Asserts that a further run begins at the common checkpoint and ends at the goal, and that both logs record this.
 pub(crate) fn go_on<R: Abort + Threads + Wait + Sync>(rt: &R, alloc: Global, bench: &mut Bench) {
     let from = bench
         .answer(rt, &Call::Common(A, B, REP))
@@ -276,8 +276,8 @@ pub(crate) fn go_on<R: Abort + Threads + Wait + Sync>(rt: &R, alloc: Global, ben
     bench.run(rt, AT_GOAL);
 }
 
-/// Performs a run with a given number of workers that stops, and a further run that completes the copy. The gate may
-/// block the workers or not.
+/// Performs a run with a given number of workers that stops, and a further run that completes the copy. A parameter
+/// says whether the gate claims that it may block workers.
 fn stop_and_go_on<R: Abort + Threads + Wait + Sync>(
     rt: &R,
     alloc: Global,
@@ -295,8 +295,8 @@ fn stop_and_go_on<R: Abort + Threads + Wait + Sync>(
     bench.run(rt, CARRIED);
 }
 
-// The test makes runs with two fetchers and two writers, with two pairs, and with a single worker on the caller's
-// thread.
+// The test makes runs with two fetchers and two writers, runs with two pairs of a fetcher and a writer, and runs with
+// one worker on the caller's thread.
 #[test]
 fn a_stop_at_each_place(rt: HostRuntime) {
     for kind in 0..5u64 {
@@ -308,15 +308,15 @@ fn a_stop_at_each_place(rt: HostRuntime) {
     }
 }
 
-/// A source of 20 documents, and a target that has no sequence left.
+/// Calls that create a source with 20 documents, and a target that has no update sequence left.
 static FULL: Rows = &[
     (Call::Peer(1, None), "made"),
     (Call::PeerAt(2, 9_007_199_254_740_991), "made"),
     (Call::Fill(A, 20), "Changed { seq: 20 }"),
 ];
 
-// Both channels together hold eight windows. A writer that ended after an error would block the fetchers for ever,
-// although it would satisfy its contract.
+// Both channels together hold eight windows. A writer that ended after an error would satisfy its contract, but the
+// fetchers would wait for it for ever.
 #[test]
 fn more_windows_than_channels_hold(rt: HostRuntime) {
     const ONE_BY_ONE: How = How {

@@ -1,4 +1,5 @@
-//! Runs of the pool whose gate counts, or blocks a worker at a place until another worker has reached a later place.
+//! Runs of the pool whose gate counts its calls, or blocks a worker at a stage of a window until another worker reaches
+//! a later stage.
 use crate::tests::pool_gates::kind_of;
 use crate::tests::pools::{Bench, Call, How, Rows};
 use crate::tests::texts::expect_answer;
@@ -10,7 +11,7 @@ use std::sync::Wait;
 use std::sync::atomic::{AtomicBool, AtomicU64, Ordering};
 use std::thread::{Threads, yield_now};
 
-/// The indices of the source and of the target.
+/// The indices at which a bench has the source and the target.
 const A: usize = 0;
 
 const B: usize = 1;
@@ -25,13 +26,13 @@ const fn in_windows_of(batch: u64) -> How {
     }
 }
 
-/// For each window, the number of places at which the gate was called in order, and the number of calls out of order.
+/// For each window, the number of stages at which the gate was called in order, and the number of calls out of order.
 #[derive(Drop)]
 struct Counts {
     places: Vec<AtomicU64>,
     strays: AtomicU64,
-    /// Whether the gate claims that it may block, although it never does. If the gate claims that it may block, each
-    /// worker is a thread of its own, even if there are few workers.
+    /// Whether the gate claims that it may block a worker, although it never does. If the gate claims that it may
+    /// block, each worker is a thread of its own, even if there are few workers.
     may_block: bool,
 }
 
@@ -49,7 +50,7 @@ impl Counts {
         }
     }
 
-    /// Returns the number of windows that have passed all five places.
+    /// Returns the number of windows that have passed all five stages.
     fn gone_through(&self) -> usize {
         let mut windows = 0usize;
         for places in &self.places {
@@ -81,8 +82,8 @@ impl Gate for Counts {
     }
 }
 
-/// Asserts that a run calls its gate exactly once at each place of a window, in order. The run has a given number of
-/// workers, which the gate may or may not block.
+/// Asserts that a run calls its gate exactly once at each stage of a window, in order. The parameters give the number
+/// of workers, and whether the gate claims that it may block workers.
 fn expect_in_order<R: Abort + Threads + Wait + Sync>(
     rt: &R,
     alloc: Global,
@@ -110,8 +111,8 @@ fn expect_in_order<R: Abort + Threads + Wait + Sync>(
     assert_eq!(rt; bench.fetchers() as u64, workers);
 }
 
-// A window's count reaches a kind of place only if the gate was called exactly once at each earlier kind of place. The
-// test makes runs with two groups of threads, with pairs, and with a single worker on the caller's thread.
+// A window's count reaches a stage only if the gate was called exactly once at each earlier stage. The test makes runs
+// with separate fetchers and writers, with pairs of a fetcher and a writer, and with one worker on the caller's thread.
 #[test]
 fn each_place_once_and_in_order(rt: HostRuntime) {
     expect_in_order(&rt, rt.alloc(), 4, true);
@@ -119,13 +120,13 @@ fn each_place_once_and_in_order(rt: HostRuntime) {
     expect_in_order(&rt, rt.alloc(), 1, false);
 }
 
-/// A kind of place, numbered from 0, and the number of a window.
+/// A spot, which is the number of a stage from 0, and the number of a window.
 type Spot = (u64, u64);
 
-/// A worker at the first spot waits until the second spot is reached.
+/// A worker at the first spot (stage of a window) waits until a worker has reached the second spot.
 type Holds = &'static [(Spot, Spot)];
 
-/// Returns the bit of a spot, among the first twelve windows.
+/// Returns the bit that stands for a spot, a stage of one of the first twelve windows.
 pub(crate) fn bit_of(spot: Spot) -> u64 {
     let place = spot.0 % 5 + 5 * (spot.1 % 12);
     1 << place
@@ -134,7 +135,7 @@ pub(crate) fn bit_of(spot: Spot) -> u64 {
 /// The maximum number of times a blocked worker polls.
 const TURNS: u32 = 1_000_000;
 
-/// A gate that blocks workers as a table says, each until its spot is reached.
+/// A gate that blocks the workers that a table names, each until a worker has reached the spot in the table.
 #[derive(Drop)]
 struct Orders {
     holds: Holds,
@@ -152,7 +153,7 @@ impl Orders {
         }
     }
 
-    /// Polls until a spot is reached.
+    /// Polls until a worker has reached a spot, a stage of a window.
     fn wait_for(&self, spot: Spot) {
         let wanted = bit_of(spot);
         for _ in 0..TURNS {
@@ -188,7 +189,7 @@ fn run_held<R: Abort + Threads + Wait + Sync>(rt: &R, alloc: Global, holds: Hold
         (Call::Peer(1, None), "made"),
         (Call::Peer(2, None), "made"),
         (Call::Fill(A, 8), "Changed { seq: 8 }"),
-        // For a target without documents, the pool would make requests without the target's lock.
+        // If the target had no documents, the pool would compute requests without holding the target's lock.
         (
             Call::Load(B, r#"{"_id":"own","_rev":"1-a"}"#),
             "Changed { seq: 1 }",
@@ -217,7 +218,7 @@ const SETTLED: u64 = 3;
 
 const RECORDED: u64 = 4;
 
-// Requesting, settling and recording each take the lock, which is therefore free while the other worker is blocked.
+// Requesting, settling and recording each take the lock, so the lock must be free while the other worker is blocked.
 #[test]
 fn no_lock_is_held_at_any_place(rt: HostRuntime) {
     static HOLDS: Holds = &[

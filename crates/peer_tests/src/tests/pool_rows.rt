@@ -3,7 +3,7 @@ use crate::tests::peers::Rep;
 use crate::tests::pools::{Call, Rows};
 use rev_tree::SessionId;
 
-/// The indices of the source and of the target.
+/// The indices at which a bench has the source and the target.
 const A: usize = 0;
 
 const B: usize = 1;
@@ -16,19 +16,20 @@ const REP: Rep = Rep {
 
 const S1: SessionId = SessionId(1);
 
-/// A source, and a target that refuses no document.
+/// Calls that create a source, and a target that refuses no document.
 pub(crate) static OPEN_PEERS: Rows = &[
     (Call::Peer(1, None), "made"),
     (Call::Peer(2, None), "made"),
 ];
 
-/// A source, and a target that refuses the two documents whose ids begin with x.
+/// Calls that create a source, and a target that refuses the two documents whose ids begin with x.
 pub(crate) static CHOOSY_PEERS: Rows = &[
     (Call::Peer(1, None), "made"),
     (Call::Peer(2, Some("x")), "made"),
 ];
 
-/// Six documents with ten leaves. In feed order, the three windows have b and x2, then a and c, then x1 and d.
+/// Calls that store six documents, which have ten leaves in total. In feed order, the first window has the documents b
+/// and x2, the second a and c, and the third x1 and d.
 pub(crate) static DOCUMENTS: Rows = &[
     (
         Call::Load(A, r#"{"_id":"a","_rev":"1-a","v":1}"#),
@@ -103,8 +104,8 @@ const LEAVES_X1: &str = r#" x1 1-q live {"v":10}; x1 1-p live {"v":4};"#;
 
 const LEAVES_X2: &str = r#" x2 1-a live {"v":6};"#;
 
-/// The result at a target that refuses no document. Each document has the same leaves, ancestries and contents at both
-/// peers.
+/// The result of the run into a target that refuses no document. Each document has the same leaves, ancestries and
+/// contents at both peers.
 pub(crate) static CARRIED: Rows = &[
     (Call::Audit(A, B), "clean"),
     (Call::Leaves(A, "a"), LEAVES_A),
@@ -121,8 +122,7 @@ pub(crate) static CARRIED: Rows = &[
     (Call::Leaves(B, "x2"), LEAVES_X2),
 ];
 
-/// The effect of the first session at a target that refuses two of the documents, in whichever order its windows were
-/// done.
+/// The effect of the first session at a target that refuses two documents, whatever order its windows were done in.
 pub(crate) static SIFTED: Rows = &[
     (
         Call::Entry(B, S1),

@@ -1,4 +1,4 @@
-//! Runs of the pool in random orders. The gate blocks every worker, and lets one worker run at a time.
+//! Runs of the pool in random orders. The gate of a run blocks all workers, and releases one worker at a time.
 use crate::tests::peers::Rep;
 use crate::tests::pool_gates::{expect_stop, go_on, kind_of};
 use crate::tests::pool_orders::bit_of;
@@ -14,7 +14,7 @@ use std::sync::{Mutex, Wait};
 use std::thread::Threads;
 use std::time::Duration;
 
-/// The indices of the source and of the target.
+/// The indices at which a bench has the source and the target.
 const A: usize = 0;
 
 const B: usize = 1;
@@ -32,21 +32,21 @@ const WINDOWS: u64 = 3;
 
 const WORKERS: u64 = 2;
 
-/// The number of places of a run, which has five places for each window.
+/// The number of places of a run, at which the run calls the gate (five for each window).
 const PLACES: u64 = 15;
 
-/// The bits of the places `Fetched`, and the bits of the places `Recorded`.
+/// Masks with the bits of all places `Fetched` and of all places `Recorded`, two stages of each window.
 const FETCHED: u64 = 0b001_0000_1000_0100;
 
 const RECORDED: u64 = 0b100_0010_0001_0000;
 
-/// The number of naps after which a worker is released although an expected worker has not come yet.
+/// The number of naps after which the gate releases a worker although an expected worker has not called the gate yet.
 const SURE_NAPS: u32 = 20_000;
 
 /// The maximum number of times a worker checks whether its turn has come.
 const LOOKS: u32 = 1_000_000;
 
-/// Returns the next state of a generator, Knuth's linear congruential one.
+/// Returns the next state of Knuth's linear congruential generator.
 fn next_state(state: u64) -> u64 {
     state
         .wrapping_mul(6_364_136_223_846_793_005)
@@ -58,7 +58,7 @@ fn bits(number: u64) -> u64 {
     u64::from(number.count_ones())
 }
 
-/// Returns the n-th of the blocked places, from 0, in the order of windows.
+/// Returns the place of the n-th blocked worker, counted from 0 in the order of windows.
 fn nth_held(held: u64, nth: u64) -> u64 {
     let mut passed = 0u64;
     for place in 0..PLACES {
@@ -72,31 +72,34 @@ fn nth_held(held: u64, nth: u64) -> u64 {
     0
 }
 
-/// The blocked workers and the places that workers have left, one bit per place, and the worker whose turn it is.
+/// The state of the gate: the places at which workers are blocked, the places that workers have left, and the place
+/// whose worker may run.
 #[derive(Clone, Copy)]
 struct Turns {
-    /// The state of the random choice.
+    /// The state of the random generator that chooses the next worker.
     chance: u64,
     held: u64,
     left: u64,
-    /// The place whose worker runs, or 0 if no worker was chosen.
+    /// The place whose worker may run, or 0 if no worker is chosen.
     chosen: u64,
-    /// The number of naps of blocked workers since one came or was released.
+    /// The number of naps of blocked workers since a worker was last blocked or released.
     naps: u32,
-    /// The place at which a worker is stopped, or 0 for none.
+    /// The place at which the gate stops a worker, or 0 if the gate stops no worker.
     stop_at: u64,
-    /// The places in the order in which workers left them. Each place has four bits, with its number plus 1.
+    /// The places in the order in which workers left them. Each left place takes four bits, which have the place's
+    /// number plus 1.
     order: u64,
     ran_out: bool,
 }
 
 impl Turns {
-    /// Returns the number of workers that will certainly come to a place, and the number of workers that may come.
+    /// Returns the number of workers that will certainly call the gate again, and the number of workers that may call
+    /// it again.
     ///
-    /// A fetcher has a window until it has passed `Fetched`, and a writer a parcel until it has passed `Recorded`. The
-    /// fetcher that finds no further window sends the end to a writer, before or after the last parcel of the other
-    /// fetcher. If all three windows are fetched and one is recorded, only one writer may be left for the other two
-    /// windows. A stopped worker drops all messages.
+    /// A fetcher has a window until it has passed the place `Fetched`, and a writer has a parcel until it has passed
+    /// `Recorded`. The fetcher that finds no further window sends the end message to a writer, perhaps before the other
+    /// fetcher sends its last parcel. If all three windows are fetched and one is recorded, only one writer may be left
+    /// for the other two windows. A stopped worker drops all messages.
     fn awaited(&self) -> (u64, u64) {
         let fetched = bits(self.left & FETCHED);
         let recorded = bits(self.left & RECORDED);
@@ -153,13 +156,13 @@ impl Turns {
         self.naps = 0;
     }
 
-    /// Notes that a worker has slept, and no worker was chosen meanwhile.
+    /// Records that a blocked worker slept while no worker was chosen.
     fn nap(&mut self) {
         self.naps = self.naps.saturating_add(1);
     }
 }
 
-/// A gate that lets one worker run at a time, which it draws from a seed, and stops the worker at a given place.
+/// A gate that releases one randomly chosen worker at a time, and stops the worker that comes to a given place.
 #[derive(Drop)]
 struct Drawn {
     stop_at: u64,
@@ -194,7 +197,7 @@ impl Drawn {
         self.turns.lock(rt).come(here);
     }
 
-    /// Whether the worker at a place may run now.
+    /// Whether the gate lets the worker at a place run now.
     fn goes<R: Wait>(&self, rt: &R, here: u64) -> bool {
         let (goes, chose) = self.turns.lock(rt).look(here);
         if chose {
@@ -225,7 +228,7 @@ impl Drawn {
         self.ran_out.store(true, Ordering::SeqCst);
     }
 
-    /// Returns the order in which the places were left, and whether a worker was released early.
+    /// Returns the order in which workers left the places, and whether the gate released a worker early.
     fn end(self) -> (u64, bool) {
         let turns = self.turns.into_inner();
         (turns.order, turns.ran_out || self.ran_out.into_inner())
@@ -275,13 +278,13 @@ fn different(sorted: &[u64]) -> u64 {
     found
 }
 
-/// The number of seeds of one test. Each test has a minute, and a busy machine may give this process little processor
-/// time.
+/// The number of seeds of one test. The number is small because each test must end within a minute, even on a busy
+/// machine.
 const SEEDS: u64 = 250;
 
 /// Performs runs in the orders of `SEEDS` seeds. More than half of the orders must be different.
-// The target's own sequences depend on the order of the run. All other values that are read at the end are the same for
-// every order.
+// The target's own sequences depend on the order of the run. All other values that the test reads after a run are the
+// same for every order.
 fn run_orders<R: Abort + Threads + Wait + Sync>(rt: &R, alloc: Global, first: u64) {
     let mut orders = Vec::new(alloc);
     for number in 0..SEEDS {
@@ -313,7 +316,7 @@ fn last_orders_end_alike(rt: HostRuntime) {
     run_orders(&rt, rt.alloc(), 750);
 }
 
-/// Performs a run in the order of a seed that stops at one of the places, and a further run that completes the copy.
+/// Performs a run that stops at one place, in the order of a seed, and a further run that completes the copy.
 fn stop_drawn<R: Abort + Threads + Wait + Sync>(rt: &R, alloc: Global, seed: u64) {
     let (kind, window) = (seed % 5, seed / 5 % WINDOWS);
     let gate = Drawn::new(seed, bit_of((kind, window)));

@@ -30,12 +30,12 @@ pub(crate) struct How {
     pub(crate) stop_after: Option<u64>,
 }
 
-/// A call on peers, which are named by index.
+/// A call on peers, each of which is named by its index.
 #[derive(Clone, Copy)]
 pub(crate) enum Call<'a> {
-    /// Create the next peer: its UUID, and the prefix that its filter refuses.
+    /// Create the next peer, given its UUID and the prefix of the document ids that its filter refuses.
     Peer(u128, Option<&'a str>),
-    /// Create the next peer, with its UUID, and its database at a sequence.
+    /// Create the next peer, given its UUID and the update sequence of its database.
     PeerAt(u128, u64),
     /// Load a given number of documents d0, d1 and so on.
     Fill(usize, u64),
@@ -49,7 +49,7 @@ pub(crate) enum Call<'a> {
     Entry(usize, SessionId),
     /// Read the documents at the leaves of a document, winner first.
     Leaves(usize, &'a str),
-    /// Read the leaves of a document that a session refused, with the reasons.
+    /// Read the refused leaves of a document from a session's ledger, with the reasons.
     Refused(usize, SessionId, &'a str),
     /// Read the log of a replication from a peer.
     SourceLog(usize, Rep),
@@ -57,11 +57,11 @@ pub(crate) enum Call<'a> {
     TargetLog(usize, Rep),
     /// Compare the logs of a replication at its source and its target.
     Common(usize, usize, Rep),
-    /// Audit the second peer, as a target, against the first peer, as its source.
+    /// Audit a replication from the first peer, the source, into the second peer, the target.
     Audit(usize, usize),
 }
 
-/// The calls of a test, each with its expected result.
+/// The calls of a test, and each call's expected result.
 pub(crate) type Rows = &'static [(Call<'static>, &'static str)];
 
 /// Peers, and the number of workers of a run.
@@ -84,12 +84,12 @@ impl Bench {
         }
     }
 
-    /// Returns the number of fetchers for which the last run has counted documents.
+    /// Returns the number of fetchers that fetched at least one document in the last run.
     pub(crate) fn fetchers(&self) -> usize {
         self.fetchers
     }
 
-    /// Performs the calls in order, and asserts each result.
+    /// Performs the calls in order, and asserts that each returns its expected result.
     pub(crate) fn run<R: Abort + Threads + Wait + Sync>(&mut self, rt: &R, calls: &[(Call, &str)]) {
         for (i, (call, wanted)) in calls.iter().enumerate() {
             expect_answer(rt, i, self.answer(rt, call), wanted);
@@ -178,7 +178,7 @@ impl Bench {
         self.take_back(rt, source, target, ran)
     }
 
-    /// Replicates on a board with a seat for each worker.
+    /// Replicates one peer into another, on a board with a seat for each worker.
     pub(crate) fn replicate_on<G: Gate + Sync, R: Abort + Threads + Wait + Sync>(
         &mut self,
         rt: &R,
@@ -246,7 +246,7 @@ fn read(alloc: Global, peer: &Peer<Rules>, call: &Call) -> Option<String> {
     }
 }
 
-/// Performs a call on a source and a target that changes nothing.
+/// Performs a read-only call on a source and a target.
 fn compare(
     alloc: Global,
     source: &Peer<Rules>,
@@ -260,8 +260,8 @@ fn compare(
     }
 }
 
-/// Runs the pool. The code is a separate function, because each further live variable beside the peers lengthens the
-/// proof.
+/// Runs the pool. This code is a separate function, because the proof grows with each variable that is live together
+/// with the peers.
 fn ran<G: Gate + Sync, R: Threads + Wait + Sync>(
     rt: &R,
     alloc: Global,
@@ -360,7 +360,7 @@ fn agreed(
     recorded_text(alloc, common(&outgoing, &incoming))
 }
 
-/// Returns the recorded sequence of the common session, or 0 if there is no common session.
+/// Returns the recorded sequence of the newest session that both logs have, or 0 if there is none.
 fn recorded_text(alloc: Global, found: Option<(SessionId, u64)>) -> Option<String> {
     match found {
         Some((_, recorded)) => shown(alloc, &recorded),

@@ -19,7 +19,7 @@ pub(crate) fn report_text(alloc: Global, report: Report) -> Option<String> {
     joined(all, written_text(alloc, report))
 }
 
-/// Returns the session of a report, and its bounds.
+/// Returns the session id of a report, and the sequences that bound the session.
 fn bounds_text(alloc: Global, report: Report) -> Option<String> {
     let (session, start) = (report.session.0, report.start);
     format!(in alloc; "session {session} from {start} to {}", report.recorded).ok()
@@ -58,7 +58,7 @@ fn moments_text(alloc: Global, entry: Entry) -> Option<String> {
     format!(in alloc; ", {begun} to {ended}").ok()
 }
 
-/// Returns the session and the recorded sequence of each entry, newest session first.
+/// Returns the session id and the recorded sequence of each entry of a log, newest session first.
 pub(crate) fn log_text(alloc: Global, log: &Log) -> Option<String> {
     let mut all = Some(String::new(alloc));
     for i in 0..log.len() {
@@ -67,7 +67,7 @@ pub(crate) fn log_text(alloc: Global, log: &Log) -> Option<String> {
     all
 }
 
-/// Returns the session and the recorded sequence of an optional entry.
+/// Returns the session id and the recorded sequence of a log entry, if the entry exists.
 fn recorded_text(alloc: Global, entry: Option<Entry>) -> Option<String> {
     match entry {
         Some(entry) => format!(in alloc; "{} at {};", entry.session.0, entry.recorded).ok(),
@@ -96,7 +96,8 @@ pub(crate) fn fault_text(alloc: Global, fault: TargetFault) -> Option<String> {
     }
 }
 
-/// Returns the result of a partial settling, with the number of settled documents, the other documents, and the cause.
+/// Returns the text of a partial settling: the number of settled documents, the documents that were not settled, and
+/// the cause.
 fn stopped_text(alloc: Global, settled: u64, rest: &[Doc], cause: Cause) -> Option<String> {
     let Some(rest) = ids_text(alloc, rest) else {
         return None;

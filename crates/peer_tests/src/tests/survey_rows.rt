@@ -1,4 +1,4 @@
-//! Test rows for `repl_inspect`, with missing, contradicting and differing leaves, conflicts, ledgers, counts, and a
+//! Test rows for the calls of `repl_inspect`, which compare leaves, and read conflicts, ledgers and counts, also for a
 //! document of 1,000 leaves.
 use crate::tests::surveys::{Call, Rows, expect};
 
@@ -22,7 +22,7 @@ fn what_a_target_misses(rt: HostRuntime) {
         (Call::Compare("e"), "1 missing 1-a differing"),
         // Neither peer has the document f.
         (Call::Compare("f"), "0 missing differing"),
-        // The target has 2-b with another parent, and 2-c with another body.
+        // The target's revision 2-b has another parent than the source's, and its revision 2-c has another body.
         (
             Call::Target(r#"{"_id":"d","_revisions":{"start":2,"ids":["b","x"]}}"#),
             "Changed { seq: 1 }",
@@ -35,7 +35,7 @@ fn what_a_target_misses(rt: HostRuntime) {
             Call::Compare("d"),
             "2 missing 3-d contradicts 2-b differing 2-c",
         ),
-        // The target has the source's leaf, but as a live leaf.
+        // The target has the source's deleted leaf as a live leaf.
         (
             Call::Target(r#"{"_id":"e","_rev":"1-a"}"#),
             "Changed { seq: 3 }",
@@ -64,7 +64,7 @@ fn a_gap_is_neither_missing_nor_other(rt: HostRuntime) {
             Call::Source(r#"{"_id":"d","_revisions":{"start":3,"ids":["c","b","a"]}}"#),
             "Changed { seq: 1 }",
         ),
-        // The target knows only the leaf, whose parent was not given, and a child of it.
+        // The target knows only the source's leaf, without its parent, and a child of this leaf.
         (
             Call::Target(r#"{"_id":"d","_revisions":{"start":4,"ids":["d","c"]}}"#),
             "Changed { seq: 1 }",
@@ -129,7 +129,7 @@ fn what_is_in_conflict_and_how_much_there_is(rt: HostRuntime) {
             "Changed { seq: 2 }",
         ),
         (Call::Conflict("d"), " 2-c 2-b"),
-        // A deleted leaf of any generation is not in conflict.
+        // A deleted leaf is not in conflict, whatever its generation is.
         (
             Call::Source(
                 r#"{"_id":"d","_revisions":{"start":3,"ids":["d","c","a"]},"_deleted":true}"#,

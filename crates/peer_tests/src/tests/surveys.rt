@@ -1,4 +1,4 @@
-//! Queries about two peers, which are a source and a target into which it is replicated.
+//! Queries about a source peer, and about a target peer into which the source is replicated.
 use crate::tests::databases::tree;
 use crate::tests::large::load_wide;
 use crate::tests::peers::load;
@@ -32,7 +32,7 @@ pub(crate) enum Call<'a> {
     Replicate,
     /// Compare a document of the source with the target's document.
     Compare(&'a str),
-    /// Read the total of the source's feed, or of one selected document.
+    /// Read the total of the differences of all documents in the source's feed, or of one selected document.
     Total(Option<&'a str>),
     /// Read the leaves of a document of the source that are in conflict.
     Conflict(&'a str),
@@ -46,7 +46,7 @@ pub(crate) enum Call<'a> {
     Tree(&'a str),
 }
 
-/// The calls of a test, each with its expected result.
+/// The calls of a test, and each call's expected result.
 pub(crate) type Rows = &'static [(Call<'static>, &'static str)];
 
 /// The source, and the target, whose filter denies ids that begin with x.
@@ -204,7 +204,8 @@ fn revs_text(alloc: Global, revs: &[Rev]) -> Option<String> {
     all
 }
 
-/// Returns the number of leaves, the missing ones, the contradicting child, and the differing leaves.
+/// Returns the text of a comparison: the number of leaves, the missing leaves, the contradicting child, and the
+/// differing leaves.
 fn comparison_text(alloc: Global, found: &Comparison) -> Option<String> {
     let all = joined(leaves_text(alloc, found), revs_text(alloc, found.missing()));
     let all = joined(all, contradiction_text(alloc, found));
@@ -217,7 +218,7 @@ fn leaves_text(alloc: Global, found: &Comparison) -> Option<String> {
     format!(in alloc; "{} missing", found.leaves()).ok()
 }
 
-/// Returns the contradicting child, or an empty string.
+/// Returns the text of the contradicting child, or an empty string if there is none.
 fn contradiction_text(alloc: Global, found: &Comparison) -> Option<String> {
     match found.contradiction() {
         Some(told) => joined(plain(alloc, " contradicts "), rev_text(alloc, told.child)),
@@ -257,7 +258,7 @@ fn two_peers(rt: &impl Abort, alloc: Global) -> Bench {
     }
 }
 
-/// Performs the calls, and asserts each result.
+/// Performs the calls, and asserts that each call returns its expected result.
 pub(crate) fn expect(rt: &impl Abort, alloc: Global, rows: Rows) {
     let mut bench = two_peers(rt, alloc);
     for (i, (call, wanted)) in rows.iter().enumerate() {

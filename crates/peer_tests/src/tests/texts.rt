@@ -9,8 +9,8 @@ use std::alloc::Global;
 use std::process::Abort;
 use test_support::{rev_text, revs_text, shown};
 
-/// Asserts that a call could be performed and returned the expected string. `None` means that the call could not be
-/// performed.
+/// Asserts that the test could perform a call, and that the call returned the expected string. The argument `None`
+/// means that the test could not perform the call.
 pub(crate) fn expect_answer(rt: &impl Abort, number: usize, answer: Option<String>, wanted: &str) {
     let is_wanted = match &answer {
         Some(text) => text.as_str() == wanted,
@@ -35,7 +35,8 @@ pub(crate) fn body(alloc: Global, text: &str) -> Option<Body> {
     read_body(alloc, &value).ok()
 }
 
-/// Concatenates two strings, if both exist. Callers that join many strings check for a missing string only at the end.
+/// Concatenates two strings, or returns `None` if one is missing. Callers that join many strings check for a missing
+/// string only at the end.
 pub(crate) fn joined(all: Option<String>, text: Option<String>) -> Option<String> {
     let (Some(mut all), Some(text)) = (all, text) else {
         return None;
@@ -51,7 +52,7 @@ pub(crate) fn plain(alloc: Global, text: &str) -> Option<String> {
     text.to_string(alloc).ok()
 }
 
-/// Returns the bounds of a window, request or parcel.
+/// Returns the text of the bounds of a window, request or parcel.
 fn bounds_text(alloc: Global, lo: u64, hi: u64) -> Option<String> {
     format!(in alloc; "{lo} to {hi}:").ok()
 }
@@ -73,7 +74,7 @@ fn row_text(alloc: Global, row: &Row) -> Option<String> {
     format!(in alloc; " {} {} {leaves};", row.seq(), row.id().text()).ok()
 }
 
-/// Returns the bounds of stored windows, and whether each is complete.
+/// Returns the bounds of stored windows, and whether each still has its complete rows.
 pub(crate) fn stored_text(alloc: Global, windows: &[StoredWindow]) -> Option<String> {
     let mut all = Some(String::new(alloc));
     for window in windows {
@@ -82,7 +83,7 @@ pub(crate) fn stored_text(alloc: Global, windows: &[StoredWindow]) -> Option<Str
     all
 }
 
-/// Returns the bounds of a stored window, and whether it is complete.
+/// Returns the bounds of a stored window, and whether it still has its complete rows.
 fn one_stored_text(alloc: Global, window: &StoredWindow) -> Option<String> {
     let (life, lo, hi) = (window.life(), window.lo(), window.hi());
     match window.rows() {
@@ -171,7 +172,7 @@ fn parent_text(alloc: Global, tree: &Tree, rev: Rev) -> Option<String> {
     }
 }
 
-/// Returns an optional origin, between commas.
+/// Returns the text of an origin between commas, if the origin exists.
 fn origin_text(alloc: Global, origin: Option<Origin>) -> Option<String> {
     match origin {
         Some(origin) => format!(in alloc; ", {origin:?}, ").ok(),
@@ -204,7 +205,7 @@ pub(crate) fn base_fault_text(alloc: Global, fault: BaseFault) -> Option<String>
     }
 }
 
-/// Returns a name, followed by a sequence, an id and a revision.
+/// Returns a text of a name, a sequence, an id and a revision.
 pub(crate) fn place_text(
     alloc: Global,
     name: &str,
@@ -218,7 +219,7 @@ pub(crate) fn place_text(
     format!(in alloc; "{name} {seq} {} {rev}", id.text()).ok()
 }
 
-/// Returns a name, followed by revisions.
+/// Returns a text of a name and revisions.
 fn named_text(alloc: Global, name: &str, revs: &[Rev]) -> Option<String> {
     let Some(revs) = revs_text(alloc, revs) else {
         return None;

@@ -1,4 +1,4 @@
-//! Worlds: steps by name, and their effects.
+//! Takes steps, which are given by name, in a world, and reads their effects.
 use crate::tests::databases::tree;
 use crate::tests::peers::{agreed, entry, source_log, target_log};
 use crate::tests::texts::{body, doc, expect_answer};
@@ -18,17 +18,17 @@ const REP: RepId = RepId {
     chosen: None,
 };
 
-/// A step, with its documents as strings. All timestamps are 0.
+/// A step of a world, with its documents as strings. All timestamps are 0.
 #[derive(Clone, Copy)]
 pub(crate) enum Act<'a> {
-    /// Edit a document at the source: its id, the parent and the body.
+    /// Edit a document at the source, given the document's id, the parent revision and the body.
     EditSource(&'a str, &'a str, &'a str),
-    /// Edit a document at the target: its id, the parent and the body.
+    /// Edit a document at the target, given the document's id, the parent revision and the body.
     EditTarget(&'a str, &'a str, &'a str),
     LoadSource(&'a str),
     ThirdParty(&'a str),
     ReadLog,
-    /// Begin a session from a log of the message bag: the log's index and the goal.
+    /// Begin a session from a log of the message bag, given the index of the log and the goal of the session.
     Begin(SessionId, usize, u64),
     Page(u64, u64, u64),
     Append(SessionId, usize),
@@ -50,11 +50,11 @@ pub(crate) enum Question<'a> {
     Common,
     /// The entry of a session.
     Entry(SessionId),
-    /// The log of the replication at a side.
+    /// The log of the replication that a side (source or target) has.
     Log(u128),
     /// The tree of a document at a side.
     Tree(u128, &'a str),
-    /// The numbers of windows, requests, parcels, entries and logs.
+    /// The numbers of windows, requests, parcels, entries and logs in the message bag.
     Sizes,
     /// The life of the source's database.
     Life,
@@ -170,7 +170,7 @@ fn take(alloc: Global, world: &mut World<Rules>, acts: &[Act]) -> Option<()> {
     world.run(alloc, &steps).ok()
 }
 
-/// Returns the log of the replication at a side.
+/// Returns the log of the replication that a side (source or target) has.
 fn side_log(alloc: Global, world: &World<Rules>, side: u128) -> Option<String> {
     if side == 1 {
         source_log(alloc, world.source(), &REP)
@@ -188,7 +188,7 @@ fn audit_text(alloc: Global, world: &World<Rules>) -> Option<String> {
     }
 }
 
-/// Returns a side of a world.
+/// Returns the peer of a world that is the source or the target.
 fn side(world: &World<Rules>, number: u128) -> &Peer<Rules> {
     if number == 1 {
         world.source()
@@ -197,7 +197,7 @@ fn side(world: &World<Rules>, number: u128) -> &Peer<Rules> {
     }
 }
 
-/// Returns the numbers of windows, requests, parcels, entries and logs.
+/// Returns the numbers of windows, requests, parcels, entries and logs in the message bag.
 fn sizes_text(alloc: Global, sizes: (usize, usize, usize, usize, usize)) -> Option<String> {
     let (windows, asked, parcels, entries, logs) = sizes;
     format!(in alloc; "{windows} {asked} {parcels} {entries} {logs}").ok()
