@@ -1,11 +1,11 @@
-//! Brands are type parameters with ghost members, which state a run's facts about its source and its target. One call
+//! Brands are type parameters whose ghost members state facts about the source and the target of a run. One call
 //! chooses them.
 //!
-//! For a value behind a lock or in a channel, contracts know only the invariant of its type. The invariant of a type
-//! may refer to a brand's ghost members.
+//! Contracts know only the invariant of the type of a value that a lock protects or a channel carries. The invariant of
+//! a type may refer to a brand's ghost members.
 use std::marker::Brand;
 
-/// The brand for the source's database and the plan by which the run reads it.
+/// The brand for the source's database, and for the plan by which the run reads this database.
 pub trait SourceBrand {
     ghost use Rattle.couch_base.specs.Database.{DatabaseValue};
     ghost use Rattle.repl_target.specs.declared.replication.Plan.{Plan};

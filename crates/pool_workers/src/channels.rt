@@ -26,8 +26,8 @@ impl<S: SourceBrand> Channels<S> {
     ghost use Rattle.pool_workers.specs.Parcels.{parcel_view};
     ghost use Rattle.pool_workers.specs.Windows.{window_view};
 
-    /// Creates both channels, each with a given capacity, and the first pass of each channel. The call fails only if an
-    /// allocation fails.
+    /// Creates both channels, each with a given capacity, and the pass (the ghost right to use a channel) of each
+    /// channel. The call fails only if an allocation fails.
     pub fn open(
         alloc: Global,
         capacity: usize,

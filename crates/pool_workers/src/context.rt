@@ -10,10 +10,9 @@ use std::alloc::Global;
 use std::sync::Mutex;
 use std::sync::ledger::Ledger;
 
-/// The state that all threads of a run share. The shared state has the runtime and the allocator, the two channels, the
-/// source, and the target behind its lock. The shared state also has the facts about the given target, the gate, the
-/// plan, the board if there is one, and the number of workers in each group. The steps of a worker are methods of
-/// `Context`.
+/// The state that all threads of a run share. The shared state has the runtime, the allocator, the two channels, the
+/// source, and the lock that protects the target. The shared state also has the gate, the plan, the optional board, the
+/// number of workers in each group, and facts about the given target. The steps of a worker are methods of `Context`.
 #[derive(Drop)]
 pub struct Context<'e, F: WriteFilter, S: SourceBrand, T: TargetBrand<F>, L: Ledger, G, R> {
     pub rt: &'e R,

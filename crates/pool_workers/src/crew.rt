@@ -37,7 +37,7 @@ impl<'a, S: SourceBrand, G: Gate> Promise<Fetcher<S>> for FetcherPromise<'a, S, 
         × IfSome r.stopped (Allows (G.may_stop p.gate.now)) };
 }
 
-/// The guarantee of a writer, with the seat that it was given.
+/// The guarantee of a writer that was started with a given seat of the board.
 #[derive(Drop)]
 pub struct WriterPromise<'a, S: SourceBrand, G: Gate> {
     pub channels: &'a Channels<S>,
@@ -97,8 +97,8 @@ impl<
         scope.spawn_with(promise, work).ok()
     }
 
-    /// Starts a writer, in addition to `others` writers. If a thread cannot be created, the call sends the end of the
-    /// parcels to all writers, receives one end itself, and returns the seat as an error.
+    /// Starts a writer, if `others` writers already run. If a thread cannot be created, the call sends an end message
+    /// to each writer, receives one end message itself, and returns the seat as an error.
     pub fn start_writer<'s, E>(
         &'e self,
         scope: &Scope<'s, E>,

@@ -1,4 +1,4 @@
-//! Sending the end of the windows and of the parcels.
+//! Sends the end messages of the channel of windows and of the channel of parcels.
 ghost use Rattle.std.specs.Prelude.{◌≡◌, ◌<◌};
 ghost use Rattle.crossbeam_channel.specs.Claims.{view, IsSeatAt};
 ghost use Rattle.crossbeam_channel.specs.Ends.{sends_on};
@@ -9,7 +9,7 @@ use crate::parcels::{ParcelMessage, ParcelPass, Sends};
 use crate::windows::{Reads, WindowMessage, WindowPass};
 use std::sync::Wait;
 
-/// Sends the end of the windows, one message to each fetcher.
+/// Sends one end message of the channel of windows for each fetcher.
 pub fn end_windows<S: SourceBrand, R: Wait>(
     rt: &R,
     channels: &Channels<S>,
@@ -27,7 +27,7 @@ pub fn end_windows<S: SourceBrand, R: Wait>(
     }
 }
 
-/// Sends `missing` end messages to the writers, in place of fetchers that were not started.
+/// Sends the writers `missing` end messages instead of the fetchers that were not started.
 pub fn end_parcels<S: SourceBrand, R: Wait>(
     rt: &R,
     channels: &Channels<S>,

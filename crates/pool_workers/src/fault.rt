@@ -24,7 +24,7 @@ pub enum Halt {
     BoardFull,
     /// An allocation failed.
     Memory,
-    /// A channel was disconnected, or a window came that the plan does not allow.
+    /// A channel was disconnected, or the run received a window that the plan does not allow.
     Lost,
 }
 
@@ -57,14 +57,14 @@ pub enum PoolFault {
     /// The gate returned `Stop` at the variant's place.
     #[error("stopped by the gate")]
     Halted(Place),
-    /// The first leaf of the source's feed above the start that a run left uncovered. No run returns the error `Hole`.
-    /// The contract of a run excludes `Hole` (clause `runs`, field `early`), and no code creates it.
+    /// The first leaf of the source's feed above the start that is still uncovered after a run. No run returns the
+    /// error `Hole`. The contract of a run excludes `Hole` (clause `runs`, field `early`), and no code creates it.
     #[error("a leaf of the source is not covered")]
     Hole { seq: u64, id: DocId, rev: Rev },
     /// A fetcher's count of documents would exceed 9,007,199,254,740,991.
     #[error("a count of documents is full")]
     CountFull,
-    /// A writer's count of documents read, on the board, would exceed 9,007,199,254,740,991. The error `BoardFull` is
+    /// A writer's counter of read documents on the board would exceed 9,007,199,254,740,991. The error `BoardFull` is
     /// possible only for a run with a board.
     #[error("a worker's count on the board is full")]
     BoardFull,
@@ -96,7 +96,7 @@ impl From<Halt> for PoolFault {
     }
 }
 
-/// Returns one of the reasons why reading, a fetcher or a writer halted, if one of them halted.
+/// Returns why the page reader, a fetcher or a writer halted, if one of them halted.
 pub fn merge(read: Option<Halt>, fetched: Option<Halt>, written: Option<Halt>) -> Option<PoolFault>
     ensures none { result ≡ None → (read ≡ None) × (fetched ≡ None) × (written ≡ None) }
     ensures some { IfSome result (IsOneFault read fetched written) }

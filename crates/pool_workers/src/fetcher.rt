@@ -21,8 +21,8 @@ use std::alloc::AllocError;
 use std::sync::Wait;
 use std::sync::ledger::Ledger;
 
-/// A fetcher of the pool. A fetcher has its passes of both channels, the numbers of parcels sent and documents fetched,
-/// and why it stopped.
+/// A fetcher of the pool. A fetcher has its passes of both channels, its counts of sent parcels and fetched documents,
+/// and the reason why it stopped.
 #[derive(Drop)]
 pub struct Fetcher<S: SourceBrand> {
     pub windows: WindowPass<S>,
@@ -44,7 +44,7 @@ pub fn pass<G: Gate, R: Wait>(rt: &R, gate: &G, place: Place) -> Result<(), Halt
     }
 }
 
-/// Sends a parcel. Returns whether the message was sent.
+/// Sends a parcel. Returns whether the fetcher could send the message.
 fn put<S: SourceBrand, R: Wait>(
     rt: &R,
     parcels: &ParcelSender<S>,
@@ -164,13 +164,13 @@ impl<F: WriteFilter, S: SourceBrand, T: TargetBrand<F>, L: Ledger, G: Gate, R: W
     G,
     R,
 > {
-    /// Requests the leaves of a page that the target lacks, and releases the lock.
+    /// Computes the request for the leaves of a page that the target lacks, and releases the target's lock.
     fn ask(&self, page: &Paged<S>) -> Result<Asked, AllocError> {
         self.target.lock(self.rt).diff(self.alloc, page)
     }
 
-    /// Determines the source's documents for the leaves of a page that the target lacks. The call fails if the gate
-    /// stops the fetcher or an allocation fails.
+    /// Counts the source's documents for the leaves of a page that the target lacks. The call fails if the gate stops
+    /// the fetcher or an allocation fails.
     fn bring(&self, number: u64, page: Paged<S>) -> Result<Found<S>, Halt>
         requires source { S.source ≡ self.now.source.now.1.db }
         ensures allowed { IfErr result (Allows (G.may_stop self.now.gate.now)) }

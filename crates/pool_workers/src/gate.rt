@@ -1,9 +1,9 @@
-//! The places at which a run may be stopped.
+//! The gate, and the places (stages of windows) at which a run may be stopped.
 ghost use Rattle.pool_workers.specs.declared.gate.Place.{Place};
 
 use std::sync::Wait;
 
-/// A place in a run, with the number of its window. The windows of a run are numbered from 0.
+/// A place in a run, which is a stage of the window with a given number. The windows of a run are numbered from 0.
 #[derive(Clone, Copy, Debug)]
 pub enum Place {
     /// A fetcher took the window.
@@ -23,7 +23,7 @@ pub enum Place {
 pub enum Turn {
     /// The worker continues.
     Go,
-    /// The worker takes no further step.
+    /// The worker stops, and takes no further step.
     Stop,
 }
 
@@ -32,15 +32,15 @@ pub enum Turn {
 pub trait Gate {
     ghost use Rattle.pool_workers.specs.Gates.{Stops};
 
-    /// The places at which a stop is allowed.
+    /// The set of places at which the gate may stop a worker.
     ghost may_stop: { Self → Place → Type 0 };
 
     /// Returns whether the worker that has reached a place continues.
     fn at<R: Wait>(&self, rt: &R, place: Place) -> Turn
         ensures { Stops result (may_stop self.now place) };
 
-    /// Whether the gate may block a worker until another worker has reached a place. If the gate never blocks, one
-    /// thread may do the work of several workers in turn.
+    /// Whether the gate may block a worker until another worker has reached a place. If the gate never blocks a worker,
+    /// one thread may do the work of several workers in turn.
     fn may_block(&self) -> bool {
         true
     }

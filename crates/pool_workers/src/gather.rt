@@ -24,7 +24,7 @@ use repl_target::WriteFilter;
 use std::sync::ledger::{Ledger, Share};
 use std::thread::Threads;
 
-/// The results of the fetchers, which are the number of documents of each fetcher, the parcels of all fetchers, and why
+/// The results of the fetchers: the number of documents of each fetcher, the number of all parcels, and the reason why
 /// a fetcher stopped.
 #[derive(Drop)]
 pub struct FetchedAll {
@@ -33,7 +33,7 @@ pub struct FetchedAll {
     pub stopped: Option<Halt>,
 }
 
-/// The results of the writers, which are the parcels of all writers, and why a writer stopped.
+/// The results of the writers: the number of all parcels, and the reason why a writer stopped.
 #[derive(Drop)]
 pub struct WrittenAll {
     pub got: u64,
@@ -221,7 +221,8 @@ impl<F: WriteFilter, S: SourceBrand, T: TargetBrand<F>, L: Ledger, G: Gate, R: T
         fetched
     }
 
-    /// Joins the writers' threads in reverse order and collects their results, so that the seats are returned in order.
+    /// Joins the writers' threads and collects their results, in reverse order so that the seats of the board are
+    /// returned in order.
     pub fn join_writers(
         &self,
         handles: Vec<WriterHandle<'_, S, L, G>>,

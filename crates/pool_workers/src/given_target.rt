@@ -12,7 +12,7 @@ use rev_tree::SessionId;
 use std::alloc::{AllocError, Global};
 use std::marker::PhantomData;
 
-/// An empty database if the given target has no documents, and otherwise nothing.
+/// An empty database if the given target has no documents, and `None` if the target has documents.
 #[derive(Drop)]
 pub struct GivenTarget<F: WriteFilter, T: TargetBrand<F>> {
     none: Option<Database>,

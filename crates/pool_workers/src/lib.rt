@@ -1,4 +1,4 @@
-//! The workers of a run of the pool: their messages, their steps, and their combined effect.
+//! The workers of a run of the pool, with the workers' messages, steps, and combined effect.
 //!
 //! The rules are in docs/PROFILE.md, "The pool".
 #![tactic(auto)]

@@ -1,5 +1,5 @@
-//! Messages that come from the source. The types of the messages keep the fact that a message comes from the source
-//! when the message moves between threads.
+//! Messages that come from the source. The invariants of the message types say that a message comes from the source, so
+//! this fact is known in every thread.
 ghost use Rattle.std.specs.Prelude.{◌≡◌, ◌<◌, [], true, length, IfOk};
 ghost use Rattle.std.specs.List.{sum_by};
 ghost use Rattle.couch_base.specs.Database.{DatabaseValue};
@@ -18,10 +18,10 @@ use std::marker::{Model, PhantomData};
 /// The number of bytes by which the heap of a thread grows, which is enough for a parcel of 500 small documents.
 const HEAP_STEP: usize = 512 * 1024;
 
-/// Half of the bytes that a heap keeps at its end when blocks are freed.
+/// Half of the number of free bytes that a heap keeps at its end.
 const HEAP_KEPT: usize = 1024 * 1024;
 
-/// A page of the source's feed for the run's plan, with the rows of selected documents.
+/// A page of the source's feed that was read for the run's plan, with only the rows of selected documents.
 #[derive(Drop)]
 pub struct Paged<S: SourceBrand> {
     ready: ReadyWindow,
@@ -97,7 +97,7 @@ impl<S: SourceBrand> Paged<S> {
     }
 }
 
-/// The source's documents for a request, which are counted, but not yet read.
+/// The source's documents for a request, if they are counted but not yet read.
 #[derive(Drop)]
 pub struct Found<S: SourceBrand> {
     page: Paged<S>,
@@ -137,8 +137,8 @@ impl<S: SourceBrand> Found<S> {
         })
     }
 
-    /// Does the same as `count` for a request of all leaves of a page. The source has one document for each leaf, so
-    /// the call looks nothing up.
+    /// Does the same as `count` for a request for all leaves of a page. The source has one document for each leaf, so
+    /// the call needs no lookup in the source.
     pub fn whole<F: WriteFilter>(source: &Peer<F>, asked: Asked, page: Paged<S>) -> Found<S>
         requires source { S.source ≡ source.now.1.db }
         requires whole { (db : DatabaseValue) × (db.docs ≡ []) × (asked ≡ revs_diff db page) }
@@ -165,7 +165,7 @@ impl<S: SourceBrand> Found<S> {
         self.page.copy(alloc)
     }
 
-    /// Reads the documents at the source, and prepares them for a session of the target, if one is given.
+    /// Reads the documents at the source, and prepares them for a session of the target if the caller names a session.
     pub fn fetch<F: WriteFilter>(
         self,
         alloc: Global,
@@ -184,7 +184,7 @@ impl<S: SourceBrand> Found<S> {
     }
 }
 
-/// The source's documents for a request, which are already read.
+/// The source's documents for a request, after they are read.
 #[derive(Drop)]
 pub struct Fetched<S: SourceBrand> {
     ready: PreparedParcel,
@@ -280,10 +280,11 @@ fn grow_heap(alloc: Global) {
     }
 }
 
-/// Makes the heaps of all threads keep the memory of a parcel.
+/// Makes the heap of each thread keep freed memory of the size of a parcel.
 ///
-/// The C library releases the end of a heap if more than 128 KiB are free there. The C library allocates large blocks
-/// directly from the system. After a large block was freed, heaps keep up to twice the block's size.
+/// The C library releases the free memory at the end of a heap if it exceeds 128 KiB. The C library allocates large
+/// blocks directly from the system. After a large block was freed, each heap keeps up to twice the block's size of free
+/// memory.
 pub fn keep_heaps(alloc: Global) {
     if let Ok(room) = Vec::<u8>::with_capacity(alloc, HEAP_KEPT) {
         drop(room);

@@ -1,7 +1,7 @@
 //! Pairs are threads that each work as a fetcher and as a writer in turn.
 //!
-//! If the gate never blocks, a thread that has fetched a window may also settle a parcel, so half as many threads do
-//! the work of both groups.
+//! If the gate never blocks a worker, half as many threads do the work of both groups, because each thread fetches
+//! windows and settles parcels.
 ghost use Rattle.std.specs.Prelude.{◌≡◌, ℕ, ◌+◌, ◌-◌, ◌<◌, ◌≤◌, ◌++◌, [], true, length, None, IfSome, IfOk, IfErr, vec_len, vec_capacity, option_copied, option_to_list};
 ghost use Rattle.std.specs.List.{All};
 ghost use Rattle.crossbeam_channel.specs.Claims.{view, IsSeatAt};
@@ -33,7 +33,7 @@ use std::sync::Wait;
 use std::sync::ledger::{Ledger, Share};
 use std::thread::{Promise, PromisedHandle, Scope, Threads};
 
-/// The guarantee of a pair, with the seat that its writer was given.
+/// The guarantee of a pair whose writer was given a seat of the board.
 #[derive(Drop)]
 pub struct PairPromise<'a, S: SourceBrand, G: Gate> {
     pub channels: &'a Channels<S>,
@@ -59,8 +59,8 @@ impl<
     G: Gate + Sync,
     R: Wait + Sync,
 > Context<'e, F, S, T, L, G, R> {
-    /// Starts a pair, in addition to `others` pairs. If a thread cannot be created, the call sends the end of the
-    /// windows to all pairs, receives one end itself, and returns the seat as an error.
+    /// Starts a pair, if `others` pairs already run. If a thread cannot be created, the call sends an end message to
+    /// each pair, receives one end message itself, and returns the seat as an error.
     fn start_pair<'s, E>(
         &'e self,
         scope: &Scope<'s, E>,
@@ -112,9 +112,9 @@ impl<
         }
     }
 
-    /// Splits off passes and a part of the ledger, takes the last seat, and starts a pair with them (`start_pair`).
-    /// `others` is the number of other pairs. Returns `None` if a thread cannot be created, and returns the seat to the
-    /// list.
+    /// Splits off passes and a part of the ledger of counts, takes the last seat, and starts a pair with these values
+    /// (`start_pair`). `others` is the number of pairs that were started before. If a thread cannot be created, the
+    /// call returns `None` and puts the seat back into the list of seats.
     fn spawn_pair<'s, E>(
         &'e self,
         scope: &Scope<'s, E>,
@@ -231,7 +231,8 @@ impl<
     G: Gate + Sync,
     R: Threads + Wait + Sync,
 > Context<'e, F, S, T, L, G, R> {
-    /// Joins the pairs' threads in reverse order and collects their results, so that the seats are returned in order.
+    /// Joins the pairs' threads and collects their results, in reverse order so that the seats of the board are
+    /// returned in order.
     fn join_pairs(
         &self,
         handles: Vec<PairHandle<'_, S, L, G>>,
@@ -288,8 +289,8 @@ impl<
         (fetched, written)
     }
 
-    /// Runs the pairs while the windows are read, and returns the seats. Returns `None`, and reads no window, if a
-    /// thread cannot be created.
+    /// Runs the pairs while the caller's thread reads the windows, and returns the seats of the board. Returns `None`,
+    /// and reads no window, if a thread cannot be created.
     pub fn pairs_in_scope<'s, E>(
         &'e self,
         scope: &Scope<'s, E>,

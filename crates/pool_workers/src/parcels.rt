@@ -8,24 +8,24 @@ use std::collections::LinkedList;
 /// A message from a fetcher to a writer.
 #[derive(Drop)]
 pub enum ParcelMessage<S: SourceBrand> {
-    /// The source's documents for a window, with the window's number. The fetcher counted these documents, and the
-    /// writer will read them.
+    /// A window's documents at the source, with the number of the window. The documents were counted by the fetcher,
+    /// and will be read by the writer.
     Parcel { number: u64, fetched: Found<S> },
     /// The end of the parcels.
     End,
 }
 
 /// A thread's facts about the channel of parcels. The field `parts` is the thread's share, in 1,024ths, of the right to
-/// know everything. The fields `sent` and `got` have the parcels that the thread has sent and received, each with its
-/// number and its number of documents. No `ParcelView` exists at run time.
+/// know all facts about the channel. The fields `sent` and `got` list the parcels that the thread has sent and
+/// received, with their numbers and numbers of documents. No `ParcelView` exists at run time.
 pub struct ParcelView {
     pub parts: u64,
     pub sent: LinkedList<(u64, u64)>,
     pub got: LinkedList<(u64, u64)>,
 }
 
-/// The rule of the channel of parcels. The sent parcels are the received and the queued parcels, each number with the
-/// same number of documents and equally often.
+/// The rule that the channel of parcels always satisfies. The sent parcels are exactly the received and the queued
+/// parcels, with the same numbers and numbers of documents.
 pub struct Conserved;
 
 impl<S: SourceBrand> Protocol<ParcelMessage<S>, ParcelView> for Conserved {
@@ -37,7 +37,7 @@ impl<S: SourceBrand> Protocol<ParcelMessage<S>, ParcelView> for Conserved {
     ghost first = { parcel_view 1024 [] [] };
 }
 
-/// Calls that split a pass off for a worker and take it back.
+/// Calls that split off a pass for a worker, and later take the pass back.
 pub struct ParcelCut;
 
 impl Split<ParcelView> for ParcelCut {
@@ -86,7 +86,7 @@ impl<S: SourceBrand> Lesson<ParcelMessage<S>, ParcelView> for Gets {
     ghost fact = { λ _ _. Unit {0} };
 }
 
-/// The facts that the pass with all parts gives.
+/// The facts about the channel of parcels that follow from the pass that has all parts.
 pub struct Whole;
 
 impl<S: SourceBrand> Lesson<ParcelMessage<S>, ParcelView> for Whole {
@@ -95,7 +95,7 @@ impl<S: SourceBrand> Lesson<ParcelMessage<S>, ParcelView> for Whole {
     ghost fact = { Accounts };
 }
 
-/// The facts that a thread's pass gives about the channel of parcels.
+/// The facts about the channel of parcels that follow from a thread's pass.
 pub type ParcelPass<S> = Pass<ParcelMessage<S>, ParcelView>;
 
 /// The sending end.

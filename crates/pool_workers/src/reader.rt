@@ -18,11 +18,11 @@ use std::alloc::AllocError;
 use std::sync::Wait;
 use std::sync::ledger::Ledger;
 
-/// The maximum number of pages that are read before they are stored.
+/// The maximum number of pages that the reader reads before it stores them at the target.
 const MOST_AHEAD: u64 = 8;
 
-/// Pages that were read in order and must be sent, and their copies, which must be stored. The value also has the end
-/// of the last page, and why reading stopped if it failed.
+/// Pages that were read in order and must be sent, and their copies, which must be stored. If reading failed, the value
+/// also has the reason, and in every case the end of the last page.
 #[derive(Drop)]
 struct Ahead<S: SourceBrand> {
     pages: Vec<Paged<S>>,
@@ -31,7 +31,7 @@ struct Ahead<S: SourceBrand> {
     stopped: Option<Halt>,
 }
 
-/// Sends the window with the given number. Returns whether the window was sent.
+/// Sends the window with the given number. Returns whether the call could send the window.
 fn send_window<S: SourceBrand, R: Wait>(
     rt: &R,
     channels: &Channels<S>,
@@ -89,8 +89,8 @@ impl<F: WriteFilter, S: SourceBrand, T: TargetBrand<F>, L: Ledger, G, R: Wait> C
     G,
     R,
 > {
-    /// Stores pages at the target in order, and releases the lock. Returns the number of stored pages, and why the next
-    /// one was not stored. The reason for an unstored page is `Lost` if the plan allows no further window.
+    /// Stores pages at the target in order, and releases the target's lock. Returns the number of stored pages, and the
+    /// reason if a page was not stored. The reason for an unstored page is `Lost` if the plan allows no further window.
     fn store_all(&self, pages: Vec<Paged<S>>) -> (usize, Option<Halt>)
         ensures refused { IfSome result.1 (λ halt. (halt ≡ Halt.Lost)
             ⊎ (fault : TargetFault) × (halt ≡ Halt.Refused fault) × IsStepFault fault) }
@@ -145,7 +145,7 @@ impl<F: WriteFilter, S: SourceBrand, T: TargetBrand<F>, L: Ledger, G, R: Wait> C
         Ok(())
     }
 
-    /// Reads at most `most` pages above a sequence in order, and only the number that the plan allows.
+    /// Reads at most `most` pages above a sequence in order, and at most the number of pages that the plan allows.
     fn read_ahead(&self, since: u64, number: u64, most: u64) -> Ahead<S>
         requires source { S.source ≡ self.now.source.now.1.db }
         requires plan { S.plan ≡ self.now.plan.now }
@@ -181,9 +181,9 @@ impl<F: WriteFilter, S: SourceBrand, T: TargetBrand<F>, L: Ledger, G, R: Wait> C
         ahead
     }
 
-    /// Reads at most `most` pages above a sequence, stores them at the target under one lock, and sends them. The call
-    /// sends the stored pages even if storing a later page fails. Returns the end of the last page, and the next
-    /// number.
+    /// Reads at most `most` pages above a sequence, stores them while it holds the target's lock once, and sends them.
+    /// The call sends the stored pages even if storing a later page fails. Returns the end of the last page, and the
+    /// number of the next window.
     pub fn read_some(
         &self,
         windows: &mut WindowPass<S>,
@@ -226,7 +226,7 @@ impl<F: WriteFilter, S: SourceBrand, T: TargetBrand<F>, L: Ledger, G, R: Wait> C
     }
 
     /// Reads windows from a start until no further window is due, stores each window at the target, and sends it. The
-    /// call reads one window at first, then two at a time, and so on up to eight at a time.
+    /// call first reads one window at a time, then two, and later up to eight at a time.
     pub fn read_windows(&self, start: u64, windows: &mut WindowPass<S>) -> Option<Halt>
         requires source { S.source ≡ self.now.source.now.1.db }
         requires plan { S.plan ≡ self.now.plan.now }

@@ -1,5 +1,4 @@
-//! The state that the target's lock protects, which is the target with the counts of documents that its session has
-//! read.
+//! The state that the target's lock protects: the target, and the counts of documents that the run's session has read.
 ghost use Rattle.std.specs.Prelude.{◌≡◌, ℕ, ◌+◌, ◌<◌, ◌≤◌, true, length, Option, Some, None, is_some, IfSome, IfOk, IfErr, OnOk, OnErr};
 ghost use Rattle.std.specs.Coded.{coded×};
 ghost use Rattle.rev_tree.specs.declared.origin.SessionId.{SessionId};
@@ -24,11 +23,11 @@ use std::alloc::{AllocError, Global};
 use std::marker::{Model, PhantomData};
 use std::sync::ledger::{Book, Ledger, Share};
 
-/// The target of a run, which is the given target after calls with messages that come from the source. The ledger has
-/// the number of documents that the run's session has read. `more` is the number of windows that may still be stored,
-/// if the plan sets a limit. Each method of `RunTarget` is the call of the same name on the target, for the run's
-/// session. The method `append` also checks that the plan allows another window. The method `settle_counted` is
-/// `settle`, and adds the settled documents to a share of the ledger.
+/// The target of a run: the given target after the run's calls, which pass only messages of the source. The ledger
+/// counts the documents that the run's session has read. If the plan limits the number of windows, `more` is the number
+/// of windows that the run may still store. Each method of `RunTarget` is the call of the same name on the target, for
+/// the run's session. The method `append` also checks that the plan allows another window. The method `settle_counted`
+/// does the same as `settle`, and adds the number of settled documents to a worker's share of the ledger.
 #[derive(Drop)]
 pub struct RunTarget<F: WriteFilter, S: SourceBrand, T: TargetBrand<F>, L: Ledger> {
     target: Peer<F>,
@@ -50,7 +49,7 @@ impl<F: WriteFilter, S: SourceBrand, T: TargetBrand<F>, L: Ledger> Model for Run
         t.target };
 }
 
-/// Subtracts one from the number of windows that may still come.
+/// Subtracts one from the number of windows that the run may still store.
 fn one_less(more: Option<u64>) -> Option<u64>
     requires { has_left more 0 ≡ true }
     ensures { IsOneLess more result }
@@ -61,7 +60,7 @@ fn one_less(more: Option<u64>) -> Option<u64>
     }
 }
 
-/// Returns the number of documents that a settling of a parcel has consumed.
+/// Returns the number of documents of a parcel that a call of `settle` has settled.
 pub fn taken_of(answer: &Result<Settled, TargetFault>, documents: u64) -> u64
     ensures { result ≡ taken answer.now documents }
 {
@@ -74,7 +73,8 @@ pub fn taken_of(answer: &Result<Settled, TargetFault>, documents: u64) -> u64
 }
 
 impl<F: WriteFilter, S: SourceBrand, T: TargetBrand<F>, L: Ledger> RunTarget<F, S, T, L> {
-    /// Wraps the given target, in whose session nothing was read, with the number of windows that the plan allows.
+    /// Wraps the given target, whose session has read nothing yet, together with the number of windows that the plan
+    /// allows.
     pub fn open(
         target: Peer<F>,
         session: SessionId,
@@ -132,8 +132,8 @@ impl<F: WriteFilter, S: SourceBrand, T: TargetBrand<F>, L: Ledger> RunTarget<F, 
         self.target.revs_diff(alloc, page.window())
     }
 
-    /// Settles a parcel that the source has sent (`Peer::settle_into`). The call adds the consumed documents to the
-    /// worker's share.
+    /// Settles a parcel that the source has sent (`Peer::settle_into`). The call adds the number of settled documents
+    /// to the worker's share of the ledger.
     pub fn settle_counted(
         &mut self,
         share: &mut Share<L>,
@@ -168,8 +168,8 @@ impl<F: WriteFilter, S: SourceBrand, T: TargetBrand<F>, L: Ledger> RunTarget<F, 
         self.target.record(self.session, at)
     }
 
-    /// Returns the target after all shares are collected. The total of the shares is the number of documents that the
-    /// run's session has read.
+    /// Returns the target after the caller has collected all shares of the ledger. The sum of all shares of the ledger
+    /// is the number of documents that the run's session has read.
     pub fn close(self, all: &mut Share<L>) -> Peer<F>
         requires { all.old.parts ≡ L.parts }
         ensures { (session : SessionId) × (more : Option ℕ)

@@ -1,4 +1,4 @@
-//! Shows a writer's progress on a board, at the writer's own seat, if it has a seat. Takes no lock.
+//! Shows a writer's progress at the writer's seat of the board, if the writer has a seat. Takes no lock.
 ghost use Rattle.std.specs.Prelude.{◌≡◌, ◌+◌, ◌≤◌, ◌++◌, length, IfErr, OnOk, OnErr, vec_len, vec_capacity, option_copied, option_to_list};
 ghost use Rattle.pool_workers.specs.Boards.{MayFill, IsSeated, IsFullFor, HasRead, HasRoom, HasSettled};
 
@@ -30,7 +30,7 @@ pub fn show_read(
     }
 }
 
-/// Shows documents as settled, after they were shown as read.
+/// Shows documents as settled that the board already shows as read.
 pub fn show_settled(board: Option<&Board>, seat: &mut Option<BoardSeat>, documents: u64)
     requires seat { IsSeated (option_copied board) seat.old }
     requires room { HasRoom (option_copied board) documents seat.old }
@@ -45,7 +45,7 @@ pub fn show_settled(board: Option<&Board>, seat: &mut Option<BoardSeat>, documen
     let _ = board.add_settled(seat, documents);
 }
 
-/// Returns a seat to the list, if there is one.
+/// Puts a seat of the board back into the list of seats, if the seat exists.
 pub fn give_back(seats: &mut Vec<BoardSeat>, seat: Option<BoardSeat>)
     requires { vec_len seats.old + length (option_to_list seat) ≤ vec_capacity seats.old }
     ensures items { seats.new.items ≡ seats.old.items ++ option_to_list seat }

@@ -38,7 +38,7 @@ impl<
     G: Gate + Sync,
     R: Wait + Sync,
 > Context<'e, F, S, T, L, G, R> {
-    /// Splits a pass of each channel off, and starts a fetcher with them.
+    /// Splits a pass off the pass of each channel, and starts a fetcher with the two new passes.
     fn spawn_fetcher<'s, E>(
         &'e self,
         scope: &Scope<'s, E>,
@@ -110,9 +110,9 @@ impl<
         started
     }
 
-    /// Splits off a pass and a part of the ledger, takes the last seat, and starts a writer with them (`start_writer`).
-    /// `others` is the number of other writers. Returns `None` if a thread cannot be created, and returns the seat to
-    /// the list.
+    /// Splits off a pass and a part of the ledger of counts, takes the last seat, and starts a writer with these values
+    /// (`start_writer`). `others` is the number of writers that were started before. If a thread cannot be created, the
+    /// call returns `None` and puts the seat back into the list of seats.
     fn spawn_writer<'s, E>(
         &'e self,
         scope: &Scope<'s, E>,

@@ -25,9 +25,8 @@ use std::sync::ledger::{Ledger, Share};
 use std::thread;
 use std::thread::{Scope, Threads};
 
-/// The values that the caller's thread owns before the workers start. The caller's thread begins with space for a count
-/// of each fetcher, the passes with all parts of both channels, the complete share of the ledger, and the seats of the
-/// board.
+/// The values that the caller's thread owns before the workers start. The values are the complete passes of both
+/// channels, the complete share of the ledger, the seats of the board, and space for each fetcher's count.
 #[derive(Drop)]
 pub struct Owned<S: SourceBrand, L: Ledger> {
     pub counts: Vec<u64>,
@@ -37,9 +36,8 @@ pub struct Owned<S: SourceBrand, L: Ledger> {
     pub seats: Vec<BoardSeat>,
 }
 
-/// The values that the caller's thread owns after all workers have ended. The caller's thread ends with the passes with
-/// all parts of both channels, the complete share of the ledger, why reading ended early, and the results of both
-/// groups.
+/// The values that the caller's thread owns after all workers have ended. The values are the complete passes of both
+/// channels, the complete share of the ledger, the reason why reading ended early, and both groups' results.
 #[derive(Drop)]
 pub struct Ended<S: SourceBrand, L: Ledger> {
     pub windows: WindowPass<S>,
@@ -59,9 +57,9 @@ impl<
     G: Gate + Sync,
     R: Threads + Wait + Sync,
 > Context<'e, F, S, T, L, G, R> {
-    /// Starts the fetchers, reads the windows, and joins the fetchers. Returns why reading ended early, and the
-    /// fetchers' results. If a thread cannot be created, the call returns `None`, reads no window, and sends the
-    /// writers the end of the parcels.
+    /// Starts the fetchers, reads the windows, and joins the fetchers. Returns the reason why reading the windows ended
+    /// early, and the fetchers' results. If a thread cannot be created, the call returns `None`, reads no window, and
+    /// sends the writers the end of the parcels.
     fn fetch_in_scope<'s, E>(
         &'e self,
         scope: &Scope<'s, E>,
@@ -104,8 +102,8 @@ impl<
         Some((read, fetched))
     }
 
-    /// Runs the workers while the windows are read, and returns the seats. Returns `None`, and reads no window, if a
-    /// thread cannot be created.
+    /// Runs the workers while the caller's thread reads the windows, and returns the seats of the board. If a thread
+    /// cannot be created, the call reads no window and returns `None`.
     fn in_scope<'s, E>(
         &'e self,
         scope: &Scope<'s, E>,
@@ -158,7 +156,7 @@ impl<
         (Some(ended), seats)
     }
 
-    /// Runs the workers in a scope of threads (`in_scope`). If the gate never blocks, the workers are pairs
+    /// Runs the workers as threads of one thread scope (`in_scope`). If the gate never blocks, the workers are pairs
     /// (`pairs_in_scope`), and a single pair runs on the caller's thread (`in_turn`).
     pub fn with_workers(
         &'e self,

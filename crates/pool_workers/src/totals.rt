@@ -25,8 +25,8 @@ use repl_target::{Peer, WriteFilter};
 use std::alloc::Global;
 use std::sync::ledger::Ledger;
 
-/// The target of a run, the number of documents of each fetcher, the seats of the board, the error of a step, and
-/// whether all sent parcels were received.
+/// The result of a run: the target, each fetcher's number of documents, the board's seats, a step's error, and whether
+/// all sent parcels were received.
 #[derive(Drop)]
 pub struct Summed<F: WriteFilter> {
     pub target: Peer<F>,
@@ -73,7 +73,8 @@ pub fn collect<F: WriteFilter, S: SourceBrand, T: TargetBrand<F>, L: Ledger, G: 
     }
 }
 
-/// Combines the results of the workers into the target without its lock, and whether all sent parcels were received.
+/// Takes the target out of its lock, combines the results of the workers, and determines whether all sent parcels were
+/// received.
 fn sum_up<F: WriteFilter, S: SourceBrand, T: TargetBrand<F>, L: Ledger, G: Gate>(
     channels: &Channels<S>,
     gate: &G,
@@ -127,9 +128,9 @@ fn sum_up<F: WriteFilter, S: SourceBrand, T: TargetBrand<F>, L: Ledger, G: Gate>
     }
 }
 
-/// Gives proofs the facts that at most one fetcher took each window, and at most one writer received each parcel. If
-/// the numbers of sent and received parcels are equal, the sent and the received parcels are the same, each with its
-/// number of documents. Only passes that have all parts give proofs the facts about windows and parcels.
+/// Gives proofs two facts: at most one fetcher took each window, and at most one writer received each parcel. If the
+/// numbers of sent and received parcels are equal, the sent and the received parcels are the same, each with its number
+/// of documents. A pass gives proofs the facts about windows and parcels only if it has all 1,024 parts.
 fn each_once<S: SourceBrand, L: Ledger>(channels: &Channels<S>, ended: &mut Ended<S, L>)
     requires window_seat { IsSeatAt (sends_on channels.now.to_fetchers) ended.old.windows }
     requires parcel_seat { IsSeatAt (sends_on channels.now.to_writers) ended.old.parcels }

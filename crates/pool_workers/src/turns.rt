@@ -1,8 +1,8 @@
-//! Runs a fetcher and a writer on one thread in turn, also for a single pair on the thread that reads the windows.
+//! Runs a fetcher and a writer on one thread in turn. A single pair runs on the thread that reads the windows.
 //!
-//! With one fetcher and one writer, no two documents are settled at the same time, and data read by one processor is
-//! not in the cache of another. No thread is started for a single pair. The caller's thread takes each window through
-//! both channels before it reads the next window.
+//! One fetcher and one writer on two threads would still settle one document at a time, and would move data between the
+//! processors' caches. No thread is started for a single pair. The caller's thread takes each window through both
+//! channels before it reads the next window.
 ghost use Rattle.std.specs.Prelude.{◌≡◌, ℕ, ◌+◌, ◌-◌, ◌<◌, ◌++◌, [], true, Option, None, Some, IfSome, option_copied, option_to_list, vec_capacity};
 ghost use Rattle.crossbeam_channel.specs.Claims.{view, IsSeatAt};
 ghost use Rattle.crossbeam_channel.specs.Ends.{sends_on};
@@ -46,7 +46,7 @@ impl<F: WriteFilter, S: SourceBrand, T: TargetBrand<F>, L: Ledger, G: Gate, R: W
     G,
     R,
 > {
-    /// Splits a pass of each channel off, for a fetcher on this thread.
+    /// Splits a pass off the pass of each channel, for a fetcher on this thread.
     pub fn fetcher_here(
         &self,
         windows: &mut WindowPass<S>,
@@ -73,7 +73,8 @@ impl<F: WriteFilter, S: SourceBrand, T: TargetBrand<F>, L: Ledger, G: Gate, R: W
         Fetcher::new(its_windows, its_parcels)
     }
 
-    /// Splits off a pass and the part of the ledger, and takes a seat if there is a board, for a writer on this thread.
+    /// Splits off a pass and a part of the ledger of counts for a writer on this thread, and takes a seat if there is a
+    /// board.
     pub fn writer_here(
         &self,
         parcels: &mut ParcelPass<S>,
@@ -105,8 +106,8 @@ impl<F: WriteFilter, S: SourceBrand, T: TargetBrand<F>, L: Ledger, G: Gate, R: W
         Writer::new(its_parcels, share, seats.pop())
     }
 
-    /// Receives and fetches a window, and settles a parcel if the fetcher sent one. Returns false at the end of the
-    /// windows.
+    /// Receives and fetches a window, and settles a parcel if the fetcher sent one. Returns false if the fetcher
+    /// received the end message of the windows.
     fn take_turn(&self, pair: &mut Pair<S, L>) -> bool
         requires source { S.source ≡ self.now.source.now.1.db }
         requires stand { StandBy self.now.channels.now (option_copied self.now.board) (G.may_stop self.now.gate.now)
@@ -143,8 +144,8 @@ impl<F: WriteFilter, S: SourceBrand, T: TargetBrand<F>, L: Ledger, G: Gate, R: W
         pair
     }
 
-    /// Reads windows from a start until no further window is due, stores each window at the target, and takes it
-    /// through both channels.
+    /// Reads windows from a start until no further window is due. Each window is stored at the target and taken through
+    /// both channels.
     fn read_in_turn(
         &self,
         start: u64,
@@ -184,7 +185,7 @@ impl<F: WriteFilter, S: SourceBrand, T: TargetBrand<F>, L: Ledger, G: Gate, R: W
         None
     }
 
-    /// Runs a single pair on this thread, and returns the seats.
+    /// Runs a single pair on this thread, and returns the seats of the board.
     pub fn in_turn(&self, start: u64, owned: Owned<S, L>) -> (Ended<S, L>, Vec<BoardSeat>)
         requires source { S.source ≡ self.now.source.now.1.db }
         requires plan { S.plan ≡ self.now.plan.now }

@@ -15,9 +15,9 @@ pub enum WindowMessage<S: SourceBrand> {
 }
 
 /// A thread's facts about the channel of windows. The field `parts` is the thread's share, in 1,024ths, of the right to
-/// know everything. The field `reads` is 1 for the page reader and 0 for other threads, and `count` is the number of
-/// windows that the page reader has sent. The field `taken` has the numbers of the windows that the thread has taken.
-/// No `WindowView` exists at run time.
+/// know all facts about the channel. The field `reads` is 1 for the page reader and 0 for other threads, and `count` is
+/// the number of windows that the page reader has sent. The field `taken` has the numbers of the windows that the
+/// thread has taken. No `WindowView` exists at run time.
 pub struct WindowView {
     pub parts: u64,
     pub reads: u64,
@@ -25,8 +25,8 @@ pub struct WindowView {
     pub taken: LinkedList<u64>,
 }
 
-/// The rule of the channel of windows. The queued and the taken windows have the numbers below the page reader's count,
-/// each number once.
+/// The rule that the channel of windows always satisfies. Each number below the page reader's count of sent windows is
+/// the number of exactly one queued or taken window.
 pub struct InTurn;
 
 impl<S: SourceBrand> Protocol<WindowMessage<S>, WindowView> for InTurn {
@@ -38,7 +38,7 @@ impl<S: SourceBrand> Protocol<WindowMessage<S>, WindowView> for InTurn {
     ghost first = { window_view 1024 1 0 [] };
 }
 
-/// Calls that split a pass off for a fetcher and take it back.
+/// Calls that split off a pass for a fetcher, and later take the pass back.
 pub struct WindowCut;
 
 impl Split<WindowView> for WindowCut {
@@ -60,7 +60,7 @@ impl Join<WindowView> for WindowCut {
     ghost spent = { window_view 0 0 0 [] };
 }
 
-/// The call by which the page reader sends.
+/// The call by which the page reader sends a message.
 pub struct Reads;
 
 impl<S: SourceBrand> Outcome<WindowMessage<S>, WindowView> for Reads {
@@ -88,7 +88,7 @@ impl<S: SourceBrand> Lesson<WindowMessage<S>, WindowView> for Takes {
     ghost fact = { λ _ _. Unit {0} };
 }
 
-/// The facts that the pass with all parts gives.
+/// The facts about the channel of windows that follow from the pass that has all parts.
 pub struct AllTaken;
 
 impl<S: SourceBrand> Lesson<WindowMessage<S>, WindowView> for AllTaken {
@@ -97,7 +97,7 @@ impl<S: SourceBrand> Lesson<WindowMessage<S>, WindowView> for AllTaken {
     ghost fact = { Covers };
 }
 
-/// The facts that a thread's pass gives about the channel of windows.
+/// The facts about the channel of windows that follow from a thread's pass.
 pub type WindowPass<S> = Pass<WindowMessage<S>, WindowView>;
 
 /// The sending end.

@@ -25,7 +25,7 @@ use std::sync::Wait;
 use std::sync::ledger::{Ledger, Share};
 
 /// A writer of the pool. A writer has its pass of the channel of parcels, its share of the ledger, and its seat of the
-/// board if there is one. A writer also has the number of parcels that it settled, and why it stopped.
+/// board if there is one. A writer also has the number of parcels that it settled, and the reason why it stopped.
 #[derive(Drop)]
 pub struct Writer<S: SourceBrand, L: Ledger> {
     pub parcels: ParcelPass<S>,
@@ -93,7 +93,7 @@ impl<F: WriteFilter, S: SourceBrand, T: TargetBrand<F>, L: Ledger, G: Gate, R: W
         }
     }
 
-    /// Records the low water at the target, and releases the lock. Returns the recorded sequence.
+    /// Records the session's low water at the target, and releases the target's lock. Returns the recorded sequence.
     fn record(&self) -> Result<u64, Halt>
         ensures { IfErr result (λ halt. (fault : TargetFault) × (halt ≡ Halt.Refused fault) × IsStepFault fault) }
     {
@@ -126,16 +126,16 @@ impl<F: WriteFilter, S: SourceBrand, T: TargetBrand<F>, L: Ledger, G: Gate, R: W
         show_read(self.board, seat, documents)?;
         self.settle_and_show(share, seat, fetched, &mut spent)?;
         pass(self.rt, self.gate, Place::Settled(number))?;
-        // After settling, the lock is usually still free for recording, because a waiting writer takes a while to wake
-        // up.
+        // After settling, the writer can usually take the lock again at once, because another waiting writer takes a
+        // while to wake up.
         let recorded = self.record()?;
         drop(spent);
         pass(self.rt, self.gate, Place::Recorded(number, recorded))
     }
 
     /// Returns the session for which a parcel is prepared before the lock is taken. Returns `None` if one thread does
-    /// all work, because no other thread waits for the lock. Data that one thread builds and stores stays in the
-    /// processor's cache.
+    /// all work, because no other thread waits for the lock. If the same thread builds and stores data, the data stays
+    /// in the processor's cache.
     fn session_ahead(&self) -> Option<SessionId> {
         if self.workers > 1 {
             Some(self.plan.session)
@@ -163,7 +163,7 @@ impl<F: WriteFilter, S: SourceBrand, T: TargetBrand<F>, L: Ledger, G: Gate, R: W
         ensures shows { HasWritten (option_copied self.now.board) share.old.amount share.new.amount (halt_in result)
             seat.old seat.new }
     {
-        // The page must live until the lock is released, because its rows would otherwise be dropped under the lock.
+        // The page must live until the lock is released, so that its rows are not dropped while the lock is held.
         let page = found.page(self.alloc)?;
         let fetched = found.fetch(self.alloc, self.source, self.session_ahead())?;
         let settled = self.settle_and_record(share, seat, number, fetched);
@@ -171,9 +171,9 @@ impl<F: WriteFilter, S: SourceBrand, T: TargetBrand<F>, L: Ledger, G: Gate, R: W
         settled
     }
 
-    /// Settles the parcel that the writer received last and counts it, or stores why it halts. The reason is
-    /// `CountFull` only if the writer's count is full, and `BoardFull` only if its counter on the board would exceed
-    /// its maximum.
+    /// Settles and counts the parcel that the writer received last, or stores the reason why the writer halts. The
+    /// reason is `CountFull` only if the writer's count is full. The reason is `BoardFull` only if the writer's counter
+    /// on the board would exceed its maximum.
     fn write(&self, writer: &mut Writer<S, L>, number: u64, found: Found<S>)
         requires source { S.source ≡ self.now.source.now.1.db }
         requires knows { WriterKnows ((number, length found.docs) ∷ []) writer.old × (writer.old.stopped ≡ None) }
@@ -230,7 +230,7 @@ impl<F: WriteFilter, S: SourceBrand, T: TargetBrand<F>, L: Ledger, G: Gate, R: W
         }
     }
 
-    /// Receives parcels until their end, and settles them.
+    /// Receives and settles parcels until the end message of the channel of parcels.
     pub fn write_all(
         &self,
         parcels: ParcelPass<S>,

@@ -1,4 +1,4 @@
-//! Brackets and commas that are not part of a copied value.
+//! Reads the brackets and commas of a response that are not part of a copied value.
 ghost use Rattle.std.specs.Prelude.{◌≡◌};
 ghost use Rattle.response_parser.specs.Stored.{state_of};
 ghost use Rattle.response_parser.specs.State.{at, refused};
@@ -9,7 +9,7 @@ use crate::reading::Reading;
 use crate::spelling::{is_space, more};
 use crate::wanted::{is_strict, wants_changes, wants_leaves};
 
-/// The maximum number of open lists and objects.
+/// The maximum number of lists and objects of a response that are open at the same time.
 const MAX_DEPTH: u8 = 8;
 
 impl Reading {
@@ -29,7 +29,7 @@ impl Reading {
         self.place = Place::Refused(why);
     }
 
-    /// Opens a list or an object, and sets the parser's place to the given place inside the list or object.
+    /// Opens a list or an object, and sets the parser's place to a given place inside it.
     pub(crate) fn open(&mut self, place: Place)
         ensures { state_of self.new ≡ opened place (state_of self.old) }
     {
@@ -45,8 +45,8 @@ impl Reading {
         }
     }
 
-    /// Closes a list or an object. Sets the parser's place to the place after the bracket, unless the outermost bracket
-    /// was closed.
+    /// Closes a list or an object. Sets the parser's place to the place after a closing bracket, unless the bracket
+    /// closed the complete response.
     pub(crate) fn close(&mut self, place: Place)
         ensures { state_of self.new ≡ closed place (state_of self.old) }
     {
@@ -70,7 +70,7 @@ impl Reading {
         self.close(Place::AfterMember);
     }
 
-    /// Closes an object. An object without a known member is skipped or rejected.
+    /// Closes an object. The parser skips or rejects an object that has no member with a known name.
     pub(crate) fn close_object(&mut self)
         ensures { state_of self.new ≡ object_closed (state_of self.old) }
     {
@@ -96,7 +96,7 @@ impl Reading {
         }
     }
 
-    /// Closes an object without members. An empty object as a `_revs_diff` response means that no revision is missing.
+    /// Closes an object without members. If a `_revs_diff` response is an empty object, no revision is missing.
     pub(crate) fn close_empty(&mut self)
         ensures { state_of self.new ≡ empty_closed (state_of self.old) }
     {

@@ -1,4 +1,4 @@
-//! Copies several bytes of a value at once.
+//! Copies several bytes of a JSON value to the parser's text at once.
 ghost use Rattle.std.specs.Prelude.{◌≡◌, ◌+◌, ◌<◌, ◌≤◌, ◌==◌, ◌&&◌, ◌||◌, nat_le, [], length, take, get_or, true, false, IfOk, OnOk};
 ghost use Rattle.response_parser.specs.Stored.{state_of};
 ghost use Rattle.response_parser.specs.Reading.{after, pieces};
@@ -23,8 +23,8 @@ struct Spot {
 }
 
 impl Spot {
-    /// Returns the position after the next bytes that can be copied. Returns the given position if the next byte must
-    /// be read alone.
+    /// Returns the position after the next bytes of a value that can be copied together. If the next byte cannot be
+    /// copied together with others, the call returns the given position.
     #[inline(always)]
     fn next(self, bytes: &[u8]) -> Spot
         requires { self.count < length bytes.now }
@@ -84,7 +84,7 @@ impl Spot {
         }
     }
 
-    /// Returns the position after a byte that is outside of strings.
+    /// Returns the position after a byte of a value that is not in a string.
     #[inline(always)]
     fn outside(self, bytes: &[u8]) -> Spot
         requires within { self.count < length bytes.now }
@@ -106,8 +106,8 @@ impl Spot {
         }
     }
 
-    /// Returns the position after a byte outside of strings, which is a quotation mark, a bracket, a blank or another
-    /// byte.
+    /// Returns the position after a byte that is not in a string, by its kind (quotation mark, bracket, blank or
+    /// another byte).
     #[inline(always)]
     fn past_sign(self, bytes: &[u8], byte: u8) -> Spot
         requires within { self.count < length bytes.now }
@@ -181,7 +181,7 @@ impl Spot {
     }
 }
 
-/// Whether a byte outside of strings is neither a quotation mark, nor a bracket, nor white space.
+/// Whether a byte that is not in a string is neither a quotation mark, nor a bracket, nor white space.
 #[inline(always)]
 fn is_solid(byte: u8) -> bool
     ensures { result ≡ (nat_le 35 byte && nat_le byte 90 || nat_le 97 byte && nat_le byte 122) }
@@ -213,7 +213,7 @@ fn is_closing(byte: u8) -> bool
     byte == b'}' || byte == b']'
 }
 
-/// Returns the position up to which the first of the bytes belong to the current value and can be copied.
+/// Returns the end of the first bytes of the input that belong to the current value and can be copied.
 #[inline(always)]
 fn spot_after(bytes: &[u8], quoted: bool, nesting: u8) -> Spot
     ensures within { result.count ≤ length bytes.now }
@@ -235,8 +235,8 @@ fn spot_after(bytes: &[u8], quoted: bool, nesting: u8) -> Spot
 }
 
 impl Reading {
-    /// Copies the first of the bytes that belong to the current value, and stops before a byte that completes the
-    /// value. Returns their number.
+    /// Copies bytes of the input that belong to the current value, up to the byte that completes the value. Returns
+    /// their number.
     #[inline(always)]
     pub(crate) fn copy(&mut self, bytes: &[u8]) -> Result<usize, AllocError>
         requires { (state_of self.old).found ≡ Nothing }
@@ -253,7 +253,7 @@ impl Reading {
         }
     }
 
-    /// Copies the first of the bytes if the parser is inside a value. Returns their number.
+    /// Copies the first bytes of the input if the parser is inside a value. Returns their number.
     fn copy_value(&mut self, name: Name, quoted: bool, bytes: &[u8]) -> Result<usize, AllocError>
         requires found { (state_of self.old).found ≡ Nothing }
         requires place { (state_of self.old).place ≡ in_value_of name quoted }

@@ -9,7 +9,8 @@ use crate::reading::Reading;
 use std::alloc::AllocError;
 
 impl Reading {
-    /// Reports a complete document unchanged, in an envelope, or unwrapped from its envelope.
+    /// Reports a complete document, which the call wraps in an envelope or unwraps from one if the caller requested
+    /// this.
     pub(crate) fn find_document(&mut self) -> Result<(), AllocError>
         ensures { OnOk result (state_of self.new ≡ document_found (state_of self.old)) }
     {
@@ -47,7 +48,7 @@ impl Reading {
         Ok(())
     }
 
-    /// Reports the envelope or document that was built, or rejects the input if none could be built.
+    /// Reports the envelope or document that the call built, or rejects the input if the call could not build it.
     fn find_made(&mut self) -> Result<(), AllocError>
         ensures { OnOk result (state_of self.new ≡ found_as (Some (made_of self.old.envelope)) (state_of self.old)) }
     {

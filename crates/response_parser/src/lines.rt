@@ -1,4 +1,4 @@
-//! Lines of a script's output.
+//! Reads the lines of a script's output.
 ghost use Rattle.std.specs.Prelude.{◌≡◌, OnOk};
 ghost use Rattle.response_parser.specs.Stored.{state_of};
 ghost use Rattle.response_parser.specs.Objects.{at_answer, at_begin, is_first};
@@ -62,7 +62,7 @@ impl Reading {
         Ok(())
     }
 
-    /// Reads the first byte of a line of a script's output, or of input that is no response.
+    /// Reads the first byte of a line of a script's output, or of input that is not a response.
     fn at_begin(&mut self, byte: u8) -> Result<(), AllocError>
         ensures { OnOk result (state_of self.new ≡ at_begin (state_of self.old) byte) }
     {
@@ -88,7 +88,7 @@ impl Reading {
         }
     }
 
-    /// Ends the first word of a line.
+    /// Ends the first word of a line of a script's output.
     fn end_word(&mut self, byte: u8)
         ensures { state_of self.new ≡ word_ended (state_of self.old) byte }
     {
@@ -106,7 +106,7 @@ impl Reading {
         }
     }
 
-    /// Ends a line. If the line comes before the first response, the parser returns to its first place.
+    /// Ends a line. After a line before the first response, the parser returns to the place at which it began.
     fn end_line(&mut self)
         ensures { state_of self.new ≡ line_ended (state_of self.old) }
     {
@@ -117,7 +117,7 @@ impl Reading {
         };
     }
 
-    /// Whether the line's first word is `change`, and the caller requested changes.
+    /// Whether the caller requested changes, and the first word of the line is `change`.
     fn is_change(&self) -> bool
         ensures { result ≡ is_change (state_of self.now) }
     {
@@ -136,7 +136,7 @@ impl Reading {
         }
     }
 
-    /// Reads a byte of an ignored rest of a line.
+    /// Reads a byte of the part of a line that the parser ignores.
     fn in_rest(&mut self, byte: u8)
         ensures { state_of self.new ≡ in_rest (state_of self.old) byte }
     {
@@ -243,7 +243,7 @@ impl Reading {
         Ok(())
     }
 
-    /// Reports the complete revision, and sets the parser's place.
+    /// Reports the complete revision, and sets the parser's place after the revision.
     fn end_rev(&mut self, place: Place) -> Result<(), AllocError>
         ensures { OnOk result (state_of self.new ≡ rev_ended place (state_of self.old)) }
     {
@@ -280,7 +280,7 @@ fn is_rev_byte(byte: u8) -> bool
         || byte == b'.'
 }
 
-/// Whether a parser at the given place has read no response yet.
+/// Whether the given place is one before the first response.
 fn is_first(place: Place) -> bool
     ensures { result ≡ is_first place }
 {

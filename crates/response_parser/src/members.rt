@@ -22,7 +22,7 @@ impl Reading {
         Ok(())
     }
 
-    /// Reads a byte outside of names and values.
+    /// Reads a byte that is not in a member's name or in a value.
     pub(crate) fn between(&mut self, byte: u8)
         ensures { state_of self.new ≡ moved_between self.old.place (state_of self.old) byte }
     {
@@ -37,7 +37,7 @@ impl Reading {
         }
     }
 
-    /// Starts a name at its quotation mark.
+    /// Starts a member's name at its opening quotation mark.
     fn begin_key(&mut self, first: bool) -> Result<(), AllocError>
         ensures { OnOk result (state_of self.new ≡ key_begun first (state_of self.old)) }
     {
@@ -131,7 +131,7 @@ impl Reading {
         Ok(())
     }
 
-    /// Returns the meaning of the current member's name.
+    /// Returns what the name of the current member means for its value.
     fn name(&self) -> Name
         ensures { result ≡ name_in (state_of self.now) }
     {
@@ -145,7 +145,7 @@ impl Reading {
         )
     }
 
-    /// Starts a document whose first member is `_id`.
+    /// Starts the text of a document whose first member is `_id`.
     fn begin_plain(&mut self) -> Result<(), AllocError>
         ensures { OnOk result (state_of self.new ≡ plain_begun (state_of self.old)) }
     {
@@ -172,7 +172,7 @@ impl Reading {
         }
     }
 
-    /// Whether the value of the current member may be the entry of a document whose id is the member's name.
+    /// Whether the current member's value may be the entry of a document, whose id is then the member's name.
     fn is_ahead(&self) -> bool
         ensures { result ≡ is_ahead (state_of self.now) }
     {
@@ -267,7 +267,7 @@ fn is_known(name: Name) -> bool
     !matches!(name, Name::Other | Name::Id | Name::Reason)
 }
 
-/// Whether a member's name means that the object with this member is a document.
+/// Whether an object is a document because it has a member of this name.
 pub(crate) fn is_plain(name: Name) -> bool
     ensures { result ≡ is_plain name }
 {

@@ -2,7 +2,7 @@
 
 use thiserror::Error;
 
-/// A caller's request: what the parser looks for, and in which kind of input.
+/// What the caller requests: the items that the parser looks for, and the kind of input.
 #[derive(Clone, Copy, Debug, PartialEq, Eq)]
 pub enum Wanted {
     /// Documents in CouchDB responses. The parser skips objects without a document.
@@ -11,7 +11,8 @@ pub enum Wanted {
     Enveloped,
     /// Documents in CouchDB responses. The parser rejects objects without a document.
     Bodies,
-    /// Documents in CouchDB responses, unwrapped from their envelopes. The parser rejects objects without a document.
+    /// Documents in CouchDB responses, which the parser unwraps from their envelopes. The parser rejects objects
+    /// without a document.
     Unfolded,
     /// Document ids and revisions in a changes feed or a `_revs_diff` response.
     Leaves,
@@ -19,7 +20,7 @@ pub enum Wanted {
     Changes,
 }
 
-/// The meaning of a member's name for the member's value.
+/// What the name of a member means for the member's value.
 #[derive(Clone, Copy, Debug, PartialEq, Eq)]
 pub enum Name {
     /// The object that has the member is a document.
@@ -28,15 +29,16 @@ pub enum Name {
     Document,
     /// A document id.
     Id,
-    /// A list of objects in which documents or leaves may be.
+    /// The value is a list of objects, which may be documents or leaves.
     List,
-    /// A list of the revisions of the document whose id precedes it in the same object.
+    /// The value is a list of revisions of a document, whose id precedes the list in the same object.
     Changes,
-    /// A revision in a document's list of revisions.
+    /// The value is a revision in a document's list of revisions.
     Rev,
-    /// A list of missing revisions in a `_revs_diff` response.
+    /// The value is a list of missing revisions in a `_revs_diff` response.
     Missing,
-    /// A value that a response has instead of a document, such as an error. The parser skips the value.
+    /// The response has this value instead of a document, for example an error. The parser skips the value of the
+    /// member.
     Passed,
     /// The member `last_seq`, which ends a changes feed.
     Last,
@@ -44,13 +46,13 @@ pub enum Name {
     Error,
     /// The member `reason` of a CouchDB error.
     Reason,
-    /// A value that the parser ignores.
+    /// The parser ignores the value of the member.
     Other,
-    /// A value that the parser rejects, because the input is not a known response.
+    /// The parser rejects the value, because the input is not a known response.
     Foreign,
 }
 
-/// The item that the last byte completed.
+/// The kind of the item that the last byte completed.
 #[derive(Clone, Copy, Debug, PartialEq, Eq)]
 pub enum Found {
     /// Nothing.
@@ -69,13 +71,13 @@ pub enum Refusal {
     /// The input is not JSON in UTF-8, or is nested deeper than 128.
     #[error("NotJson")]
     NotJson,
-    /// The input is JSON, but has none of the known forms of a response.
+    /// The input is JSON, but not a response of a known form.
     #[error("NoAnswer")]
     NoAnswer,
     /// The input ends inside a response.
     #[error("CutOff")]
     CutOff,
-    /// The input has an object without a document, but the caller allows only documents.
+    /// The input has an object that is not a document, but the caller allows only documents.
     #[error("NoDocument")]
     NoDocument,
     /// The input has a document that cannot be wrapped, or an envelope that cannot be unwrapped.
@@ -101,30 +103,30 @@ pub enum Refusal {
     ByteOrderMark,
 }
 
-/// The parser's place in a line of a script's output: what the next byte belongs to.
+/// The parser's place in a line of a script's output, which says what the next byte belongs to.
 #[derive(Clone, Copy, Debug, PartialEq, Eq)]
 pub enum LinePlace {
     /// In the first word.
     Word,
-    /// In the ignored rest of the line.
+    /// The next byte is in the part of the line that the parser ignores.
     Rest,
-    /// In the sequence of a `change` line.
+    /// The next byte is in the sequence of a `change` line.
     Seq,
-    /// Before the document id of a `change` line.
+    /// The next byte is before the document id of a `change` line.
     BeforeId,
-    /// In the document id of a `change` line.
+    /// The next byte is in the document id of a `change` line.
     Id,
-    /// After a backslash in the document id of a `change` line.
+    /// The next byte follows a backslash in the document id of a `change` line.
     IdEscape,
-    /// After the document id of a `change` line.
+    /// The next byte follows the document id of a `change` line.
     AfterId,
-    /// At the start of a revision of a `change` line.
+    /// The next byte is at the start of a revision of a `change` line.
     BeforeRev,
     /// In a revision.
     Rev,
 }
 
-/// The parser's place in a list of missing revisions: what the next byte belongs to.
+/// The parser's place in a list of missing revisions, which says what the next byte belongs to.
 #[derive(Clone, Copy, Debug, PartialEq, Eq)]
 pub enum RevPlace {
     /// Before the opening bracket.
@@ -135,55 +137,55 @@ pub enum RevPlace {
     Next,
     /// In a revision.
     Rev,
-    /// After a backslash in a missing revision.
+    /// The next byte follows a backslash in a missing revision.
     Escape,
     /// After a revision.
     Behind,
 }
 
-/// The parser's place in a response: what the next byte belongs to.
+/// The parser's place in a response, which says what the next byte belongs to.
 #[derive(Clone, Copy, Debug, PartialEq, Eq)]
 pub enum Place {
-    /// Before the first response, in input that must have a response.
+    /// The next byte is before the first response, in input that must have a response.
     Start,
-    /// Before the first response, in input that may have no response.
+    /// The next byte is before the first response, in input that may have no response.
     Begin,
-    /// In the first bytes of input that may be multipart or begin with a byte order mark.
+    /// The next byte is one of the first bytes of input that may be multipart or begin with a byte order mark.
     Sign,
     /// After a response.
     Between,
-    /// After the opening bracket of a JSON list.
+    /// The next byte follows the opening bracket of a JSON list.
     Item,
-    /// After a comma between two items of a list.
+    /// The next byte follows a comma between two items of a list.
     NextItem,
     /// After an item.
     AfterItem,
-    /// After the opening brace of a JSON object.
+    /// The next byte follows the opening brace of a JSON object.
     Member,
-    /// After a comma between two members of an object.
+    /// The next byte follows a comma between two members of an object.
     NextMember,
-    /// After a member whose value is a list of objects.
+    /// The next byte follows a member whose value is a list of objects.
     AfterMember,
     /// In a member's name.
     Key,
-    /// After a backslash in a member's name.
+    /// The next byte follows a backslash in a member's name.
     KeyEscape,
     /// After a member's name.
     Colon(Name),
-    /// Before a value that may be the entry of a document.
+    /// The next byte is before a value that may be the entry of a document.
     Ahead(Name),
-    /// Before the opening bracket of a list.
+    /// The next byte is before the opening bracket of a list.
     List,
     /// In a member's value.
     Value(Name),
-    /// In a string of a member's value.
+    /// The next byte is in a string of a member's value.
     Quoted(Name),
-    /// After a backslash in a string of a member's value.
+    /// The next byte follows a backslash in a string of a member's value.
     Escaped(Name),
-    /// In a list of missing revisions.
+    /// The next byte is in a list of missing revisions.
     Revs(RevPlace),
-    /// Inside a line of a script's output.
+    /// The next byte is in a line of a script's output.
     Line(LinePlace),
-    /// After the parser rejected a byte.
+    /// The parser has rejected a byte, and reads no further byte.
     Refused(Refusal),
 }

@@ -33,9 +33,9 @@ pub struct Reading {
     pub(crate) diff: bool,
     /// Whether the response is a CouchDB error.
     pub(crate) failed: bool,
-    /// The number of open brackets inside the current value.
+    /// The number of brackets of the current value that are open.
     pub(crate) nesting: u8,
-    /// The text of the current name or value, as far as the parser has read it.
+    /// The part of the current name or value that the parser has read.
     pub(crate) text: Vec<u8>,
     /// The text of CouchDB's last error in the input.
     pub(crate) error: Vec<u8>,
@@ -78,7 +78,7 @@ impl Reading {
     /// Reads bytes until a byte completes an item, the parser rejects a byte, or the bytes end. Returns the number of
     /// bytes that this call read.
     ///
-    /// After a failed allocation the parser must not be used further.
+    /// After a failed allocation, the caller must not use the parser again.
     pub fn take_in(&mut self, bytes: &[u8]) -> Result<usize, AllocError>
         requires { 0 < length bytes.now }
         ensures some { IfOk result (λ count. 0 < count) }
@@ -142,7 +142,7 @@ impl Reading {
         is_refused(self.place)
     }
 
-    /// Ends the input. Returns the reason why the input does not consist of complete responses, if it does not.
+    /// Ends the input. If the input does not consist of complete responses, the call returns the reason.
     pub fn end(&self) -> Result<(), Refusal>
         ensures { result ≡ end_of (state_of self.now).place }
     {
@@ -161,7 +161,7 @@ impl Reading {
         matches!(self.place, Place::Line(_))
     }
 
-    /// Whether the last byte completed an item, or the parser rejected that byte.
+    /// Whether the last byte completed an item or was rejected.
     #[inline(always)]
     fn stops(&self) -> bool
         ensures { result ≡ stops (state_of self.now) }
@@ -179,7 +179,7 @@ impl Reading {
         self.advance(byte)
     }
 
-    /// Counts a byte as read, unless the parser has rejected an earlier byte.
+    /// Counts a byte as read, unless the parser rejected an earlier byte.
     #[inline(always)]
     fn begin(&mut self)
         ensures { state_of self.new ≡ begun (state_of self.old) }
@@ -216,7 +216,7 @@ impl Reading {
     }
 }
 
-/// Whether the parser is at the place after a rejected byte.
+/// Whether the parser has rejected a byte of its input.
 #[inline(always)]
 fn is_refused(place: Place) -> bool
     ensures { result ≡ is_refused place }

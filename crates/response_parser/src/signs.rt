@@ -17,7 +17,7 @@ impl Reading {
         self.in_sign(byte)
     }
 
-    /// Reads a further byte of the beginning of input that may be multipart or begin with a byte order mark.
+    /// Reads another of the first bytes of input that may be multipart or begin with a byte order mark.
     pub(crate) fn in_sign(&mut self, byte: u8) -> Result<(), AllocError>
         ensures { OnOk result (state_of self.new ≡ in_sign (state_of self.old) byte) }
     {

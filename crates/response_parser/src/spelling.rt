@@ -15,7 +15,7 @@ pub(crate) fn is_space(byte: u8) -> bool
     byte == b' ' || byte == b'\t' || byte == b'\n' || byte == b'\r'
 }
 
-/// Returns a count increased by one, or 2^64 - 1 if the count has that maximum.
+/// Returns a count plus one, or 2^64 - 1 if the count is already 2^64 - 1.
 #[inline(always)]
 pub(crate) fn more(count: u64) -> u64
     ensures { result ≡ more count }
@@ -39,9 +39,10 @@ fn is_either(text: &[u8], one: &[u8], other: &[u8]) -> bool
     is(text, one) || is(text, other)
 }
 
-/// Returns the meaning of a member's name, which is given with its quotation marks. `first` is whether the member is
-/// the first of its object. `inner` is whether the member is in a document's list of revisions. `diff` is whether the
-/// input is a response of `_revs_diff`. `depth` is the number of open lists and objects.
+/// Returns what a member's name, which is given with its quotation marks, means for the member's value. `first` says
+/// whether the member is the first member of its object. `inner` says whether the member is in a document's list of
+/// revisions. `diff` says whether the input is a response of `_revs_diff`. `depth` is the number of lists and objects
+/// that are open.
 #[tactic(auto, unfolding(crate::specs::Names::name_of))]
 pub(crate) fn name_of(
     wanted: Wanted,

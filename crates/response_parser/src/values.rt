@@ -14,7 +14,7 @@ use crate::wanted::wants_documents;
 use doc_envelope::is_log;
 use std::alloc::AllocError;
 
-/// The maximum number of open brackets inside a value.
+/// The maximum number of brackets of a value that are open at the same time.
 pub(crate) const MAX_NESTING: u8 = 128;
 
 impl Reading {
@@ -54,7 +54,7 @@ impl Reading {
         }
     }
 
-    /// Reads a byte of white space in a value, outside of strings. The parser drops white space before a value.
+    /// Reads a byte of white space of a value that is not in a string. The parser drops white space before a value.
     fn space(&mut self) -> Result<(), AllocError>
         ensures { OnOk result (state_of self.new ≡ spaced (state_of self.old)) }
     {
@@ -76,7 +76,7 @@ impl Reading {
         Ok(())
     }
 
-    /// Reads a closing bracket, which may also close a document.
+    /// Reads a closing bracket of a value, or the closing brace of a document.
     fn unnest(&mut self, name: Name, byte: u8) -> Result<(), AllocError>
         ensures { OnOk result (state_of self.new ≡ shallower name (state_of self.old) byte) }
     {
@@ -93,7 +93,7 @@ impl Reading {
         Ok(())
     }
 
-    /// Ends a document, at the brace that closes it.
+    /// Ends a document at its closing brace.
     fn end_plain(&mut self) -> Result<(), AllocError>
         ensures { OnOk result (state_of self.new ≡ plain_ended (state_of self.old)) }
     {
@@ -126,7 +126,7 @@ impl Reading {
         self.judge(name, first)
     }
 
-    /// Reads the byte after a value that the parser has handled.
+    /// Reads the byte after a value that the parser has handled as its name requires.
     fn pass_value(&mut self, byte: u8)
         ensures { state_of self.new ≡ value_passed (state_of self.old) byte }
     {
@@ -204,7 +204,8 @@ fn first_of(text: &[u8]) -> u8
     if text.is_empty() { 0 } else { text[0] }
 }
 
-/// Returns the item that a member completes, by the meaning of its name and the first byte of its value.
+/// Returns the kind of item that a member completes, given the meaning of the member's name and the first byte of its
+/// value.
 fn found_of(name: Name, first: u8) -> Found
     ensures { result ≡ found_of name first }
 {
@@ -216,7 +217,7 @@ fn found_of(name: Name, first: u8) -> Found
     }
 }
 
-/// Whether a response has the value instead of a document.
+/// Whether the value is one that a response has instead of a document.
 fn passes(name: Name, first: u8) -> bool
     ensures { result ≡ passes name first }
 {
@@ -227,8 +228,8 @@ fn passes(name: Name, first: u8) -> bool
     }
 }
 
-/// Returns why the parser rejects a value. Either the value's name requires a string and the value is not a string, or
-/// the value is the `reason` of a CouchDB error.
+/// Returns the reason why the parser rejects a value. Either the value's name requires a string and the value is not a
+/// string, or the value is the `reason` of a CouchDB error.
 fn refusal_of(name: Name, first: u8, failed: bool) -> Option<Refusal>
     ensures { result ≡ refusal_of name first failed }
 {

@@ -32,7 +32,7 @@ pub(crate) fn is_strict(wanted: Wanted) -> bool
     matches!(wanted, Wanted::Bodies | Wanted::Unfolded | Wanted::Changes)
 }
 
-/// Returns the parser's place before the first byte.
+/// Returns the place (what the next byte belongs to) at which the parser begins.
 pub(crate) fn first_place(wanted: Wanted) -> Place
     ensures { result ≡ first_place wanted }
 {

@@ -1,4 +1,4 @@
-//! Leaves of a tree, with their sort keys.
+//! Leaves of a tree, with the keys by which the leaves are sorted.
 ghost use Rattle.std.specs.Prelude.{◌≡◌};
 ghost use Rattle.std.specs.Ordering.{bool_cmp, ordering_then};
 ghost use Rattle.rev_core.specs.Rev.{IsRev, rev_cmp};
@@ -8,7 +8,7 @@ use crate::words::front_of;
 use rev_core::Rev;
 use std::cmp::Ordering;
 
-/// A leaf with the parts that usually decide its order, so that sorting rarely reads the revision.
+/// A leaf with the values that usually decide its order, so that sorting rarely reads the leaf's revision.
 #[derive(Clone, Copy)]
 pub(crate) struct Leaf<'a> {
     pub(crate) deleted: bool,
@@ -36,8 +36,8 @@ impl<'a> Leaf<'a> {
         }
     }
 
-    /// Compares two leaves in the winner's order. Live leaves come before deleted leaves, then greater generations
-    /// before lesser ones, then greater signatures before lesser ones.
+    /// Compares two leaves by the order that decides the winner. Live leaves come before deleted leaves, then greater
+    /// generations before lesser ones, then greater signatures before lesser ones.
     pub(crate) fn order(&self, other: &Leaf<'_>) -> Ordering
         ensures { result ≡ ordering_then (bool_cmp self.now.deleted other.now.deleted)
             (rev_cmp other.now.rev.now self.now.rev.now) }

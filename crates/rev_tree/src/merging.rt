@@ -15,8 +15,8 @@ use crate::origin::Origin;
 use rev_core::Rev;
 
 impl Nodes {
-    /// Whether every given child has a known parent. Returns an error with the first child whose known parent differs
-    /// from the given parent.
+    /// Whether the tree knows a parent of every child of an ancestry. Returns an error with the first child whose
+    /// parent in the tree differs from the given parent.
     ///
     /// A child's node stores the index of the known parent, so a known ancestry needs one lookup. For a new child, the
     /// call tries the parent of the last node first.
@@ -55,8 +55,9 @@ impl Nodes {
         Ok(all)
     }
 
-    /// Returns a guess for the index of a child's parent. The guess is the child's known parent, or else the parent of
-    /// the previous node. Consecutive nodes are often leaves of one parent.
+    /// Returns a guess for the index of the node of a child's parent. The guess is the parent that the tree knows of
+    /// the child, or the parent of the previous node if the tree knows none. Consecutive nodes are often leaves of one
+    /// parent.
     fn near(&self, child: usize) -> Option<usize>
         requires { child < length self.now.items }
         ensures { IfSome result (λ i. i < length self.now.items) }
@@ -124,7 +125,7 @@ impl Nodes {
         }
     }
 
-    /// Inserts an ancestry, some of whose revisions may already have nodes, and returns the index of its head.
+    /// Inserts an ancestry, some of whose revisions may have nodes already, and returns the index of its head's node.
     fn put_among(&mut self, revs: &[Rev], content: Content, origin: Origin) -> usize
         requires some { 0 < length revs.now }
         requires room { HasRoom self.old (count_new (revs_in self.old.items) revs.now) }
@@ -146,8 +147,8 @@ impl Nodes {
         head
     }
 
-    /// Appends a revision with its origin, unless it has a node, and returns its index. The call tries the index `near`
-    /// first. The caller has reserved the space for the node.
+    /// Appends a node for a revision with an origin, unless the revision has a node, and returns the node's index. The
+    /// call tries the index `near` first. The caller has reserved the space for the node.
     fn add(&mut self, near: Option<usize>, rev: Rev, origin: Origin) -> usize
         requires near { IfSome near (λ i. i < length self.old.items) }
         requires room { HasRoom self.old (unless_among (revs_in self.old.items) rev) }
@@ -159,7 +160,7 @@ impl Nodes {
         }
     }
 
-    /// Returns the index of a revision. The call tries the index `near` first.
+    /// Returns the index of a revision's node. The call tries the index `near` first.
     fn place_near(&self, near: Option<usize>, rev: &Rev) -> Option<usize>
         requires near { IfSome near (λ i. i < length self.now.items) }
         ensures place { result ≡ place_of self.now.items rev.now }

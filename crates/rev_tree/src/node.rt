@@ -1,4 +1,4 @@
-//! A node of a tree, which is a revision with the tree's data about it.
+//! A node of a tree, which holds a revision and the tree's data about the revision.
 ghost use Rattle.std.specs.Prelude.{◌≡◌, ◌+◌, ◌<◌, ◌^◌, Some, None, IfOk, true, false};
 ghost use Rattle.std.specs.Option.{option_copied};
 ghost use Rattle.std.specs.Ordering.{eq_by_cmp};
@@ -15,7 +15,7 @@ use std::marker::Model;
 /// The number 2^64 of values of a 64-bit integer. A session's 128-bit number is stored as two 64-bit integers.
 const HALF: u128 = 1 << 64;
 
-/// A revision, the index of its parent if it is known, its origin, and the other data of the tree.
+/// A revision, the index of its parent if the parent is known, its origin, and the other data of the node.
 ///
 /// A tree may have millions of nodes, so a node is small. A session's number is stored in halves because a `u128` is
 /// aligned to 16 bytes.
@@ -35,7 +35,7 @@ pub(crate) struct Marks {
     has_child: bool,
 }
 
-/// The flags of a node, the index of its parent, and its content if it is known.
+/// The flags of a node, the index of its parent, and its content if the content is known.
 ///
 /// One enum holds the flags, the index and the content, because flags and index fit into the padding of the enum's tag.
 /// The index of the parent is counted from 1, and is 0 if no parent is known.
@@ -165,7 +165,7 @@ impl Node {
         self.rev.generation()
     }
 
-    /// Whether the node is that of the given revision.
+    /// Whether the node holds the given revision.
     pub(crate) fn is_of(&self, rev: &Rev) -> bool
         ensures { result ≡ eq_by_cmp rev_cmp rev.now self.now.rev }
     {
@@ -175,7 +175,7 @@ impl Node {
         is_same(rev.sig_bytes(), self.rev.sig_bytes())
     }
 
-    /// Returns the index of the parent, if it is known.
+    /// Returns the index of the node's parent, if the parent is known.
     pub(crate) fn parent(&self) -> Option<usize>
         ensures { result ≡ self.now.parent }
     {

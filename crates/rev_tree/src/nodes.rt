@@ -20,8 +20,8 @@ use std::marker::Model;
 /// The maximum number of nodes that a lookup scans. A tree with more nodes has an index.
 pub(crate) const MOST_WALKED: usize = 8;
 
-/// The maximum sum of the numbers of nodes and given revisions for which the missing revisions are counted. If the sum
-/// is not above the maximum, space is reserved for the missing revisions alone.
+/// The maximum of the number of nodes plus the number of given revisions for which a merge counts the missing revisions
+/// first. If the sum is at most this maximum, a merge reserves space for the missing revisions only.
 const MOST_COUNTED: usize = 4;
 
 /// The maximum number of nodes of a tree, because the index of a parent, counted from 1, has 32 bits.
@@ -33,7 +33,7 @@ ghost use Rattle.rev_tree.specs.Nodes.{Distinct, HasGained, HasRoom, IsLinked, c
 /// Nodes with their index. A tree never removes a node, so the positions of nodes do not change.
 ///
 /// The invariant of a tree's nodes is that no revision has two nodes, and that the index of each parent is in range. By
-/// the invariant, a node is marked exactly if another node names it as its parent.
+/// the invariant, a node is marked as a parent exactly if another node names it as its parent.
 #[derive(Drop)]
 pub(crate) struct Nodes {
     list: Vec<Node>,
@@ -93,7 +93,7 @@ impl Nodes {
         Some(self.node_at(place))
     }
 
-    /// Returns the position of a revision.
+    /// Returns the position of the node of a revision.
     pub(crate) fn place_in(&self, rev: &Rev) -> Option<usize>
         ensures place { result ≡ place_of self.now.items rev.now }
         ensures linked { IsLinked self.now.items }
@@ -106,14 +106,14 @@ impl Nodes {
             if self.list[place].is_of(rev) {
                 return Some(place);
             }
-            // The entry of the hash belongs to another revision with the same hash.
+            // The index entry of this hash belongs to another revision with an equal hash.
         }
         walked_to(&self.list, rev)
     }
 
-    /// Reserves space for inserting an ancestry. If nodes and ancestry together are few, the call reserves exactly the
-    /// space for all of the ancestry's revisions. If nodes and ancestry are very few, the call reserves space only for
-    /// the missing revisions. The call fails if the tree could exceed `MOST_NODES`.
+    /// Reserves space for inserting an ancestry. If the tree and the ancestry are small, the call reserves exactly the
+    /// space for all revisions of the ancestry. If nodes and ancestry are very few, the call reserves space only for
+    /// the missing revisions. The call fails if the tree could get more than `MOST_NODES` nodes.
     #[tactic(auto, using(crate::proofs::Rooms::count_within))]
     pub(crate) fn make_room(&mut self, revs: &[Rev]) -> Result<(), AllocError>
         ensures items { self.new.items ≡ self.old.items }
@@ -127,7 +127,7 @@ impl Nodes {
         reserve_index(*self.list.allocator(), &mut self.places, all)
     }
 
-    /// Releases unused space if the tree has few nodes and space for many was reserved, as happens if an ancestry had
+    /// Releases unused space if the tree has few nodes but space for many nodes was reserved, because an ancestry had
     /// many known revisions.
     pub(crate) fn give_back(&mut self)
         ensures { self.new.items ≡ self.old.items }
@@ -180,7 +180,8 @@ impl Nodes {
         }
     }
 
-    /// Returns the index of the winner's node, from the tournament. Returns `None` if the nodes must be scanned.
+    /// Returns the index of the winner's node, as the tournament among the leaves says. If the tournament has no result
+    /// and the caller must scan the nodes, the call returns `None`.
     pub(crate) fn tournament_winner(&mut self) -> Option<usize>
         ensures items { self.new.items ≡ self.old.items }
         ensures first { IfSome result (λ place. (r : RevId)
@@ -248,7 +249,8 @@ fn walked_to(nodes: &[Node], rev: &Rev) -> Option<usize>
     None
 }
 
-/// Extends the index from the first `known` nodes to all nodes. The caller has reserved the space in the index.
+/// Extends the index of positions, which has the first `known` nodes, to all nodes. The caller has reserved the space
+/// in the index.
 fn index_rest(nodes: &[Node], places: &mut Places, known: usize)
     requires known { known ≤ length nodes.now }
     requires begun { places.old.entries ≡ index_for (revs_in (take known nodes.now)) }
@@ -271,8 +273,7 @@ fn index_rest(nodes: &[Node], places: &mut Places, known: usize)
     index_from(nodes, places, 0);
 }
 
-/// Whether each node is one generation below the previous node. The caller has already compared the first `known`
-/// nodes.
+/// Whether each node is one generation below the previous node. The caller has already checked the first `known` nodes.
 #[inline(never)]
 fn all_fall(nodes: &[Node], known: usize) -> bool
     requires known { known ≤ length nodes.now }
@@ -309,8 +310,8 @@ fn is_below(upper: &Node, lower: &Node) -> bool
     upper.generation() - 1 == lower.generation()
 }
 
-/// Adds the nodes from position `first` on to the index, which has the nodes before that position. The caller has
-/// reserved the space in the index.
+/// Adds the nodes from position `first` on to the index of positions, which already has all earlier nodes. The caller
+/// has reserved the space in the index.
 fn index_from(nodes: &[Node], places: &mut Places, first: usize)
     requires first { first ≤ length nodes.now }
     requires begun { places.old.entries ≡ noted_from [] 0 (revs_in (take first nodes.now)) }
@@ -339,7 +340,7 @@ fn count_new(nodes: &[Node], revs: &[Rev]) -> usize
     count
 }
 
-/// Returns 1 if the revision has no node, else 0, by scanning the nodes.
+/// Returns 1 if the revision has no node, and 0 if it has one, by scanning the nodes.
 fn once_new(nodes: &[Node], rev: &Rev) -> usize
     ensures new { result ≡ unless_among (revs_in nodes.now) rev.now }
     ensures most { result ≤ 1 }
@@ -350,7 +351,7 @@ fn once_new(nodes: &[Node], rev: &Rev) -> usize
     }
 }
 
-/// Reserves space in the list for the revisions of an ancestry. If nodes and ancestry together are few, the call
+/// Reserves space in the list for the revisions of an ancestry. If the tree and the ancestry are small, the call
 /// reserves exactly the space for all revisions. If nodes and ancestry are very few, the call reserves space only for
 /// the missing revisions.
 #[tactic(auto, using(crate::proofs::Rooms::count_within))]
@@ -369,7 +370,7 @@ fn reserve_nodes(list: &mut Vec<Node>, revs: &[Rev]) -> Result<(), AllocError>
     }
 }
 
-/// Releases unused space of the list if it has few nodes and space for many was reserved.
+/// Releases unused space of the list if the list has few nodes but space for many nodes was reserved.
 fn fit_nodes(list: &mut Vec<Node>)
     ensures { list.new.items ≡ list.old.items }
 {
@@ -388,7 +389,7 @@ fn fit_index(places: &mut Places)
     }
 }
 
-/// Reserves space in the index for `nodes` nodes, unless they are few enough to be scanned.
+/// Reserves space in the index for `nodes` nodes, unless a tree with this number of nodes is scanned.
 fn reserve_index(alloc: Global, places: &mut Places, nodes: usize) -> Result<(), AllocError>
     requires { length places.old.entries ≤ nodes }
     ensures index { places.new.entries ≡ places.old.entries }

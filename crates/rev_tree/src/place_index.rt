@@ -1,4 +1,4 @@
-//! The index from revisions to the positions of their nodes.
+//! The lookup table from revisions to the positions of their nodes.
 ghost use Rattle.std.specs.Prelude.{◌≡◌, ◌+◌, ◌^◌, ◌<◌, ◌≤◌, ◌∷◌, ◌++◌, [], length, nat_eq, None, IfOk, IfSome, OnOk};
 ghost use Rattle.std.specs.Map.{lookup};
 ghost use Rattle.rev_tree.specs.Index.{noted};
@@ -10,14 +10,15 @@ use indexmap::IndexMap;
 use std::alloc::{AllocError, Global};
 use std::marker::Model;
 
-/// Positions of nodes by the hashes of their revisions, which need less memory than the revisions. If several revisions
-/// share a hash, the index has the position of the first revision, and the others are found by scanning. In practice,
-/// revisions share a hash only if someone constructs such revisions.
+/// The table has the positions of nodes by the hashes of their revisions, because hashes need less memory than
+/// revisions. If several revisions share a hash, the table has the position of only one of them, and a lookup of
+/// another revision scans the nodes. In practice, two revisions share a hash only if someone constructs them to do so.
 ///
-/// The index is empty, and takes no memory, if the tree has few nodes or if each node is one generation below the
-/// previous one.
+/// The table is empty, and takes no memory, if the tree has few nodes or if each node is one generation below the
+/// previous node.
 ///
-/// The tournament among the leaves is stored beside the index, so that a tree without an index takes no memory for it.
+/// The tournament among the leaves is stored with the table, so that a tree without a table takes no memory for a
+/// tournament.
 #[derive(Drop)]
 pub(crate) struct Places {
     index: Option<Box<Index>>,
@@ -83,7 +84,8 @@ impl Places {
         }
     }
 
-    /// Adds a hash with a position, unless the hash has an entry. The caller has reserved the space for the entry.
+    /// Adds a hash with the position of a node, unless the hash already has an entry. The caller has reserved the space
+    /// for the entry.
     pub(crate) fn note(&mut self, mark: u64, place: usize)
         requires { 0 < self.old.spare }
         ensures entries { self.new.entries ≡ noted self.old.entries mark place }
@@ -96,7 +98,7 @@ impl Places {
         }
     }
 
-    /// Adds a new hash with a position. The caller has reserved the space for the hash.
+    /// Adds a new hash with the position of a node. The caller has reserved the space for the hash.
     fn insert(&mut self, mark: u64, place: usize)
         requires room { 0 < self.old.spare }
         requires new { lookup (nat_eq mark) self.old.entries ≡ None }
@@ -131,9 +133,9 @@ impl Places {
         Ok(())
     }
 
-    /// Returns the index of the first leaf in the winner's order, from the tournament.
+    /// Returns the node index of the winner among the leaves, as the tournament says.
     ///
-    /// Returns `None` if the index takes no memory, or if the tournament has no result.
+    /// Returns `None` if the table takes no memory, or if the tournament has no result.
     pub(crate) fn first_leaf(&mut self, nodes: &[Node]) -> Option<usize>
         requires few { length nodes.now < 2 ^ 32 }
         requires played { IsPlayed nodes.now self.old.winners self.old.entered 0 }

@@ -6,13 +6,15 @@ use crate::node::Node;
 use crate::winner::goes_before;
 use std::alloc::Global;
 
-/// The winners of the matches of a tournament among the leaves of a tree, in the winner's order.
+/// The winners of the matches of a tournament, in which the leaves of a tree are compared by the order that decides the
+/// winning revision.
 ///
-/// Match `i` is between the players at `2 * i` and `2 * i + 1`, and match 1 is the final. The player at the index of a
-/// match is the winner of that match. Node `n` is the player at `winners.len() + n`, as long as the node is a leaf.
+/// Match `i` is between the players at `2 * i` and `2 * i + 1`, and match 1 is the final. The tournament is a binary
+/// tree of matches, and the winner of match `i` is the player at index `i`. As long as node `n` is a leaf, it is the
+/// player at index `winners.len() + n` of the tree of matches.
 ///
-/// A winner is stored as the index of its node, counted from 1, or as 0 if the match has no player. A winner that is no
-/// longer a leaf stays stored until its matches are played again.
+/// The winner of a match is stored as its node's index, counted from 1, or as 0 if the match has no player. A node that
+/// is no longer a leaf stays stored as a winner until its matches are played again.
 #[derive(Drop)]
 pub(crate) struct Tournament {
     winners: Vec<u32>,
@@ -32,8 +34,8 @@ impl Tournament {
         }
     }
 
-    /// Returns the index of the first leaf in the winner's order. The call first enters the nodes that do not take part
-    /// in the tournament yet.
+    /// Returns the node index of the winner among the leaves. The call first adds the nodes that do not take part in
+    /// the tournament yet.
     ///
     /// Returns `None` if an allocation fails, or if the caller must scan the nodes for another reason.
     pub(crate) fn first(&mut self, nodes: &[Node]) -> Option<usize>
@@ -58,8 +60,8 @@ impl Tournament {
         None
     }
 
-    /// Enters the nodes that do not take part in the tournament yet. Returns whether all nodes take part, which is
-    /// false if an allocation fails.
+    /// Adds the nodes that do not take part in the tournament yet. Returns true if all nodes take part in the
+    /// tournament, and false if an allocation fails.
     fn enter_all(&mut self, nodes: &[Node]) -> bool
         requires few { length nodes.now < 2 ^ 32 }
         requires played { IsPlayed nodes.now self.old.winners.items self.old.entered 0 }
@@ -83,8 +85,8 @@ impl Tournament {
         true
     }
 
-    /// Restarts the tournament with twice as many matches as nodes if it has fewer matches than nodes. Returns whether
-    /// the tournament has enough matches, which is false if an allocation fails.
+    /// If the tournament has fewer matches than the tree has nodes, restarts it with two matches for each node. Returns
+    /// true if the tournament has enough matches for all nodes, and false if an allocation fails.
     fn make_matches(&mut self, nodes: &[Node]) -> bool
         requires few { length nodes.now < 2 ^ 32 }
         requires played { IsPlayed nodes.now self.old.winners.items self.old.entered 0 }
@@ -135,7 +137,7 @@ impl Tournament {
         self.winners[at] = better(nodes, one, other);
     }
 
-    /// Returns the player at an index, as it is stored.
+    /// Returns the stored form of the player at an index.
     fn player(&self, nodes: &[Node], at: usize) -> u32
         requires few { length nodes.now < 2 ^ 32 }
         requires held { IsHeld nodes.now self.now.winners.items self.now.entered }
@@ -153,7 +155,7 @@ impl Tournament {
     }
 }
 
-/// Returns the winner of a match between two players, as they are stored.
+/// Returns the winner of a match between two players, each in its stored form.
 fn better(nodes: &[Node], one: u32, other: u32) -> u32
     requires one { one ≤ length nodes.now }
     requires other { other ≤ length nodes.now }

@@ -13,8 +13,8 @@ use rev_core::{Ancestry, Rev};
 use std::alloc::{AllocError, Global};
 use std::marker::Model;
 
-/// A tree's data about one of its revisions, which are the known ancestors, the revision itself first, and the content
-/// if it is known.
+/// A tree's data about one of its revisions: the revision with its known ancestors, and its content if the content is
+/// known.
 #[derive(Drop)]
 pub struct RevInfo<'a> {
     pub ancestry: Ancestry,
@@ -140,8 +140,8 @@ impl Tree {
         Ok(Ancestry::from_revs(revs))
     }
 
-    /// Returns a known ancestor by its distance, which is 0 for the revision itself and 1 for its parent. Returns
-    /// `None` if fewer ancestors are known.
+    /// Returns the known ancestor at a distance from a revision, where 0 gives the revision itself and 1 its parent.
+    /// Returns `None` if the tree does not know an ancestor at this distance.
     pub fn ancestor(&self, rev: Rev, place: usize) -> Option<Rev>
         requires { has self.now rev ≡ true }
         ensures { result ≡ slice_get (ancestors self.now rev) place }
@@ -237,9 +237,9 @@ impl Tree {
         self.nodes.all().len()
     }
 
-    /// Returns the leaves that are equal to or descend from one of the revisions, winner first.
+    /// Returns the leaves that are one of the given revisions or descend from one of them, winner first.
     ///
-    /// The call does not allocate if the only leaf is itself one of the revisions.
+    /// The call does not allocate if the tree's only leaf is one of the given revisions.
     pub fn leaves_above(&self, alloc: Global, revs: &[Rev]) -> Result<Revs, AllocError>
         ensures { IfOk result (λ out. out ≡ leaves_above self.now revs.now) }
     {
@@ -252,8 +252,8 @@ impl Tree {
         Ok(Revs::from(self.nodes.those_above(alloc, &leaves, revs)?))
     }
 
-    /// Returns the given revisions that are not in the tree, in their order. The call does not allocate for a single
-    /// given revision.
+    /// Returns the given revisions that are not in the tree, in the given order. The call does not allocate for a
+    /// single given revision.
     pub fn missing(&self, alloc: Global, revs: &[Rev]) -> Result<Revs, AllocError>
         ensures { IfOk result (λ out. out ≡ missing self.now revs.now) }
     {
@@ -267,7 +267,7 @@ impl Tree {
         }
     }
 
-    /// Collects the given revisions that are not in the tree, in their order.
+    /// Collects the given revisions that are not in the tree, in the given order.
     fn missing_listed(&self, alloc: Global, revs: &[Rev]) -> Result<Vec<Rev>, AllocError>
         ensures { IfOk result (λ v. v.items ≡ missing self.now revs.now) }
     {
@@ -297,7 +297,7 @@ impl Tree {
     ///
     /// # Errors
     ///
-    /// Returns the first given child, newest first, whose known parent differs from the given one.
+    /// Returns the newest given child whose parent in the tree differs from its given parent.
     pub fn merge_answer(&self, ancestry: &Ancestry) -> Result<Merged, Contradiction>
         ensures answer { result ≡ merge_answer self.now ancestry.now }
         ensures tree { IsTree self.now }
@@ -315,14 +315,14 @@ impl Tree {
     }
 
     /// Merges an ancestry and the content of its head into the tree, as a union. New revisions get the given origin,
-    /// and known data does not change.
+    /// and the data that the tree already has does not change.
     ///
-    /// Returns the result that `merge_answer` returns.
+    /// If no error occurs, the call returns what `merge_answer` returns.
     ///
     /// # Errors
     ///
-    /// - `Contradiction`: a given child's known parent differs from the given one, as for `merge_answer`.
-    /// - `Memory`: an allocation failed. The call does not return `Memory` if the tree would stay the same.
+    /// - `Contradiction`: a given child's parent in the tree differs from its given parent, as for `merge_answer`.
+    /// - `Memory`: an allocation failed. The call returns `Memory` only if the merge would change the tree.
     ///
     /// After an error the tree is unchanged.
     pub fn merge(

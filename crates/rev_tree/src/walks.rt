@@ -17,7 +17,8 @@ impl Nodes {
         requires tree { IsTree (tree_of self.now.items) }
         ensures { IfOk result (λ v. v.items ≡ ancestors_at self.now.items start) }
     {
-        // A revision has no more ancestors than the tree has nodes, or than its generation.
+        // A revision and its ancestors are at most the number of the tree's nodes, and at most the revision's
+        // generation.
         let most = self
             .all()
             .len()
@@ -36,7 +37,7 @@ impl Nodes {
         Ok(revs)
     }
 
-    /// Returns the known ancestor that is `steps` steps from the revision at an index.
+    /// Returns the known ancestor that is `steps` generations before the revision at an index.
     pub(crate) fn ancestor_at(&self, start: usize, steps: usize) -> Option<Rev>
         requires within { start < length self.now.items }
         requires tree { IsTree (tree_of self.now.items) }
@@ -52,7 +53,7 @@ impl Nodes {
     /// Returns the leaves that are one of the given revisions or descend from one of them. The result keeps the order
     /// of the leaves.
     ///
-    /// The result for each visited node is stored for the next leaves, so each node is visited once.
+    /// The call stores the result of each visited node, so it visits each node once for all leaves.
     pub(crate) fn those_above(
         &self,
         alloc: Global,
@@ -78,8 +79,8 @@ impl Nodes {
         Ok(above)
     }
 
-    /// Creates the table of results by index, which has true for the given revisions and no result for all other
-    /// revisions.
+    /// Creates the table of results by node index, in which the given revisions have the result true and all other
+    /// revisions none.
     fn asked(&self, alloc: Global, revs: &[Rev]) -> Result<Vec<Option<bool>>, AllocError>
         ensures { IfOk result (λ v. IsTold self.now.items revs.now v.items) }
     {

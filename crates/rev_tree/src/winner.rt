@@ -12,12 +12,12 @@ use crate::nodes::Nodes;
 use std::cmp::Ordering;
 
 impl Nodes {
-    /// Returns the index of the winner's node after an ancestry was inserted. `before` is the index of the previous
-    /// winner.
+    /// Returns the index of the winner's node after an ancestry was inserted. `before` is the index of the node that
+    /// was the winner before the merge.
     ///
-    /// The winner is the ancestry's head if the head goes before the previous winner. If the head does not go before a
-    /// previous winner that is still a leaf, the previous winner stays the winner. If neither the head nor the previous
-    /// winner is the winner, the winner is looked up among all leaves.
+    /// The ancestry's head becomes the winner if it goes before the previous winner in the order of leaves. If the head
+    /// does not go before a previous winner that is still a leaf, the previous winner stays the winner. If neither the
+    /// ancestry's head nor the previous winner is the winner, the call looks for the winner among all leaves.
     pub(crate) fn winner_after(&mut self, before: usize, head: usize) -> usize
         requires before { before < length self.old.items }
         requires head { head < length self.old.items }
@@ -35,7 +35,7 @@ impl Nodes {
         }
     }
 
-    /// Returns the index of the winner's node, if the winner is the ancestry's head or the previous winner.
+    /// Returns the index of the winner's node if the ancestry's head or the previous winner is the winner.
     fn head_or_previous(&self, before: usize, head: usize) -> Option<usize>
         requires before { before < length self.now.items }
         requires head { head < length self.now.items }
@@ -59,8 +59,8 @@ impl Nodes {
         None
     }
 
-    /// Returns the index of the first leaf in the winner's order, from the tournament, or by scanning the nodes if the
-    /// tournament has no result.
+    /// Returns the node index of the winner, from the tournament, or by scanning the nodes if the tournament has no
+    /// result.
     fn next_winner(&mut self) -> usize
         ensures items { self.new.items ≡ self.old.items }
         ensures first { (r : RevId)
@@ -73,7 +73,7 @@ impl Nodes {
         }
     }
 
-    /// Returns the index of the first leaf in the winner's order, by scanning all nodes.
+    /// Returns the node index of the winner, by scanning all nodes.
     #[inline(never)]
     fn first_leaf(&self) -> usize
         ensures { (r : RevId)
@@ -96,8 +96,8 @@ impl Nodes {
     }
 }
 
-/// Whether a leaf goes before the best leaf so far, or there is no best leaf yet. Live leaves go before deleted leaves,
-/// then greater generations before lesser ones, then greater signatures before lesser ones.
+/// Whether a leaf goes before the best leaf found so far, or no leaf was found so far. Live leaves go before deleted
+/// leaves, then greater generations before lesser ones, then greater signatures before lesser ones.
 pub(crate) fn goes_before(leaf: &Node, best: Option<&Node>) -> bool
     ensures { result ≡ goes_before leaf.now (option_copied best.entry) }
 {

@@ -24,7 +24,7 @@ pub(crate) fn front_of(text: &[u8]) -> u64
 
 /// Whether two signatures are equal.
 ///
-/// Two signatures of the length of a digest are compared as four integers each, without a loop.
+/// If both signatures have the length of a digest, the call compares four pairs of integers without a loop.
 pub(crate) fn is_same(one: &[u8], other: &[u8]) -> bool
     requires one { is_sig one.now ≡ true }
     requires other { is_sig other.now ≡ true }

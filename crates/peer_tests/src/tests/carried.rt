@@ -52,7 +52,7 @@ pub(crate) fn refused(
     }
 }
 
-/// Returns the documents with an id in a ledger, each with the reason for which it was refused.
+/// Returns the documents with an id in a ledger, each with its reason.
 fn refused_of(alloc: Global, rows: &[Refused], id: &str) -> Option<String> {
     let mut all = Some(String::new(alloc));
     for row in rows {
@@ -63,7 +63,7 @@ fn refused_of(alloc: Global, rows: &[Refused], id: &str) -> Option<String> {
     all
 }
 
-/// Returns the text of a refused document and of the reason for which it was refused.
+/// Returns the text of a ledger's document and of its reason.
 fn refused_text(alloc: Global, row: &Refused) -> Option<String> {
     joined(doc_text(alloc, row.doc()), shown(alloc, &row.reason()))
 }

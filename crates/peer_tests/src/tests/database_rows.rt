@@ -111,7 +111,7 @@ fn puts_as_given(rt: HostRuntime) {
         (Call::Tree(A, "e"), "no document"),
         (Call::Document(A, "d", "2-b"), r#" d 2-b,1-a live {"n":1};"#),
         (Call::Document(A, "d", "3-c"), " d 3-c,2-b,1-a live {};"),
-        // An ancestor that is known only by its id, and a revision and a document that do not exist.
+        // Reads of an ancestor that is known only by its id, and of a revision and a document that do not exist.
         (Call::Document(A, "d", "1-a"), "no content"),
         (Call::Document(A, "d", "2-x"), "no content"),
         (Call::Document(A, "e", "2-b"), "no content"),

@@ -104,7 +104,7 @@ fn a_refused_document_stays_away_and_others_go_on(rt: HostRuntime) {
             Call::Load(1, r#"{"_id":"d","_rev":"1-a"}"#),
             "Changed { seq: 2 }",
         ),
-        // The call returns no error although a document is refused, and all peers have the document d.
+        // The call returns no error although a filter excludes a document, and all peers have the document d.
         (Call::Hub(2, 2), "done"),
         (Call::Tree(0, "x1"), "no document"),
         (Call::Tree(2, "x1"), "no document"),

@@ -126,7 +126,7 @@ type Spot = (u64, u64);
 /// A worker at the first spot (stage of a window) waits until a worker has reached the second spot.
 type Holds = &'static [(Spot, Spot)];
 
-/// Returns the bit that stands for a spot, a stage of one of the first twelve windows.
+/// Returns the bit of a spot, which is a stage of one of the first twelve windows.
 pub(crate) fn bit_of(spot: Spot) -> u64 {
     let place = spot.0 % 5 + 5 * (spot.1 % 12);
     1 << place

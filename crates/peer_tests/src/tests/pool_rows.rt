@@ -122,7 +122,8 @@ pub(crate) static CARRIED: Rows = &[
     (Call::Leaves(B, "x2"), LEAVES_X2),
 ];
 
-/// The effect of the first session at a target that refuses two documents, whatever order its windows were done in.
+/// The effect of the first session at a target that refuses two documents, for each order in which its windows may be
+/// done.
 pub(crate) static SIFTED: Rows = &[
     (
         Call::Entry(B, S1),

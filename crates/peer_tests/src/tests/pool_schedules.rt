@@ -173,7 +173,7 @@ struct Drawn {
 }
 
 impl Drawn {
-    /// Creates the gate before any worker has come.
+    /// Creates the gate before any worker has called it.
     fn new(seed: u64, stop_at: u64) -> Drawn {
         Drawn {
             stop_at,

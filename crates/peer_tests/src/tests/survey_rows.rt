@@ -129,7 +129,7 @@ fn what_is_in_conflict_and_how_much_there_is(rt: HostRuntime) {
             "Changed { seq: 2 }",
         ),
         (Call::Conflict("d"), " 2-c 2-b"),
-        // A deleted leaf is not in conflict, whatever its generation is.
+        // A deleted leaf of any generation is not in conflict with other leaves.
         (
             Call::Source(
                 r#"{"_id":"d","_revisions":{"start":3,"ids":["d","c","a"]},"_deleted":true}"#,
