@@ -1,4 +1,4 @@
-//! `Peer::backup` and `restore`. A failed allocation leaves a peer unchanged.
+//! `Peer::backup` and `restore`. Tests that a backup or restore whose allocation fails leaves the peer unchanged.
 use crate::peers::load;
 use anyhow::{Result, bail};
 use repl_log::{Moment, RepId};
@@ -14,8 +14,8 @@ const REP: RepId = RepId {
     chosen: None,
 };
 
-/// The observations of a peer: the life and update sequence of its database, and the numbers of its local writes and of
-/// its log entries.
+/// The observed values of a peer: its database's life and update sequence, and the numbers of its local writes and log
+/// entries.
 type Seen = (u64, u64, usize, usize);
 
 /// Returns the number of entries in the log of the replication.
@@ -34,7 +34,7 @@ fn look(alloc: Global, peer: &Peer<Rules>) -> Option<Seen> {
     Some((db.life(), db.update_seq(), peer.locals().len(), entries))
 }
 
-/// Stores the entry of a session.
+/// Stores the entry of a session in a peer's log.
 fn put_entry(peer: &mut Peer<Rules>, session: u128, at: Moment) -> Option<()> {
     let session = SessionId(session);
     match peer.put_entry(&REP, bare_entry(session, 0, at)) {
@@ -65,7 +65,7 @@ fn restore(alloc: Global, peer: &mut Peer<Rules>, backup: &Backup) -> Option<()>
     }
 }
 
-/// Loads two documents, and stores two entries.
+/// Loads two documents into a peer, and stores two entries in its log.
 fn fill(alloc: Global, peer: &mut Peer<Rules>) -> Option<()> {
     load(
         alloc,
@@ -97,7 +97,8 @@ fn go_on(alloc: Global, peer: &mut Peer<Rules>) -> Option<()> {
     put_entry(peer, 3, Moment::new(11).ok()?)
 }
 
-/// Backs up a peer, changes it, and restores it. Returns the observations before the backup and after the restore.
+/// Backs up a peer, changes it, and restores it. Returns the observed values of the peer before the backup and after
+/// the restore.
 fn put_back(alloc: Global, peer: &mut Peer<Rules>) -> Option<(Seen, Seen)> {
     let Some(()) = fill(alloc, peer) else {
         return None;

@@ -1,5 +1,5 @@
-//! Tests selections of documents, and replications of selected documents. A call whose allocation fails changes
-//! nothing.
+//! Tests selections of documents, and replications of selected documents. The tests check that a call whose allocation
+//! fails changes nothing.
 use crate::peers::load;
 use crate::replications::{is_memory, is_nothing, plan};
 use anyhow::{Result, bail};
@@ -44,7 +44,7 @@ fn choose(alloc: Global) -> Option<Chosen> {
     }
 }
 
-/// Returns the length of the text of a replication id with a selection.
+/// Returns the length of the text of a replication id that has a selection.
 fn named(alloc: Global, chosen: &Chosen) -> Option<usize> {
     let Ok(rep) = RepId::new(1, 2, Some(chosen)).ok()?.copy(alloc) else {
         return None;
@@ -78,7 +78,7 @@ fn is_clean(
     Some(is_nothing(found?))
 }
 
-/// Whether the target covers all selected documents of the source, and not all of its documents.
+/// Whether the target covers all selected documents of the source, but not all documents of the source.
 fn has_them_alone(
     alloc: Global,
     source: &Peer<Rules>,
@@ -144,12 +144,12 @@ fn fill(alloc: Global, source: &mut Peer<Rules>) -> Option<()> {
     Some(())
 }
 
-/// The observations of a replication of selected documents. The first observations are the length of the replication
-/// id, the number of rows of the page, and the recorded sequence. The last observations are the target's sequence, and
+/// The observed values of a replication of selected documents. The first values are the length of the replication id,
+/// the number of rows of the page, and the recorded sequence. The last values are the target's update sequence, and
 /// whether the target has only the selected documents.
 type Seen = (usize, usize, u64, u64, bool);
 
-/// Returns the observations of two peers after a replication of selected documents.
+/// Returns the observed values of two peers after a replication of selected documents.
 fn ended(alloc: Global, source: &mut Peer<Rules>, target: &mut Peer<Rules>) -> Option<Seen> {
     let Some(()) = fill(alloc, source) else {
         return None;
@@ -177,14 +177,14 @@ fn ended(alloc: Global, source: &mut Peer<Rules>, target: &mut Peer<Rules>) -> O
     ))
 }
 
-/// Replicates into a target. The code is a separate function, because each further live variable beside a peer
-/// lengthens the proof.
+/// Replicates into a target. This code is a separate function, because the proof grows with each variable that is live
+/// together with a peer.
 fn into_target(alloc: Global, source: &mut Peer<Rules>) -> Option<Seen> {
     let mut target = Peer::new(alloc, 2, Rules { deny: None });
     ended(alloc, source, &mut target)
 }
 
-/// Replicates between a source and a target.
+/// Replicates selected documents of a new source into a new target.
 fn between(alloc: Global) -> Option<Seen> {
     let mut source = Peer::new(alloc, 1, Rules { deny: None });
     into_target(alloc, &mut source)

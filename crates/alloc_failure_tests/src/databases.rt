@@ -1,5 +1,6 @@
-//! Tests `Database::put`, `edit`, `page`, `revs_diff`, `open_revs`, `count_asked` and `copy_in`, the copies of their
-//! messages, and `Parcel::prepare`. A failed allocation leaves a database unchanged.
+//! Tests `Database::put`, `edit`, `page`, `revs_diff`, `open_revs`, `count_asked` and `copy_in`, `Parcel::prepare`, and
+//! copies of windows, requests and parcels. The tests check that a call whose allocation fails leaves the database
+//! unchanged.
 use anyhow::{Result, bail};
 use couch_base::{Asked, BaseFault, Database, Parcel, Put, Row, Window};
 use doc_json::{Body, Doc, DocFault, DocId, read_body, read_doc};
@@ -51,7 +52,7 @@ fn reading(db: &Database, id: &DocId) -> (u64, usize, usize, Option<Rev>) {
     }
 }
 
-/// Returns the sum of the sequences of the feed, weighted by their positions.
+/// Returns the sum of the sequences of a feed's rows, each multiplied by the row's position.
 fn feed(alloc: Global, db: &Database) -> Result<u64> {
     if db.update_seq() == 0 {
         return Ok(0);
@@ -138,7 +139,7 @@ fn opened(alloc: Global, db: &Database, asked: &Asked) -> Result<Parcel> {
     }
 }
 
-/// Puts three documents, of which the first is put twice.
+/// Puts three documents, and the first of them twice.
 fn put_all(alloc: Global, db: &mut Database) -> Result<()> {
     for text in [
         r#"{"_id":"a","_revisions":{"start":2,"ids":["b","a"]},"n":1}"#,
@@ -171,7 +172,7 @@ fn grow(alloc: Global, db: &mut Database) -> Result<()> {
     edit_id(alloc, db, "d", &body, false)
 }
 
-/// Returns the number of fetched documents, and of gone revisions.
+/// Returns the number of fetched documents and the number of gone revisions.
 fn fetched(alloc: Global, db: &Database, asked: &Asked) -> Result<(usize, usize)> {
     let parcel = opened(alloc, db, asked)?;
     Ok((parcel.docs().len(), parcel.gone().len()))
@@ -193,7 +194,7 @@ fn prepare(alloc: Global, parcel: &mut Parcel, window: &Window) -> Result<()> {
     }
 }
 
-/// Puts the documents whose id is that of a row.
+/// Puts the fetched documents that have the id of a row.
 fn put_row(alloc: Global, db: &mut Database, docs: &[Doc], row: &Row) -> Result<()> {
     let origin = Origin::Feed(SessionId(1), row.seq());
     for doc in docs {
@@ -216,7 +217,7 @@ fn arrived(alloc: Global, window: &Window, parcel: Parcel) -> Result<u64> {
     Ok(db.update_seq())
 }
 
-/// The counts of an exchange with an empty database.
+/// The numbers that are counted in an exchange with an empty database.
 #[derive(Clone, Copy)]
 struct Counts {
     rows: usize,
@@ -242,7 +243,7 @@ fn counted(alloc: Global, db: &Database, empty: &Database, window: &Window) -> R
     })
 }
 
-/// Exchanges the complete feed with an empty database.
+/// Replicates the complete feed of a database into an empty database, with calls on databases.
 fn exchanged(alloc: Global, db: &Database, empty: &Database) -> Result<Counts> {
     let page = page(alloc, db, 0, 10)?;
     let window = window_copied(alloc, &page)?;
@@ -257,21 +258,21 @@ fn db_copied(alloc: Global, db: &Database) -> Result<Database> {
     }
 }
 
-/// Exchanges a copy of a database with another database.
+/// Replicates a copy of a database into another database.
 fn copy_exchanged(alloc: Global, db: &Database, empty: &Database) -> Result<(u64, Counts)> {
     let copy = db_copied(alloc, db)?;
     let counts = exchanged(alloc, &copy, empty)?;
     Ok((copy.update_seq(), counts))
 }
 
-/// Grows a database, and exchanges a copy of it with another database.
+/// Puts and edits documents in a database, and replicates a copy of this database into another database.
 fn session(alloc: Global, db: &mut Database, empty: &Database) -> Result<(u64, Counts)> {
     grow(alloc, db)?;
     copy_exchanged(alloc, db, empty)
 }
 
-/// Runs a session between two databases. The function has few live variables beside a database, because each variable
-/// lengthens the proof of every step.
+/// Runs a session between two databases. The function has few variables that are live together with a database, because
+/// each such variable lengthens the proof.
 fn between(alloc: Global) -> Result<(u64, Counts)> {
     let mut db = Database::new(alloc, 7);
     let empty = Database::new(alloc, 8);

@@ -1,4 +1,4 @@
-//! Tests `DocId::parse`, `read_doc`, `read_body`, `write_doc`, the copies, and `new_rev`.
+//! Tests `DocId::parse`, `read_doc`, `read_body`, `write_doc`, `new_rev`, and copies of documents and ids.
 use anyhow::{Result, bail};
 use doc_json::{Body, Doc, DocFault, DocId, read_body, read_doc, write_doc};
 use rev_core::{Rev, RevFault, new_rev};
@@ -46,7 +46,7 @@ fn id(alloc: Global) -> Result<DocId, DocFault> {
     }
 }
 
-/// Reads the body of a value.
+/// Reads the document body that a JSON value has.
 fn body(alloc: Global, members: &Value) -> Result<Body, DocFault> {
     match read_body(alloc, members) {
         Err(DocFault::Memory) => read_body(alloc, members),
@@ -54,7 +54,7 @@ fn body(alloc: Global, members: &Value) -> Result<Body, DocFault> {
     }
 }
 
-/// Returns the revision of an edit without a parent.
+/// Returns the revision that an edit without a parent creates.
 fn revised(alloc: Global, text: &[u8]) -> Result<Rev, RevFault> {
     match new_rev(alloc, None, false, text) {
         Err(RevFault::Memory) => new_rev(alloc, None, false, text),
@@ -78,7 +78,7 @@ fn is_first(alloc: Global, text: &[u8]) -> bool {
     }
 }
 
-/// Whether the body of a value, and an edit with that body, are as expected.
+/// Whether a JSON value gives the expected body, and an edit with this body creates the expected revision.
 fn is_edited(alloc: Global, members: &Value) -> bool {
     match body(alloc, members) {
         Ok(body) => body.text() == b"{\"n\":1}".as_slice() && is_first(alloc, body.text()),
@@ -86,7 +86,7 @@ fn is_edited(alloc: Global, members: &Value) -> bool {
     }
 }
 
-/// Whether the id and the body of an edit, and its revision, are as expected.
+/// Whether the id, the body and the revision of an edit are as expected.
 fn edited(alloc: Global) -> bool {
     match value(alloc, b"{\"n\":1}") {
         Some(members) => is_named(alloc) && is_edited(alloc, &members),
@@ -118,7 +118,7 @@ fn is_read(alloc: Global, value: &Value) -> bool {
     }
 }
 
-/// Whether the text is read and written as expected.
+/// Whether reading and writing the document's text gives the expected results.
 fn of_text(alloc: Global) -> bool {
     match value(alloc, TEXT) {
         Some(value) => is_read(alloc, &value),

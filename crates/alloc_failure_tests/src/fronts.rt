@@ -19,7 +19,7 @@ fn reserved(front: &mut Front) -> Result<(), AllocError> {
     }
 }
 
-/// The ends of the windows that are appended.
+/// The end sequences of the windows that the test appends.
 static ENDS: &[u64] = &[2, 4, 6, 8, 10];
 
 /// Whether all windows could be appended.
@@ -36,10 +36,10 @@ fn finishes(front: &mut Front, lo: u64) -> bool {
     reserved(front).is_ok() && front.finish(lo, lo.saturating_add(2)).is_ok()
 }
 
-/// The beginnings of the windows to finish, in order.
+/// The start sequences of the windows in the order in which the test finishes them.
 static BEGINNINGS: &[u64] = &[2, 6, 0, 4];
 
-/// Returns the low water after finishing, if all windows could be finished.
+/// Returns the low water after finishing the windows, if all windows could be finished.
 fn ended(alloc: Global) -> Option<u64> {
     let mut front = Front::new(alloc, 0);
     let mut well = grows(&mut front);

@@ -5,13 +5,14 @@ use rev_tree::SessionId;
 use std::alloc::{AllocError, Global};
 use test_support::bare_entry;
 
-/// Creates the entry of a session that read nothing, whose number and recorded sequence are both `recorded`.
+/// Creates the entry of a session that read nothing. The session id and the recorded sequence are both `recorded`.
 fn entry(recorded: u64) -> Result<Entry, LogFault> {
     let at = Moment::new(1_381_384_598)?;
     Ok(bare_entry(SessionId(u128::from(recorded)), recorded, at))
 }
 
-/// Stores an entry, and retries if an allocation fails. Returns whether a failure changed the log.
+/// Stores an entry in a log, and retries if an allocation fails. Returns whether a call that ran out of memory changed
+/// the log.
 fn put(log: &mut Log, recorded: u64) -> Result<bool, LogFault> {
     let before = log.len();
     match log.put(entry(recorded)?) {
@@ -107,7 +108,7 @@ fn by_replication(alloc: Global) -> bool {
     }
 }
 
-/// Whether five entries could be stored, and no failure changed the log.
+/// Whether five entries could be stored, and no failed call changed the log.
 fn grows(log: &mut Log) -> bool {
     let mut grows = true;
     for recorded in 1..6u64 {
@@ -124,7 +125,7 @@ fn is_named(alloc: Global, id: &RepId) -> bool {
     }
 }
 
-/// Whether a log is written with its id at the start.
+/// Whether the text of a log begins with the replication id of the log.
 fn is_written(alloc: Global, id: &RepId, log: &Log) -> bool {
     match written(alloc, id, log) {
         Ok(text) => text.starts_with(b"{\"_id\":\"_local/00000000000000000000000000000001-"),
@@ -132,7 +133,7 @@ fn is_written(alloc: Global, id: &RepId, log: &Log) -> bool {
     }
 }
 
-/// Whether a log grows, and its copy is written as expected.
+/// Whether entries could be stored in a log, and the text of a copy of the log is as expected.
 fn of_one(alloc: Global) -> bool {
     let mut log = Log::new(alloc);
     if !grows(&mut log) {

@@ -1,5 +1,5 @@
-//! Calls on a network. After a failed allocation, no peer was added, no document was written, and audits are clean.
-//! After a failure, hops with further sessions have the same result as hops without a failure.
+//! Calls on a network. After a failed allocation, no peer was added, no document was written, and audits find no error.
+//! If hops fail, repeating them with other session ids has the same result as hops that do not fail.
 use crate::peers::{body, doc, doc_id};
 use crate::replications::{is_memory, is_nothing, plan};
 use anyhow::{Result, bail};
@@ -82,7 +82,7 @@ fn is_clean(alloc: Global, net: &Net<Rules>, source: usize, target: usize) -> bo
     }
 }
 
-/// Whether all audits are clean.
+/// Whether no audit between two peers finds an error.
 fn are_clean(alloc: Global, net: &Net<Rules>) -> bool {
     let mut clean = true;
     for source in 0..PEERS {
@@ -115,7 +115,7 @@ fn hops(alloc: Global, first: u128, at: Moment) -> Option<Vec<Hop>> {
     Some(hops)
 }
 
-/// Does the same as `hops`, and retries if an allocation fails.
+/// Creates the chain of `hops`, and retries if an allocation fails.
 fn some_hops(alloc: Global, first: u128, at: Moment) -> Option<Vec<Hop>> {
     match hops(alloc, first, at) {
         Some(hops) => Some(hops),
@@ -123,7 +123,7 @@ fn some_hops(alloc: Global, first: u128, at: Moment) -> Option<Vec<Hop>> {
     }
 }
 
-/// Replicates along the chain, and retries with further sessions if an allocation fails.
+/// Replicates along the chain of hops, and retries with other session ids if an allocation fails.
 fn along(alloc: Global, net: &mut Net<Rules>, at: Moment) -> Option<()> {
     let Some(first) = some_hops(alloc, 1, at) else {
         return None;
@@ -154,7 +154,7 @@ fn plans(alloc: Global, first: u128, at: Moment) -> Option<Vec<Plan>> {
     Some(plans)
 }
 
-/// Does the same as `plans`, and retries if an allocation fails.
+/// Creates the plans of `plans`, and retries if an allocation fails.
 fn some_plans(alloc: Global, first: u128, at: Moment) -> Option<Vec<Plan>> {
     match plans(alloc, first, at) {
         Some(plans) => Some(plans),
@@ -162,7 +162,7 @@ fn some_plans(alloc: Global, first: u128, at: Moment) -> Option<Vec<Plan>> {
     }
 }
 
-/// Replicates through the hub, and retries with further sessions if an allocation fails.
+/// Replicates through the hub, and retries with other session ids if an allocation fails.
 fn by_hub(alloc: Global, net: &mut Net<Rules>, at: Moment) -> Option<()> {
     let Some(there) = some_plans(alloc, 5, at) else {
         return None;
@@ -196,8 +196,8 @@ fn sequences(net: &Net<Rules>) -> Option<u64> {
     Some(sum)
 }
 
-/// Writes and replicates in a network of three peers. Returns the sum of the peers' update sequences, and whether
-/// audits are clean.
+/// Writes and replicates in a network of three peers. Returns the sum of the peers' update sequences, and whether no
+/// audit finds an error.
 fn ended(alloc: Global, net: &mut Net<Rules>) -> Option<(u64, bool)> {
     let Ok(at) = Moment::new(10) else {
         return None;
@@ -229,8 +229,8 @@ fn ended(alloc: Global, net: &mut Net<Rules>) -> Option<(u64, bool)> {
     Some((sequences(net)?, clean))
 }
 
-/// Does the same as `ended`, for a new network. The network is the function's only live variable, because each further
-/// variable lengthens the proof.
+/// Performs the test `ended` with a new network. The function has no live variable but the network, because each
+/// further variable lengthens the proof.
 fn of_net(alloc: Global) -> Option<(u64, bool)> {
     let mut net = Net::new(alloc);
     ended(alloc, &mut net)

@@ -1,4 +1,5 @@
-//! Local writes, sessions and settling of a `Peer`. A failed allocation leaves a peer as the contract of the call says.
+//! Tests local writes, sessions and settling of a `Peer`. The tests check that a call whose allocation fails leaves the
+//! peer in the state that the call's contract allows.
 use anyhow::{Result, bail};
 use couch_base::{Asked, BaseFault, Parcel, Put, Window};
 use doc_json::{Body, Doc, DocFault, DocId, read_body, read_doc};
@@ -152,7 +153,8 @@ fn append(alloc: Global, peer: &mut Peer<Rules>, window: &Window) -> Option<()> 
     }
 }
 
-/// Returns the number of settled documents if settling ran out of memory, and the number of returned documents.
+/// If settling ran out of memory, returns the number of settled documents and the number of documents that were not
+/// settled.
 fn stopped(fault: TargetFault) -> Option<(u64, usize)> {
     match fault {
         TargetFault::Stopped {
@@ -172,7 +174,7 @@ fn counted(peer: &Peer<Rules>) -> Option<(u64, u64)> {
     Some((entry.counts.read, entry.counts.checked))
 }
 
-/// Settles, and retries if an allocation fails.
+/// Settles a parcel, and retries if an allocation fails.
 fn settle(
     alloc: Global,
     peer: &mut Peer<Rules>,
@@ -200,7 +202,7 @@ fn settle(
     }
 }
 
-/// Loads three documents, and edits a fourth one twice.
+/// Loads three documents, and edits a fourth document twice.
 fn fill_source(alloc: Global, source: &mut Peer<Rules>) -> Option<()> {
     for text in [
         r#"{"_id":"a","_revisions":{"start":2,"ids":["b","a"]},"n":1}"#,
@@ -268,8 +270,8 @@ fn tell(rt: &impl Print, settled: Settled, report: Report, sequence: u64) -> Res
     Ok(())
 }
 
-/// Runs the session, and returns the numbers of settled documents, the report, and the target's sequence. The target
-/// has a tree that contradicts a tree of the source.
+/// Runs the session, and returns the numbers of settled documents, the report, and the target's update sequence. The
+/// target has a tree that contradicts a tree of the source.
 fn session(
     alloc: Global,
     source: &mut Peer<Rules>,
@@ -289,8 +291,8 @@ fn session(
     Some((settled, report, target.db().update_seq()))
 }
 
-/// Runs the session with a target that refuses documents. The code is a separate function, because each further live
-/// variable beside a peer lengthens the proof.
+/// Runs the session with a target that refuses documents. This code is a separate function, because the proof grows
+/// with each variable that is live together with a peer.
 fn into_target(
     alloc: Global,
     source: &mut Peer<Rules>,
@@ -306,7 +308,7 @@ fn between(alloc: Global, deny: Option<String>) -> Option<(Settled, Report, u64)
     into_target(alloc, &mut source, deny)
 }
 
-/// Runs the session with a target that refuses the documents of a prefix.
+/// Runs the session with a target that refuses documents whose ids begin with a prefix.
 fn refusing(alloc: Global) -> Option<(Settled, Report, u64)> {
     let Some(deny) = prefix(alloc) else {
         return None;

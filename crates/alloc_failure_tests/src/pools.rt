@@ -1,6 +1,6 @@
-//! Calls `run` of the pool with one worker on the caller's thread, and with two fetchers and two writers, of which each
-//! is a thread. After a failed allocation both peers are returned, an audit is clean, and a further run ends at the
-//! goal.
+//! Calls the pool's `run` with one worker on the caller's thread, and with two fetchers and two writers on threads of
+//! their own. After a failed allocation, the run returns both peers, an audit finds no error, and another run reaches
+//! the goal.
 use crate::peers::load;
 use crate::replications::{is_clean, is_memory, plan};
 use anyhow::{Result, bail};
@@ -12,8 +12,8 @@ use std::mem;
 use std::sync::Wait;
 use std::thread::Threads;
 
-/// A gate that claims that it may block, although it never does. Each fetcher and each writer of a run with this gate
-/// is a thread.
+/// A gate that claims that it may block a worker, although it never does. Each fetcher and each writer of a run with
+/// this gate is a thread.
 struct Separate;
 
 impl Gate for Separate {
@@ -24,7 +24,7 @@ impl Gate for Separate {
     }
 }
 
-/// A kind of run, with its gate and its number of workers.
+/// The parameters of a run: its gate and its number of workers.
 struct Kind<'a, G: Gate> {
     gate: &'a G,
     workers: u64,
@@ -108,7 +108,7 @@ fn fill(alloc: Global, source: &mut Peer<Rules>) -> Option<()> {
     Some(())
 }
 
-/// Returns the recorded sequence of the last run, the target's update sequence, and whether an audit is clean.
+/// Returns the recorded sequence of the last run, the target's update sequence, and whether an audit finds no error.
 fn ended<G: Gate + Sync, R: Threads + Wait + Sync>(
     rt: &R,
     alloc: Global,
@@ -126,8 +126,8 @@ fn ended<G: Gate + Sync, R: Threads + Wait + Sync>(
     Some((report.recorded, target.db().update_seq(), clean))
 }
 
-/// Runs into a target. The code is a separate function, because each further live variable beside a peer lengthens the
-/// proof.
+/// Runs into a target. This code is a separate function, because the proof grows with each variable that is live
+/// together with a peer.
 fn into_target<G: Gate + Sync, R: Threads + Wait + Sync>(
     rt: &R,
     alloc: Global,
@@ -138,7 +138,7 @@ fn into_target<G: Gate + Sync, R: Threads + Wait + Sync>(
     ended(rt, alloc, kind, source, &mut target)
 }
 
-/// Runs the pool between a source and a target.
+/// Replicates a new source into a new target with the pool.
 fn between<G: Gate + Sync, R: Threads + Wait + Sync>(
     rt: &R,
     alloc: Global,

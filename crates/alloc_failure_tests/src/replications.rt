@@ -1,4 +1,4 @@
-//! `replicate_alone`. After a failed allocation an audit is clean, and a further replication ends at the goal.
+//! `replicate_alone`. After a failed allocation, an audit finds no error, and another replication reaches the goal.
 use crate::peers::load;
 use anyhow::{Result, bail};
 use repl_log::Moment;
@@ -47,7 +47,7 @@ pub(crate) fn is_nothing(found: Audit) -> bool {
     }
 }
 
-/// Replicates, and retries with another session if an allocation fails.
+/// Replicates the source into the target, and retries with another session id if an allocation fails.
 fn replicate(
     alloc: Global,
     source: &mut Peer<Rules>,
@@ -78,7 +78,8 @@ fn fill(alloc: Global, source: &mut Peer<Rules>) -> Option<()> {
     Some(())
 }
 
-/// Returns the recorded sequence of the last replication, the target's update sequence, and whether an audit is clean.
+/// Returns the recorded sequence of the last replication, the target's update sequence, and whether an audit finds no
+/// error.
 fn ended(
     alloc: Global,
     source: &mut Peer<Rules>,
@@ -97,14 +98,14 @@ fn ended(
     Some((report.recorded, target.db().update_seq(), clean))
 }
 
-/// Replicates into a target. The code is a separate function, because each further live variable beside a peer
-/// lengthens the proof.
+/// Replicates into a target. This code is a separate function, because the proof grows with each variable that is live
+/// together with a peer.
 fn into_target(alloc: Global, source: &mut Peer<Rules>) -> Option<(u64, u64, bool)> {
     let mut target = Peer::new(alloc, 2, Rules { deny: None });
     ended(alloc, source, &mut target)
 }
 
-/// Replicates between a source and a target.
+/// Replicates a new source into a new target.
 fn between(alloc: Global) -> Option<(u64, u64, bool)> {
     let mut source = Peer::new(alloc, 1, Rules { deny: None });
     into_target(alloc, &mut source)

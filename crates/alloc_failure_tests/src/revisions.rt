@@ -66,7 +66,7 @@ fn is_kept(alloc: Global, rev: &Rev) -> Option<bool> {
     }
 }
 
-/// Whether a revision with a signature of 33 bytes can be stored.
+/// Whether a revision with a signature of 33 bytes can be stored in compact form.
 fn keeps_long(alloc: Global) -> Option<bool> {
     match Rev::parse(b"1-0123456789abcdef0123456789abcdef0") {
         Ok(long) => is_kept(alloc, &long),
@@ -74,7 +74,7 @@ fn keeps_long(alloc: Global) -> Option<bool> {
     }
 }
 
-/// Whether a revision exists and is written as expected.
+/// Whether a revision exists and its text is as expected.
 fn is_text(alloc: Global, rev: Option<&Rev>, text: &[u8]) -> bool {
     let Some(rev) = rev else {
         return false;
@@ -88,7 +88,7 @@ fn is_text(alloc: Global, rev: Option<&Rev>, text: &[u8]) -> bool {
 /// The strings of the three revisions.
 static TEXTS: &[&[u8]] = &[b"3-c", b"2-b", b"1-a"];
 
-/// Whether the revisions are written as expected.
+/// Whether the texts of the three revisions are as expected.
 fn are_texts(alloc: Global, revs: &[Rev]) -> bool {
     let mut same = revs.len() == TEXTS.len();
     for (i, text) in TEXTS.iter().enumerate() {
@@ -97,7 +97,7 @@ fn are_texts(alloc: Global, revs: &[Rev]) -> bool {
     same
 }
 
-/// Whether the copy of an ancestry has the ancestry's revisions, and they are written as expected.
+/// Whether the copy of an ancestry has the ancestry's revisions, and their texts are as expected.
 fn is_copied(alloc: Global, ancestry: &Ancestry) -> Option<bool> {
     let Ok(copy) = copied(alloc, ancestry) else {
         return None;
@@ -108,7 +108,7 @@ fn is_copied(alloc: Global, ancestry: &Ancestry) -> Option<bool> {
     Some(are_texts(alloc, copy.revs()))
 }
 
-/// Does the same as `is_copied`, for the ancestry of three revisions.
+/// Performs the check `is_copied` for the ancestry of three revisions.
 fn three_copied(alloc: Global) -> Option<bool> {
     match three(alloc) {
         Ok(ancestry) => is_copied(alloc, &ancestry),

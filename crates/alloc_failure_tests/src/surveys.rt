@@ -1,4 +1,5 @@
-//! Questions about two peers. A query that is repeated after a failed allocation returns its usual result.
+//! Questions about two peers. If a query fails because of an allocation and is repeated, it returns the result that it
+//! has without a failure.
 use crate::peers::{doc_id, load};
 use anyhow::{Result, bail};
 use couch_base::Database;
@@ -10,7 +11,7 @@ use repl_target::{Peer, Rules};
 use rev_tree::Tree;
 use std::alloc::{AllocError, Global};
 
-/// Two leaves of a document, of which the target has one, and contradicts the history of the other.
+/// Two leaves of a document. The target has one leaf, and contradicts the ancestry of the other leaf.
 const SOURCE: [&str; 2] = [
     r#"{"_id":"d","_revisions":{"start":3,"ids":["d","b","a"]}}"#,
     r#"{"_id":"d","_revisions":{"start":2,"ids":["c","a"]}}"#,
@@ -45,7 +46,7 @@ fn census(alloc: Global, database: &Database) -> Option<Census> {
     }
 }
 
-/// Adds a tree, and retries if an allocation fails, because a failed call adds nothing.
+/// Adds a tree to the counts, and retries if an allocation fails, because a failed call adds nothing.
 fn counted(alloc: Global, tree: &Tree) -> Option<Census> {
     let mut census = Census::none();
     if census.add(alloc, tree).is_err() {
@@ -67,7 +68,7 @@ fn in_conflict(alloc: Global, tree: &Tree) -> Option<usize> {
     }
 }
 
-/// Returns the number of documents of all leaves, and retries if an allocation fails.
+/// Reads a document for each leaf, returns the number of these documents, and retries if an allocation fails.
 fn documents(alloc: Global, database: &Database, id: &DocId) -> Option<usize> {
     match documents_of(alloc, database, id) {
         Err(AllocError) => Some(documents_of(alloc, database, id).ok()?.len()),
@@ -128,7 +129,7 @@ fn asked(alloc: Global, source: &Peer<Rules>, target: &Peer<Rules>) -> Option<bo
     Some(of_document == (2, 1, 1) && of_leaves == (2, 2) && totals && counts)
 }
 
-/// Loads the target's documents, and makes the queries.
+/// Loads the target's documents, and performs the queries.
 fn with_target(alloc: Global, source: &Peer<Rules>) -> Option<bool> {
     let mut target = Peer::new(alloc, 2, Rules { deny: None });
     for text in TARGET {
@@ -139,7 +140,7 @@ fn with_target(alloc: Global, source: &Peer<Rules>) -> Option<bool> {
     asked(alloc, source, &target)
 }
 
-/// Loads the source's documents, and makes the queries.
+/// Loads the source's documents, and performs the queries.
 fn of_peers(alloc: Global) -> Option<bool> {
     let mut source = Peer::new(alloc, 1, Rules { deny: None });
     for text in SOURCE {

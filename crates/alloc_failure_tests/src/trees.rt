@@ -1,4 +1,4 @@
-//! Tests `Tree::merge`, which leaves the tree unchanged if an allocation fails, and the read calls that allocate.
+//! Tests `Tree::merge` and the read calls that allocate. If an allocation fails, `merge` leaves the tree unchanged.
 use crate::revisions;
 use anyhow::{Result, bail};
 use rev_core::{Ancestry, Rev, Sig};
@@ -20,7 +20,7 @@ fn reading(tree: &Tree) -> (usize, usize, Option<Rev>) {
     (tree.leaf_count(), tree.rev_count(), tree.winner())
 }
 
-/// Merges, and retries if an allocation fails. Returns whether a failure changed the tree.
+/// Merges, and retries if an allocation fails. Returns whether a call that ran out of memory changed the tree.
 fn merged(
     alloc: Global,
     tree: &mut Tree,
@@ -74,7 +74,7 @@ fn of_sigs(alloc: Global, start: u32, sigs: &[Sig]) -> Option<Ancestry> {
     }
 }
 
-/// Returns the ancestry 4-d, 3-x, whose oldest revision has an unknown parent.
+/// Returns the ancestry 4-d, 3-x, which does not give the parent of 3-x.
 fn other(alloc: Global) -> Option<Ancestry> {
     match (Sig::parse(b"d"), Sig::parse(b"x")) {
         (Ok(d), Ok(x)) => of_sigs(alloc, 4, &[d, x]),
@@ -82,7 +82,7 @@ fn other(alloc: Global) -> Option<Ancestry> {
     }
 }
 
-/// Returns the ancestry 12-l to 1-l, with which the tree has enough revisions for an index.
+/// Returns the ancestry 12-l to 1-l, with which the tree has enough revisions to build an index.
 fn long(alloc: Global) -> Option<Ancestry> {
     match Sig::parse(b"l") {
         Ok(sig) => of_sigs(alloc, 12, &[sig; 12]),
@@ -90,7 +90,7 @@ fn long(alloc: Global) -> Option<Ancestry> {
     }
 }
 
-/// Merges an optional ancestry. Returns whether the result is as expected, and no failure changed the tree.
+/// Merges an optional ancestry. Returns whether the merge's result is as expected, and no failed call changed the tree.
 fn merges(alloc: Global, tree: &mut Tree, given: Option<&Ancestry>, wanted: Merged) -> bool {
     let Some(given) = given else {
         return false;
@@ -101,7 +101,7 @@ fn merges(alloc: Global, tree: &mut Tree, given: Option<&Ancestry>, wanted: Merg
     }
 }
 
-/// Merges the three ancestries, and the first one again. Returns whether each result is as expected.
+/// Merges the three ancestries, and then the first ancestry again. Returns whether each result is as expected.
 fn grows(alloc: Global, tree: &mut Tree) -> bool {
     let three = revisions::three(alloc).ok();
     merges(alloc, tree, three.as_ref(), Merged::Changed)
@@ -133,7 +133,7 @@ fn has_all(alloc: Global, tree: &Tree, revs: &[Rev]) -> bool {
     }
 }
 
-/// Whether a leaf is the only one above its ancestry, and the tree has the ancestry.
+/// Whether the tree has the ancestry of a leaf, and no other leaf descends from this ancestry.
 fn is_read(alloc: Global, tree: &Tree, leaf: Rev) -> bool {
     match ancestry(alloc, tree, leaf) {
         Ok(walk) => {
@@ -143,7 +143,7 @@ fn is_read(alloc: Global, tree: &Tree, leaf: Rev) -> bool {
     }
 }
 
-/// Whether each leaf is the only leaf above its ancestry, and the tree has the ancestry.
+/// Whether, for each leaf, the tree has the leaf's ancestry, and no other leaf descends from this ancestry.
 fn are_read(alloc: Global, tree: &Tree) -> bool {
     let Ok(leaves) = leaves(alloc, tree) else {
         return false;
@@ -155,7 +155,8 @@ fn are_read(alloc: Global, tree: &Tree) -> bool {
     are_read
 }
 
-/// Returns the numbers of leaves and revisions of a copy of the grown tree, if it is read as expected.
+/// Returns the numbers of leaves and revisions of a copy of the grown tree, if reading the copy gives the expected
+/// results.
 fn ended(alloc: Global) -> Option<(usize, usize)> {
     let mut tree = Tree::new(alloc);
     if !grows(alloc, &mut tree) {

@@ -48,7 +48,7 @@ fn is_written_as(alloc: Global, doc: &Doc, text: &[u8]) -> Result<bool, DocFault
     }
 }
 
-/// Does the same as `is_its_document`, and retries if an allocation fails.
+/// Performs the check `is_its_document`, and retries if an allocation fails.
 fn is_written(reader: &mut ValueReader, alloc: Global, text: &[u8]) -> Result<bool, DocFault> {
     match is_its_document(reader, alloc, text) {
         Err(DocFault::Memory) => is_its_document(reader, alloc, text),
@@ -56,7 +56,7 @@ fn is_written(reader: &mut ValueReader, alloc: Global, text: &[u8]) -> Result<bo
     }
 }
 
-/// Does the same as `is_its_body`, and retries if an allocation fails.
+/// Performs the check `is_its_body`, and retries if an allocation fails.
 fn is_body(reader: &mut ValueReader, alloc: Global, text: &[u8]) -> Result<bool, DocFault> {
     match is_its_body(reader, alloc, text) {
         Err(DocFault::Memory) => is_its_body(reader, alloc, text),
@@ -64,7 +64,7 @@ fn is_body(reader: &mut ValueReader, alloc: Global, text: &[u8]) -> Result<bool,
     }
 }
 
-/// Whether all texts are read as expected, by one reader.
+/// Whether one reader reads all texts as expected.
 fn are_read(alloc: Global) -> bool {
     let mut reader = ValueReader::new(alloc);
     let mut are_read = true;

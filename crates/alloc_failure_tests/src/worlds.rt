@@ -1,5 +1,5 @@
-//! `World::run`. After a failed allocation the world is as the previous steps left it, or a settling is partial. The
-//! steps that remain after a failure lead to the result that all steps have without a failure.
+//! `World::run`. After a failed allocation, the world is in the state after the previous step, or a parcel is partially
+//! settled. After a failure, the remaining steps lead to the result that all steps have without a failure.
 use crate::peers::{body, doc, doc_id};
 use anyhow::{Result, bail};
 use repl_log::Moment;
@@ -12,11 +12,11 @@ use std::alloc::Global;
 /// The only session.
 const SESSION: SessionId = SessionId(1);
 
-/// The observations of a session, which are the number of its windows, its low water, and its recorded sequence.
+/// The observed values of a session: the number of its windows, its low water, and its recorded sequence.
 type Session = (usize, u64, u64);
 
-/// The life of a world's source, the update sequences of the world's peers, the session if it has begun, and the sizes
-/// of the message bag.
+/// The observed values of a world: the source's life, the peers' update sequences, the session if it has begun, and the
+/// numbers of messages in the bag.
 #[derive(Clone, Copy, PartialEq, Eq)]
 struct Seen {
     life: u64,
@@ -26,9 +26,9 @@ struct Seen {
     sizes: (usize, usize, usize, usize, usize),
 }
 
-/// The observations before each step after which a failure may occur, with the index of the first remaining step. The
-/// observations during a partial settling have an index of their own. The source's log and its backups are not
-/// observed, because storing and backing up are repeated.
+/// The values observed before each step, with the index of the first step that remains if the step fails. The values
+/// observed after a partial settling, with the index of the step that remains. The test does not observe the source's
+/// log and backups, because it repeats the steps that store entries and back up.
 static BEFORE: &[(
     u64,
     u64,
@@ -165,14 +165,14 @@ fn steps(alloc: Global) -> Option<Vec<Step>> {
     Some(steps)
 }
 
-/// Returns the observations of the session, if it has begun.
+/// Returns the observed values of the session, if the session has begun.
 fn session(target: &Peer<Rules>) -> Option<Session> {
     let windows = target.windows(SESSION)?.len();
     let done = target.front(SESSION)?.low_water();
     Some((windows, done, target.entry(SESSION).ok()?.recorded))
 }
 
-/// Returns the observations of a world.
+/// Returns the observed values of a world.
 fn look(world: &World<Rules>) -> Seen {
     Seen {
         life: world.source().db().life(),
@@ -223,7 +223,7 @@ fn is_clean(alloc: Global, world: &World<Rules>) -> bool {
     }
 }
 
-/// Returns the session's recorded sequence, the final observations, and whether an audit is clean.
+/// Returns the session's recorded sequence, the values observed at the end, and whether an audit finds no error.
 fn ended(alloc: Global, world: &mut World<Rules>) -> Option<(u64, Seen, bool)> {
     let all = match steps(alloc) {
         Some(all) => Some(all),
@@ -242,8 +242,8 @@ fn ended(alloc: Global, world: &mut World<Rules>) -> Option<(u64, Seen, bool)> {
     Some((entry.recorded, look(world), clean))
 }
 
-/// Does the same as `ended`, for a world of two new peers. The world is the function's only live variable, because each
-/// further variable lengthens the proof.
+/// Performs the test `ended` with a world of two new peers. The function has no live variable but the world, because
+/// each further variable lengthens the proof.
 fn of_two(alloc: Global) -> Option<(u64, Seen, bool)> {
     let source = Peer::new(alloc, 1, Rules { deny: None });
     let target = Peer::new(alloc, 2, Rules { deny: None });

@@ -1,4 +1,4 @@
-//! The revisions requested for a window of the feed.
+//! Requests for revisions of the documents in a window of the feed.
 ghost use Rattle.std.specs.Prelude.{◌≡◌, IfOk};
 
 use crate::copies::copied;
@@ -8,7 +8,7 @@ use rev_tree::Revs;
 use std::alloc::{AllocError, Global};
 use std::marker::Model;
 
-/// The revisions requested of one document: at least one, without duplicates.
+/// A request for at least one revision of a document, without duplicates.
 pub struct Wanted {
     id: DocId,
     revs: Revs,
@@ -63,7 +63,8 @@ impl Wanted {
     }
 }
 
-/// The revisions requested for the window `(lo, hi]` of a feed: documents without duplicates, each with revisions.
+/// A request for the window `(lo, hi]` of a feed. The request names documents without duplicates, each with the
+/// requested revisions.
 pub struct Asked {
     lo: u64,
     hi: u64,
@@ -104,7 +105,7 @@ impl Asked {
         Asked { lo, hi, docs }
     }
 
-    /// Returns the sequence above which the window begins.
+    /// Returns the sequence above which the window's changes begin.
     pub fn lo(&self) -> u64
         ensures value { result ≡ self.now.lo }
         ensures asked { IsAsked self.now }
@@ -112,7 +113,7 @@ impl Asked {
         self.lo
     }
 
-    /// Returns the sequence at which the window ends.
+    /// Returns the sequence at which the window ends, inclusively.
     pub fn hi(&self) -> u64
         ensures value { result ≡ self.now.hi }
         ensures asked { IsAsked self.now }
@@ -120,7 +121,7 @@ impl Asked {
         self.hi
     }
 
-    /// Returns the documents, in the order of the window's rows.
+    /// Returns the requested documents, in the order of the window's rows.
     pub fn docs(&self) -> &[Wanted]
         ensures value { result.now ≡ self.now.docs }
         ensures asked { IsAsked self.now }

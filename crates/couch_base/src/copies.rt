@@ -1,10 +1,10 @@
-//! Copying lists element by element.
+//! Copies lists element by element.
 ghost use Rattle.std.specs.Prelude.{◌≡◌, IfOk, Ok};
 ghost use Rattle.std.specs.Fn.{FnReturnsAt};
 
 use std::alloc::{AllocError, Global};
 
-/// Copies a list, using `copy` for each element.
+/// Copies a list by calling `copy` for each element.
 pub(crate) fn copied<T: Drop, F: Fn(&T) -> Result<T, AllocError>>(
     alloc: Global,
     items: &[T],

@@ -1,4 +1,4 @@
-//! The parent and the ancestry of a local edit.
+//! Computes the parent and the ancestry of a local edit.
 ghost use Rattle.std.specs.Prelude.{◌≡◌, ◌^◌, ◌∷◌, Some, not, nat_lt, IfOk};
 ghost use Rattle.std.specs.Option.{option_to_list};
 ghost use Rattle.rev_core.specs.NewRev.{next_generation};
@@ -34,7 +34,7 @@ pub(crate) fn parent_in(tree: &Tree, parent: Option<Rev>) -> Result<Option<Rev>,
 fn deleted_winner(tree: &Tree) -> Result<Option<Rev>, BaseFault>
     ensures { result ≡ parent_answer (Some tree.now) None }
 {
-    // Live leaves are first, so the winner is deleted only if all leaves are.
+    // Live leaves come before deleted leaves, so the winner is a deleted leaf only if all leaves are deleted.
     let Some(winner) = tree.winner() else {
         return Ok(None);
     };
@@ -89,13 +89,13 @@ fn edit_rev(
     Ok(new_rev(alloc, parent, deleted, body.text())?)
 }
 
-/// Creates the ancestry of a revision and its optional parent.
+/// Creates the ancestry of a revision and of its parent, if the revision has a parent.
 fn ancestry_of(alloc: Global, rev: Rev, parent: Option<Rev>) -> Result<Ancestry, AllocError>
     requires { rev.generation ≡ next_generation parent }
     ensures ancestry { IfOk result (λ a. a ≡ rev ∷ option_to_list parent) }
 {
     let mut revs = Vec::with_capacity(alloc, 2)?;
-    // The result is unused: the call only gives proofs the fact that both values are revisions.
+    // The call's result is unused, and only gives proofs the fact that both values are revisions.
     let _generation = rev.generation();
     revs.push(rev)?;
     let Some(parent) = parent else {
@@ -106,7 +106,7 @@ fn ancestry_of(alloc: Global, rev: Rev, parent: Option<Rev>) -> Result<Ancestry,
     Ok(Ancestry::from_revs(revs))
 }
 
-/// Creates a document's content, which shares its body.
+/// Creates the content of a document, which shares the body with the document.
 pub(crate) fn content_of(deleted: bool, body: &Body) -> Result<Content, AllocError>
     ensures content { IfOk result (λ c. c ≡ content_of deleted body.now) }
     ensures body { IfOk result (λ c. IsBody c.body) }

@@ -1,4 +1,4 @@
-//! Requesting missing revisions, fetching them, and reading a document at a revision.
+//! Requests missing revisions, fetches documents for requests, and reads a document at a revision.
 ghost use Rattle.std.specs.Prelude.{◌≡◌, ◌++◌, [], true, map, length, OnOk, IfOk};
 ghost use Rattle.std.specs.List.{list_all};
 ghost use Rattle.rev_tree.specs.Tree.{is_leaf, missing};
@@ -19,9 +19,9 @@ use std::alloc::{AllocError, Global};
 impl Database {
     ghost use Rattle.couch_base.specs.Messages.{revs_diff, open_revs, document_at};
 
-    /// Returns the leaves of another database's window that are missing in this database, in the order of the rows.
+    /// Returns the leaves of another database's window that this database lacks, in the order of the window's rows.
     ///
-    /// A revision that is known only as an ancestor is not missing.
+    /// A revision that this database knows only as an ancestor is not missing.
     pub fn revs_diff(&self, alloc: Global, window: &Window) -> Result<Asked, AllocError>
         ensures asked { IfOk result (λ a. a ≡ revs_diff self.now window.now) }
     {
@@ -34,10 +34,10 @@ impl Database {
     }
 
     /// Returns the documents for a request, and the requested revisions that this database does not have. For each
-    /// requested document, the result has the leaves at or above the requested revisions, each with its known ancestry
-    /// and its content.
+    /// requested document, the result has each leaf that is or descends from a requested revision, with its known
+    /// ancestry and its content.
     ///
-    /// Documents are in the order of the request, the leaves of a document winner first.
+    /// The result has the documents in the order of the request, and the leaves of a document winner first.
     pub fn open_revs(&self, alloc: Global, asked: &Asked) -> Result<Parcel, AllocError>
         ensures parcel { IfOk result (λ p. p ≡ open_revs self.now asked.now) }
     {
@@ -185,7 +185,7 @@ fn add_documents(
     Ok(())
 }
 
-/// Returns the document of a leaf, which always has a content.
+/// Returns the document of a leaf. A leaf always has a content.
 fn leaf_document(alloc: Global, id: &DocId, tree: &Tree, leaf: Rev) -> Result<Doc, AllocError>
     requires document { IsDocumentTree tree.now }
     requires leaf { is_leaf tree.now leaf ≡ true }

@@ -17,7 +17,7 @@ pub type Listed = Result<Window, BaseFault>;
 /// What a put changed.
 #[derive(Clone, Copy, Debug, PartialEq, Eq)]
 pub enum Put {
-    /// The document changed, at this sequence.
+    /// The put changed the document, at this update sequence.
     Changed { seq: u64 },
     /// The database already had the document. No sequence was taken.
     Same,
@@ -26,8 +26,8 @@ pub enum Put {
 /// Why a call failed.
 #[derive(Clone, Copy, Debug, Error)]
 pub enum BaseFault {
-    /// A given child has another parent in the document's tree. The variant names the newest child of which the tree
-    /// has another parent.
+    /// A child in the given ancestry has another parent in the document's tree. The variant names the newest child of
+    /// which the tree has another parent.
     #[error("a revision has another parent in the document's tree")]
     Contradiction { child: Rev, known: Rev, given: Rev },
     /// The update sequence is the greatest one, 9,007,199,254,740,991.

@@ -1,4 +1,4 @@
-//! Iterating over the changes feed in place.
+//! Iterates over the changes feed without copying its documents.
 ghost use Rattle.std.specs.Prelude.{◌≡◌, ◌∷◌, [], None, IfOk, IfSome};
 
 use crate::table::Table;
@@ -7,7 +7,7 @@ use rev_tree::{Revs, Tree};
 use std::alloc::{AllocError, Global};
 use std::marker::Model;
 
-/// A changed document in the feed, by reference. Contracts see its row.
+/// A changed document in the changes feed, as a reference into the database. Contracts see its row.
 #[derive(Drop)]
 pub struct Change<'a> {
     seq: u64,
@@ -81,7 +81,7 @@ impl<'a> Feed<'a> {
         }
     }
 
-    /// Returns the next changed document, or `None` at the end.
+    /// Returns the next changed document, or `None` at the end of the iteration.
     pub fn next(&mut self) -> Option<Change<'a>>
         ensures first { IfSome result (λ c. self.old ≡ c ∷ self.new) }
         ensures none { result ≡ None → self.old ≡ [] }

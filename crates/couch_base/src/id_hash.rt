@@ -1,23 +1,23 @@
 //! The hash function of a database's table of documents.
 //!
-//! Ids come from untrusted sources. With a fixed initial state, anyone could choose ids whose hashes collide, and each
-//! lookup would scan all of them. The hash of an id therefore starts with the database's UUID. The UUID protects
-//! against hash collisions only if the author of the ids does not know the UUID. A UUID that the program makes follows
-//! from the program's seed, which is 0 by default.
+//! The document ids come from untrusted sources. If the hash function had a fixed initial state, anyone could choose
+//! document ids whose hashes collide, which makes lookups slow. Hashing a document id therefore starts with the
+//! database's UUID. The UUID protects against hash collisions only if the author of the ids does not know the UUID. A
+//! UUID that the program generates depends only on the program's seed, which is 0 by default.
 ghost use Rattle.std.specs.Prelude.{◌≡◌};
 ghost use Rattle.std.specs.Hash.{le_bytes};
 ghost use Rattle.std.specs.Hash.FoldHasher.{initial, write};
 
 use std::hash::{BuildHasher, FoldHasher, Hasher};
 
-/// Builds hashers that start with the UUID of a database.
+/// Builds hashers whose initial state is the UUID of a database.
 #[derive(Clone, Copy)]
 pub(crate) struct IdHash {
     begun: FoldHasher,
 }
 
 impl IdHash {
-    /// Creates the hash builder of a database. Each hash begins with the database's UUID.
+    /// Creates the hash builder of a database. Each hasher reads the database's UUID first.
     pub(crate) fn new(uuid: u128) -> IdHash
         ensures { result.begun ≡ write initial (le_bytes 16 uuid) }
     {

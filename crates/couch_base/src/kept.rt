@@ -1,4 +1,4 @@
-//! The stored form of a document.
+//! The form in which a database stores a document.
 
 use rev_tree::Tree;
 

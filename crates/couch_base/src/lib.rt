@@ -1,4 +1,4 @@
-//! A database: puts, local edits, pages of its changes feed, and requesting and fetching revisions.
+//! A database, with calls that put and edit documents, read pages of the changes feed, and request and fetch revisions.
 //!
 //! The rules are in docs/PROFILE.md, "Sequences", "Merging", "Local edits", "Changes feed", "Missing revisions" and
 //! "Fetching".

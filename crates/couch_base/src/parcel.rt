@@ -12,16 +12,17 @@ use rev_tree::SessionId;
 use std::alloc::{AllocError, Global};
 use std::marker::Model;
 
-/// What was fetched for a request for the window `(lo, hi]`: the request, the documents, and the requested revisions
-/// that are gone.
+/// A parcel: a request for the window `(lo, hi]`, the documents fetched for it, and the requested revisions that are
+/// gone.
 ///
-/// Each requested revision is gone, or in the ancestry of a document of its id. Each ancestry contains a requested
-/// revision. No two documents have the same id and newest revision.
+/// Each requested revision of a document is gone, or in the ancestry of a fetched document with the same id. The
+/// ancestry of each fetched document contains a requested revision. No two documents have the same id and newest
+/// revision.
 pub struct Parcel {
     asked: Asked,
     docs: Vec<Doc>,
     gone: Vec<(DocId, Rev)>,
-    // Prepared trees have a list of their own, because few callers prepare a parcel, and documents stay small.
+    // Prepared trees are stored in a separate list to keep documents small, because few callers prepare a parcel.
     made: Vec<Option<PreparedTree>>,
 }
 
@@ -72,7 +73,7 @@ impl Parcel {
         }
     }
 
-    /// Returns the sequence above which the window begins.
+    /// Returns the sequence above which the window's changes begin.
     pub fn lo(&self) -> u64
         ensures value { result ≡ self.now.asked.lo }
         ensures parcel { IsParcel self.now }
@@ -80,7 +81,7 @@ impl Parcel {
         self.asked.lo()
     }
 
-    /// Returns the sequence at which the window ends.
+    /// Returns the sequence at which the window ends, inclusively.
     pub fn hi(&self) -> u64
         ensures value { result ≡ self.now.asked.hi }
         ensures parcel { IsParcel self.now }
@@ -96,8 +97,8 @@ impl Parcel {
         &self.asked
     }
 
-    /// Returns the documents in the order of the request. Documents with the same id are in the order of leaves, winner
-    /// first.
+    /// Returns the documents in the order of the request. Fetched documents with the same id are in the order of
+    /// leaves, winner first.
     pub fn docs(&self) -> &[Doc]
         ensures value { result.now ≡ self.now.docs }
         ensures parcel { IsParcel self.now }
@@ -136,9 +137,9 @@ impl Parcel {
         (asked, docs, gone, made)
     }
 
-    /// Builds the trees that the documents would have as new documents, with a session's feed at the sequences of the
-    /// rows as their origins. The value of the parcel does not change. The call `put_prepared` can use the prepared
-    /// trees.
+    /// Builds the trees that the documents would have as new documents. The origin of each tree is a session and the
+    /// sequence of the document's row. Preparing a parcel does not change its value. The call `Database::put_prepared`
+    /// can store the prepared trees.
     pub fn prepare(
         &mut self,
         alloc: Global,
@@ -163,8 +164,8 @@ impl Parcel {
     }
 }
 
-/// Builds the trees that documents would have as new documents. The call searches the rows in order. If a document has
-/// no row, this document and those after it get no tree.
+/// Builds the trees that documents would have as new documents. The call searches the window's rows in order. If a
+/// document has no row, the call builds no tree for it and for the documents after it.
 fn make_all(
     alloc: Global,
     session: SessionId,
@@ -186,7 +187,7 @@ fn make_all(
     Ok(all)
 }
 
-/// Returns the index of the first row that has the id, from index `from` on, or the number of rows.
+/// Returns the index of the first row with the id at or after index `from`, or the number of rows if there is none.
 fn row_from(rows: &[Row], id: &DocId, from: usize) -> usize {
     for place in from..rows.len() {
         if rows[place].id() == id {

@@ -7,8 +7,8 @@ use doc_json::{Doc, DocId};
 use rev_tree::{Origin, SessionId, Tree};
 use std::alloc::{AllocError, Global};
 
-/// The tree that a document would have as a new document, with its id. The origin of the tree is a session's feed at a
-/// sequence.
+/// The id of a document, and the tree that the document would have as a new document. The origin of the prepared tree
+/// is a session and a sequence of its feed.
 #[derive(Drop)]
 pub struct PreparedTree {
     pub(crate) key: DocId,
@@ -18,7 +18,7 @@ pub struct PreparedTree {
 }
 
 impl PreparedTree {
-    /// Builds the tree of a document, with a session's feed at a sequence as its origin.
+    /// Builds the tree of a new document, whose origin is a session and a sequence of its feed.
     pub(crate) fn of(
         alloc: Global,
         doc: &Doc,
@@ -28,7 +28,7 @@ impl PreparedTree {
         ensures { IfOk result (IsMadeOf doc.now) }
     {
         let ancestry = doc.ancestry();
-        // The result is unused: the call only gives proofs the fact that an ancestry has a revision.
+        // The call's result is unused, and only gives proofs the fact that an ancestry has at least one revision.
         let _revs = ancestry.revs();
         let content = content_of(doc.deleted(), doc.body())?;
         let mut tree = Tree::new(alloc);

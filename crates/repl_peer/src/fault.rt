@@ -20,8 +20,8 @@ use thiserror::Error;
 pub enum Reason {
     /// The write filter refuses the document.
     Filtered,
-    /// The document's ancestry gives a child another parent than the tree does. The variant names the newest child
-    /// whose parent differs.
+    /// The ancestry of the document contradicts the tree, because a child has another parent in the tree. The variant
+    /// names the newest child whose parent differs.
     Contradicting { child: Rev, known: Rev, given: Rev },
 }
 
@@ -30,11 +30,11 @@ pub enum Reason {
 pub enum Cause {
     /// An allocation failed.
     Memory,
-    /// A document would change the database, and no sequence was left.
+    /// A document would change the database, but the database has no sequence left.
     SeqFull,
 }
 
-/// The numbers of documents of a parcel that were written and refused.
+/// The number of a parcel's documents that were written, and the number that were refused.
 #[derive(Clone, Copy, Debug, PartialEq, Eq)]
 pub struct Settled {
     /// The number of documents stored, including those that already existed.
@@ -52,7 +52,7 @@ pub enum TargetFault {
     /// The base is not an earlier session of the session's replication.
     #[error("no such base session")]
     NoSuchBase,
-    /// The start exceeds the recorded sequence of the base, or 0 if there is no base.
+    /// The start exceeds the recorded sequence of the base session. Without a base session, the start exceeds 0.
     #[error("the start is above {recorded}, which its base has recorded")]
     StartAboveBase {
         recorded: u64,
@@ -63,12 +63,12 @@ pub enum TargetFault {
     /// The peer has no session with this id.
     #[error("no such session")]
     NoSuchSession,
-    /// The window or entry is from another life of the source than the session or database, whose life is `now`.
+    /// The window or entry is from a life of the source that differs from the life `now` of the session or database.
     #[error("of another life than {now}")]
     OtherLife {
         now: u64,
     },
-    /// The window does not begin where the stored windows end, which is `expected`.
+    /// The window does not begin at the sequence `expected`, at which the stored windows end.
     #[error("a window that begins at {expected} is due")]
     Gap {
         expected: u64,
@@ -85,15 +85,16 @@ pub enum TargetFault {
     /// A count of the session would exceed 9,007,199,254,740,991.
     #[error("a count of the session is full")]
     CountFull,
-    /// Only the first `settled` documents of the parcel are settled, and `rest` has the others. The window is not done.
+    /// Only the first `settled` documents of the parcel are settled, and `rest` has the remaining documents. The window
+    /// is not done.
     #[error("stopped after {settled} documents")]
     Stopped {
         settled: u64,
         rest: Vec<Doc>,
         cause: Cause,
     },
-    /// All documents of the parcel are settled, but a leaf of the window's rows is not covered, so the window is not
-    /// done. The variant names the first leaf that is not covered.
+    /// The parcel's documents are settled, but the window is not done because a leaf of its rows is not covered. The
+    /// variant names the first leaf that is not covered.
     #[error("a leaf of the window is not covered")]
     Uncovered {
         seq: u64,
@@ -105,7 +106,7 @@ pub enum TargetFault {
     Unfinished {
         low_water: u64,
     },
-    /// The log's entry of this session has a greater recorded sequence, `stored`.
+    /// The log already has an entry of this session with a greater recorded sequence, `stored`.
     #[error("older than the stored entry, which recorded {stored}")]
     Older {
         stored: u64,
@@ -116,7 +117,7 @@ pub enum TargetFault {
     /// The backup is of a database with another UUID.
     #[error("the copy is of another database")]
     ForeignBackup,
-    /// No life is left, because the next life would exceed 9,007,199,254,740,991.
+    /// The database cannot get another life, because its number would exceed 9,007,199,254,740,991.
     #[error("no life is left")]
     LifeFull,
     /// The window size of a plan is 0 or exceeds 10,000.
@@ -163,7 +164,7 @@ impl From<BaseFault> for Cause {
     }
 }
 
-/// Converts the error of marking a window that has been checked.
+/// Converts the error of marking a window as done after the window was checked.
 impl From<FrontFault> for Cause {
     ghost from_gives = { λ fault cause. cause ≡ cause_by_front fault };
 

@@ -1,4 +1,5 @@
-//! The logs of a peer. The logs of incoming sessions are computed, and the logs of outgoing sessions are stored.
+//! The logs of a peer. A peer computes the logs of its incoming sessions from the sessions, and stores the logs of its
+//! outgoing sessions.
 ghost use Rattle.std.specs.Prelude.{◌≡◌, OnOk, OnErr, IfOk};
 ghost use Rattle.std.specs.Option.{option_copied};
 ghost use Rattle.repl_log.specs.Entry.{value_of};
@@ -14,8 +15,8 @@ use repl_log::{Entry, Log, RepId};
 use rev_tree::SessionId;
 use std::alloc::{AllocError, Global};
 
-/// Returns the id of the replication from one peer into another. The id has the UUIDs of both databases and shares the
-/// selection. The call also gives proofs the fact that both peers satisfy their invariants.
+/// Returns the id of the replication from one peer into another. The id contains the UUIDs of both databases, and
+/// shares the selection with the caller. The call also gives proofs the fact that both peers satisfy their invariants.
 pub fn rep_between<F: WriteFilter, G: WriteFilter>(
     source: &Peer<F>,
     target: &Peer<G>,
@@ -32,7 +33,7 @@ pub fn rep_between<F: WriteFilter, G: WriteFilter>(
 /// newest session of the target's log that is also in the source's log, with the lesser of its two recorded sequences.
 /// Returns `None` if the logs share no session.
 ///
-/// The call scans the target's sessions of the replication, newest first, up to the session that it finds. Does not
+/// The call scans the target's sessions of the replication, newest first, until it finds the common session. Does not
 /// allocate.
 pub fn checkpoint<F: WriteFilter, G: WriteFilter>(
     source: &Peer<F>,

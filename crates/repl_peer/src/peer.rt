@@ -128,9 +128,10 @@ impl<F: WriteFilter> Peer<F> {
 
     /// Returns the database.
     ///
-    /// The clauses state what every peer guarantees. The leaves of all window rows at or below a session's recorded
-    /// sequence are covered, which means in the tree or rightly refused. Each revision comes from a local write or a
-    /// window row. The number of documents read is the sum of those written and those refused.
+    /// The clauses state what every peer guarantees. Each leaf of a window row at or below a session's recorded
+    /// sequence is covered, that is, in the tree or rightly refused. Each revision in the database comes from a local
+    /// write or from a row of a window. The number of read documents is the number of written documents plus the number
+    /// of refused documents.
     pub fn db(&self) -> &Database
         ensures value { result.now ≡ self.now.1.db }
         ensures law { Lawful (F.refuses self.now.0) self.now.1 }
@@ -140,7 +141,7 @@ impl<F: WriteFilter> Peer<F> {
         &self.db
     }
 
-    /// Does nothing, but gives proofs the invariants of the peer and of its database.
+    /// Has no effect at run time, but gives proofs the invariants of the peer and of its database.
     pub fn law(&self)
         ensures peer { Lawful (F.refuses self.now.0) self.now.1 }
         ensures database { LawfulDatabase self.now.1.db }
@@ -157,8 +158,8 @@ impl<F: WriteFilter> Peer<F> {
 
     // ---- local writes
 
-    /// Stores a user's document with its ancestry as given. If the database changes, the put is the peer's next local
-    /// write.
+    /// Stores a user's document with its ancestry as given. If the put changes the database, the put becomes the peer's
+    /// next local write.
     ///
     /// The call returns the errors of `Database::put`, and `Memory` only if that call may return `Memory`. An error
     /// changes nothing.
@@ -172,7 +173,7 @@ impl<F: WriteFilter> Peer<F> {
         local::load(&mut self.db, &mut self.locals, doc)
     }
 
-    /// Edits a document, as the next local write, and returns the new revision.
+    /// Edits a document, stores the edit as the next local write, and returns the new revision.
     ///
     /// The call returns the errors of `Database::edit`, and `Memory` only if that call may return `Memory`. An error
     /// changes nothing.
@@ -256,8 +257,8 @@ impl<F: WriteFilter> Peer<F> {
         has_in(self.db.tree(id), rev) || self.sessions.has_refused(id, rev)
     }
 
-    /// Returns the first leaf of a changed document that is not covered. `near` makes lookups faster if documents come
-    /// in order.
+    /// Returns the first leaf of a changed document that is not covered. The hint `near` makes lookups faster if the
+    /// caller passes documents in order.
     pub fn uncovered_in(
         &self,
         alloc: Global,
@@ -335,14 +336,14 @@ impl<F: WriteFilter> Peer<F> {
         ensures err { OnErr result (self.new.1 ≡ self.old.1) }
         ensures law { Lawful (F.refuses self.new.0) self.new.1 }
     {
-        // The result is unused: the call only gives proofs the fact that the window satisfies its invariant.
+        // The call's result is unused, and only gives proofs the fact that the window satisfies its invariant.
         let _hi = ready.window().hi();
         self.sessions.append(id, ready)
     }
 
     /// Settles a parcel of a session: applies its documents in order, then marks its window as done.
     ///
-    /// A stored document counts as written even if it already existed. A document that is refused by the filter or as a
+    /// A document that the tree already had counts as written. A document that is refused by the filter or as a
     /// contradiction goes into the session's ledger. Returns the number of stored documents and the number of documents
     /// that went into the ledger.
     ///
@@ -384,7 +385,7 @@ impl<F: WriteFilter> Peer<F> {
             .settle_session(&self.filter, &mut self.db, id, parcel, spent)
     }
 
-    /// Records the low water of a session, and returns it: the source's sequence up to which everything is done.
+    /// Records and returns the low water of a session, which is the source's sequence up to which every window is done.
     ///
     /// Returns `NoSuchSession` if the peer has no session with this id. Does not allocate.
     pub fn record(&mut self, id: SessionId, at: Moment) -> Result<u64, TargetFault>
@@ -396,7 +397,7 @@ impl<F: WriteFilter> Peer<F> {
         self.sessions.record(id, at)
     }
 
-    /// Records and reports a session that is done up to its goal.
+    /// Records a session that is done up to its goal, and returns its report.
     ///
     /// # Errors
     ///

@@ -1,11 +1,11 @@
-//! Capacity for lists that usually have one item.
+//! Reserves capacity for lists that usually have one item.
 ghost use Rattle.std.specs.Prelude.{◌≡◌, ◌<◌, OnOk};
 ghost use Rattle.std.specs.Vec.{vec_len, vec_capacity};
 
 use std::alloc::AllocError;
 
-/// Reserves space for one more item. An empty list gets space for exactly one item, and other lists grow as vectors do.
-/// An error changes nothing.
+/// Reserves space for one more item in a list. The call gives an empty list space for exactly one item. A nonempty list
+/// grows as a `Vec` does. An error changes nothing.
 pub(crate) fn room_for_one<T>(list: &mut Vec<T>) -> Result<(), AllocError>
     ensures items { list.new.items ≡ list.old.items }
     ensures room { OnOk result (vec_len list.new < vec_capacity list.new) }

@@ -35,8 +35,8 @@ use std::marker::Model;
 
 /// An incoming session.
 ///
-/// Arrivals are stored in several lists, in order. A list of prepared arrivals becomes one of the session's lists
-/// without a copy.
+/// A session stores its arrivals in several lists, in order. A list of prepared arrivals becomes one of the session's
+/// lists without a copy.
 #[derive(Drop)]
 pub(crate) struct Session {
     pub(crate) id: SessionId,

@@ -148,7 +148,7 @@ impl Nodes {
     }
 
     /// Appends a node for a revision with an origin, unless the revision has a node, and returns the node's index. The
-    /// call tries the index `near` first. The caller has reserved the space for the node.
+    /// call first tries the node at the index `near`. The caller has reserved the space for the node.
     fn add(&mut self, near: Option<usize>, rev: Rev, origin: Origin) -> usize
         requires near { IfSome near (λ i. i < length self.old.items) }
         requires room { HasRoom self.old (unless_among (revs_in self.old.items) rev) }
@@ -160,7 +160,7 @@ impl Nodes {
         }
     }
 
-    /// Returns the index of a revision's node. The call tries the index `near` first.
+    /// Returns the index of a revision's node. The call first tries the node at the index `near`.
     fn place_near(&self, near: Option<usize>, rev: &Rev) -> Option<usize>
         requires near { IfSome near (λ i. i < length self.now.items) }
         ensures place { result ≡ place_of self.now.items rev.now }

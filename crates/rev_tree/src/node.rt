@@ -66,7 +66,7 @@ impl Known {
         }
     }
 
-    /// Returns the content, if it is known.
+    /// Returns the content of the revision, if the content is known.
     fn content(&self) -> Option<&Content>
         ensures { option_copied result ≡ content_of self.now }
     {
@@ -185,7 +185,7 @@ impl Node {
         }
     }
 
-    /// Returns the content, if it is known.
+    /// Returns the content of the revision, if the content is known.
     pub(crate) fn content(&self) -> Option<&Content>
         ensures { option_copied result ≡ self.now.content }
     {

@@ -112,8 +112,8 @@ impl Nodes {
     }
 
     /// Reserves space for inserting an ancestry. If the tree and the ancestry are small, the call reserves exactly the
-    /// space for all revisions of the ancestry. If nodes and ancestry are very few, the call reserves space only for
-    /// the missing revisions. The call fails if the tree could get more than `MOST_NODES` nodes.
+    /// space for all revisions of the ancestry. If the tree and the ancestry are very small, the call reserves space
+    /// only for the revisions that the tree lacks. The call fails if the tree could get more than `MOST_NODES` nodes.
     #[tactic(auto, using(crate::proofs::Rooms::count_within))]
     pub(crate) fn make_room(&mut self, revs: &[Rev]) -> Result<(), AllocError>
         ensures items { self.new.items ≡ self.old.items }
@@ -352,8 +352,8 @@ fn once_new(nodes: &[Node], rev: &Rev) -> usize
 }
 
 /// Reserves space in the list for the revisions of an ancestry. If the tree and the ancestry are small, the call
-/// reserves exactly the space for all revisions. If nodes and ancestry are very few, the call reserves space only for
-/// the missing revisions.
+/// reserves exactly the space for all revisions. If the tree and the ancestry are very small, the call reserves space
+/// only for the revisions that the tree lacks.
 #[tactic(auto, using(crate::proofs::Rooms::count_within))]
 fn reserve_nodes(list: &mut Vec<Node>, revs: &[Rev]) -> Result<(), AllocError>
     ensures items { list.new.items ≡ list.old.items }

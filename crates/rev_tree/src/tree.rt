@@ -140,8 +140,8 @@ impl Tree {
         Ok(Ancestry::from_revs(revs))
     }
 
-    /// Returns the known ancestor at a distance from a revision, where 0 gives the revision itself and 1 its parent.
-    /// Returns `None` if the tree does not know an ancestor at this distance.
+    /// Returns the known ancestor at a distance from a revision. The distance is 0 for the revision itself and 1 for
+    /// its parent. Returns `None` if the tree does not know an ancestor at this distance.
     pub fn ancestor(&self, rev: Rev, place: usize) -> Option<Rev>
         requires { has self.now rev ≡ true }
         ensures { result ≡ slice_get (ancestors self.now rev) place }

@@ -1,4 +1,4 @@
-//! Backups of a peer, and restoring them.
+//! Backs up and restores a peer.
 ghost use Rattle.std.specs.Prelude.{◌≡◌, ◌+◌, ◌≤◌, false, Ok, Err, IfOk, IfErr, OnOk, OnErr};
 ghost use Rattle.couch_base.specs.Database.{most};
 ghost use Rattle.repl_peer.specs.peer.Law.{Lawful};
@@ -86,8 +86,8 @@ impl<F: WriteFilter> Peer<F> {
         })
     }
 
-    /// Replaces the database, the local writes and the outgoing logs by those of a backup. The database's new life is
-    /// one above the greater of its own and the backup's.
+    /// Replaces the database, the local writes and the outgoing logs of a peer by the values in a backup. The new life
+    /// of the database is 1 plus the greater of its life and the backup's life.
     ///
     /// # Errors
     ///
@@ -105,7 +105,7 @@ impl<F: WriteFilter> Peer<F> {
         ensures law { Lawful (F.refuses self.new.0) self.new.1 }
     {
         let life = self.next_life(backup)?;
-        // The result is unused: the call only gives proofs the fact that the backup satisfies its invariant.
+        // The call's result is unused, and only gives proofs the fact that the backup satisfies its invariant.
         let _copy = backup.db();
         self.law();
         let alloc = *self.locals.allocator();
@@ -118,7 +118,7 @@ impl<F: WriteFilter> Peer<F> {
         Ok(())
     }
 
-    /// Returns the life after restoring a backup, or the error.
+    /// Returns the life that the database has after restoring a backup, or the error of the restore.
     fn next_life(&self, backup: &Backup) -> Result<u64, TargetFault>
         ensures ok { OnOk result (restore_answer self.now.1 backup.now ≡ Ok tt) }
         ensures life { IfOk result (λ life. (life ≡ greater_life self.now.1 backup.now + 1) × (life ≤ most)) }

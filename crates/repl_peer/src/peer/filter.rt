@@ -11,7 +11,7 @@ pub enum Verdict {
     Refuse,
 }
 
-/// A rule by which a peer refuses replicated documents.
+/// A rule that decides which replicated documents a peer refuses.
 ///
 /// The verdict depends only on the filter's value and the document.
 pub trait WriteFilter {

@@ -23,14 +23,14 @@ unsafe impl Send for GhostRevs {}
 
 unsafe impl Sync for GhostRevs {}
 
-/// The origin of the revisions of a write.
+/// The value from which the revisions of a write are taken.
 #[derive(Clone, Copy, Drop)]
 pub(crate) enum Came<'a> {
-    /// All revisions of a document.
+    /// The revisions of a document's complete ancestry.
     Whole(&'a [Rev]),
-    /// An edit: the new revision and its parent.
+    /// The revisions of an edit: the new revision and its parent.
     Edit(Rev, Option<Rev>),
-    /// A write that is copied.
+    /// The revisions of a write that is copied from another write.
     Again(&'a GhostRevs),
 }
 

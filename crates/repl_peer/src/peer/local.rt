@@ -16,10 +16,10 @@ use rev_core::Rev;
 use rev_tree::Origin;
 use std::alloc::AllocError;
 
-/// Stores a user's document and its local write.
+/// Stores a user's document in the database, together with the local write that records it.
 ///
-/// The local write is built first, so that an error changes nothing. If the local write cannot be built, the result is
-/// still the put's error, or `Same`, if that result does not depend on memory.
+/// The call builds the local write before it changes the database, so that an error changes nothing. If building the
+/// local write fails, the call still returns the put's error or `Same`, unless the put's result depends on memory.
 pub(crate) fn load(
     db: &mut Database,
     locals: &mut Vec<Written>,
@@ -50,7 +50,7 @@ pub(crate) fn load(
     }
 }
 
-/// Builds the local write of a put, and reserves space for it.
+/// Builds the local write of a put, and reserves space for the write in the list of local writes.
 fn prepare(locals: &mut Vec<Written>, doc: &Doc) -> Result<Written, AllocError>
     ensures written { IfOk result (λ w. w ≡ written_of doc.now) }
     ensures place { OnOk result (vec_len locals.new < vec_capacity locals.new) }
@@ -70,10 +70,10 @@ fn prepare_id(locals: &mut Vec<Written>, id: &DocId) -> Result<DocId, AllocError
     id.copy(*locals.allocator())
 }
 
-/// Edits a document and stores its local write.
+/// Edits a document, and stores the local write that records the edit.
 ///
-/// The local write is prepared first, so that an error changes nothing. If the local write cannot be prepared, the
-/// result is still the edit's error, if that error does not depend on memory.
+/// The call prepares the local write before it changes the database, so that an error changes nothing. If preparing the
+/// local write fails, the call still returns the edit's error, unless this error depends on memory.
 pub(crate) fn edit(
     db: &mut Database,
     locals: &mut Vec<Written>,

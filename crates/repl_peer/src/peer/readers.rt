@@ -1,4 +1,4 @@
-//! Readers for the parts of a peer. None of them allocates.
+//! Calls that read the parts of a peer. None of them allocates.
 use crate::peer::Peer;
 use crate::peer::filter::WriteFilter;
 use crate::peer::written::Written;
@@ -14,7 +14,7 @@ impl<F: WriteFilter> Peer<F> {
     ghost use Rattle.repl_peer.specs.peer.Peer.{session_in};
     ghost use Rattle.repl_peer.specs.session.Windows.{windows_of};
 
-    /// Returns the local writes, by number.
+    /// Returns the local writes in order, so that a write's index is its number.
     pub fn locals(&self) -> &[Written]
         ensures { result.now ≡ self.now.1.locals }
     {
@@ -28,14 +28,15 @@ impl<F: WriteFilter> Peer<F> {
         self.sessions.len()
     }
 
-    /// Returns the id of the session at an index, if there is one. The newest session has index 0.
+    /// Returns the id of the session at an index, if there is one. The index of the newest session is 0.
     pub fn session_at(&self, place: usize) -> Option<SessionId>
         ensures { result ≡ option_map (λ s. s.id) (slice_get self.now.1.sessions place) }
     {
         self.sessions.id_at(place)
     }
 
-    /// Returns the windows of a session, if the peer has it. Most done windows no longer have their leaves.
+    /// Returns the stored windows of a session, if the peer has the session. Most windows that are done have dropped
+    /// the leaves of their rows.
     pub fn windows(&self, id: SessionId) -> Option<&[StoredWindow]>
         ensures { option_map windows_of (option_copied result)
             ≡ option_map (λ s. s.windows) (session_in self.now.1.sessions id) }
@@ -57,8 +58,8 @@ impl<F: WriteFilter> Peer<F> {
         }
     }
 
-    /// Returns the arrivals of a session in order, if the peer has the session. The arrivals of the inner lists come
-    /// before those of the second list.
+    /// Returns the arrivals of a session in order, if the peer has the session. The arrivals in the inner lists precede
+    /// the arrivals in the second list.
     pub fn arrivals(&self, id: SessionId) -> Option<(&[Vec<Written>], &[Written])>
         ensures { option_map (λ lists. flat_map (λ list. list.items) lists.0.now ++ lists.1.now) result
             ≡ option_map (λ s. s.arrivals) (session_in self.now.1.sessions id) }
@@ -69,7 +70,7 @@ impl<F: WriteFilter> Peer<F> {
         }
     }
 
-    /// Returns the documents that a session refused, in order and with reasons, if the peer has it.
+    /// Returns the documents that a session refused, in order, each with its reason, if the peer has the session.
     pub fn ledger(&self, id: SessionId) -> Option<&[Refused]>
         ensures { option_copied result ≡ option_map (λ s. s.ledger) (session_in self.now.1.sessions id) }
     {

@@ -15,8 +15,8 @@ use std::marker::Model;
 
 /// A local write or an arrival: a document's id and the revisions that were written, newest first.
 ///
-/// A peer may have millions of writes with long ancestries, so a write stores only the newest revision and the number
-/// of revisions. All other revisions of the write are read from the document's tree, whose edges never change.
+/// A write stores only its newest revision and its number of revisions, because a peer may have millions of writes. All
+/// other revisions of the write are read from the document's tree, whose edges never change.
 #[derive(Drop)]
 pub struct Written {
     id: DocId,
@@ -55,7 +55,7 @@ impl Written {
         })
     }
 
-    /// Creates the write of an edit: the new revision, which has a short signature, and its parent.
+    /// Creates the write of an edit, whose revisions are the new revision and its parent.
     pub(crate) fn edit(id: DocId, rev: Rev, parent: Option<Rev>) -> Written
         requires { (is_short rev.sig ≡ true) × FallsByOne (rev ∷ option_to_list parent) }
         ensures { result ≡ record { id = id; ancestry = rev ∷ option_to_list parent } }
@@ -96,8 +96,8 @@ impl Written {
         &self.id
     }
 
-    /// Returns the revision at an index, if there is one. The newest revision has index 0. All other revisions are read
-    /// from the database that has the write.
+    /// Returns the revision at an index, if there is one. The newest revision has index 0. All revisions but the newest
+    /// are read from the database that has the write.
     pub fn rev(&self, db: &Database, place: usize) -> Option<Rev>
         requires { StandsIn db.now self.now }
         ensures { result ≡ slice_get self.now.ancestry place }
@@ -107,7 +107,7 @@ impl Written {
         }
         let mut at = self.head.rev();
         for step in 0..place {
-            // The database has the write, so the parent exists.
+            // The parent exists, because the database has all revisions of the write.
             let Some(parent) = parent_in(db, &self.id, at) else {
                 unreachable!()
             };

@@ -27,9 +27,9 @@ use repl_log::Counts;
 use rev_tree::{Origin, SessionId};
 use std::mem::replace;
 
-/// Settles the first documents of a parcel, for which arrivals are prepared, until a document cannot be stored. Returns
-/// the number of settled documents. The caller settles the next document individually, and finds out why it could not
-/// be stored in bulk.
+/// Settles the first documents of a parcel, which have prepared arrivals, until a document cannot be stored. Returns
+/// the number of settled documents. The caller then settles the next document individually, which shows why that
+/// document could not be stored in bulk.
 ///
 /// The arrivals are added as one list, so that the peer does not add each arrival individually under its lock. If the
 /// allocation for the list of arrivals fails, no document is settled.
@@ -65,7 +65,7 @@ pub(crate) fn settle_prepared<F: WriteFilter>(
     if arrivals.is_empty() || session.earlier.reserve(2).is_err() {
         return 0;
     }
-    // Only windows that are done drop their rows.
+    // A stored window may lack its rows only if it is done.
     let Some(rows) = session.windows[place].rows() else {
         unreachable!()
     };
@@ -116,8 +116,8 @@ fn put_ahead<F: WriteFilter>(
     limit
 }
 
-/// Stores the document at an index, from its prepared tree if possible. Returns false if the document cannot be stored.
-/// If the call returns false, nothing has changed, but the prepared tree may have been dropped.
+/// Stores the document at an index, with its prepared tree if possible. Returns false if the document cannot be stored.
+/// If the call returns false, it has changed no stored data, but may have dropped the prepared tree.
 fn put_next(
     db: &mut Database,
     docs: &[Doc],
@@ -154,7 +154,8 @@ pub(crate) fn put_prepared_at(
     i < made.len() && db.put_prepared(&docs[i], &mut made[i], origin)
 }
 
-/// Adds the first `count` arrivals of a list, for which space is reserved, and counts their documents.
+/// Adds the first `count` arrivals of a list to the session, and counts their documents. The caller has reserved the
+/// space.
 fn enter(
     earlier: &mut Vec<Vec<Written>>,
     arrivals: &mut Vec<Written>,

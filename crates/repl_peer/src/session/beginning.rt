@@ -8,7 +8,7 @@ use rev_tree::SessionId;
 pub struct Scope {
     /// The replication.
     pub rep: RepId,
-    /// The life of the source's database when the log that gave the start was read.
+    /// The life of the source's database at the time when the log that determined the start was read.
     pub life: u64,
     /// The earlier session from whose recorded sequence the session starts, if such a session exists.
     pub base: Option<SessionId>,
@@ -19,7 +19,7 @@ pub struct Scope {
 /// The parameters of a new session.
 #[derive(Debug, Drop)]
 pub struct Beginning {
-    /// The replication, the base, the goal and the life that the new session belongs to.
+    /// The replication, the base, the goal and the life of the new session.
     pub scope: Scope,
     /// The source's sequence above which the session reads.
     pub start: u64,

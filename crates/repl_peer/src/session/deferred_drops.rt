@@ -1,11 +1,11 @@
-//! Values that are dropped after settling.
+//! Stores values that are dropped only after settling.
 use couch_base::{Asked, PreparedTree};
 use doc_json::{Doc, DocId};
 use rev_core::Rev;
 use std::alloc::Global;
 
 /// The remains of settled parcels: requests, documents, gone revisions and unused prepared trees. The remains are
-/// dropped with the `DeferredDrops` value, and not while the peer is settling.
+/// dropped together with the `DeferredDrops` value, after the peer has settled.
 #[derive(Drop)]
 pub struct DeferredDrops {
     asked: Option<Asked>,

@@ -1,4 +1,4 @@
-//! The index of revisions in ledgers.
+//! A lookup table of the revisions in ledgers.
 ghost use Rattle.std.specs.Prelude.{◌≡◌, ◌≤◌, ◌||◌, ◌&&◌, false, length, OnOk, OnErr};
 ghost use Rattle.std.specs.Str.{bytes_eq};
 ghost use Rattle.rev_core.specs.Rev.{RevId};
@@ -38,7 +38,7 @@ impl LedgerIndex {
         }
     }
 
-    /// Adds the revisions of a refused document. An error changes nothing.
+    /// Adds the revisions of a refused document to the lookup table. An error changes nothing.
     pub(crate) fn add(&mut self, doc: &Doc) -> Result<(), AllocError>
         ensures ok { OnOk result
             ((id : Id) (r : RevId)
@@ -60,7 +60,7 @@ impl LedgerIndex {
     }
 }
 
-/// Adds revisions to a set. The call reserves space first, so that an error changes nothing.
+/// Adds revisions to a set of revisions. The call reserves space first, so that an error changes nothing.
 fn add_revs(known: &mut IndexSet<Rev>, revs: &[Rev]) -> Result<(), AllocError>
     ensures ok { OnOk result
         ((r : RevId) → is_among r known.new.keys ≡ (is_among r known.old.keys || is_among r revs.now)) }

@@ -52,7 +52,8 @@ impl PreparedParcel {
     }
 
     /// Builds the arrivals of a parcel's documents, and the trees that these documents would have as new documents. The
-    /// origins of the trees are a session's feed at the sequences of the rows. The parcel's value does not change.
+    /// origin of each tree is a session and the sequence of the document's row. The call does not change the parcel's
+    /// value.
     pub fn prepare(
         &mut self,
         alloc: Global,
@@ -74,7 +75,7 @@ impl PreparedParcel {
         &self.parcel
     }
 
-    /// Splits the value into request, documents, gone revisions, prepared trees and prepared arrivals.
+    /// Splits the prepared parcel into its request, documents, gone revisions, prepared trees and prepared arrivals.
     pub(crate) fn into_parts(
         self,
     ) -> (

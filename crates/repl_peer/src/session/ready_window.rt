@@ -39,8 +39,8 @@ impl ReadyWindow {
         ReadyWindow { window, done: None }
     }
 
-    /// Builds the shorter form of the window. If the allocation fails, the shorter form is built when the window is
-    /// done.
+    /// Builds the shorter form of the window. If the allocation fails, the session builds the shorter form later, when
+    /// the window is done.
     pub fn prepare(&mut self, alloc: Global)
         ensures { self.new ≡ self.old }
     {
@@ -56,7 +56,8 @@ impl ReadyWindow {
         &self.window
     }
 
-    /// Takes the shorter form of the window, and builds it if necessary. Returns `None` if the allocation fails.
+    /// Takes the shorter form of the window, and builds the form if it was not prepared. Returns `None` if the
+    /// allocation fails.
     pub(crate) fn take_done(&mut self, alloc: Global) -> Option<DoneWindow>
         ensures same { self.new ≡ self.old }
         ensures done { IfSome result (λ done. done ≡ self.old) }

@@ -1,4 +1,4 @@
-//! The index of sessions by replication.
+//! A lookup table of sessions by replication.
 ghost use Rattle.std.specs.Prelude.{◌≡◌, ◌++◌, ◌∷◌, [], OnOk, OnErr, if◌then◌else◌};
 ghost use Rattle.repl_log.specs.declared.replication.RepId.{RepId};
 ghost use Rattle.repl_log.specs.RepId.{same_rep};
@@ -8,7 +8,7 @@ use repl_log::RepId;
 use rev_tree::SessionId;
 use std::alloc::{AllocError, Global};
 
-/// The ids of sessions by replication, in the order in which they began.
+/// The ids of each replication's sessions, in the order in which the sessions began.
 #[derive(Drop)]
 pub(crate) struct RepIndex {
     ids: IndexMap<RepId, Vec<SessionId>>,

@@ -1,4 +1,4 @@
-//! Searching the rows of a window.
+//! Searches the rows of a window.
 ghost use Rattle.std.specs.Prelude.{◌≡◌, ◌≤◌, ◌-◌, ◌^◌, ◌||◌, true, false, not, map, length, min, unwrap_or, IfSome, IfNone};
 ghost use Rattle.std.specs.List.{find, list_any, list_all, sum_by};
 ghost use Rattle.std.specs.Option.{option_map, option_copied};
@@ -29,7 +29,7 @@ fn row_in(rows: &[Row], id: &DocId) -> Option<usize>
     None
 }
 
-/// Returns the index of a row with an id. Tries the row after `from`, then the later rows, then the earlier rows.
+/// Returns the index of a row with an id. The call searches from index `from` on, and then the rows before that index.
 ///
 /// The next document of a parcel usually has the next row, or the same row.
 pub(crate) fn row_from(rows: &[Row], id: &DocId, from: usize) -> Option<usize>
@@ -49,8 +49,8 @@ pub(crate) fn row_from(rows: &[Row], id: &DocId, from: usize) -> Option<usize>
     }
 }
 
-/// Returns the index and the sequence of the row with an id, which exists. Searches the rows from an index on, and then
-/// the rows before that index.
+/// Returns the index and the sequence of the row with an id, if the window has a row with this id. Searches the rows
+/// from an index on, and then the rows before that index.
 pub(crate) fn seq_from(rows: &[Row], id: &DocId, from: usize) -> (usize, u64)
     requires within { from ≤ length rows.now }
     requires there { list_any (λ row. bytes_eq row.id id.now) rows.now ≡ true }
@@ -98,7 +98,7 @@ pub(crate) fn asked_count(docs: &[Wanted]) -> u64
     count
 }
 
-/// Whether an optional tree has a revision.
+/// Whether a tree exists and has a revision.
 pub(crate) fn has_in(tree: Option<&Tree>, rev: Rev) -> bool
     ensures { result ≡ has (unwrap_or (option_copied tree.entry) no_revisions) rev }
 {

@@ -29,7 +29,7 @@ use rev_tree::SessionId;
 use std::alloc::{AllocError, Global};
 use std::marker::Model;
 
-/// The incoming sessions of a peer, newest first, with distinct ids, an index of refused revisions, and an index by
+/// The incoming sessions of a peer, newest first, with lookup tables of refused revisions and of sessions by
 /// replication.
 ///
 /// Sessions are stored oldest first, in a table by session id, so that a call about one session does not scan all
@@ -79,7 +79,7 @@ impl Sessions {
         self.entries.len()
     }
 
-    /// Returns the id of the session at an index, if there is one. The newest session has index 0.
+    /// Returns the id of the session at an index, if there is one. The index of the newest session is 0.
     pub(crate) fn id_at(&self, place: usize) -> Option<SessionId>
         ensures { result ≡ option_map (λ s. s.id) (slice_get self.now place) }
     {
@@ -106,7 +106,7 @@ impl Sessions {
     }
 
     /// Returns the log entries of the sessions of a replication, newest first. The call scans only the sessions of the
-    /// replication.
+    /// given replication.
     pub(crate) fn log(&self, alloc: Global, rep: &RepId) -> Result<Log, AllocError>
         ensures log { IfOk result (λ l. l ≡ log_of self.now rep.now) }
     {
@@ -123,7 +123,7 @@ impl Sessions {
     }
 
     /// Returns the newest session of a replication that is also in the source's log, with the lesser of its two
-    /// recorded sequences. The call scans only the sessions of the replication, up to the session that it finds.
+    /// recorded sequences. The call scans only the sessions of the replication, until it finds the common session.
     pub(crate) fn shared_with(&self, rep: &RepId, source: &Log) -> Option<(SessionId, u64)>
         ensures { result ≡ common source.now (log_of self.now rep.now) }
     {
@@ -144,7 +144,7 @@ impl Sessions {
 
     // ---- changes
 
-    /// Begins a session, which becomes the newest.
+    /// Begins a session, which becomes the newest session.
     ///
     /// # Errors
     ///
@@ -227,7 +227,7 @@ impl Sessions {
         session.append(ready)
     }
 
-    /// Settles a parcel of a session, as `settle_parcel` does. Returns `NoSuchSession` before any other error.
+    /// Settles a parcel of a session, as `settle_parcel` does. The call checks for the error `NoSuchSession` first.
     pub(crate) fn settle_session<F: WriteFilter>(
         &mut self,
         filter: &F,

@@ -43,7 +43,7 @@ pub(crate) fn check(session: &Session, parcel: &Parcel) -> Result<Checked, Targe
     if session.front.is_done(lo, hi) {
         return Err(TargetFault::AlreadyDone);
     }
-    // Only windows that are done drop their rows.
+    // A stored window may lack its rows only if it is done.
     let Some(rows) = window.rows() else {
         unreachable!()
     };
@@ -59,7 +59,7 @@ pub(crate) fn check(session: &Session, parcel: &Parcel) -> Result<Checked, Targe
     })
 }
 
-/// Returns the index of the window with the given bounds.
+/// Returns the index of the session's window with the given bounds.
 fn find_window(windows: &[StoredWindow], lo: u64, hi: u64) -> Option<usize>
     requires { (start : ℕ) × Consecutive start (windows_of windows.now) }
     ensures some { IfSome result (IsWindowAt (windows_of windows.now) lo hi) }
@@ -72,7 +72,7 @@ fn find_window(windows: &[StoredWindow], lo: u64, hi: u64) -> Option<usize>
     }
 }
 
-/// Returns the index of the first window that begins at or above a bound.
+/// Returns the index of the session's first window that begins at or above a given sequence.
 fn place_from(windows: &[StoredWindow], lo: u64) -> usize
     requires { (start : ℕ) × Consecutive start (windows_of windows.now) }
     ensures { IsPartitionPoint (λ w. w.lo < lo) (λ w. lo ≤ w.lo) (windows_of windows.now) result }
@@ -80,7 +80,7 @@ fn place_from(windows: &[StoredWindow], lo: u64) -> usize
     windows.partition_point(|window| window.lo() < lo)
 }
 
-/// Whether the counts of a session stay in range after adding the given numbers.
+/// Whether the counts of a session stay at or below their maximum if the given numbers are added.
 fn has_room(session: &Session, read: u64, checked: u64, found: u64) -> bool
     ensures { result
         ≡ (nat_le (session.now.counts.read + read) most
@@ -91,7 +91,7 @@ fn has_room(session: &Session, read: u64, checked: u64, found: u64) -> bool
         && fits(session.counts.found, found)
 }
 
-/// Whether a count stays in range after adding a number.
+/// Whether a count stays at or below its maximum if a number is added.
 fn fits(count: u64, more: u64) -> bool
     ensures { result ≡ nat_le (count + more) most }
 {

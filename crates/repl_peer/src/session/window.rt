@@ -52,7 +52,7 @@ impl DoneRow {
     }
 }
 
-/// A done window. Calls use only the ids of a done window's rows, so the leaves are dropped.
+/// A done window. The leaves of a done window's rows are dropped, because later calls use only the ids of the rows.
 #[derive(Drop)]
 pub(crate) struct DoneWindow {
     life: u64,
@@ -70,7 +70,7 @@ impl Model for DoneWindow {
 }
 
 impl DoneWindow {
-    /// Creates a window without the leaves of its rows.
+    /// Creates a stored window that lacks the leaves of its rows.
     pub(crate) fn of(alloc: Global, window: &Window) -> Result<DoneWindow, AllocError>
         ensures of { IfOk result (λ w. w ≡ window.now) }
     {
@@ -194,7 +194,7 @@ impl StoredWindow {
         }
     }
 
-    /// Returns the rows, by rising sequence, if the window is complete.
+    /// Returns the rows by rising sequence, if the window still has the leaves of its rows.
     pub fn rows(&self) -> Option<&[Row]>
         ensures whole { is_some result ≡ self.now.whole }
         ensures rows { IfSome result (λ r. r.now ≡ self.now.window.rows) }
@@ -216,8 +216,8 @@ impl StoredWindow {
         }
     }
 
-    /// Drops the leaves of the rows. If the shorter form was not prepared and its allocation fails, the window stays
-    /// complete.
+    /// Drops the leaves of the rows. If the shorter form was not prepared and its allocation fails, the window keeps
+    /// the leaves of its rows.
     pub(crate) fn let_leaves_go(&mut self, alloc: Global)
         ensures { self.new.window ≡ self.old.window }
     {
