@@ -1,5 +1,5 @@
-//! The columns of a diagram. A generation with a fork or an end has a column of its own. The generations between two
-//! columns with forks or ends share one column.
+//! Computes the columns of a diagram of a revision tree. A generation in which a row forks or ends has a column of its
+//! own. All generations between two such columns share one column.
 
 use crate::document::Leaf;
 use crate::rows::Row;
@@ -15,7 +15,7 @@ pub struct Cell {
     pub width: usize,
 }
 
-/// Computes the columns for leaves and their rows.
+/// Computes the columns of a diagram, given its leaves and the rows of the leaves.
 pub fn axis_of(alloc: Global, leaves: &[Leaf], rows: &[Row]) -> Result<Vec<Cell>, AllocError> {
     let kept = kept_of(alloc, leaves, rows)?;
     let mut cells = cells_of(alloc, kept.as_slice())?;
@@ -49,7 +49,8 @@ pub fn start_of(leaf: &Leaf, row: &Row) -> u32 {
     row.hang + 1
 }
 
-/// Builds a column for each listed generation, and one column for the generations between two listed generations.
+/// Builds a column for each listed generation, and one column for all generations between two neighbouring listed
+/// generations.
 fn cells_of(alloc: Global, kept: &[u32]) -> Result<Vec<Cell>, AllocError> {
     let mut cells = Vec::new(alloc);
     let mut next = kept.first().copied().unwrap_or(0);
@@ -91,7 +92,7 @@ pub fn folded(low: u32, high: u32) -> u64 {
     u64::from(high).saturating_sub(u64::from(low)) + 1
 }
 
-/// Returns the number of characters of the text of a shared column.
+/// Returns the number of characters of the text in a column that several generations share.
 pub fn folded_len(count: u64) -> usize {
     digits(count) + 5
 }

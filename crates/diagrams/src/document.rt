@@ -1,4 +1,4 @@
-//! A document, from the output of `show` or `conflicts`.
+//! A document that was read from the output of `show` or `conflicts`.
 ghost use Rattle.std.specs.Prelude.{◌≡◌, ◌==◌, [], OnOk, IsPermutation, length, nat_le, string_bytes, vec_len};
 ghost use Rattle.diagrams.specs.Drawing.{Holds, states, with_leaf};
 
@@ -7,14 +7,15 @@ use std::alloc::{AllocError, Global};
 
 /// A leaf with its known ancestry.
 ///
-/// Leaves are ordered as they are drawn. Leaves that share more revisions with the winner come first, and then the
-/// ancestors decide, the oldest first. In this order, all leaves that share a revision are adjacent.
+/// The order of two leaves is the order in which a diagram draws them. Leaves that share more revisions with the winner
+/// come first. Among leaves that share equally many, the oldest differing ancestors decide. In this order, all leaves
+/// that share a revision are adjacent.
 #[derive(Debug, PartialEq, Eq, PartialOrd, Ord, Drop)]
 pub struct Leaf {
     /// A constant minus the number of revisions that the leaf shares with the winner, and 0 for the winner.
     pub apart: usize,
-    /// The known ancestors, the oldest first. The generation of each ancestor is one above that of the ancestor before
-    /// it, and the leaf's generation is one above the last.
+    /// The known ancestors of the leaf, oldest first. Each ancestor's generation is one above the generation of its
+    /// parent, and the leaf's generation is one above that of the last ancestor.
     pub before: Vec<Rev>,
     /// The revision.
     pub rev: Rev,
@@ -38,7 +39,7 @@ impl Leaf {
         }
     }
 
-    /// Returns the leaf's ancestor of a generation.
+    /// Returns the ancestor of the leaf that has a given generation.
     pub fn ancestor(&self, generation: u32) -> Option<&Rev> {
         let oldest = self.oldest();
         if generation < oldest {
@@ -65,7 +66,7 @@ pub struct Document {
     pub id: String,
     /// The number of leaves.
     pub count: u64,
-    /// The leaves that were read, either in the order of reading with the winner first, or sorted for drawing.
+    /// The leaves that were read, in the order of reading (winner first) or sorted for drawing.
     pub leaves: Vec<Leaf>,
 }
 
@@ -90,7 +91,8 @@ impl Document {
         self.leaves.len() as u64 >= self.count
     }
 
-    /// Adds a leaf. Adds a leaf of the document. The first leaf is the winner.
+    /// Adds a leaf. Adds a leaf to the document's leaves that were read. The first leaf that is added is the document's
+    /// winner.
     pub fn add(&mut self, leaf: Leaf) -> Result<(), AllocError>
         ensures holds { OnOk result (Holds self.new (string_bytes self.old.id) (with_leaf (states self.old) leaf.rev leaf.live)) }
         ensures count { OnOk result (self.new.count ≡ self.old.count) }
@@ -100,7 +102,7 @@ impl Document {
         Ok(())
     }
 
-    /// Computes the parts of a leaf that decide its position in the drawing.
+    /// Computes the fields of a leaf that decide its position in the diagram.
     fn placed(&self, leaf: Leaf) -> Leaf
         ensures rev { result.rev ≡ leaf.rev }
         ensures live { result.live ≡ leaf.live }

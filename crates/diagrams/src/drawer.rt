@@ -23,7 +23,7 @@ use std::alloc::{AllocError, Global};
 struct Drawer<'a> {
     alloc: Global,
     form: Form,
-    /// The database whose documents are drawn, if the caller named it.
+    /// The name of the database whose documents are drawn, if the caller gave the name.
     db: Option<&'a str>,
     /// The document whose `leaf` lines are being read.
     begun: Option<Document>,
@@ -53,8 +53,8 @@ impl Serve for Drawer<'_> {
 }
 
 impl Drawer<'_> {
-    /// Reads a line, and draws the item that the line completes. If an allocation fails, the current document is
-    /// dropped.
+    /// Reads a line of the output, and draws the document, comparison, numbers or log that the line completes. If an
+    /// allocation fails, the call drops the document whose lines it is reading.
     fn take_in(&mut self, line: &[u8], answer: &mut Vec<u8>) -> Result<(), AllocError>
         requires { answer.old.items ≡ [] }
         ensures ok { OnOk result (Takes (sketch_of self.old.form self.old.db self.old.begun) line.now
@@ -104,7 +104,7 @@ impl Drawer<'_> {
         Ok(())
     }
 
-    /// Draws a line of numbers.
+    /// Draws a line of numbers (from `info` or of a session).
     fn draw_row(&mut self, row: &Row, answer: &mut Vec<u8>) -> Result<(), AllocError>
         ensures draws { OnOk result (Draws answer.old.items answer.new.items (signs_of_row self.old.form
             row.now.table (string_bytes row.now.name) row.now.numbers.items)) }
@@ -163,9 +163,9 @@ impl Drawer<'_> {
 
 /// Reads the output of a script, and draws it as text or as one SVG picture (docs/PROFILE.md, "Pictures"). The picture
 /// shows the documents of `show` and `conflicts`, the lines of `compare`, the numbers of `info` and of sessions, and
-/// logs. If the database is named, the text includes the commands that resolve conflicts.
+/// logs. If the caller names the database, a text picture includes the commands that resolve conflicts.
 ///
-/// Returns whether memory was sufficient for every line.
+/// Returns whether no allocation failed for any line.
 ///
 /// # Errors
 ///
@@ -173,8 +173,9 @@ impl Drawer<'_> {
 ///   call.
 /// - `Memory`: an allocation failed between lines, or for the end of the picture.
 ///
-/// After an error, a prefix of the picture was written. Unless a write failed, that prefix ends after the drawing for a
-/// line. The contract also allows `Cut`, after which the prefix ends within a drawing.
+/// If the call returns an error, the writer got a prefix of the picture. Unless a write failed, the written prefix of
+/// the picture ends after the drawing for a line. The contract also allows the error `Cut`, after which the written
+/// prefix ends inside a drawing.
 pub fn draw_answers<R: ScriptRead, W: ScriptWrite>(
     alloc: Global,
     form: Form,
@@ -185,8 +186,8 @@ pub fn draw_answers<R: ScriptRead, W: ScriptWrite>(
     ensures pictured { PicturedBy result form (option_map (λ s. s.now) db.entry)
         (R.left reader.old) (W.held writer.old) (W.held writer.new) }
     ensures end { OnOk result (IsAtEnd (R.left reader.new)) }
-    // The clause `pictured` holds also for the bytes that the reads returned. On success the reads returned the
-    // complete input.
+    // The clause `pictured` describes the picture by the bytes that the reads returned. If the call succeeds, the reads
+    // returned the complete input.
     ensures took { (input : List ℕ) × Appends (R.taken reader.old) (R.taken reader.new) input
         × PicturedBy result form (option_map (λ s. s.now) db.entry) (Some input) (W.held writer.old) (W.held writer.new) }
     ensures ended { OnOk result (R.ended reader.new) }
@@ -248,7 +249,7 @@ fn pass_on<W: ScriptWrite>(writer: &mut W) -> Result<(), ScriptFault>
     }
 }
 
-/// Returns the start of a picture.
+/// Returns the markup at the start of a picture.
 fn head_of(form: Form) -> &'static str
     ensures { Draws [] result.now [] }
 {
@@ -258,7 +259,7 @@ fn head_of(form: Form) -> &'static str
     }
 }
 
-/// Returns the end of a picture.
+/// Returns the markup at the end of a picture.
 fn tail_of(alloc: Global, form: Form, extent: Extent) -> Result<Vec<u8>, AllocError>
     ensures { IfOk result (λ tail. Draws [] tail.items []) }
 {

@@ -3,7 +3,7 @@
 /// The format of a picture.
 #[derive(Clone, Copy, Debug, PartialEq, Eq)]
 pub enum Form {
-    /// Lines of text, for a terminal or a mail.
+    /// A picture made of lines of text, for a terminal or a mail.
     Text,
     /// One SVG picture.
     Svg,

@@ -12,7 +12,7 @@ use output_parser::{Column, Finding, Found, Row, Table};
 use rev_core::Rev;
 use std::alloc::AllocError;
 
-/// Draws a line of `compare` about a document. An SVG picture has the line at a given height.
+/// Draws a line of `compare` about a document. In an SVG picture, the call draws the line at a given height.
 pub fn draw_found(
     out: &mut Vec<u8>,
     form: Form,
@@ -38,7 +38,7 @@ fn draw_listed(out: &mut Vec<u8>, revs: &[Rev]) -> Result<(), AllocError>
     Ok(())
 }
 
-/// Draws a line of numbers. An SVG picture has the line at a given height.
+/// Draws a line of numbers (from `info` or of a session). In an SVG picture, the call draws the line at a given height.
 pub fn draw_numbers(out: &mut Vec<u8>, form: Form, height: u64, row: &Row) -> Result<(), AllocError>
     ensures { OnOk result (Draws out.old.items out.new.items
         (signs_of_row form row.now.table (string_bytes row.now.name) row.now.numbers.items)) }
@@ -66,7 +66,7 @@ fn draw_counts(out: &mut Vec<u8>, columns: &[Column], numbers: &[u64]) -> Result
     Ok(())
 }
 
-/// Draws a progress bar, if the table has one.
+/// Draws a progress bar, if lines of this kind have one.
 fn draw_bar(out: &mut Vec<u8>, form: Form, table: Table, numbers: &[u64]) -> Result<(), AllocError>
     ensures { OnOk result (Draws out.old.items out.new.items (bars_of form table numbers.now)) }
 {
@@ -85,7 +85,7 @@ fn draw_bar(out: &mut Vec<u8>, form: Form, table: Table, numbers: &[u64]) -> Res
     }
 }
 
-/// Returns the number at an index, or 0 if the list has no such index.
+/// Returns the number at an index of a list, or 0 if the list has fewer numbers.
 fn number_at(numbers: &[u64], place: usize) -> u64
     ensures { result ≡ get_or numbers.now place 0 }
 {
@@ -128,7 +128,7 @@ pub fn begin(out: &mut Vec<u8>, form: Form, height: u64, behind: Markup) -> Resu
     mark(out, behind)
 }
 
-/// Draws the markup between a name and the numbers.
+/// Draws the markup between the name and the numbers of a line.
 fn between(out: &mut Vec<u8>, form: Form) -> Result<(), AllocError>
     ensures { OnOk result (Draws out.old.items out.new.items []) }
 {
@@ -138,7 +138,7 @@ fn between(out: &mut Vec<u8>, form: Form) -> Result<(), AllocError>
     }
 }
 
-/// Draws the markup after the numbers.
+/// Draws the markup after the numbers of a line.
 fn behind_numbers(out: &mut Vec<u8>, form: Form) -> Result<(), AllocError>
     ensures { OnOk result (Draws out.old.items out.new.items []) }
 {
@@ -187,7 +187,7 @@ fn put_listed(out: &mut Vec<u8>, rev: &Rev) -> Result<(), AllocError>
     push_short(out, rev)
 }
 
-/// Draws the kind and the name of a line of numbers.
+/// Draws the kind and the name at the start of a line of numbers.
 pub fn put_heading(
     out: &mut Vec<u8>,
     form: Form,
@@ -200,7 +200,7 @@ pub fn put_heading(
     put_text(out, form, name)
 }
 
-/// Returns the printed kind of a line of numbers.
+/// Returns the word that names the kind of a line of numbers in the picture.
 fn table_text(table: Table) -> &'static str
     ensures { result.now ≡ table_text table }
 {
@@ -249,7 +249,7 @@ fn caption(column: Column) -> &'static str
     }
 }
 
-/// Draws a progress bar for a part of a total.
+/// Draws a progress bar for a number and the total that it is a part of.
 fn put_bar(out: &mut Vec<u8>, form: Form, part: u64, whole: u64) -> Result<(), AllocError>
     ensures { OnOk result (Draws out.old.items out.new.items (bar form part whole ∷ [])) }
 {
@@ -259,7 +259,7 @@ fn put_bar(out: &mut Vec<u8>, form: Form, part: u64, whole: u64) -> Result<(), A
     }
 }
 
-/// Draws a progress bar of 40 characters.
+/// Draws a progress bar of 40 characters, for a text picture.
 fn put_text_bar(out: &mut Vec<u8>, part: u64, whole: u64) -> Result<(), AllocError>
     ensures { OnOk result (Draws out.old.items out.new.items (bar Text part whole ∷ [])) }
 {
@@ -274,7 +274,7 @@ fn put_text_bar(out: &mut Vec<u8>, part: u64, whole: u64) -> Result<(), AllocErr
     out.extend_from_slice(b"\n")
 }
 
-/// Draws a progress bar with a width of 400.
+/// Draws a progress bar with a width of 400, for an SVG picture.
 fn put_svg_bar(out: &mut Vec<u8>, part: u64, whole: u64) -> Result<(), AllocError>
     ensures { OnOk result (Draws out.old.items out.new.items (bar Svg part whole ∷ [])) }
 {
@@ -287,7 +287,7 @@ fn put_svg_bar(out: &mut Vec<u8>, part: u64, whole: u64) -> Result<(), AllocErro
     out.extend_from_slice(b"</text>\n")
 }
 
-/// Appends two numbers, a part and its total.
+/// Appends the text of two numbers, of which the first is a part of the second.
 fn put_ratio(out: &mut Vec<u8>, part: u64, whole: u64) -> Result<(), AllocError>
     ensures { OnOk result (out.new.items ≡ out.old.items ++ ratio part whole) }
 {
@@ -296,7 +296,7 @@ fn put_ratio(out: &mut Vec<u8>, part: u64, whole: u64) -> Result<(), AllocError>
     put_number(out, whole)
 }
 
-/// Returns a part of a total on a scale of 400.
+/// Returns the length that a part of a total has on a bar of length 400.
 pub fn share(part: u64, whole: u64) -> u64
     ensures share { result ≡ share part whole }
     ensures most { result ≤ 400 }

@@ -1,4 +1,4 @@
-//! The markup of pictures, which is everything except numbers and texts of the input.
+//! The markup of pictures, that is, all text of a picture except numbers and texts from the input.
 ghost use Rattle.std.specs.Prelude.{◌≡◌};
 ghost use Rattle.diagrams.specs.Ink.{markup_text};
 
@@ -11,19 +11,19 @@ pub enum Markup {
     LineEnd,
     /// The indentation of a row of text.
     Indent,
-    /// The space of an absent edge in a text picture.
+    /// The space that a text picture has if there is no edge.
     Blank,
-    /// An edge in a text picture that passes a row.
+    /// An edge in a text picture that passes a row vertically.
     Bar,
     /// An edge in a text picture to the next revision.
     Step,
     /// An edge in a text picture to the next revision, with a branch below it.
     Fork,
-    /// An edge in a text picture from above that continues below.
+    /// An edge in a text picture that comes from above and continues below the row.
     Branch,
-    /// The last edge in a text picture from above.
+    /// An edge in a text picture that comes from above and does not continue below the row.
     Corner,
-    /// The text after the number of folded revisions.
+    /// The text after the number of revisions that a shared column hides.
     More,
     /// The start of an SVG picture.
     Head,
@@ -31,32 +31,32 @@ pub enum Markup {
     TailWidth,
     TailHeight,
     Tail,
-    /// The start of a document's markup, before its position.
+    /// The start of a document's SVG markup, before the position of the document.
     Group,
-    /// The text before the document id.
+    /// The markup before a document's id.
     Title,
-    /// The text after the document id.
+    /// The markup after a document's id.
     TitleEnd,
     GroupEnd,
-    /// The markup of an edge, before, between and after its points.
+    /// The markup of an SVG edge before, between and after the coordinates of its points.
     Path,
     Comma,
     Curve,
     PathEnd,
-    /// The markup of a revision, before its position.
+    /// The start of a revision's SVG markup, before the position of the revision.
     Node,
-    /// The text before the full revision id.
+    /// The markup before a full revision id.
     NodeTitle,
-    /// The text between the full and the short id of an ancestor.
+    /// The markup between the full id and the short id of an ancestor.
     Ancestor,
     Folded,
     /// The markup of a position without a known revision.
     NodeNone,
-    /// The text after the short id.
+    /// The markup after the short id of a revision.
     NodeEnd,
-    /// The text before the contents of a line.
+    /// The markup before the contents of a line.
     Line,
-    /// The text between the name and the numbers of a line.
+    /// The markup between the name and the numbers of a line.
     Numbers,
 }
 

@@ -9,7 +9,7 @@ use output_parser::{Found, Log, Row, Told};
 use rev_core::Rev;
 use std::alloc::{AllocError, Global};
 
-/// A complete item of the output, which is drawn.
+/// A complete item of the output (a document, line of `compare`, line of numbers, or log), which is drawn at once.
 #[derive(Drop)]
 pub enum Whole {
     /// A document with all its leaves.
@@ -22,7 +22,7 @@ pub enum Whole {
     Log(Log),
 }
 
-/// The current document after a line, and the item that the line completes.
+/// The document whose lines are being read after a line, and the item that the line completes.
 pub fn next(
     alloc: Global,
     begun: Option<Document>,
@@ -47,7 +47,7 @@ pub fn next(
     }
 }
 
-/// Returns the current document after a `leaf` line, and the item that the line completes.
+/// Returns the document whose lines are being read after a `leaf` line, and the item that the line completes.
 fn read_leaf(
     mut document: Document,
     live: bool,

@@ -10,12 +10,12 @@ use std::alloc::{AllocError, Global};
 pub struct Row {
     /// The generation of the revision from which the row branches off, or 0 if the row does not branch off.
     pub hang: u32,
-    /// The row that has the revision from which this row branches off.
+    /// The index of the row that has the revision from which this row branches off.
     pub parent: usize,
     /// The generation of the leaf's oldest known ancestor.
     pub first: u32,
-    /// The generations at which branches go below the row, in rising order. The branches belong to the row or to
-    /// earlier rows.
+    /// The generations at which branches continue below the row, in rising order. These branches start in the row
+    /// itself or in earlier rows.
     pub below: Vec<u32>,
 }
 
@@ -29,7 +29,7 @@ struct Branch {
 }
 
 impl Row {
-    /// Whether a branch at a given generation goes below the row.
+    /// Whether a branch at a given generation continues below the row.
     pub fn is_open(&self, generation: u32) -> bool {
         self.below.contains(&generation)
     }
@@ -95,7 +95,7 @@ fn open_below(alloc: Global, rows: &mut [Row]) -> Result<(), AllocError> {
     Ok(())
 }
 
-/// Updates the open branches above a row that branches off at a generation.
+/// Updates the list of branches that pass the rows above, for a row that branches off at a generation.
 fn close(open: &mut Vec<u32>, hang: u32) -> Result<(), AllocError> {
     open.retain(|generation| *generation < hang);
     if hang > 0 {

@@ -16,7 +16,7 @@ use std::alloc::AllocError;
 /// The height of a session's row, and of the row of the log's id.
 const ROW: u64 = 24;
 
-/// Draws a log. An SVG picture has the log at a given height.
+/// Draws a log. In an SVG picture, the call draws the log at a given height.
 pub fn draw_log(out: &mut Vec<u8>, form: Form, height: u64, log: &Log) -> Result<(), AllocError>
     ensures { OnOk result (Draws out.old.items out.new.items (signs_of_log form (string_bytes log.now.id) log.now.entries.items)) }
 {
@@ -86,12 +86,12 @@ pub fn extent_of(log: &Log) -> Extent {
     }
 }
 
-/// Returns the height at which the session with an index is drawn, in a log that is drawn at a height.
+/// Returns the height at which a session is drawn, given the session's index and the height of its log.
 fn height_of(height: u64, place: usize) -> u64 {
     height.saturating_add((place as u64).min(1 << 32) * ROW + ROW)
 }
 
-/// Draws the markup before a session.
+/// Draws the markup before a session of a log.
 fn begin_session(out: &mut Vec<u8>, form: Form, height: u64) -> Result<(), AllocError>
     ensures { OnOk result (Draws out.old.items out.new.items []) }
 {
@@ -101,7 +101,7 @@ fn begin_session(out: &mut Vec<u8>, form: Form, height: u64) -> Result<(), Alloc
     }
 }
 
-/// Draws the end of a log.
+/// Draws the markup at the end of a log.
 fn end_log(out: &mut Vec<u8>, form: Form) -> Result<(), AllocError>
     ensures { OnOk result (Draws out.old.items out.new.items []) }
 {
@@ -128,7 +128,8 @@ fn put_moment(out: &mut Vec<u8>, form: Form, begun: &str) -> Result<(), AllocErr
     put_text(out, form, begun)
 }
 
-/// Draws a bar with the numbers of documents written and read, relative to the largest number read.
+/// Draws a bar for the numbers of documents that a session read and wrote, scaled by the largest number that a session
+/// of the log read.
 fn put_chart(
     out: &mut Vec<u8>,
     form: Form,
@@ -144,7 +145,7 @@ fn put_chart(
     }
 }
 
-/// Draws a session's bar of 40 characters.
+/// Draws a session's bar of 40 characters, for a text picture.
 fn put_text_chart(out: &mut Vec<u8>, written: u64, read: u64, most: u64) -> Result<(), AllocError>
     ensures { OnOk result (Draws out.old.items out.new.items (chart Text written read most ∷ [])) }
 {
@@ -160,7 +161,7 @@ fn put_text_chart(out: &mut Vec<u8>, written: u64, read: u64, most: u64) -> Resu
     out.extend_from_slice(b"]")
 }
 
-/// Draws a session's bar with a width of 400.
+/// Draws a session's bar with a width of 400, for an SVG picture.
 fn put_svg_chart(out: &mut Vec<u8>, written: u64, read: u64, most: u64) -> Result<(), AllocError>
     ensures { OnOk result (Draws out.old.items out.new.items (chart Svg written read most ∷ [])) }
 {

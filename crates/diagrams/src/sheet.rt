@@ -75,7 +75,7 @@ pub fn leaf_row(out: &mut Vec<u8>, rev: &Rev, wins: bool, live: bool) -> Result<
     out.extend_from_slice(label_text(wins, live).as_bytes())
 }
 
-/// Draws a leaf in SVG, after its position.
+/// Draws the SVG markup of a leaf that follows the leaf's position.
 pub fn leaf_node(out: &mut Vec<u8>, rev: &Rev, wins: bool, live: bool) -> Result<(), AllocError>
     ensures { OnOk result (Draws out.old.items out.new.items (leaf Svg rev.now wins live ∷ [])) }
 {
@@ -185,7 +185,7 @@ fn push_char(out: &mut String, form: Form, c: char) -> Result<(), AllocError>
     }
 }
 
-/// Appends a character, or its XML entity.
+/// Appends a character, or the XML entity of a character that XML reserves.
 fn push_entity(out: &mut String, c: char) -> Result<(), AllocError>
     ensures { OnOk result (string_bytes out.new ≡ string_bytes out.old ++ encode_utf8_all (entity_of c)) }
 {

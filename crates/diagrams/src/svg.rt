@@ -22,7 +22,7 @@ const LEFT: u64 = 60;
 
 const TOP: u64 = 52;
 
-/// The size of a document, or of a picture.
+/// The width and height of a drawn document or of a picture.
 #[derive(Clone, Copy, Debug)]
 pub struct Extent {
     pub width: u64,
@@ -39,22 +39,22 @@ impl Extent {
     }
 }
 
-/// Returns the maximum width of a text.
+/// Returns the maximum width that a text of a given length may have in the picture.
 pub fn width_of(text: &str) -> u64 {
     (text.len() as u64).min(1 << 32) * 9
 }
 
-/// Returns the center of a column.
+/// Returns the horizontal coordinate of a column's center.
 fn x_of(place: usize) -> u64 {
     (place as u64).min(1 << 32) * COLUMN + LEFT
 }
 
-/// Returns the center of a row.
+/// Returns the vertical coordinate of a row's center.
 fn y_of(place: usize) -> u64 {
     (place as u64).min(1 << 32) * ROW + TOP
 }
 
-/// Draws a document with sorted leaves at a height, and returns its size.
+/// Draws a document, whose leaves are sorted, at a given height, and returns the size of the drawing.
 pub fn draw_document(
     alloc: Global,
     out: &mut Vec<u8>,
@@ -75,7 +75,7 @@ pub fn draw_document(
     })
 }
 
-/// Draws the position of a document, and its id.
+/// Draws the position and the id of a document.
 fn draw_head(out: &mut Vec<u8>, height: u64, document: &Document) -> Result<(), AllocError>
     ensures { OnOk result (Draws out.old.items out.new.items (title Svg (string_bytes document.now.id) ∷ [])) }
 {
@@ -102,7 +102,7 @@ fn draw_rows(
     Ok(())
 }
 
-/// Draws a row, which has the columns before the leaf's column, and the leaf.
+/// Draws a leaf's row, which is the columns before the leaf's column, followed by the leaf.
 fn draw_row(
     out: &mut Vec<u8>,
     cells: &[Cell],
@@ -142,8 +142,8 @@ fn draw_cells(
     Ok(())
 }
 
-/// Draws a column of a row, unless the column is after the leaf. The drawing is the edge to the column, and the
-/// column's contents if it is before the leaf's column.
+/// Draws a row's part in a column, unless the column is after the column of the leaf. The part is the edge to the
+/// column and, if the column is before the leaf's column, the column's contents.
 fn draw_column(
     out: &mut Vec<u8>,
     cell: &Cell,
@@ -164,8 +164,8 @@ fn draw_column(
     Ok(())
 }
 
-/// Draws the edge to a column that begins with a generation. The edge starts at the previous column of the row, or of
-/// the row from which the row branches off.
+/// Draws the edge to the column whose first generation is given. The edge starts at the previous column of the row, or
+/// of the row from which the row branches off.
 fn draw_edge(
     out: &mut Vec<u8>,
     low: u32,
@@ -231,7 +231,7 @@ fn draw_cell(
     }
 }
 
-/// Draws the number of folded revisions.
+/// Draws the number of revisions that a shared column hides.
 fn draw_fold(out: &mut Vec<u8>, count: u64) -> Result<(), AllocError>
     ensures { OnOk result (Draws out.old.items out.new.items []) }
 {
@@ -241,7 +241,7 @@ fn draw_fold(out: &mut Vec<u8>, count: u64) -> Result<(), AllocError>
     mark(out, Markup::NodeEnd)
 }
 
-/// Draws an ancestor, after its position.
+/// Draws the SVG markup of an ancestor that follows the ancestor's position.
 fn draw_ancestor(out: &mut Vec<u8>, rev: &Rev) -> Result<(), AllocError>
     ensures { OnOk result (Draws out.old.items out.new.items []) }
 {

@@ -14,7 +14,7 @@ use crate::sheet::{blanks, edit_line, leaf_row, mark, number, short_len, short_r
 use rev_core::Rev;
 use std::alloc::{AllocError, Global};
 
-/// Draws a document with sorted leaves.
+/// Draws a document, whose leaves are sorted for drawing.
 pub fn draw_document(
     alloc: Global,
     out: &mut Vec<u8>,
@@ -50,7 +50,7 @@ fn draw_rows(
     Ok(())
 }
 
-/// Draws the commands that resolve the conflict, if the database is known.
+/// Draws the commands that resolve the document's conflict, if the caller named the database.
 fn draw_edits(
     out: &mut Vec<u8>,
     db: Option<&str>,
@@ -76,7 +76,7 @@ fn draw_edits_of(out: &mut Vec<u8>, db: &str, id: &str, leaves: &[Leaf]) -> Resu
     Ok(())
 }
 
-/// Draws a row, which has the columns before the leaf's column, and the leaf.
+/// Draws a leaf's row, which is the columns before the leaf's column, followed by the leaf.
 fn draw_row(out: &mut Vec<u8>, cells: &[Cell], leaf: &Leaf, row: &Row) -> Result<(), AllocError>
     ensures { OnOk result (Draws out.old.items out.new.items (leaf_sign Text leaf.now ∷ [])) }
 {
@@ -95,8 +95,8 @@ fn draw_cells(out: &mut Vec<u8>, cells: &[Cell], leaf: &Leaf, row: &Row) -> Resu
     Ok(())
 }
 
-/// Draws a column of a row, unless the column is after the leaf. The drawing is the edge to the column, and the
-/// column's contents if it is before the leaf's column.
+/// Draws a row's part in a column, unless the column is after the column of the leaf. The part is the edge to the
+/// column and, if the column is before the leaf's column, the column's contents.
 fn draw_column(
     out: &mut Vec<u8>,
     cell: &Cell,
@@ -132,7 +132,7 @@ fn draw_edge(
     mark(out, edge_of(leaf, row, cell.low))
 }
 
-/// Returns the edge to the column that begins with a generation.
+/// Returns the edge to the column whose first generation is given.
 fn edge_of(leaf: &Leaf, row: &Row, low: u32) -> Markup {
     let before = low.saturating_sub(1);
     let open = row.is_open(before);
@@ -161,7 +161,7 @@ fn draw_cell(out: &mut Vec<u8>, cell: &Cell, leaf: &Leaf, row: &Row) -> Result<(
     }
 }
 
-/// Draws the number of folded revisions in a column.
+/// Draws the number of revisions that a shared column hides.
 fn draw_fold(out: &mut Vec<u8>, count: u64, width: usize) -> Result<(), AllocError>
     ensures { OnOk result (Draws out.old.items out.new.items []) }
 {

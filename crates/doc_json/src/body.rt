@@ -53,7 +53,7 @@ impl Body {
     ghost use Rattle.std.specs.Arc.{arc_slice_items};
     ghost use Rattle.doc_json.specs.Body.{IsBody};
 
-    /// Wraps bytes that are known to be a body.
+    /// Wraps bytes that the caller knows to be a serialized body.
     pub fn from_text(text: ArcSlice<u8>) -> Body
         requires { IsBody (arc_slice_items text) }
         ensures { result ≡ arc_slice_items text }
@@ -96,21 +96,22 @@ impl Body {
 /// - `NotObject`: the value is not an object.
 /// - `SpecialMember`: a member begins with `_`.
 /// - `Fraction`: the value contains, at any depth, a number that is neither an i64 nor a u64.
-/// - `Memory`: an allocation failed. The call returns `Memory` only if it would otherwise succeed.
+/// - `Memory`: an allocation failed. The call returns `Memory` only if no other error applies.
 pub fn read_body(alloc: Global, value: &Value) -> Result<Body, DocFault>
     ensures { GivesUnlessMemory result (body_read (view value.now)) }
 {
     body_of(alloc, value, NONE_KNOWN)
 }
 
-/// Reads a value inside a line as a body. The call returns the errors of `read_body`.
+/// Reads a JSON value inside a line as a body. The call returns the errors of `read_body`.
 pub fn read_line_body(alloc: Global, part: &LinePart<'_, '_>) -> Result<Body, DocFault>
     ensures { GivesUnlessMemory result (body_read (line_view part.now)) }
 {
     body_of(alloc, part.value(), part.plain())
 }
 
-/// Reads a value as a body. `plain` says which strings of the value are known to need no escapes.
+/// Reads a value as a body. The argument `plain` says which strings of the value need no escapes when they are written
+/// as JSON.
 fn body_of<'v, V: JsonValue<'v>>(
     alloc: Global,
     value: &'v V,
@@ -135,7 +136,7 @@ where
     Ok(Body::from_text(text))
 }
 
-/// Builds the body from an object's members without a leading `_`.
+/// Builds the body from the members of an object whose names have no leading `_`.
 pub(crate) fn plain_body<'v, V: JsonValue<'v>>(
     alloc: Global,
     members: &'v V::Object,
@@ -150,7 +151,7 @@ pub(crate) fn plain_body<'v, V: JsonValue<'v>>(
     Ok(Body::from_text(text))
 }
 
-/// Serializes the members without a leading `_` into shared bytes.
+/// Serializes the members whose names have no leading `_` into shared bytes.
 fn plain_written<'v, V: JsonValue<'v>>(
     alloc: Global,
     members: &'v V::Object,

@@ -29,7 +29,7 @@ const MOST: usize = 1000;
 /// All copies of a selection share its ids.
 pub struct Chosen {
     ids: ArcSlice<DocId>,
-    /// A table of hashes of the selected ids, which rejects most other ids with one lookup.
+    /// A table of hashes of the selected ids, in which one lookup rejects most ids that are not selected.
     marks: ArcSlice<bool>,
 }
 
@@ -67,7 +67,7 @@ impl Chosen {
     ///
     /// - `NoneChosen`: the list `ids` is empty.
     /// - `TooManyChosen`: there are more than 1,000 distinct ids.
-    /// - `Memory`: an allocation failed. The call returns `Memory` only if it would otherwise succeed.
+    /// - `Memory`: an allocation failed. The call returns `Memory` only if no other error applies.
     pub fn new(ids: Vec<DocId>) -> Result<Chosen, DocFault>
         ensures answer { GivesUnlessMemory result (chosen_answer ids.items) }
         ensures choice { IfOk result IsChoice }
@@ -93,7 +93,7 @@ impl Chosen {
         self.ids.as_slice()
     }
 
-    /// Whether the document is selected.
+    /// Whether the selection contains a document id.
     pub fn has(&self, id: &DocId) -> bool
         ensures { result ≡ is_chosen (Some self.now) id.now }
     {
@@ -111,7 +111,8 @@ impl Chosen {
     }
 }
 
-/// Whether a document is selected. Without a selection, all documents are selected.
+/// Whether an optional selection contains a document id. If there is no selection, the call returns true for every
+/// document.
 pub fn is_chosen(chosen: Option<&Chosen>, id: &DocId) -> bool
     ensures { result ≡ is_chosen (option_copied chosen.entry) id.now }
 {

@@ -1,4 +1,4 @@
-//! Serializing a value, or the members of an object, in compact form.
+//! Serializes a JSON value, or the members of a JSON object, in compact form.
 ghost use Rattle.std.specs.Prelude.{◌≡◌, ◌++◌, ◌∷◌, true, false, OnOk, IfOk};
 ghost use Rattle.json.specs.Print.{quoted};
 ghost use Rattle.serde_json.specs.Data.{object};
@@ -16,12 +16,13 @@ use crate::text::push_name;
 use json_values::PlainTexts;
 use std::alloc::{AllocError, Global};
 
-/// The initial capacity of a buffer, in bytes. Most small documents need no larger buffer. The allocator rounds sizes
-/// that are up to 15 bytes smaller up to this size.
+/// The initial capacity of a serialization buffer, in bytes. Most small documents need no larger buffer. A smaller
+/// capacity within 15 bytes of this one would take the same amount of memory from the allocator.
 const SHORT: usize = 136;
 
-/// Serializes the object of the members without a leading `_`. The buffer has fewer than 32 spare bytes. If the text is
-/// short and the allocation for a smaller buffer succeeds, the buffer has fewer than 16 spare bytes.
+/// Serializes the object of the members without a leading `_`. The buffer of the result has fewer than 32 unused bytes.
+/// If the serialized text is short and the allocation for a smaller buffer succeeds, the buffer has fewer than 16
+/// unused bytes.
 pub(crate) fn plain_text<'v, V: JsonValue<'v>>(
     alloc: Global,
     members: &'v V::Object,
@@ -37,7 +38,7 @@ pub(crate) fn plain_text<'v, V: JsonValue<'v>>(
     Ok(fitted(alloc, trimmed(out)))
 }
 
-/// Serializes a value. The buffer has fewer than 32 spare bytes.
+/// Serializes a value. The buffer of the result has fewer than 32 unused bytes.
 pub(crate) fn value_text<'v, V: JsonValue<'v>>(
     alloc: Global,
     value: &'v V,
@@ -53,7 +54,7 @@ pub(crate) fn value_text<'v, V: JsonValue<'v>>(
     Ok(trimmed(out))
 }
 
-/// Shrinks the buffer if it has 32 or more spare bytes, because the allocator cannot reuse fewer bytes.
+/// Shrinks a buffer that has at least 32 unused bytes, because the allocator cannot reuse a smaller number of bytes.
 fn trimmed(text: Vec<u8>) -> Vec<u8>
     ensures { result.items ≡ text.items }
 {
@@ -64,8 +65,8 @@ fn trimmed(text: Vec<u8>) -> Vec<u8>
     text
 }
 
-/// Copies a short text to a buffer of its exact length if that saves an allocator size step and the allocation
-/// succeeds.
+/// Copies a short text to a buffer of exactly its length, if this buffer takes less memory from the allocator and the
+/// allocation succeeds.
 fn fitted(alloc: Global, text: Vec<u8>) -> Vec<u8>
     ensures { result.items ≡ text.items }
 {
@@ -79,7 +80,7 @@ fn fitted(alloc: Global, text: Vec<u8>) -> Vec<u8>
     }
 }
 
-/// Serializes the object of the members without a leading `_`.
+/// Serializes the object that consists of the members without a leading `_`.
 fn push_plain<'v, V: JsonValue<'v>>(
     members: &'v V::Object,
     plain: PlainTexts,
@@ -103,7 +104,7 @@ fn push_plain<'v, V: JsonValue<'v>>(
     Ok(())
 }
 
-/// Serializes a member, unless its name begins with `_`. Returns whether the next member needs a comma before it.
+/// Serializes a member, unless its name begins with `_`. Returns whether a comma must precede the next member.
 fn push_unless_special<'v, V: JsonValue<'v>>(
     name: &str,
     member: &'v V,

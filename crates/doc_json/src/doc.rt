@@ -62,7 +62,7 @@ impl Doc {
         &self.id
     }
 
-    /// Returns the ancestry, whose newest revision is the document's.
+    /// Returns the ancestry of the document's revision, newest revision first.
     pub fn ancestry(&self) -> &Ancestry
         ensures part { result.now ≡ self.now.ancestry }
         ensures document { IsDocument self.now }

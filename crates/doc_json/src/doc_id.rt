@@ -95,7 +95,7 @@ impl DocId {
     ///
     /// - `NoId`: the string is empty.
     /// - `ReservedId`: the string begins with `_` and is not the id of a design document.
-    /// - `Memory`: an allocation failed. The call returns `Memory` only if it would otherwise succeed.
+    /// - `Memory`: an allocation failed. The call returns `Memory` only if no other error applies.
     pub fn parse(alloc: Global, text: &str) -> Result<DocId, DocFault>
         ensures { GivesUnlessMemory result (doc_id_read text.now) }
     {
@@ -103,7 +103,7 @@ impl DocId {
         Ok(DocId::of_checked(alloc, text)?)
     }
 
-    /// Wraps a string that is known to be a document id.
+    /// Wraps a string that the caller knows to be a document id.
     pub(crate) fn of_checked(alloc: Global, text: &str) -> Result<DocId, AllocError>
         requires { doc_id_read text.now ≡ Ok text.now }
         ensures id { IfOk result (λ a. a ≡ text.now) }

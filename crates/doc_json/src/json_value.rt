@@ -12,12 +12,12 @@ use json_values::PlainTexts;
 use serde_json::Number;
 use std::alloc::AllocError;
 
-/// A JSON value from which a document is read, which is a value of `serde_json` or a value inside a line.
+/// A JSON value from which a document is read. The value is a `serde_json` value or a value inside a line.
 ///
-/// Clauses see a JSON value as its data (`seen`). For some types the caller knows whether an object's members are in
-/// byte order of their names (`in_order`), and for other types the type says so.
+/// Contract clauses describe a JSON value by its data (`seen`). The ghost value `in_order` says whether an object's
+/// members are in byte order of their names. Some types guarantee this order, and other types leave it to the caller.
 pub(crate) trait JsonValue<'v>: Sized + 'v {
-    /// The members of an object.
+    /// An iterator over the members of a JSON object.
     type Object;
 
     /// An iterator over members.
@@ -60,12 +60,12 @@ pub(crate) trait JsonValue<'v>: Sized + 'v {
     fn get(&'v self, name: &str) -> Option<&'v Self>
         ensures { option_map (λ v. seen v.now) result ≡ get name.now (seen self.now) };
 
-    /// Starts an iteration over members.
+    /// Starts an iteration over the members of an object.
     fn walk(members: &'v Self::Object) -> Self::Members
         ensures members { left result ≡ members_seen members.now }
         ensures order { members_in_order members.now → left_in_order result };
 
-    /// Returns the next member with its name.
+    /// Returns the name and the value of the next member.
     fn next_member(members: &mut Self::Members) -> Option<(&'v str, &'v Self)>
         ensures members { MatchOption result (left members.old ≡ no_members)
             (λ m. left members.old ≡ member m.0.now (seen m.1.now) (left members.new)) }
@@ -76,7 +76,8 @@ pub(crate) trait JsonValue<'v>: Sized + 'v {
     fn has_fraction(&'v self) -> bool
         ensures { result ≡ has_float (seen self.now) };
 
-    /// Appends the compact serialized form to a buffer. `plain` says which strings are known to need no escapes.
+    /// Appends the compact serialized form of the value to a buffer. The argument `plain` says which strings need no
+    /// escapes when they are written as JSON.
     fn push(&'v self, plain: PlainTexts, out: &mut Vec<u8>) -> Result<(), AllocError>
         requires exact { has_float (seen self.now) ≡ false }
         requires order { in_order self.now }

@@ -1,4 +1,4 @@
-//! CouchDB documents in JSON: reading them from values, and writing them.
+//! Reads CouchDB documents from JSON values, and writes them as JSON.
 //!
 //! The rules are in docs/PROFILE.md, "Document ids", "Documents", "What `read_doc` accepts" and "What `write_doc`
 //! writes".

@@ -109,7 +109,7 @@ pub fn has_fraction(value: &LineValue<'_>) -> bool
     }
 }
 
-/// Whether an item is or contains a number that is neither an i64 nor a u64.
+/// Whether one of an array's items is or contains a number that is neither an i64 nor a u64.
 #[cycle(fraction)]
 #[inline(never)]
 fn items_have_fraction(items: &Vec<LineValue<'_>>) -> bool
@@ -123,7 +123,7 @@ fn items_have_fraction(items: &Vec<LineValue<'_>>) -> bool
     false
 }
 
-/// Whether a member is or contains a number that is neither an i64 nor a u64.
+/// Whether the value of an object's member is or contains a number that is neither an i64 nor a u64.
 #[cycle(fraction)]
 #[inline(never)]
 fn members_have_fraction(members: &Vec<(&str, LineValue<'_>)>) -> bool
@@ -137,7 +137,7 @@ fn members_have_fraction(members: &Vec<(&str, LineValue<'_>)>) -> bool
     false
 }
 
-/// Appends the serialized form of a value.
+/// Appends the serialized form of a value to a buffer.
 #[cycle(push)]
 #[inline(always)]
 fn push_value(value: &LineValue<'_>, plain: PlainTexts, out: &mut Vec<u8>) -> Result<(), AllocError>
@@ -157,7 +157,7 @@ fn push_value(value: &LineValue<'_>, plain: PlainTexts, out: &mut Vec<u8>) -> Re
     }
 }
 
-/// Appends the items of an array, in brackets.
+/// Appends the items of an array, in brackets, to a buffer.
 #[cycle(push)]
 #[inline(never)]
 fn push_items(
@@ -181,7 +181,7 @@ fn push_items(
     Ok(())
 }
 
-/// Appends the members of an object, in braces.
+/// Appends the members of an object, in braces, to a buffer.
 #[cycle(push)]
 #[inline(never)]
 fn push_members(

@@ -1,4 +1,4 @@
-//! A table that rejects most ids that are not in a list, with one lookup.
+//! A table of hashes of the ids in a list. One lookup in the table rejects most ids that are not in the list.
 ghost use Rattle.std.specs.Prelude.{◌≡◌, ◌<◌, ◌-◌, true, IfOk, length, drop};
 ghost use Rattle.std.specs.Arc.{arc_slice_items};
 ghost use Rattle.doc_json.specs.Marks.{AreMarks, is_marked, place_of};
@@ -7,7 +7,7 @@ use crate::doc_id::DocId;
 use std::alloc::{AllocError, Global};
 use std::sync::ArcSlice;
 
-/// The number of table entries per id.
+/// The number of table entries for each id of the list.
 const PLACES_EACH: usize = 8;
 
 /// The minimum number of ids for which a table is sized.
@@ -39,14 +39,14 @@ fn place_of(id: &DocId, places: usize) -> usize
     place % places
 }
 
-/// Returns the table size for a number of ids.
+/// Returns the number of table entries for a given number of ids.
 fn places_for(ids: usize) -> usize
     ensures { 0 < result }
 {
     ids.max(FEWEST).min(MOST) * PLACES_EACH
 }
 
-/// Builds the table, in which the entry of each id is true.
+/// Builds the table of a list of ids, in which the entry of each of these ids is true.
 pub(crate) fn mark(alloc: Global, ids: &[DocId]) -> Result<ArcSlice<bool>, AllocError>
     ensures marks { IfOk result (λ marks. AreMarks (arc_slice_items marks) ids.now) }
 {
@@ -59,7 +59,7 @@ pub(crate) fn mark(alloc: Global, ids: &[DocId]) -> Result<ArcSlice<bool>, Alloc
     Ok(ArcSlice::from_vec(marks)?)
 }
 
-/// Whether the entry of an id is true.
+/// Whether the table entry of an id is true.
 pub(crate) fn is_marked(marks: &[bool], id: &DocId) -> bool
     requires { 0 < length marks.now }
     ensures { result ≡ is_marked marks.now id.now }

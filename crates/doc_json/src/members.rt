@@ -38,7 +38,7 @@ pub(crate) struct FoundMembers<'v, V> {
     pub(crate) has_fraction: bool,
 }
 
-/// Finds the members that begin with `_`, and checks all other members, in one pass.
+/// In one pass over an object's members, finds the members that begin with `_`, and checks all other members.
 pub(crate) fn find_members<'v, V: JsonValue<'v>>(members: &'v V::Object) -> FoundMembers<'v, V>
     ensures id { option_map (λ v. V.seen v.now) result.id
         ≡ get_member (codes "_id") (V.members_seen members.now) }
@@ -70,7 +70,7 @@ pub(crate) fn find_members<'v, V: JsonValue<'v>>(members: &'v V::Object) -> Foun
     found
 }
 
-/// Adds one member to the members that were found.
+/// Adds one member of a document to the members that were found.
 fn looked<'v, V: JsonValue<'v>>(
     found: FoundMembers<'v, V>,
     name: &str,
@@ -144,7 +144,7 @@ fn with_special<'v, V: JsonValue<'v>>(
     }
 }
 
-/// Returns the member that was found for a name, or the given member if it has that name.
+/// Returns the given member if it has the given name, or the member of this name that was found before.
 fn kept<'v, V: JsonValue<'v>>(
     found: Option<&'v V>,
     name: &str,

@@ -28,7 +28,7 @@ impl Model for NearText {
 }
 
 impl NearText {
-    /// Stores the string inline, or returns `None` if the string is too long.
+    /// Stores a string inline, or returns `None` if the string has more than 32 bytes.
     pub(crate) fn keep(text: &str) -> Option<NearText>
         ensures { IfSome result (λ t. t ≡ text.now) }
     {
@@ -44,7 +44,8 @@ impl NearText {
         })
     }
 
-    /// Copies the string. The call copies all 32 bytes, so that the compiler knows the size of the copy.
+    /// Copies the string. The call copies all 32 bytes of the inline string, so that the compiler knows the size of the
+    /// copy.
     pub(crate) fn copy(&self) -> NearText
         ensures { result ≡ self.now }
     {

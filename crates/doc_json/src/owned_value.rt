@@ -16,7 +16,7 @@ use serde_json::{Map, Number, Value};
 use std::alloc::AllocError;
 use std::collections::btree_map;
 
-/// For a value of `serde_json`, nothing is known about the escapes of its strings.
+/// A `serde_json` value does not say which of its strings need escapes.
 pub(crate) const NONE_KNOWN: PlainTexts = PlainTexts {
     names: false,
     values: false,
@@ -80,7 +80,7 @@ impl<'v> JsonValue<'v> for Value {
         has_fraction(self)
     }
 
-    // For a value of `serde_json`, no string is known to need no escapes.
+    // The call says of no string of a `serde_json` value that it needs no escapes.
     fn push(&'v self, _plain: PlainTexts, out: &mut Vec<u8>) -> Result<(), AllocError> {
         push_value(self, out)
     }
@@ -102,7 +102,7 @@ fn has_fraction(value: &Value) -> bool
     }
 }
 
-/// Whether an item is or contains a number that is neither an i64 nor a u64.
+/// Whether one of an array's items is or contains a number that is neither an i64 nor a u64.
 #[cycle(fraction)]
 #[inline(never)]
 fn items_have_fraction(items: &Vec<Value>) -> bool
@@ -116,7 +116,7 @@ fn items_have_fraction(items: &Vec<Value>) -> bool
     false
 }
 
-/// Whether a member is or contains a number that is neither an i64 nor a u64.
+/// Whether the value of an object's member is or contains a number that is neither an i64 nor a u64.
 #[cycle(fraction)]
 #[inline(never)]
 fn members_have_fraction(members: &Map<String, Value>) -> bool
@@ -130,7 +130,7 @@ fn members_have_fraction(members: &Map<String, Value>) -> bool
     false
 }
 
-/// Appends the serialized form of a value.
+/// Appends the serialized form of a value to a buffer.
 #[cycle(push)]
 #[inline(always)]
 fn push_value(value: &Value, out: &mut Vec<u8>) -> Result<(), AllocError>
@@ -150,7 +150,7 @@ fn push_value(value: &Value, out: &mut Vec<u8>) -> Result<(), AllocError>
     }
 }
 
-/// Appends the items of an array, in brackets.
+/// Appends the items of an array, in brackets, to a buffer.
 #[cycle(push)]
 #[inline(never)]
 fn push_items(items: &Vec<Value>, out: &mut Vec<u8>) -> Result<(), AllocError>
@@ -171,7 +171,7 @@ fn push_items(items: &Vec<Value>, out: &mut Vec<u8>) -> Result<(), AllocError>
     Ok(())
 }
 
-/// Appends the members of an object, in braces.
+/// Appends the members of an object, in braces, to a buffer.
 #[cycle(push)]
 #[inline(never)]
 fn push_members(members: &Map<String, Value>, out: &mut Vec<u8>) -> Result<(), AllocError>

@@ -19,8 +19,8 @@ use json_values::{LinePart, PlainTexts};
 use serde_json::Value;
 use std::alloc::Global;
 
-/// Reads a JSON value as a document. The members `_conflicts`, `_deleted_conflicts`, `_revs_info` and `_local_seq` are
-/// ignored.
+/// Reads a JSON value as a document. The call ignores the members `_conflicts`, `_deleted_conflicts`, `_revs_info` and
+/// `_local_seq`.
 ///
 /// # Errors
 ///
@@ -35,21 +35,22 @@ use std::alloc::Global;
 /// - `BadRevisions`: the member `_revisions` is not an ancestry.
 /// - `RevMismatch`: the member `_rev` is not the newest revision of `_revisions`.
 /// - `Fraction`: a member without a leading `_` contains, at any depth, a number that is neither an i64 nor a u64.
-/// - `Memory`: an allocation failed. The call returns `Memory` only if it would otherwise succeed.
+/// - `Memory`: an allocation failed. The call returns `Memory` only if no other error applies.
 pub fn read_doc(alloc: Global, value: &Value) -> Result<Doc, DocFault>
     ensures { GivesUnlessMemory result (doc_read (view value.now)) }
 {
     document_of(alloc, value, NONE_KNOWN)
 }
 
-/// Reads a value inside a line as a document. The call returns the errors of `read_doc`.
+/// Reads a JSON value inside a line as a document. The call returns the errors of `read_doc`.
 pub fn read_line_doc(alloc: Global, part: &LinePart<'_, '_>) -> Result<Doc, DocFault>
     ensures { GivesUnlessMemory result (doc_read (line_view part.now)) }
 {
     document_of(alloc, part.value(), part.plain())
 }
 
-/// Reads a value as a document. `plain` says which strings of the value are known to need no escapes.
+/// Reads a value as a document. The argument `plain` says which strings of the value need no escapes when they are
+/// written as JSON.
 fn document_of<'v, V: JsonValue<'v>>(
     alloc: Global,
     value: &'v V,
@@ -100,7 +101,7 @@ fn read_id<'v, V: JsonValue<'v>>(member: Option<&'v V>) -> Result<&'v str, DocFa
     Ok(text)
 }
 
-/// Reads the member `_deleted`, which is false if missing.
+/// Reads the member `_deleted`, whose value is false if the member is missing.
 fn read_flag<'v, V: JsonValue<'v>>(member: Option<&'v V>) -> Result<bool, DocFault>
     ensures { result ≡ flag_of (option_map (λ v. V.seen v.now) member.entry) }
 {

@@ -29,7 +29,8 @@ pub(crate) fn read_rev<'v, V: JsonValue<'v>>(member: Option<&'v V>) -> Result<Op
     }
 }
 
-/// Reads the member `_revisions`, given the value of `_rev`. The inner error means that an allocation failed.
+/// Reads the member `_revisions` of a document, given the value of the member `_rev`. The error of the inner `Result`
+/// means that an allocation failed.
 pub(crate) fn read_revisions<'v, V: JsonValue<'v>>(
     alloc: Global,
     member: Option<&'v V>,
@@ -60,7 +61,8 @@ pub(crate) fn alone(alloc: Global, rev: Rev) -> Result<Ancestry, AllocError>
     Ok(Ancestry::from_revs(revs))
 }
 
-/// Reads a value of `_revisions`, given the value of `_rev`. The inner error means that an allocation failed.
+/// Reads the value of the member `_revisions`, given the value of the member `_rev`. The error of the inner `Result`
+/// means that an allocation failed.
 fn read_numbered<'v, V: JsonValue<'v>>(
     alloc: Global,
     value: &'v V,
@@ -79,7 +81,7 @@ fn read_numbered<'v, V: JsonValue<'v>>(
     match numbered_from(alloc, start, ids) {
         Ok(Some(ancestry)) => matched(ancestry, rev),
         Ok(None) => Err(DocFault::BadRevisions),
-        // The reported error must not depend on whether an allocation failed.
+        // The returned error must not depend on whether an allocation failed.
         Err(refused) => match check_numbered(start, ids, rev) {
             Ok(()) => Ok(Err(refused)),
             Err(fault) => Err(fault),
@@ -104,8 +106,8 @@ pub(crate) fn matched(
     Ok(Ok(ancestry))
 }
 
-/// Reads an ancestry from a start and a list of signatures. Returns `None` if the start and the list do not form an
-/// ancestry.
+/// Reads an ancestry from the generation `start` of its newest revision and a list of signatures. Returns `None` if the
+/// generation `start` and the list of signatures do not form an ancestry.
 fn numbered_from<'v, V: JsonValue<'v>>(
     alloc: Global,
     start: u64,
@@ -126,7 +128,7 @@ fn numbered_from<'v, V: JsonValue<'v>>(
     }
 }
 
-/// Reads a list of signatures as revisions, from a generation downwards.
+/// Reads a list of signatures as revisions whose generations fall by one, from a given generation on.
 fn numbered<'v, V: JsonValue<'v>>(
     alloc: Global,
     start: u32,
@@ -148,7 +150,7 @@ fn numbered<'v, V: JsonValue<'v>>(
     Ok(Some(revs))
 }
 
-/// Checks whether a start and a list form an ancestry that agrees with `_rev`, and returns the error if they do not.
+/// Returns an error unless the generation `start` and the list of signatures form an ancestry that agrees with `_rev`.
 fn check_numbered<'v, V: JsonValue<'v>>(
     start: u64,
     ids: &'v Vec<V>,
@@ -183,7 +185,7 @@ fn ids_of<'v, V: JsonValue<'v>>(value: &'v V) -> Option<&'v Vec<V>>
     value.get("ids")?.as_array()
 }
 
-/// Whether the start is a generation, and the list has 1 to `start` items that are all signatures.
+/// Whether `start` is a generation, and the list has 1 to `start` items, all of which are signatures.
 fn are_ids<'v, V: JsonValue<'v>>(start: u64, ids: &'v Vec<V>) -> bool
     ensures { result ≡ is_ok (numbered_from (Some start) (sigs_of (items_of (map V.seen ids.now.items)))) }
 {
@@ -209,7 +211,7 @@ fn are_sigs<'v, V: JsonValue<'v>>(items: &'v Vec<V>) -> bool
     true
 }
 
-/// Whether `_rev` is missing or is the newest revision of `_revisions`.
+/// Whether the member `_rev` is missing or is the newest revision of the member `_revisions`.
 fn agrees<'v, V: JsonValue<'v>>(rev: Option<Rev>, start: u64, ids: &'v Vec<V>) -> bool
     ensures { (revs : List RevId) → numbered_from (Some start) (sigs_of (items_of (map V.seen ids.now.items))) ≡ Ok revs
         → result ≡ agrees rev revs }

@@ -15,7 +15,7 @@ use json_values::{is_plain, plain_end};
 use serde_json::Number;
 use std::alloc::AllocError;
 
-/// Appends a comma if `later` is true.
+/// Appends a comma to a buffer if `later` is true.
 #[inline(always)]
 pub(crate) fn push_comma(out: &mut Vec<u8>, later: bool) -> Result<(), AllocError>
     ensures { OnOk result (out.new.items ≡ out.old.items ++ comma_if later) }
@@ -26,8 +26,8 @@ pub(crate) fn push_comma(out: &mut Vec<u8>, later: bool) -> Result<(), AllocErro
     Ok(())
 }
 
-/// Appends the name of a member and a colon, after a comma if `later` is true. `is_plain` says whether the name is
-/// known to need no escapes.
+/// Appends the name of a member and a colon, after a comma if `later` is true. The argument `is_plain` says whether the
+/// caller knows that the name needs no escapes.
 #[inline(always)]
 pub(crate) fn push_name(
     out: &mut Vec<u8>,
@@ -44,9 +44,9 @@ pub(crate) fn push_name(
     Ok(())
 }
 
-/// Appends a string in quotation marks. The string usually needs no escapes.
+/// Appends a string in quotation marks. The call is fastest if the string needs no escapes.
 ///
-/// If an allocation fails, a part of the string may have been appended, but the previous content of the buffer stays.
+/// If an allocation fails, the call may have appended a part of the string, but the buffer keeps its previous content.
 pub fn push_text(out: &mut Vec<u8>, text: &str) -> Result<(), AllocError>
     ensures text { OnOk result (out.new.items ≡ out.old.items ++ quoted text.now) }
     ensures kept { Keeps out.old.items out.new.items }
@@ -57,7 +57,8 @@ pub fn push_text(out: &mut Vec<u8>, text: &str) -> Result<(), AllocError>
     push_standing(out, text)
 }
 
-/// Appends a string in quotation marks. `is_plain` says whether the string is known to need no escapes.
+/// Appends a string in quotation marks. The argument `is_plain` says whether the caller knows that the string needs no
+/// escapes.
 #[inline(always)]
 pub(crate) fn push_known_text(
     out: &mut Vec<u8>,
@@ -85,7 +86,8 @@ fn push_standing(out: &mut Vec<u8>, text: &str) -> Result<(), AllocError>
     Ok(())
 }
 
-/// Appends a string in quotation marks: runs that need no escapes are copied, each other byte is escaped.
+/// Appends a string in quotation marks. The call copies runs of bytes that need no escapes, and escapes all other
+/// bytes.
 #[inline(never)]
 fn push_escaped(out: &mut Vec<u8>, text: &str) -> Result<(), AllocError>
     ensures text { OnOk result (out.new.items ≡ out.old.items ++ quoted text.now) }
@@ -131,7 +133,7 @@ fn escape_of(byte: u8) -> ([u8; 6], usize)
     ([byte, 0, 0, 0, 0, 0], 1)
 }
 
-/// Returns the letter of a byte's short escape, or 0 if it has none.
+/// Returns the letter of a byte's short escape, or 0 if the byte has no short escape.
 fn letter(byte: u8) -> u8
     ensures { result ≡ escape_letter byte }
 {
@@ -158,7 +160,7 @@ fn hex(digit: u8) -> u8
     }
 }
 
-/// Appends an integer in decimal.
+/// Appends an integer in decimal to a buffer.
 #[inline(always)]
 pub(crate) fn push_integer(out: &mut Vec<u8>, n: &Number) -> Result<(), AllocError>
     requires { is_float (number_view n.now) ≡ false }
@@ -171,7 +173,7 @@ pub(crate) fn push_integer(out: &mut Vec<u8>, n: &Number) -> Result<(), AllocErr
     }
 }
 
-/// Appends an unsigned integer. A single digit needs no buffer.
+/// Appends an unsigned integer. An integer of one digit is appended directly.
 #[inline(always)]
 fn push_whole(out: &mut Vec<u8>, n: u64) -> Result<(), AllocError>
     ensures { OnOk result (out.new.items ≡ out.old.items ++ decimal n) }
@@ -183,7 +185,7 @@ fn push_whole(out: &mut Vec<u8>, n: u64) -> Result<(), AllocError>
     push_digits(out, n)
 }
 
-/// Appends an unsigned integer of any length.
+/// Appends an unsigned integer with any number of digits.
 #[inline(never)]
 fn push_digits(out: &mut Vec<u8>, n: u64) -> Result<(), AllocError>
     ensures { OnOk result (out.new.items ≡ out.old.items ++ decimal n) }

@@ -25,8 +25,8 @@ pub fn write_doc(alloc: Global, doc: &Doc) -> Result<Vec<u8>, AllocError>
     Ok(out)
 }
 
-/// Appends the serialized document to a buffer. If an allocation fails, a part of the document may have been appended,
-/// but the previous content of the buffer stays.
+/// Appends the serialized document to a buffer. If an allocation fails, the call may have appended a part of the
+/// document, but the buffer keeps its previous content.
 pub fn push_doc(out: &mut Vec<u8>, doc: &Doc) -> Result<(), AllocError>
     ensures text { OnOk result (out.new.items ≡ out.old.items ++ doc_text doc.now) }
     ensures kept { Keeps out.old.items out.new.items }
@@ -36,7 +36,8 @@ pub fn push_doc(out: &mut Vec<u8>, doc: &Doc) -> Result<(), AllocError>
     push_parts(out, doc)
 }
 
-/// Appends the parts of a document. The call first reserves enough space for most documents.
+/// Appends the serialized document, given its parts. The call first reserves buffer space that is enough for most
+/// documents.
 fn push_parts(out: &mut Vec<u8>, doc: &Doc) -> Result<(), AllocError>
     ensures text { OnOk result (out.new.items ≡ out.old.items ++ doc_text doc.now) }
     ensures kept { Keeps out.old.items out.new.items }
@@ -52,7 +53,7 @@ fn push_parts(out: &mut Vec<u8>, doc: &Doc) -> Result<(), AllocError>
     push_rest(out, body)
 }
 
-/// Appends `_rev` and `_revisions`, each after a comma.
+/// Appends the members `_rev` and `_revisions`, each after a comma.
 fn push_revs(out: &mut Vec<u8>, ancestry: &Ancestry) -> Result<(), AllocError>
     ensures text { OnOk result (out.new.items ≡ out.old.items ++ revs_text ancestry.now) }
     ensures kept { Keeps out.old.items out.new.items }
@@ -97,7 +98,7 @@ fn push_number(out: &mut Vec<u8>, number: u32) -> Result<(), AllocError>
     Ok(())
 }
 
-/// Appends the signatures, each in quotation marks.
+/// Appends the signatures of an ancestry, each in quotation marks.
 fn push_sigs(out: &mut Vec<u8>, revs: &[Rev]) -> Result<(), AllocError>
     ensures text { OnOk result (out.new.items ≡ out.old.items ++ sig_texts revs.now) }
     ensures kept { Keeps out.old.items out.new.items }
@@ -122,14 +123,14 @@ fn push_sig(out: &mut Vec<u8>, rev: &Rev) -> Result<(), AllocError>
     Ok(())
 }
 
-/// Returns the member `_deleted` of a deleted document, or an empty string.
+/// Returns the text of the member `_deleted` for a deleted document, and otherwise an empty string.
 fn deleted_text(deleted: bool) -> &'static [u8]
     ensures { result.now ≡ deleted_text deleted }
 {
     if deleted { b",\"_deleted\":true" } else { b"" }
 }
 
-/// Appends the body's members, and the end of the object.
+/// Appends the body's members, and the closing brace of the document.
 fn push_rest(out: &mut Vec<u8>, body: &[u8]) -> Result<(), AllocError>
     ensures text { OnOk result (out.new.items ≡ out.old.items ++ rest_text body.now) }
     ensures kept { Keeps out.old.items out.new.items }

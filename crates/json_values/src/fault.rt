@@ -6,7 +6,8 @@ use thiserror::Error;
 /// Why a read failed.
 #[derive(Clone, Copy, Debug, PartialEq, Eq, Error)]
 pub enum ReadFault {
-    /// The bytes are not one JSON value in UTF-8, or nest deeper than 127, or contain a number too large for a float.
+    /// The input is not one JSON value in UTF-8, nests deeper than 127, or contains a number that is too large for a
+    /// float.
     #[error("not JSON")]
     NotJson,
     /// An allocation failed.

@@ -18,15 +18,16 @@ use json::Token;
 use serde_json::Number;
 use std::marker::Model;
 
-/// A JSON text and the position up to which it has been read. Clauses see the text from the next lexeme on.
+/// A JSON text and the position up to which it has been read. Contract clauses describe a lexer by the text from the
+/// next lexeme on.
 #[derive(Drop)]
 pub(crate) struct Lexer<'a> {
     text: &'a str,
     /// The position of the next lexeme.
     at: usize,
-    /// The buffer for unescaped strings. The buffer is at least as long as the remaining text.
+    /// The buffer for unescaped strings. The buffer for unescaped strings is at least as long as the remaining text.
     room: &'a mut [u8],
-    /// The facts that are known about the strings read so far.
+    /// Facts about whether the strings read so far need escapes.
     plain: PlainTexts,
 }
 
@@ -64,7 +65,7 @@ impl<'a> Lexer<'a> {
         }
     }
 
-    /// Returns the first byte of the next lexeme, or a space at the end.
+    /// Returns the first byte of the next lexeme, or a space at the end of the text.
     #[inline(always)]
     pub(crate) fn peek(&self) -> u8
         ensures value { result ≡ head self.now.text }
@@ -73,7 +74,7 @@ impl<'a> Lexer<'a> {
         byte_at(self.text.as_bytes(), self.at)
     }
 
-    /// Returns the facts that are known about the strings read so far.
+    /// Returns facts about whether the strings read so far need escapes.
     #[inline(always)]
     pub(crate) fn plain(&self) -> PlainTexts
         ensures { result ≡ self.now.plain }
@@ -105,8 +106,8 @@ impl<'a> Lexer<'a> {
         Some(token)
     }
 
-    /// Reads the next lexeme if it is a number of a few digits with an optional minus sign. If another lexeme comes
-    /// next, the call reads nothing.
+    /// Reads the next lexeme if it is a short number, which has a few digits and an optional minus sign. If the next
+    /// lexeme is not such a number, the call reads nothing.
     #[inline(always)]
     pub(crate) fn integer(&mut self) -> Option<Number>
         ensures kept { result ≡ None → self.new ≡ self.old }
@@ -121,7 +122,7 @@ impl<'a> Lexer<'a> {
         Some(number)
     }
 
-    /// Reads the content of the next string.
+    /// Reads the content of the next string in the text.
     #[inline(always)]
     pub(crate) fn string(&mut self) -> Option<&'a str>
         requires { head self.old.text ≡ 34 }

@@ -1,4 +1,4 @@
-//! JSON values that borrow their strings from the text.
+//! JSON values whose strings are borrowed from the text that was read.
 ghost use Rattle.std.specs.Prelude.{◌≡◌, ◌≢◌, IsTrue, length, option_map, is_some, option_and_then};
 ghost use Rattle.std.specs.Str.{bytes_eq};
 ghost use Rattle.serde_json.specs.Find.{get, get_member, as_object, as_array, as_str, as_bool, as_number, as_u64};
@@ -6,8 +6,8 @@ ghost use Rattle.json_values.specs.LineView.{line_view, line_items, line_members
 
 use serde_json::Number;
 
-/// A JSON value whose strings are slices of the line that it was read from, or of the reader's buffer if they had
-/// escapes. Members are in byte order of their names, and each name occurs once.
+/// A JSON value that was read from a line. Its strings are slices of the line or, if they had escapes, of the reader's
+/// buffer. The members of an object are in byte order of their names, and each name occurs once.
 pub enum LineValue<'a> {
     Null,
     Bool(bool),
@@ -120,7 +120,7 @@ impl<'a> LineValue<'a> {
     }
 }
 
-/// Finds the member with a name.
+/// Finds the member with a name in a sorted list of members.
 fn find<'v, 'a>(members: &'v Vec<(&'a str, LineValue<'a>)>, name: &str) -> Option<&'v LineValue<'a>>
     ensures { option_map (λ v. line_view v.now) result ≡ get_member name.now (line_members members.now.items) }
 {
@@ -132,7 +132,8 @@ fn find<'v, 'a>(members: &'v Vec<(&'a str, LineValue<'a>)>, name: &str) -> Optio
     None
 }
 
-/// Whether two strings are equal. The comparison begins with the lengths and the last bytes, which usually decide.
+/// Whether two strings are equal. The comparison begins with the lengths and the last bytes, which usually show whether
+/// the strings are equal.
 #[inline(always)]
 pub fn is_same_text(a: &str, b: &str) -> bool
     ensures { result ≡ bytes_eq a.now b.now }

@@ -11,8 +11,8 @@ use crate::plain_texts::PlainTexts;
 use std::alloc::Global;
 use std::marker::Model;
 
-/// A line that was read, which is a JSON value with the facts about its strings. Clauses see the value. At each depth,
-/// the members are in byte order of their names.
+/// A line that was read: a JSON value, and facts about whether its strings need escapes. Clauses see the value. The
+/// members of each object in the line are in byte order of their names.
 #[derive(Drop)]
 pub struct Line<'a> {
     value: LineValue<'a>,
@@ -37,7 +37,7 @@ impl<'a> Model for Line<'a> {
 }
 
 impl<'a> Line<'a> {
-    /// Creates the line of a value.
+    /// Creates a line from a JSON value.
     pub(crate) fn new(value: LineValue<'a>, plain: PlainTexts) -> Line<'a>
         requires order { IsOrdered (line_view value) }
         requires plain { ArePlain plain (line_view value) }
@@ -46,7 +46,7 @@ impl<'a> Line<'a> {
         Line { value, plain }
     }
 
-    /// Creates the line of an empty object.
+    /// Creates a line whose value is an empty object.
     pub fn empty_object(alloc: Global) -> Line<'a>
         ensures { line_view result ≡ object no_members }
     {
@@ -65,7 +65,7 @@ impl<'a> Line<'a> {
         &self.value
     }
 
-    /// Returns the value of the line as a part.
+    /// Returns the complete value of the line as a `LinePart`.
     pub fn part(&self) -> LinePart<'_, 'a>
         ensures { result ≡ self.now }
     {
@@ -90,7 +90,8 @@ impl<'a> Line<'a> {
     }
 }
 
-/// A JSON value inside a line. Clauses see the value. At each depth, the members are in byte order of their names.
+/// A JSON value inside a line. Clauses see the value. The members of each object in the line are in byte order of their
+/// names.
 #[derive(Drop)]
 pub struct LinePart<'v, 'a> {
     value: &'v LineValue<'a>,
@@ -124,7 +125,7 @@ impl<'v, 'a> LinePart<'v, 'a> {
         self.value
     }
 
-    /// Returns which strings of the value are known to need no escapes.
+    /// Returns facts about which strings of the value need no escapes.
     #[inline(always)]
     pub fn plain(&self) -> PlainTexts
         ensures { ArePlain result (line_view self.now) }

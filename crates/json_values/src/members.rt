@@ -10,20 +10,20 @@ use std::cmp::Ordering;
 use std::collections::BTreeMap;
 use std::mem;
 
-/// The number of members up to which a member out of order is inserted into a list.
+/// The maximum number of members in a list into which a member is inserted out of order.
 const FEW: usize = 64;
 
 /// The members of an object, in which each name occurs once.
 #[derive(Drop)]
 pub(crate) enum Members<'a, T> {
-    /// A list, for few members, or for members that came in order.
+    /// A list of members, which is used if there are few members or if they came in order of their names.
     Listed(Vec<(&'a str, T)>),
-    /// A map, for many members that came out of order.
+    /// A map of members, which is used for many members that came out of order.
     Mapped(BTreeMap<&'a str, T>),
 }
 
 impl<'a, T: Drop> Members<'a, T> {
-    /// Creates an empty list with the given capacity.
+    /// Creates an empty list of members with the given capacity.
     #[inline(always)]
     pub(crate) fn new(alloc: Global, room: usize) -> Result<Members<'a, T>, AllocError>
         ensures { IfOk result (λ members. entries_of members ≡ []) }
@@ -31,7 +31,8 @@ impl<'a, T: Drop> Members<'a, T> {
         Ok(Members::Listed(Vec::with_capacity(alloc, room)?))
     }
 
-    /// Inserts a member. A member of the object with the same name keeps its position and gets the new value.
+    /// Inserts a member. If the object already has a member with the name, this member keeps its position and gets the
+    /// new value.
     #[inline(always)]
     pub(crate) fn put(&mut self, alloc: Global, name: &'a str, value: T) -> Result<(), AllocError>
         requires { IsRising (entries_of self.old) }
@@ -46,7 +47,7 @@ impl<'a, T: Drop> Members<'a, T> {
         }
     }
 
-    /// Whether the list has many members, and a member with the given name would not be the last member.
+    /// Whether the list has many members, and a new member with the given name would not come last.
     #[inline(always)]
     fn is_full(&self, name: &str) -> bool
         requires { IsRising (entries_of self.now) }
@@ -82,7 +83,7 @@ impl<'a, T: Drop> Members<'a, T> {
     }
 }
 
-/// Creates a map from members that are in order.
+/// Creates a map from members that are in order of their names.
 fn map_of<'a, T: Drop>(
     alloc: Global,
     entries: Vec<(&'a str, T)>,
@@ -133,7 +134,7 @@ fn put_listed<'a, T: Drop>(
     }
 }
 
-/// Moves the last member to an index by swapping it with its neighbours, of which there are usually few.
+/// Moves the last member to an index by repeated swaps with the member before it. The number of swaps is usually small.
 #[inline(always)]
 fn move_last<'a, T>(entries: &mut Vec<(&'a str, T)>, place: usize)
     requires { place < length entries.old.items }
@@ -146,7 +147,7 @@ fn move_last<'a, T>(entries: &mut Vec<(&'a str, T)>, place: usize)
     }
 }
 
-/// Compares two names by their bytes. The comparison begins with the first bytes, which usually decide.
+/// Compares two names by their bytes. The comparison begins with the first bytes, which usually differ.
 #[inline(always)]
 fn order_of(a: &str, b: &str) -> Ordering
     ensures { result ≡ slice_cmp nat_cmp a.now b.now }
@@ -165,7 +166,7 @@ fn order_of(a: &str, b: &str) -> Ordering
     }
 }
 
-/// Compares two names with the same first byte. The comparison begins with the second bytes, which usually decide.
+/// Compares two names with the same first byte. The comparison begins with the second bytes, which usually differ.
 #[inline(always)]
 fn order_behind(a: &str, b: &str) -> Ordering
     requires { (0 < length a.now) × (0 < length b.now) × (slice_index a.now 0 ≡ slice_index b.now 0) }
@@ -200,7 +201,7 @@ fn comes_last<T>(entries: &[(&str, T)], name: &str) -> bool
 }
 
 /// Returns the index of the member with a name as `Ok`, or the index at which to insert it as `Err`. The call searches
-/// from the end, because names usually come nearly in order.
+/// from the end of the list, because the names usually come nearly in order.
 #[inline(always)]
 fn place_of<T>(entries: &[(&str, T)], name: &str) -> Result<usize, usize>
     requires { IsRising entries.now }

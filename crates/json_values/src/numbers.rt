@@ -8,10 +8,10 @@ ghost use Rattle.serde_json.specs.View.{number_view};
 use fast_float::Numeral;
 use serde_json::Number;
 
-/// The greatest value of a number to which the parser appends another digit.
+/// The greatest number that may still get another digit without an overflow check.
 const FULL: u64 = 1_000_000_000_000_000_000;
 
-/// Parses a number token, if the number is in range.
+/// Parses the text of a number, if the number is in the range of a float.
 pub(crate) fn read_number(text: &str) -> Option<Number>
     ensures { option_map number_view result ≡ number_of text.now }
 {
@@ -23,8 +23,7 @@ pub(crate) fn read_number(text: &str) -> Option<Number>
     }
 }
 
-/// Parses a number token without a sign. A number token without a sign usually has a few digits, which are summed in
-/// one loop.
+/// Parses the text of a number that has no sign. A number usually has a few digits, which one loop converts.
 #[inline(always)]
 fn read_from_zero(bytes: &[u8]) -> Option<Number>
     ensures { option_map number_view result ≡ number_from false (scan bytes.now) }
@@ -35,7 +34,7 @@ fn read_from_zero(bytes: &[u8]) -> Option<Number>
     }
 }
 
-/// Parses the part of a number token after a minus sign.
+/// Parses the text of a number after its minus sign.
 #[inline(always)]
 fn read_below_zero(bytes: &[u8]) -> Option<Number>
     ensures { option_map number_view result ≡ number_from true (scan bytes.now) }
@@ -46,7 +45,7 @@ fn read_below_zero(bytes: &[u8]) -> Option<Number>
     }
 }
 
-/// Parses a string that consists only of digits, unless there are too many.
+/// Parses a string that consists only of digits, unless it has too many digits.
 #[inline(always)]
 fn few_digits(bytes: &[u8]) -> Option<u64>
     ensures some { IfSome result (λ n. 0 < length bytes.now) }
@@ -74,7 +73,7 @@ fn has_minus(bytes: &[u8]) -> bool
     !bytes.is_empty() && bytes[0] == b'-'
 }
 
-/// Converts a numeral without a sign.
+/// Converts the digits of a number without a sign.
 #[inline(never)]
 fn from_zero(numeral: &Numeral<'_>) -> Option<Number>
     ensures { option_map number_view result ≡ number_from false numeral.now }
@@ -85,7 +84,7 @@ fn from_zero(numeral: &Numeral<'_>) -> Option<Number>
     }
 }
 
-/// Converts a numeral after a minus sign.
+/// Converts the digits of a number after its minus sign.
 #[inline(never)]
 fn below_zero(numeral: &Numeral<'_>) -> Option<Number>
     ensures { option_map number_view result ≡ number_from true numeral.now }
@@ -96,7 +95,7 @@ fn below_zero(numeral: &Numeral<'_>) -> Option<Number>
     }
 }
 
-/// Returns the nearest float, if it is finite.
+/// Returns the float nearest to a number, if this float is finite.
 fn nearest(negative: bool, numeral: &Numeral<'_>) -> Option<Number>
     ensures { option_map number_view result ≡ float_of negative numeral.now }
 {

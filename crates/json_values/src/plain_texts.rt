@@ -8,12 +8,12 @@ ghost use Rattle.json_values.specs.Plain.{Narrows};
 pub struct PlainTexts {
     /// Whether all names of members need no escapes.
     pub names: bool,
-    /// Whether all strings of the line that are values need no escapes.
+    /// Whether all strings of the line that are not names of members need no escapes.
     pub values: bool,
 }
 
 impl PlainTexts {
-    /// Returns the flags after reading a string with escapes, which is a name or a value.
+    /// Returns the facts that hold after a string with escapes, which is a name or a value, was read.
     pub(crate) fn with_escaped(self, is_name: bool) -> PlainTexts
         ensures narrows { Narrows self result }
         ensures name { is_name ≡ true → result.names ≡ false }

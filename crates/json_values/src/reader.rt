@@ -1,4 +1,4 @@
-//! The reader and its buffer.
+//! The reader of JSON values, and the buffer for unescaped strings.
 ghost use Rattle.std.specs.Prelude.{◌≡◌, ◌≤◌, ◌<◌, length, Some, None, IfOk, OnOk, OnErr, IsUtf8};
 ghost use Rattle.serde_json.specs.Data.{depth};
 ghost use Rattle.serde_json.specs.Read.{max_depth, read as read_text};
@@ -15,8 +15,8 @@ use std::alloc::{AllocError, Global};
 /// The maximum nesting depth.
 const MAX_DEPTH: usize = 127;
 
-/// Reads JSON values, and reuses its buffer for all of them. The buffer grows to the length of the longest text. No
-/// read depends on an earlier read or on its result.
+/// Reads JSON values, and reuses one buffer for all values. The buffer grows to the length of the longest text that was
+/// read. The result of a read does not depend on earlier reads.
 #[derive(Drop)]
 pub struct ValueReader {
     /// The buffer for unescaped strings.
@@ -31,14 +31,14 @@ impl ValueReader {
         }
     }
 
-    /// Reads one JSON value. If an object has several members of one name, the last one counts. Strings of the value
-    /// are slices of `bytes`, or of the reader's buffer if they had escapes.
+    /// Reads one JSON value. If an object has several members with the same name, the value has only the last of these
+    /// members. Each string of the value is a slice of `bytes` or, if it had escapes, of the reader's buffer.
     ///
     /// # Errors
     ///
     /// - `NotJson`: the bytes are not UTF-8, are not one JSON value, nest deeper than 127, or contain a number too
     ///   large for a float.
-    /// - `Memory`: an allocation failed. `Memory` is possible for any input that is not empty.
+    /// - `Memory`: an allocation failed. The call may return `Memory` for any input that is not empty.
     pub fn read_line<'a>(
         &'a mut self,
         alloc: Global,
@@ -69,7 +69,7 @@ fn make_room(room: &mut Vec<u8>, len: usize) -> Result<(), AllocError>
     Ok(())
 }
 
-/// Reads a text that is one value, with strings from the text or the buffer.
+/// Reads a text that is one JSON value, whose strings are slices of the text or of the buffer.
 fn read_whole<'a>(alloc: Global, text: &'a str, room: &'a mut [u8]) -> Result<Line<'a>, ReadFault>
     requires { length text.now ≤ length room.old }
     ensures ok { IfOk result (λ line. read_text text.now ≡ Some (line_view line)) }

@@ -1,4 +1,4 @@
-//! Skips blanks, digits, and the unescaped content of a string.
+//! Finds the ends of runs of blanks, of digits, and of string content without escapes.
 ghost use Rattle.std.specs.Prelude.{◌≡◌, ◌+◌, ◌<◌, ◌≤◌, length, drop, get_or, true, IsTrue};
 ghost use Rattle.std.specs.Prelude.{map};
 ghost use Rattle.std.specs.List.{prefix_len};
@@ -11,7 +11,7 @@ ghost use Rattle.json.specs.Run.{is_stop, is_plain};
 
 use std::simd::prelude::*;
 
-/// Returns the byte at an index, or a space past the end.
+/// Returns the byte at an index of a text, or a space if the index is not below the length.
 #[inline(always)]
 pub(crate) fn byte_at(text: &[u8], i: usize) -> u8
     ensures value { result ≡ get_or text.now i 32 }
@@ -28,7 +28,7 @@ pub(crate) fn is_space(c: u8) -> bool
     (c == b' ') | (c == b'\t') | (c == b'\n') | (c == b'\r')
 }
 
-/// Returns the first index from `from` on that has no blank.
+/// Returns the index of the first byte from `from` on that is not a blank.
 #[inline(always)]
 pub(crate) fn after_blanks(text: &[u8], from: usize) -> usize
     requires { from ≤ length text.now }
@@ -43,7 +43,7 @@ pub(crate) fn after_blanks(text: &[u8], from: usize) -> usize
     i
 }
 
-/// Returns a mask of the bytes among sixteen that end an unescaped run.
+/// Returns a mask of those of sixteen bytes that are a quotation mark, a backslash or a control byte.
 #[inline(always)]
 fn stops_16(v: u8x16) -> u64
     ensures { result ≡ mask_l (map is_stop v) }
@@ -53,7 +53,7 @@ fn stops_16(v: u8x16) -> u64
         | v.simd_lt(u8x16::splat(0x20))).to_bitmask()
 }
 
-/// Returns a mask of the bytes among eight that end an unescaped run.
+/// Returns a mask of those of eight bytes that are a quotation mark, a backslash or a control byte.
 #[inline(always)]
 fn stops_8(v: u8x8) -> u64
     ensures { result ≡ mask_l (map is_stop v) }
@@ -63,7 +63,7 @@ fn stops_8(v: u8x8) -> u64
         | v.simd_lt(u8x8::splat(0x20))).to_bitmask()
 }
 
-/// Returns a mask of the bytes among four that end an unescaped run.
+/// Returns a mask of those of four bytes that are a quotation mark, a backslash or a control byte.
 #[inline(always)]
 fn stops_4(v: u8x4) -> u64
     ensures { result ≡ mask_l (map is_stop v) }
@@ -136,7 +136,7 @@ fn plain_end_short(text: &[u8], from: usize) -> usize
     plain_end_of_8(text, from + 8)
 }
 
-/// Does the same as `plain_end`, for fewer than sixteen bytes at the end of a text.
+/// Does the same as `plain_end`, for the last bytes of a text, which are fewer than sixteen.
 #[inline(always)]
 fn plain_end_last(text: &[u8], from: usize) -> usize
     requires { (from ≤ length text.now) × (length text.now < from + 16) }

@@ -19,7 +19,7 @@ use json::{Invalid, Token};
 use serde_json::Number;
 use std::marker::Model;
 
-/// The grammatical position from which a text is read on.
+/// The position in the JSON grammar at which the next token is read.
 #[derive(Clone, Copy, Drop)]
 pub(crate) enum Place {
     AfterComma,
@@ -29,7 +29,7 @@ pub(crate) enum Place {
 }
 
 impl Place {
-    /// Whether an array or an object may end at a given grammatical position.
+    /// Whether an array or an object may end at a given position in the JSON grammar.
     #[inline(always)]
     fn may_close(self) -> bool
         ensures { result ≡ closes_at self }
@@ -37,7 +37,7 @@ impl Place {
         matches!(self, Place::Fresh | Place::AfterValue)
     }
 
-    /// Whether a value or a name may begin at a given grammatical position.
+    /// Whether a value or a name may begin at a given position in the JSON grammar.
     #[inline(always)]
     fn may_begin(self) -> bool
         ensures { result ≡ begins_at self }
@@ -46,7 +46,7 @@ impl Place {
     }
 }
 
-/// The tokens of a JSON text. Contract clauses see the tokens that are still to be read.
+/// The tokens of a JSON text. Contract clauses describe a token reader by the tokens that it has not read yet.
 #[derive(Drop)]
 pub(crate) struct Tokens<'a> {
     lexer: Lexer<'a>,
@@ -158,7 +158,7 @@ fn refuse<'a>(place: Place) -> (Option<Token<'a>>, Place)
     }
 }
 
-/// Reads the next token, and returns it with the next position.
+/// Reads the next token, and returns it with the grammar position after it.
 #[inline(always)]
 fn read<'a>(lexer: &mut Lexer<'a>, place: Place) -> (Option<Token<'a>>, Place)
     requires { NotBeforeComma place lexer.old.text }
@@ -190,8 +190,8 @@ fn read<'a>(lexer: &mut Lexer<'a>, place: Place) -> (Option<Token<'a>>, Place)
 }
 
 impl<'a> Tokens<'a> {
-    /// Creates the tokens of a text. Strings with escapes are unescaped into the buffer `room`, and all other strings
-    /// are slices of the text.
+    /// Creates a reader for the tokens of a text. Strings with escapes are unescaped into the buffer `room`, and all
+    /// other strings are slices of the text.
     #[inline(always)]
     pub(crate) fn new(text: &'a str, room: &'a mut [u8]) -> Tokens<'a>
         requires { length text.now ≤ length room.old }
@@ -203,7 +203,7 @@ impl<'a> Tokens<'a> {
         }
     }
 
-    /// Returns the facts that are known about the strings read so far.
+    /// Returns facts about whether the strings read so far need escapes.
     #[inline(always)]
     pub(crate) fn plain(&self) -> PlainTexts
         ensures { result ≡ self.now.plain }
@@ -224,8 +224,8 @@ impl<'a> Tokens<'a> {
         token
     }
 
-    /// Reads the next token if it is the name of a member. If another token comes next, a name or the end of an object
-    /// can still be read.
+    /// Reads the next token if it is the name of a member. If the next token is not a name, the call reads nothing, and
+    /// the caller can read a name or the end of the object.
     #[inline(always)]
     pub(crate) fn take_key(&mut self) -> Option<&'a str>
         ensures name { MatchOption result
@@ -246,8 +246,8 @@ impl<'a> Tokens<'a> {
         None
     }
 
-    /// Reads the next token if it is a string. If another token comes next, the call returns `None` and reads nothing.
-    /// Returns `Invalid` if the next token begins no value.
+    /// Reads the next token if it is a string. If the next token is not a string, the call returns `None` and reads
+    /// nothing. Returns `Invalid` if no value begins with the next token.
     #[inline(always)]
     pub(crate) fn take_text(&mut self) -> Result<Option<&'a str>, Invalid>
         ensures text { MatchResult result
@@ -268,7 +268,8 @@ impl<'a> Tokens<'a> {
         Err(Invalid)
     }
 
-    /// Reads the next token if it is a number of a few digits with an optional minus sign. Otherwise reads nothing.
+    /// Reads the next token if it is a short number, which has a few digits and an optional minus sign. Otherwise reads
+    /// nothing.
     #[inline(always)]
     pub(crate) fn take_integer(&mut self) -> Option<Number>
         ensures number { MatchOption result (self.new ≡ self.old)
@@ -299,8 +300,8 @@ impl<'a> Tokens<'a> {
         true
     }
 
-    /// Returns the initial capacity for an array or object whose first element comes next. The capacity is eight,
-    /// because most arrays and objects have no more elements, or 0 if the array or object is empty.
+    /// Returns the initial capacity of an array or object, before its first element is read. The capacity is 0 if the
+    /// array or object is empty, and otherwise 8, because most arrays and objects have at most 8 elements.
     #[inline(always)]
     pub(crate) fn room(&self) -> usize {
         let next = self.lexer.peek();

@@ -9,7 +9,7 @@ ghost use Rattle.json_values.specs.Escapes.{Escape};
 use crate::run::plain_end;
 use std::simd::prelude::*;
 
-/// Writes bytes at an index.
+/// Writes bytes into the buffer at an index.
 #[inline(always)]
 fn append(out: &mut [u8], at: usize, bytes: &[u8])
     requires { at + length bytes.now ≤ length out.old }
@@ -19,8 +19,8 @@ fn append(out: &mut [u8], at: usize, bytes: &[u8])
     out[at..at + bytes.len()].copy_from_slice(bytes);
 }
 
-/// Copies the bytes from `from` to `to`. The call copies complete vectors if both sides have space for the excess
-/// bytes.
+/// Copies bytes from index `from` of the text to index `to` of the buffer. The call copies complete SIMD vectors if the
+/// text and the buffer are long enough for the excess bytes.
 #[inline(always)]
 fn append_run(out: &mut [u8], at: usize, text: &[u8], from: usize, to: usize)
     requires { (from ≤ to) × (to ≤ length text.now) × (at + (to - from) ≤ length out.old) }
@@ -106,7 +106,7 @@ fn low_half(text: &[u8], i: usize, high: u32) -> Option<(char, usize)>
     Some((c, i + 6))
 }
 
-/// Reads the rest of an escape after `\u`, at index `i`.
+/// Reads the part of an escape after `\u`, which begins at index `i`.
 fn unicode(text: &[u8], i: usize) -> Option<(char, usize)>
     requires { i ≤ length text.now }
     ensures { Escape text.now after_u i result }
@@ -122,7 +122,8 @@ fn unicode(text: &[u8], i: usize) -> Option<(char, usize)>
     Some((c, i + 4))
 }
 
-/// Reads the rest of an escape after its backslash, at index `i`. Returns the character and the index after the escape.
+/// Reads the part of an escape after its backslash, which begins at index `i`. Returns the character of the escape, and
+/// the index after the escape.
 fn escape(text: &[u8], i: usize) -> Option<(char, usize)>
     requires { i ≤ length text.now }
     ensures { Escape text.now after_backslash i result }
@@ -137,8 +138,8 @@ fn escape(text: &[u8], i: usize) -> Option<(char, usize)>
     Some((c as char, i + 1))
 }
 
-/// Writes the content of the string that begins at `start`. Returns the length written, and the index after the closing
-/// quotation mark.
+/// Writes into the buffer the unescaped content of the string that begins at index `start`. Returns the number of
+/// written bytes, and the index after the string's closing quotation mark.
 #[inline(never)]
 pub(crate) fn unescape(text: &str, start: usize, out: &mut [u8]) -> Option<(usize, usize)>
     requires boundary { IsCharBoundary text.now start }

@@ -4,7 +4,8 @@ ghost use Rattle.std.specs.Str.{IsAscii, IsUtf8};
 
 use std::simd::prelude::*;
 
-/// Returns the bytes as a string if they are UTF-8. The bytes are usually ASCII, which the call tests first.
+/// Returns the bytes as a string if they are UTF-8. The call first tests whether all bytes are ASCII, because most
+/// inputs are.
 #[inline(never)]
 pub(crate) fn text_of(bytes: &[u8]) -> Option<&str>
     ensures { MatchOption result (¬ (IsUtf8 bytes.now)) (λ s. (s.now ≡ bytes.now) × IsUtf8 bytes.now) }

@@ -16,8 +16,8 @@ use crate::tokens::Tokens;
 use json::Token;
 use std::alloc::Global;
 
-/// Reads the next value, of at most a given nesting depth. The call tries a string first, because most values are
-/// strings.
+/// Reads the next value, which may nest at most to a given depth. The call tries a string first, because most values
+/// are strings.
 #[cycle(read)]
 #[inline(always)]
 pub(crate) fn read_value<'a>(
@@ -63,8 +63,8 @@ fn read_no_text<'a>(
     }
 }
 
-/// Reads the next value if it is neither a string nor an integer. The function is separate so that the compiler can
-/// inline its callers.
+/// Reads the next value if it is neither a string nor an integer. This function is separate so that the compiler can
+/// inline the functions that call it.
 #[cycle(read)]
 #[inline(never)]
 fn read_other<'a>(
@@ -162,7 +162,7 @@ fn read_members<'a>(
     }
 }
 
-/// Reads the closing brace of an object and returns its members.
+/// Reads the closing brace of an object, and returns the members of the object.
 #[inline(always)]
 fn end_members<'a>(
     alloc: Global,

@@ -11,7 +11,7 @@ use crate::run::{byte_at, digits_end};
 use json::Token;
 use serde_json::Number;
 
-/// The greatest value of a number to which the parser appends another digit.
+/// The greatest number that may still get another digit without an overflow check.
 const FULL: u64 = 100_000_000_000_000_000;
 
 /// Whether a byte ends a number or a literal.
@@ -29,7 +29,7 @@ fn is_delimiter(c: u8) -> bool
     operator | space
 }
 
-/// Returns the end of a nonempty run of digits.
+/// Returns the index after a nonempty run of digits.
 #[inline(always)]
 fn digits(text: &[u8], i: usize) -> Option<usize>
     requires { i ≤ length text.now }
@@ -39,7 +39,7 @@ fn digits(text: &[u8], i: usize) -> Option<usize>
     if end == i { None } else { Some(end) }
 }
 
-/// Returns the end of the integer part of a number.
+/// Returns the index after the integer part of a number.
 #[inline(always)]
 fn whole(text: &[u8], i: usize) -> Option<usize>
     requires { i ≤ length text.now }
@@ -52,7 +52,7 @@ fn whole(text: &[u8], i: usize) -> Option<usize>
     }
 }
 
-/// Returns the end of the number's fraction, if it has one.
+/// Returns the index after a number's fraction, or the given index if the number has no fraction.
 #[inline(always)]
 fn fraction(text: &[u8], i: usize) -> Option<usize>
     requires { i ≤ length text.now }
@@ -65,7 +65,7 @@ fn fraction(text: &[u8], i: usize) -> Option<usize>
     }
 }
 
-/// Returns the end of the exponent's sign, if it has one.
+/// Returns the index after an exponent's sign, or the given index if the exponent has no sign.
 #[inline(always)]
 fn sign_end(text: &[u8], i: usize) -> usize
     requires { i ≤ length text.now }
@@ -76,7 +76,7 @@ fn sign_end(text: &[u8], i: usize) -> usize
     if (c == b'-') | (c == b'+') { i + 1 } else { i }
 }
 
-/// Returns the end of the number's minus sign, if it has one.
+/// Returns the index after a number's minus sign, or the given index if the number has no minus sign.
 #[inline(always)]
 fn minus_end(text: &[u8], i: usize) -> usize
     requires { i ≤ length text.now }
@@ -86,7 +86,7 @@ fn minus_end(text: &[u8], i: usize) -> usize
     if byte_at(text, i) == b'-' { i + 1 } else { i }
 }
 
-/// Returns the end of the number's exponent, if it has one.
+/// Returns the index after a number's exponent, or the given index if the number has no exponent.
 #[inline(always)]
 fn exponent(text: &[u8], i: usize) -> Option<usize>
     requires { i ≤ length text.now }
@@ -99,7 +99,7 @@ fn exponent(text: &[u8], i: usize) -> Option<usize>
     digits(text, sign_end(text, i + 1))
 }
 
-/// Returns the end of a number.
+/// Returns the index after a number.
 #[inline(always)]
 fn number_end(text: &[u8], from: usize) -> Option<usize>
     requires { from ≤ length text.now }
@@ -110,7 +110,7 @@ fn number_end(text: &[u8], from: usize) -> Option<usize>
     exponent(text, power)
 }
 
-/// Reads the number at an index, and returns it with its end.
+/// Reads the number at an index, and returns the number with the index after it.
 #[inline(always)]
 fn number<'a>(text: &'a str, from: usize) -> Option<(Token<'a>, usize)>
     requires { from < length text.now }
@@ -126,7 +126,7 @@ fn number<'a>(text: &'a str, from: usize) -> Option<(Token<'a>, usize)>
     }
 }
 
-/// Reads a literal with a given name at an index, and returns the literal with its end.
+/// Reads a literal with a given name at an index, and returns the literal with the index after it.
 #[inline(always)]
 fn literal<'a>(
     text: &[u8],
@@ -146,7 +146,7 @@ fn literal<'a>(
     }
 }
 
-/// Reads the number or literal at an index, and returns it with its end.
+/// Reads the number or literal at an index, and returns it with the index after it.
 #[inline(always)]
 pub(crate) fn word<'a>(text: &'a str, from: usize) -> Option<(Token<'a>, usize)>
     requires { from < length text.now }
@@ -161,7 +161,7 @@ pub(crate) fn word<'a>(text: &'a str, from: usize) -> Option<(Token<'a>, usize)>
     }
 }
 
-/// Returns the value and the number of digits at the front of a text, unless the text has too many digits.
+/// Returns the value and the number of the digits at the start of a text, unless there are too many digits.
 #[inline(always)]
 fn digits_sum(rest: &[u8]) -> Option<(u64, usize)>
     ensures bounds { IfSome result (λ r. (0 < r.1) × (r.1 ≤ length rest.now) × (r.0 < 2 ^ 63)) }
@@ -184,7 +184,8 @@ fn digits_sum(rest: &[u8]) -> Option<(u64, usize)>
     if i == 0 { None } else { Some((n, i)) }
 }
 
-/// Reads a number of a few digits with an optional minus sign at an index, and returns it with its end.
+/// Reads a short number, which has a few digits and an optional minus sign, at an index, and returns it with the index
+/// after it.
 #[inline(always)]
 pub(crate) fn integer(text: &[u8], from: usize) -> Option<(Number, usize)>
     requires { from ≤ length text.now }

@@ -29,7 +29,8 @@ fn row_in(rows: &[Row], id: &DocId) -> Option<usize>
     None
 }
 
-/// Returns the index of a row with an id. The call searches from index `from` on, and then the rows before that index.
+/// Returns the index of a row with an id. The call tries the row after index `from` first, then all rows from `from`
+/// on, and then the rows before `from`.
 ///
 /// The next document of a parcel usually has the next row, or the same row.
 pub(crate) fn row_from(rows: &[Row], id: &DocId, from: usize) -> Option<usize>
@@ -49,8 +50,8 @@ pub(crate) fn row_from(rows: &[Row], id: &DocId, from: usize) -> Option<usize>
     }
 }
 
-/// Returns the index and the sequence of the row with an id, if the window has a row with this id. Searches the rows
-/// from an index on, and then the rows before that index.
+/// Returns the index and the sequence of the row with an id. The caller guarantees that the row exists. Searches the
+/// rows from an index on, and then the rows before that index.
 pub(crate) fn seq_from(rows: &[Row], id: &DocId, from: usize) -> (usize, u64)
     requires within { from ≤ length rows.now }
     requires there { list_any (λ row. bytes_eq row.id id.now) rows.now ≡ true }
