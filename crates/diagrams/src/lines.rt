@@ -200,7 +200,7 @@ pub fn put_heading(
     put_text(out, form, name)
 }
 
-/// Returns the word that names the kind of a line of numbers in the picture.
+/// Returns the name that a picture prints for the kind of a line of numbers.
 fn table_text(table: Table) -> &'static str
     ensures { result.now ≡ table_text table }
 {

@@ -1,5 +1,5 @@
-//! Randomized tests of databases, peers, worlds, networks, revision trees and fronts. Each test compares calls with an
-//! independent reference that was written from the definitions.
+//! Randomized tests of databases, peers, worlds, networks, revision trees and fronts. Each test compares the results of
+//! calls with the results of an independent reference, which was written from the definitions.
 
 // Assertions of all modules.
 mod checks;
@@ -15,7 +15,7 @@ mod plain;
 // Fronts.
 mod fronts;
 
-// Tests of databases, with pages, requests and fetches.
+// Tests of databases, in which calls read pages, request leaves and fetch documents.
 mod exchanges;
 mod feeds;
 
@@ -25,7 +25,7 @@ mod choices;
 // Comparisons of two databases.
 mod surveys;
 
-// Tests of replicated pairs of peers against their plain model.
+// Tests that compare replicated pairs of peers with a plain model of these peers.
 mod pairs;
 mod plain_sides;
 
@@ -38,6 +38,6 @@ mod nets;
 // Comparisons of a peer with its plain model.
 mod sides;
 
-// Tests of worlds against their plain model.
+// Tests that compare worlds with a plain model of these worlds.
 mod plain_worlds;
 mod worlds;

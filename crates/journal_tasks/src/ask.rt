@@ -1,4 +1,4 @@
-//! The task that requests the leaves of a list.
+//! The task that writes a request for the leaves of a list.
 ghost use Rattle.std.specs.Prelude.{⊤};
 
 use crate::count::Count;
@@ -27,7 +27,7 @@ impl Ask {
         }
     }
 
-    /// Returns the number, from 1, of the first input line that is not a line of a list.
+    /// Returns the number (from 1) of the first input line that does not have the form of a line of a list of leaves.
     pub fn wrong(&self) -> Option<u64> {
         self.count.wrong
     }
@@ -48,7 +48,7 @@ impl Ask {
         Ok(())
     }
 
-    /// Appends the leaves of a document to the body of the request.
+    /// Appends a document's leaves to the body of the request.
     fn push_all(
         &mut self,
         text: &mut Vec<u8>,

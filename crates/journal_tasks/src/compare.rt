@@ -9,9 +9,9 @@ use json::Scratch;
 use line_reader::LineTask;
 use std::alloc::{AllocError, Global};
 
-/// The task's input is a list, an empty line and a second list. The task prints for each line of the second list the
-/// leaves that the first list does not have. With the option `documents`, the task prints only the documents that the
-/// first list does not have, with all their leaves.
+/// The task's input is a list of leaves, an empty line and a second list of leaves. The task prints for each line of
+/// the second list the leaves that the first list does not have. With the option `documents`, the task prints only the
+/// documents that the first list does not have, with all their leaves.
 ///
 /// The task holds the first list in memory.
 #[derive(Drop)]
@@ -45,12 +45,12 @@ impl Compare {
         }
     }
 
-    /// Returns the number, from 1, of the first input line that is not a line of a list.
+    /// Returns the number (from 1) of the first input line that does not have the form of a line of a list of leaves.
     pub fn wrong(&self) -> Option<u64> {
         self.count.wrong
     }
 
-    /// Adds a document without leaves to the first list.
+    /// Adds a document that has no leaves yet to the first list.
     fn add_doc(&mut self, id: String) -> Result<(), AllocError> {
         if !self.docs.contains_key(id.as_str()) {
             self.docs.insert(id, IndexSet::new(self.alloc))?;
@@ -58,7 +58,7 @@ impl Compare {
         Ok(())
     }
 
-    /// Appends those leaves of a line of the second list that are printed.
+    /// Appends to the output those leaves in a line of the second list that the task prints.
     fn push(&self, text: &mut Vec<u8>, leaves: Leaves) -> Result<(), AllocError> {
         let Leaves { seq, id, revs } = leaves;
         if self.documents && self.docs.contains_key(id.as_str()) {

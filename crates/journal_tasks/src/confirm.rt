@@ -1,4 +1,4 @@
-//! The task that confirms a journal by its checksums.
+//! The task that checks which part of a journal its checksums confirm.
 ghost use Rattle.std.specs.Prelude.{⊤};
 
 use crate::lacks::Lacks;
@@ -8,9 +8,9 @@ use line_reader::{LineTask, run_task};
 use script_engine::{ScriptFault, ScriptRead, ScriptWrite};
 use std::alloc::{AllocError, Global};
 
-/// Prints the size and the last block of the longest prefix of a journal that its checksums confirm. The task also
-/// prints the prefix's lacks lines, which name documents of which leaves are still missing. If the task is given a
-/// sequence, the prefix ends at the last block of this sequence.
+/// Prints the size and the last block of the longest prefix of a journal that the journal's checksums confirm. The task
+/// also prints the confirmed prefix's lacks lines, each of which names a document that still lacks leaves. If the task
+/// is given a sequence, the prefix ends at the last block of this sequence.
 ///
 /// The task holds one block and the lines that it prints in memory.
 #[derive(Drop)]
@@ -19,12 +19,12 @@ pub struct Confirm {
     blocks: Blocks,
     /// The number of documents in the confirmed blocks.
     leaves: u64,
-    /// The number of documents in the current block.
+    /// The number of documents in the block that the task is reading.
     held: u64,
     lacks: Lacks,
     at: Option<Vec<u8>>,
     found: Option<Vec<u8>>,
-    /// Whether the input ends without a line end.
+    /// Whether the last line of the input has no line end.
     cut: bool,
     begun: bool,
     sums: bool,
@@ -87,7 +87,7 @@ impl Confirm {
         !self.cut && self.blocks.is_confirmed()
     }
 
-    /// Whether the input begins with a document and has no line with a checksum.
+    /// Whether the first input line has a document, and no input line has a checksum.
     pub fn is_without_sums(&self) -> bool {
         self.first_leaf && !self.sums
     }
@@ -119,7 +119,7 @@ impl Confirm {
         }
     }
 
-    /// Records whether the input begins with a document, and whether it has lines with checksums.
+    /// Records whether the first input line has a document, and whether an input line has a checksum.
     fn look(&mut self, line: &[u8]) {
         if !self.begun {
             self.first_leaf = line.starts_with(b"{".as_slice());
@@ -130,8 +130,8 @@ impl Confirm {
         }
     }
 
-    /// Counts the documents after a line of the journal. The argument `held` is the number of documents in the current
-    /// block.
+    /// Returns the number of documents in the current block after a line of the journal. The argument `held` is the
+    /// number of documents in the current block before the line.
     fn settle(&mut self, took: Took, held: u64) -> Result<(), AllocError> {
         match took {
             Took::Held => {
@@ -181,13 +181,13 @@ impl LineTask for Confirm {
     }
 }
 
-/// Confirms the journal of a reader, and writes a report about the confirmed part. If a sequence is given, the report
-/// is about the journal up to the last block of this sequence, and there is no output if no block has it.
+/// Confirms the journal of a reader, and writes a report about the confirmed part. If the caller gives a sequence, the
+/// report ends at the last block of this sequence. If no block has the sequence, there is no output.
 ///
 /// # Errors
 ///
 /// Returns `Read` if the reader failed in this call, or after 4,294,967,295 reads of at most 65,536 bytes. Returns
-/// `Write` if the writer failed in this call. Returns `Memory` if an allocation failed, or if a count is at its
+/// `Write` if the writer failed in this call. Returns `Memory` if an allocation failed or a count would exceed its
 /// maximum.
 pub fn confirm_journal<R: ScriptRead, W: ScriptWrite>(
     alloc: Global,

@@ -10,7 +10,8 @@ use json::Scratch;
 use line_reader::LineTask;
 use std::alloc::{AllocError, Global};
 
-/// The rank of a leaf. A live leaf is above a deleted one, then the greater generation is above, then the greater name.
+/// The rank of a leaf in the order of winners. A live leaf ranks above a deleted leaf, then a greater generation above
+/// a lesser one, then a greater signature above a lesser one.
 #[derive(Drop, PartialEq, Eq, PartialOrd, Ord)]
 struct Rank {
     live: bool,
@@ -21,7 +22,7 @@ struct Rank {
 
 /// Prints the documents with two or more live leaves, and their leaves, the winner first.
 ///
-/// The task holds the heads of all documents in memory.
+/// The task holds the revisions of all documents in memory, without their bodies.
 #[derive(Drop)]
 pub struct Conflicts {
     alloc: Global,
@@ -32,7 +33,7 @@ pub struct Conflicts {
     found: u64,
 }
 
-/// Returns the generation and the name of a revision.
+/// Returns the generation of a revision, and the part of its id after the generation.
 fn parts_of(rev: &str) -> (u64, &str) {
     match rev.split_once('-') {
         Some((number, name)) => match number.parse::<u64>() {
@@ -43,7 +44,7 @@ fn parts_of(rev: &str) -> (u64, &str) {
     }
 }
 
-/// Whether a revision is an ancestor of another of the given leaves.
+/// Whether a revision is an ancestor of another given leaf.
 fn is_ancestor(alloc: Global, leaves: &[Leaf], rev: &str) -> Result<bool, AllocError> {
     for leaf in leaves {
         if leaf.rev.as_str() != rev && leaf.knows(alloc, rev)? {
@@ -53,7 +54,7 @@ fn is_ancestor(alloc: Global, leaves: &[Leaf], rev: &str) -> Result<bool, AllocE
     Ok(false)
 }
 
-/// Returns the ranks of those given revisions that are leaves, lowest rank first.
+/// Returns the ranks of the leaves among the given revisions, lowest rank first.
 fn ranks_of(alloc: Global, leaves: &[Leaf]) -> Result<Vec<Rank>, AllocError> {
     let mut ranks = Vec::new(alloc);
     for (index, leaf) in leaves.iter().enumerate() {
@@ -158,12 +159,12 @@ impl Conflicts {
         }
     }
 
-    /// Returns the number, from 1, of the first input line that has no document.
+    /// Returns the number (from 1) of the first input line that does not have a document.
     pub fn wrong(&self) -> Option<u64> {
         self.count.wrong
     }
 
-    /// Adds a leaf to those of its document, unless the document has it already.
+    /// Adds a leaf to the leaves of its document, unless the document already has this leaf.
     fn add(&mut self, leaf: Leaf) -> Result<(), AllocError> {
         let place = match self.places.get(leaf.id.as_str()) {
             Some(place) => *place,
@@ -183,7 +184,7 @@ impl Conflicts {
         Ok(())
     }
 
-    /// Appends the lines of a document, if the document is in conflict.
+    /// Appends the output lines of a document, if the document is in conflict.
     fn push(&mut self, text: &mut Vec<u8>, index: usize) -> Result<(), AllocError> {
         let Some((id, place)) = self.places.get_index(index) else {
             return Ok(());

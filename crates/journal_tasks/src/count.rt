@@ -2,12 +2,12 @@
 use journal_core::added;
 use std::alloc::AllocError;
 
-/// The number of lines that a task has read, and the number of the first wrong line.
+/// The number of lines that a task has read, and the number of the first line that has a wrong form.
 #[derive(Drop)]
 pub(crate) struct Count {
     /// The number of lines that the task has read.
     pub(crate) lines: u64,
-    /// The number, from 1, of the first wrong line.
+    /// The number (from 1) of the first input line that has a wrong form.
     pub(crate) wrong: Option<u64>,
 }
 
@@ -30,21 +30,21 @@ impl Count {
         Ok(())
     }
 
-    /// Records that the last counted line is wrong.
+    /// Records that the last counted line has a wrong form.
     pub(crate) fn fail(&mut self) {
         if self.wrong.is_none() {
             self.wrong = Some(self.lines);
         }
     }
 
-    /// Records that the bytes after the last line end are wrong, if there are any.
+    /// If there are bytes after the last line end, records that the last line has a wrong form.
     pub(crate) fn end(&mut self, rest: &[u8]) {
         if !rest.is_empty() && self.wrong.is_none() {
             self.wrong = Some(self.lines.saturating_add(1));
         }
     }
 
-    /// Whether no line so far is wrong.
+    /// Whether no line that was read has a wrong form.
     pub(crate) fn is_right(&self) -> bool {
         self.wrong.is_none()
     }

@@ -1,4 +1,4 @@
-//! The task that asks which leaves of a list are missing.
+//! The task that writes a `_revs_diff` request, which asks a server which leaves of a list it lacks.
 ghost use Rattle.std.specs.Prelude.{⊤};
 
 use crate::count::Count;
@@ -8,10 +8,10 @@ use json::Scratch;
 use line_reader::LineTask;
 use std::alloc::{AllocError, Global};
 
-/// Prints the body of a `_revs_diff` request for the leaves of a list. The request has each document once, in the order
-/// of first occurrence.
+/// Prints the body of a `_revs_diff` request for the leaves of a list. The request names each document once, in the
+/// order in which the documents first occur in the list.
 ///
-/// The task holds the list in memory.
+/// The task holds the complete list of leaves in memory.
 #[derive(Drop)]
 pub struct Diff {
     alloc: Global,
@@ -20,7 +20,8 @@ pub struct Diff {
     docs: Docs,
 }
 
-/// Adds the leaves of a line to those of a list. Returns whether the line lists leaves or has a document.
+/// Adds the leaves in an input line to the list of leaves. Returns true if the input line lists leaves or has a
+/// document.
 pub(crate) fn add_entry(
     alloc: Global,
     scratch: &mut Scratch,
@@ -40,7 +41,7 @@ pub(crate) fn add_entry(
     }
 }
 
-/// Adds the leaves of a document to those of a list.
+/// Adds the leaves of a document to the list of leaves.
 fn add_all(alloc: Global, docs: &mut Docs, id: &str, revs: &[String]) -> Result<(), AllocError> {
     for rev in revs {
         add_pair(alloc, docs, id, rev.as_str())?;
@@ -72,7 +73,7 @@ impl Diff {
         }
     }
 
-    /// Returns the number, from 1, of the first input line that is not a line of a list.
+    /// Returns the number (from 1) of the first input line that does not have the form of a line of a list of leaves.
     pub fn wrong(&self) -> Option<u64> {
         self.count.wrong
     }

@@ -25,8 +25,8 @@ pub struct Lacking {
     refused: bool,
 }
 
-/// Adds the missing revisions of a document, as a member of the response lists them. Returns true if the member lists
-/// revisions, and the list of leaves has all these revisions.
+/// Adds the missing revisions of a document, as a member of the response lists them. Returns true if the member is a
+/// list of revisions, all of which are in the list of leaves.
 fn add_missing(
     alloc: Global,
     missing: &mut Docs,
@@ -52,7 +52,7 @@ fn add_missing(
     Ok(true)
 }
 
-/// Returns the missing leaves that a response names, or `None` if it is not a response of `_revs_diff`.
+/// Returns the missing leaves that a response names, or `None` if the text is not a response of `_revs_diff`.
 fn missing_of(alloc: Global, docs: &Docs, value: &Value<'_>) -> Result<Option<Docs>, AllocError> {
     let Value::Object(members) = value else {
         return Ok(None);
@@ -75,7 +75,7 @@ fn is_among(revs: &[String], rev: &str) -> bool {
     false
 }
 
-/// Returns copies of those revisions of a list that are missing.
+/// Returns copies of the revisions of a list that the response names as missing.
 fn only(alloc: Global, revs: &[String], missing: &[String]) -> Result<Vec<String>, AllocError> {
     let mut found = Vec::new(alloc);
     for rev in revs {
@@ -100,12 +100,12 @@ impl Lacking {
         }
     }
 
-    /// Returns the number, from 1, of the first input line that is not a line of a list.
+    /// Returns the number (from 1) of the first input line that does not have the form of a line of a list of leaves.
     pub fn wrong(&self) -> Option<u64> {
         self.count.wrong
     }
 
-    /// Whether the response is not one of `_revs_diff`, or names a leaf that the list lacks.
+    /// Whether the second part of the input is not a `_revs_diff` response, or names a leaf that is not in the list.
     pub fn is_refused(&self) -> bool {
         self.refused
     }

@@ -1,11 +1,12 @@
-//! Finds the documents of a journal of which leaves are missing.
+//! Finds the documents of a journal that still lack leaves.
 use indexmap::IndexMap;
 use journal_lines::{Entry, entry_of};
 use json::Scratch;
 use memchr::memchr;
 use std::alloc::{AllocError, Global};
 
-/// The last lacks line of each document that has no later state line.
+/// For each document, the last lacks line (a line that says that leaves are missing), unless a later state line
+/// follows.
 #[derive(Drop)]
 pub(crate) struct Lacks {
     alloc: Global,
@@ -14,7 +15,7 @@ pub(crate) struct Lacks {
 }
 
 impl Lacks {
-    /// Returns a table without lines.
+    /// Returns a table without lacks lines.
     pub(crate) fn new(alloc: Global) -> Lacks {
         Lacks {
             alloc,
@@ -47,12 +48,12 @@ impl Lacks {
         }
     }
 
-    /// Removes the lacks line of a document, if there is one.
+    /// Removes the lacks line of a document from the table, if the document has one.
     fn remove(&mut self, id: &str) {
         let _line = self.lines.shift_remove(id);
     }
 
-    /// Adds a lacks line of a document at the end, instead of an earlier one.
+    /// Removes a document's earlier lacks line, and adds a new lacks line at the end of the table.
     fn put(&mut self, id: &str, line: &[u8]) -> Result<(), AllocError> {
         self.remove(id);
         let line = Vec::from_slice(self.alloc, line)?;

@@ -1,4 +1,4 @@
-//! The tasks on lists of leaves and on journals.
+//! The tasks that process lists of leaves and journals.
 #![tactic(auto)]
 
 mod ask;

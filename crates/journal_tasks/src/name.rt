@@ -1,4 +1,4 @@
-//! The task that prints a line for each leaf.
+//! The task that prints a line for each leaf of a list.
 ghost use Rattle.std.specs.Prelude.{⊤};
 
 use crate::count::Count;
@@ -28,7 +28,7 @@ impl Name {
         })
     }
 
-    /// Returns the number, from 1, of the first input line that is not a line of a list.
+    /// Returns the number (from 1) of the first input line that does not have the form of a line of a list of leaves.
     pub fn wrong(&self) -> Option<u64> {
         self.count.wrong
     }

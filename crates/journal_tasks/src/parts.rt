@@ -1,4 +1,4 @@
-//! The task that cuts a list of documents into parts.
+//! The task that splits a list of documents into parts.
 ghost use Rattle.std.specs.Prelude.{⊤};
 
 use crate::count::Count;
@@ -7,8 +7,9 @@ use journal_core::added;
 use line_reader::LineTask;
 use std::alloc::{AllocError, Global};
 
-/// Cuts lines, in order, into parts of at most `most_lines` lines and `most_bytes` bytes, but at least one line each.
-/// The task prints for each part a line with its numbers of lines and bytes, and then its lines.
+/// Splits lines, in order, into parts of at most `most_lines` lines and `most_bytes` bytes. Each part has at least one
+/// line. For each part, the task prints a line with the part's numbers of lines and bytes, followed by the part's
+/// lines.
 ///
 /// The task holds one part in memory.
 #[derive(Drop)]
@@ -34,7 +35,7 @@ impl Parts {
         }
     }
 
-    /// Returns the number, from 1, of the last input line, if it has no line end.
+    /// If the last input line has no line end, returns the number of this line, counted from 1.
     pub fn wrong(&self) -> Option<u64> {
         self.count.wrong
     }

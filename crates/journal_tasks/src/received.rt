@@ -1,4 +1,4 @@
-//! The task that says what of a request was received.
+//! The task that says which leaves of a request were received.
 ghost use Rattle.std.specs.Prelude.{◌≡◌, ⊤, IfOk, map};
 ghost use Rattle.journal_lines.specs.Leafs.{leaf_view};
 ghost use Rattle.journal_tasks.specs.Receiving.{received_by, wanted_view};
@@ -17,7 +17,7 @@ struct Wanted {
     received: bool,
 }
 
-/// A requested document and what was received of it.
+/// A requested document, and its revisions that were received.
 #[derive(Drop)]
 struct Doc {
     /// The revisions that were requested of the document.
@@ -26,8 +26,8 @@ struct Doc {
     leaves: IndexSet<String>,
 }
 
-/// The task's input is the requested leaves, an empty line and the received documents. The task prints the documents,
-/// and for each line of the request a state line, and a lacks line if a leaf was not received.
+/// The task's input is the requested leaves, an empty line and the received documents. The task prints the documents.
+/// For each line of the request, it prints a state line, and a lacks line if a leaf was not received.
 ///
 /// The task holds the request in memory.
 #[derive(Drop)]
@@ -91,7 +91,7 @@ fn received_after(alloc: Global, wanted: &[Wanted], leaf: &Leaf) -> Result<Vec<W
     Ok(after)
 }
 
-/// Adds the requested revisions of a line to those of its document.
+/// Adds the requested revisions of an input line to the requested revisions of the line's document.
 fn want(alloc: Global, doc: &mut Doc, line: &Leaves) -> Result<(), AllocError> {
     for rev in line.revs.as_slice() {
         let rev = String::from_str(alloc, rev.as_str())?;
@@ -127,7 +127,7 @@ impl Received {
         }
     }
 
-    /// Returns the number, from 1, of the first input line that has a wrong form, or has a document that was not
+    /// Returns the number (from 1) of the first input line that has a wrong form or has a document that was not
     /// requested.
     pub fn wrong(&self) -> Option<u64> {
         self.count.wrong
@@ -186,7 +186,7 @@ impl Received {
         }
     }
 
-    /// Reads the line of a received document, and appends the line to the text.
+    /// Reads the line of a received document, and appends the line to the output.
     fn response_line(&mut self, line: &[u8], text: &mut Vec<u8>) -> Result<(), AllocError> {
         let known = match entry_of(self.alloc, &mut self.scratch, line)? {
             Entry::Leaf(leaf) => self.receive(&leaf)?,
@@ -201,7 +201,7 @@ impl Received {
         Ok(())
     }
 
-    /// Appends the lines that say what was received for a line of the request.
+    /// Appends the lines that say which revisions were received for a line of the request.
     fn push(&mut self, text: &mut Vec<u8>, index: usize) -> Result<(), AllocError> {
         let Some(line) = self.lines.get(index) else {
             return Ok(());

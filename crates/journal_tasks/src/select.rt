@@ -20,14 +20,15 @@ pub struct Filter {
     pub id: Option<String>,
     /// Whether only documents with two or more leaves are selected.
     pub several: bool,
-    /// Whether the task ignores the journal's checksums.
+    /// Whether the task selects documents without checking the journal's checksums.
     pub unverified: bool,
 }
 
-/// The task's input is one journal, given twice. For each leaf in the last state of each document, the task prints the
-/// leaf's last line. The task has no output unless the checksums confirm the journal's first copy.
+/// The task's input is one journal, given twice. For each leaf in a document's last state, the task prints the last
+/// line of the journal that has this leaf. The task has no output unless the checksums confirm the journal's first
+/// copy.
 ///
-/// The task holds one block, the state of each document, and an entry for each leaf in memory.
+/// The task holds in memory one block, the state of each document, and one entry for each leaf.
 #[derive(Drop)]
 pub struct Select {
     alloc: Global,
@@ -72,7 +73,7 @@ impl Select {
         })
     }
 
-    /// Returns the number, from 1, of the first input line that is not a line of a journal.
+    /// Returns the number (from 1) of the first input line that does not have the form of a line of a journal.
     pub fn wrong(&self) -> Option<u64> {
         self.count.wrong
     }
@@ -92,12 +93,12 @@ impl Select {
         self.differs
     }
 
-    /// Whether the last state of a document names a leaf that has no line.
+    /// Whether the last state of a document names a leaf that no line of the journal has.
     pub fn lacks(&self) -> bool {
         self.lacks
     }
 
-    /// Records the line number of a leaf's line.
+    /// Records the number of the line that has a leaf.
     fn note_leaf(&mut self, leaf: Leaf) -> Result<(), AllocError> {
         self.map.add(&leaf)?;
         let number = self.count.lines;
@@ -112,7 +113,7 @@ impl Select {
         Ok(())
     }
 
-    /// Reads a line of the first copy that has no checksum.
+    /// Reads a line of the journal's first copy that has no checksum.
     fn note(&mut self, line: &[u8]) -> Result<(), AllocError> {
         match entry_of(self.alloc, &mut self.scratch, line)? {
             Entry::State(leaves) => self.map.name(leaves),
@@ -125,7 +126,7 @@ impl Select {
         }
     }
 
-    /// Reads a line of the first copy.
+    /// Reads a line of the journal's first copy.
     fn first_line(&mut self, line: &[u8]) -> Result<(), AllocError> {
         if !self.filter.unverified {
             if let Took::Damaged = self.blocks.take(line)? {
@@ -142,7 +143,7 @@ impl Select {
         Ok(())
     }
 
-    /// Ends the first copy, and selects the lines to print.
+    /// Ends the first copy of the journal, and selects the lines that the task prints.
     fn end_first(&mut self) -> Result<(), AllocError> {
         if self.bytes != self.size || !self.filter.unverified && !self.blocks.is_confirmed() {
             self.damaged = true;
@@ -156,7 +157,7 @@ impl Select {
         Ok(())
     }
 
-    /// Returns the hash of all bytes so far, and begins a new hash.
+    /// Returns the hash of all bytes that were read since the hash began, and begins a new hash.
     fn take_hash(&mut self) -> [u8; 32] {
         let hasher = mem::replace(&mut self.hasher, Sha256::new());
         hasher.finalize()
@@ -189,7 +190,7 @@ impl Select {
         Ok(())
     }
 
-    /// Reads a line of the second copy, and appends the line if it is selected.
+    /// Reads a line of the second copy, and appends the line to the output if it is selected.
     fn second_line(&mut self, line: &[u8], text: &mut Vec<u8>) -> Result<(), AllocError> {
         if self.selected.get(self.next).copied() != Some(self.count.lines) {
             return Ok(());
@@ -214,7 +215,7 @@ fn is_selected(filter: &Filter, id: &str, revs: &[String]) -> bool
     }
 }
 
-/// Returns the number of the last line of a leaf, if the leaf has a line.
+/// Returns the number of the last line that has a given leaf, if such a line exists.
 fn line_of(lines: Option<&IndexMap<String, u64>>, rev: &str) -> Option<u64> {
     lines?.get(rev).copied()
 }

@@ -12,7 +12,7 @@ use std::alloc::{AllocError, Global};
 /// The state of a document, which is its leaves at a sequence.
 #[derive(Drop)]
 pub(crate) struct State {
-    /// The sequence, or `-` if none is known.
+    /// The sequence of the state, or `-` if the sequence is unknown.
     pub(crate) seq: String,
     /// The leaf revisions of the document.
     pub(crate) revs: Vec<String>,
@@ -42,7 +42,7 @@ impl StateMap {
         }
     }
 
-    /// Returns the index of a document's state, and adds a state if the document is new.
+    /// Returns the index of a document's state in the map, and adds a state if the document is new.
     fn place_of(&mut self, id: &str) -> Result<usize, AllocError> {
         if let Some(place) = self.places.get(id) {
             return Ok(*place);
@@ -59,7 +59,7 @@ impl StateMap {
         Ok(place)
     }
 
-    /// Replaces the state of a document by that of a state line.
+    /// Replaces the state of a document by the state that a state line gives.
     pub(crate) fn name(&mut self, leaves: Leaves) -> Result<(), AllocError> {
         let Leaves { seq, id, revs } = leaves;
         let place = self.place_of(id.as_str())?;
@@ -122,7 +122,7 @@ pub struct States {
 }
 
 impl States {
-    /// Creates the task. With `unverified`, the task ignores checksums.
+    /// Creates the task. If `unverified` is true, the task ignores the journal's checksums.
     pub fn new(alloc: Global, unverified: bool) -> Result<States, AllocError> {
         let blocks = Blocks::new(alloc)?;
         Ok(States {
@@ -136,7 +136,7 @@ impl States {
         })
     }
 
-    /// Returns the number, from 1, of the first input line that is not a line of a journal.
+    /// Returns the number (from 1) of the first input line that does not have the form of a line of a journal.
     pub fn wrong(&self) -> Option<u64> {
         self.count.wrong
     }

@@ -8,7 +8,7 @@ ghost use Rattle.serde_json.specs.View.{number_view};
 use fast_float::Numeral;
 use serde_json::Number;
 
-/// The greatest number that may still get another digit without an overflow check.
+/// The parser appends another digit to a number only if the number is at most this value.
 const FULL: u64 = 1_000_000_000_000_000_000;
 
 /// Parses the text of a number, if the number is in the range of a float.

@@ -224,8 +224,8 @@ impl<'a> Tokens<'a> {
         token
     }
 
-    /// Reads the next token if it is the name of a member. If the next token is not a name, the call reads nothing, and
-    /// the caller can read a name or the end of the object.
+    /// Reads the next token if it is the name of a member. If the next token is not a name, the call returns `None`,
+    /// and the caller can still read a name or the end of the object.
     #[inline(always)]
     pub(crate) fn take_key(&mut self) -> Option<&'a str>
         ensures name { MatchOption result

@@ -11,7 +11,7 @@ use crate::run::{byte_at, digits_end};
 use json::Token;
 use serde_json::Number;
 
-/// The greatest number that may still get another digit without an overflow check.
+/// The parser appends another digit to a number only if the number is at most this value.
 const FULL: u64 = 100_000_000_000_000_000;
 
 /// Whether a byte ends a number or a literal.

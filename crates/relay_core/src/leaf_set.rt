@@ -1,4 +1,4 @@
-//! Sets of leaf revisions, and of document ids.
+//! Sets of documents' leaf revisions, and sets of document ids.
 ghost use Rattle.std.specs.Prelude.{◌≡◌, ◌||◌, IfOk, OnOk};
 ghost use Rattle.relay_core.specs.Messages.{Text};
 ghost use Rattle.relay_core.specs.Views.{doc_view, docs_view};

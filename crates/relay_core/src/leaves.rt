@@ -21,7 +21,7 @@ pub(crate) fn have_leaves(docs: &[DocLeaves]) -> bool
     true
 }
 
-/// Whether a set of leaves has each of the given leaves of one document id.
+/// Whether a set of leaves has each of the given leaves of one document.
 fn has_each(leaves: &LeafSet<'_>, id: &str, revs: &Vec<String>) -> bool
     ensures { result ≡ list_all (λ r. has_leaf leaves.now.keys id.now r) (texts_of revs.now.items) }
 {
@@ -53,7 +53,7 @@ pub fn name_all(alloc: Global, docs: &[DocLeaves], named: &[DocLeaves]) -> Resul
     Ok(has_all(&leaves, named))
 }
 
-/// Returns those of the given leaves of one document id that a set of leaves has.
+/// Returns those of the given leaves of one document that a set of leaves has.
 fn revs_in(
     alloc: Global,
     leaves: &LeafSet<'_>,
@@ -71,7 +71,7 @@ fn revs_in(
     Ok(kept)
 }
 
-/// Appends a document with the given leaves, unless there are no leaves.
+/// Appends a document with the given leaves to a list, unless there are no leaves.
 fn push_doc(
     alloc: Global,
     docs: &mut Vec<DocLeaves>,

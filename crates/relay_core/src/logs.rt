@@ -17,7 +17,7 @@ use std::alloc::{AllocError, Global};
 /// The maximum number of restarts of a run before the run has recorded the end of the feed.
 const RESTARTS: u64 = 5;
 
-/// Returns the fault that a response reports, or the given fault if the response reports none.
+/// Returns the fault that a response reports, or the given fault if the response reports no fault.
 pub(crate) fn fault_of(response: Response, otherwise: Fault) -> Fault {
     match response {
         Response::Fault(fault) => fault,
@@ -37,7 +37,7 @@ fn has_pair(entries: &Vec<LogEntry>, session: &str, seq: &str) -> bool
     false
 }
 
-/// Returns the session and the sequence of the target's newest log entry that the source's log has, too.
+/// Returns the session id and the sequence of the target's newest log entry that the source's log also has.
 fn newest_common(
     alloc: Global,
     target: &ReplicationLog,
@@ -89,7 +89,7 @@ fn checkpoint_of(alloc: Global, run: &Run) -> Result<Checkpoint, AllocError>
     })
 }
 
-/// Returns the start of a run if the run has started, or else a start at the given date and sequence.
+/// Returns the start of a run. If the run has not started, the start is the given date and sequence.
 fn start_of(
     alloc: Global,
     start: Option<Start>,
@@ -105,8 +105,8 @@ fn start_of(
     }
 }
 
-/// Begins a window at the newest pair of a session and a sequence that both logs have. If the logs have no common pair,
-/// the window begins at sequence 0, and both logs record sequence 0 first.
+/// Begins a window at the newest pair of a session id and a sequence that both logs have. If the logs have no common
+/// pair, the window begins at sequence 0, and both logs record sequence 0 first.
 fn begin_window(
     alloc: Global,
     run: Run,
@@ -206,8 +206,9 @@ pub(crate) fn after_target_log(alloc: Global, run: Run, response: Response) -> P
     }
 }
 
-/// Continues a run after both logs were read. If the newest entry that both logs have is still the beginning of the
-/// window, both logs are stored. If the newest entry that both logs have is another entry, a new window begins.
+/// Continues a run after both logs were read. If the newest entry that both logs have is still the entry at which the
+/// window began, the run stores both logs. If the newest entry that both logs have is another entry, a new window
+/// begins.
 pub(crate) fn after_source_log(
     alloc: Global,
     run: Run,
@@ -267,7 +268,7 @@ pub(crate) fn after_target_put(
     }
 }
 
-/// Begins a window at the sequence that both logs have just recorded.
+/// Begins a window at the sequence that the run has just recorded in both logs.
 fn next_window(alloc: Global, settings: &Settings, mut run: Run) -> Result<Run, AllocError>
     ensures { IfOk result (λ r. (h : List Exchange) → IsReached h r) }
 {

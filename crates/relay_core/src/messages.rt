@@ -1,6 +1,6 @@
 //! The messages between the relay and the two servers, and the notices that the relay prints for its user.
 
-/// The server at one side of a replication.
+/// One of a replication's two servers: the source or the target.
 #[derive(Clone, Copy, Debug, PartialEq, Eq)]
 pub enum Side {
     Source,
@@ -31,11 +31,12 @@ pub struct ChangesPage {
     pub last_seq: String,
     /// Whether the page is the last page of the feed.
     pub is_last: bool,
-    /// The number of documents after this page, as the server's response gives it.
+    /// The number of changed documents after this page, as the server's response gives it.
     pub pending: Option<String>,
 }
 
-/// A row of a `_bulk_docs` response that reports an error for a document. The row of an error may name a revision.
+/// A row of a `_bulk_docs` response that reports an error for a document. An error row of `_bulk_docs` may name a
+/// revision.
 #[derive(Drop)]
 pub struct RowError {
     pub id: String,
@@ -64,7 +65,7 @@ pub struct ReplicationLog {
 pub enum Fault {
     /// A server gave no complete response.
     Unanswered(Side, Operation),
-    /// A response has a status that the run cannot use. The fault's string gives the error and the reason in the
+    /// A response has a status that the run cannot use. The fault has a string with the error and the reason of the
     /// server's response.
     Status(Side, Operation, u16, String),
     /// A response is not exactly one JSON value.
@@ -80,7 +81,7 @@ pub enum Fault {
     /// A server rejected the transfer of a single document. The fault has the document's id, the server, the status,
     /// and the server's error and reason.
     Refused(String, Side, u16, String),
-    /// A leaf is still missing after the last try, and the target has not refused the leaf.
+    /// After the last try, the target still lacks a leaf that it has not refused.
     Unaccounted(Unaccounted),
     /// Another replication changed the logs too often during this run.
     LogChanged,
@@ -110,13 +111,13 @@ pub enum Response {
     /// The rows of a `_bulk_docs` response that report errors.
     RowErrors(Vec<RowError>),
     /// A server rejected a transfer of documents with the given status, a 4xx other than 401, 403, 404, 408 and 429.
-    /// The response's string gives the error and the reason in the server's response.
+    /// The variant has a string with the error and the reason of the server's response.
     CarryRejected(Side, u16, String),
     /// A server stored its replication log.
     Stored,
     /// A server did not store its replication log, because the log's revision has changed.
     Conflict,
-    /// The caller printed a notice.
+    /// The caller reports that it has printed a notice.
     Noted,
     /// A response that ends the run with a fault.
     Fault(Fault),
@@ -158,8 +159,8 @@ pub enum Notice {
     Refused(RefusedLeaf),
     /// The logs have changed, so the run restarts at the newest entry that both logs have.
     Restarted,
-    /// The target has each leaf of a page, or has refused the leaf. The notice has the counts so far and the number of
-    /// documents after the page.
+    /// The target has each leaf of a page, or has refused the leaf. The notice has the run's counts so far and the
+    /// number of changed documents after the page.
     Progress(Counts, Option<String>),
 }
 
@@ -168,8 +169,8 @@ pub enum Notice {
 pub enum Request<'a> {
     /// A request for the replication log of a server.
     GetLog(Side),
-    /// A request for the source's changes after a sequence. A request for changes with a timeout in milliseconds is a
-    /// longpoll request.
+    /// A request for the source's changes after a sequence. If a request for changes has a timeout (in milliseconds),
+    /// it is a longpoll request.
     GetChanges(&'a str, Option<u32>),
     /// A request that the target say which of the given leaves it lacks.
     RevsDiff(&'a [DocLeaves]),
@@ -179,6 +180,7 @@ pub enum Request<'a> {
     PutLog(Side, &'a ReplicationLog, &'a Checkpoint),
     /// A request that the caller print a notice.
     Tell(&'a Notice),
-    /// The end of the run, with a fault if there is one, the counts, and the last sequence that both servers recorded.
+    /// The end of the run, with the counts, the last sequence that both servers recorded, and the fault if the run
+    /// failed.
     Done(Option<&'a Fault>, &'a Counts, &'a str),
 }

@@ -16,10 +16,10 @@ use crate::refusals::{cover, push_too_large, refused_leaves, sort_rows, unaccoun
 use crate::settings::Settings;
 use std::alloc::{AllocError, Global};
 
-/// The maximum number of tries for one page.
+/// The maximum number of times that a run tries to transfer the leaves of the same page.
 const TRIES: u64 = 5;
 
-/// Continues a run after a checkpoint, or when no checkpoint is due.
+/// Continues a run with the next page, after a checkpoint or if no checkpoint is due.
 pub(crate) fn behind(settings: &Settings, mut run: Run, notices: Vec<Notice>) -> Phase
     ensures { (h : List Exchange) → IsReached h run → Knows h result }
 {
@@ -174,7 +174,7 @@ pub(crate) fn after_changes(
     accounted(alloc, settings, run, end, 0, Vec::new(alloc))
 }
 
-/// Returns the end of a page, and drops the page's rows.
+/// Returns the data of a page that the run keeps, and drops the page's rows.
 fn end_of(page: ChangesPage) -> PageEnd
     ensures { result.last_seq ≡ page.last_seq }
 {

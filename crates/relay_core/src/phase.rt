@@ -20,7 +20,7 @@ pub struct Recorded {
     pub seq: String,
 }
 
-/// The sequence and the time at which a run started.
+/// The sequence at which a run started, and the date of the start.
 #[derive(Drop)]
 pub struct Start {
     pub time: String,
@@ -34,7 +34,7 @@ pub struct Run {
     pub begin: Option<Recorded>,
     /// The sequence up to which the target has or has refused each leaf.
     pub since: String,
-    /// Whether the window is open, which means that the run has something to record.
+    /// Whether the current window is open, which means that the run must still record it in both logs.
     pub is_open: bool,
     /// The number of pages with rows in the current window.
     pub pages: u64,
@@ -42,9 +42,9 @@ pub struct Run {
     pub has_ended: bool,
     /// Whether the run requests the next page by longpoll.
     pub waits: bool,
-    /// The number of documents of the next transfer.
+    /// The largest number of documents that the next transfer may have.
     pub carry: usize,
-    /// The number of repeated requests for the current page.
+    /// The number of times that the run has repeated the request for the current page.
     pub tries: u64,
     /// The number of restarts since the run last recorded the end of the feed.
     pub restarts: u64,
@@ -110,14 +110,14 @@ pub enum Stage {
 #[derive(Drop)]
 pub struct Phase {
     pub run: Run,
-    /// The notices that the caller prints before it sends the stage's request.
+    /// The notices that the caller prints before it sends the request of the stage.
     pub notices: Vec<Notice>,
     /// The number of notices that the caller has printed.
     pub told: usize,
     pub stage: Stage,
 }
 
-/// Returns the sequence of a pair of a session and a sequence, or `0` if there is no pair.
+/// Returns the sequence in a pair of a session id and a sequence, or `0` if there is no pair.
 pub(crate) fn seq_of(pair: &Option<Recorded>) -> &str
     ensures { result.now ≡ seq_of (option_map pair_view pair.now) }
 {

@@ -13,7 +13,7 @@ fn is_refusal(row: &RowError) -> bool
     row.error.as_str() == "forbidden" || row.error.as_str() == "unauthorized"
 }
 
-/// Appends the rows of a response that refuse a document to `refused`, and the rest of its rows to `others`.
+/// Appends a response's rows that refuse a document to `refused`, and the response's other rows to `others`.
 pub(crate) fn sort_rows(
     rows: Vec<RowError>,
     refused: &mut Vec<RowError>,
@@ -68,7 +68,7 @@ fn is_about(rev: &Option<String>, leaf: &str) -> bool
     }
 }
 
-/// Whether an error row in the list concerns the given leaf of a document id.
+/// Whether an error row in the list concerns the given leaf of a document.
 fn are_about(rows: &[RowError], id: &str, leaf: &str) -> bool
     ensures { result ≡ are_about (row_errors_view rows.now) id.now leaf.now }
 {
@@ -80,7 +80,7 @@ fn are_about(rows: &[RowError], id: &str, leaf: &str) -> bool
     false
 }
 
-/// Whether each of the given leaves of a document id has an error row in the list.
+/// Whether each of the given leaves of a document has an error row in the list.
 fn are_all_about(rows: &[RowError], id: &str, revs: &Vec<String>) -> bool
     ensures { result ≡ are_all_about (row_errors_view rows.now) id.now (texts_of revs.now.items) }
 {
@@ -104,7 +104,7 @@ pub(crate) fn cover(rows: &[RowError], docs: &[DocLeaves]) -> bool
     true
 }
 
-/// Returns the first error row of a document id that names the given leaf, or else the first row that names no
+/// Returns the first error row of a document that names the given leaf, or else the document's first row that names no
 /// revision.
 fn row_about<'a>(rows: &'a [RowError], id: &str, leaf: &str) -> Option<&'a RowError> {
     let mut general = None;
@@ -190,7 +190,7 @@ fn first_open<'a>(rows: &[RowError], doc: &'a DocLeaves) -> (u64, Option<&'a str
     (count, first)
 }
 
-/// Returns the error and the reason of the first error row of a document id.
+/// Returns the error and the reason of a document's first error row.
 fn error_of(
     alloc: Global,
     others: &[RowError],

@@ -57,7 +57,8 @@ fn is_telling(notices: &Vec<Notice>, told: usize) -> bool
 /// Continues a run after the response to the phase's request. The argument `date` is the response's date, or empty if
 /// the response has no date.
 ///
-/// For any response, the new phase knows of the exchange, and of all earlier exchanges that the old phase knew of.
+/// The contract says that the new phase is consistent with the exchange (the request and its response) and with all
+/// earlier exchanges.
 pub fn step(
     alloc: Global,
     settings: &Settings,

@@ -13,6 +13,6 @@ pub struct Settings {
     pub continuous: bool,
     /// Whether the run reports its progress.
     pub progress: bool,
-    /// Whether a filter of the feed leaves documents out.
+    /// Whether a filter excludes documents from the source's feed.
     pub filtered: bool,
 }

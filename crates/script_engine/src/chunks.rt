@@ -1,4 +1,4 @@
-//! Reads a reader in chunks.
+//! Reads the input of a reader in chunks.
 ghost use Rattle.std.specs.Prelude.{◌≡◌, ◌+◌, ℕ, IfOk, IfErr, OnOk, OnErr, false};
 ghost use Rattle.std.specs.Io.KnownBytes.{Appends, Keeps};
 ghost use Rattle.script_engine.specs.Chunks.{HasRead, AreChunks, ReadsChunk, StopsReading};
@@ -12,17 +12,17 @@ use std::alloc::{AllocError, Global};
 /// The maximum number of reads (docs/PROFILE.md, "Limits").
 const MAX_READS: u32 = 4294967295;
 
-/// The maximum number of bytes per read.
+/// The maximum number of bytes that one read requests.
 const CHUNK: usize = 65536;
 
-/// Reads a reader in chunks, into one buffer.
+/// Reads the input of a reader in chunks, into one buffer.
 #[derive(Drop)]
 pub struct Chunks {
     /// The buffer for a chunk.
     room: Vec<u8>,
-    /// The length of the last chunk, which is at the start of the buffer.
+    /// The length of the chunk that was read last, which is stored at the start of the buffer.
     count: usize,
-    /// The number of reads so far.
+    /// The number of reads that were made.
     turns: u32,
 }
 

@@ -4,7 +4,8 @@ ghost use Rattle.std.specs.Borrow.{ftrue};
 
 use std::marker::Model;
 
-/// All bytes that came through a stream, in order. The value takes no memory, because only contracts can see the bytes.
+/// All bytes that came through a stream, in order. The history takes no memory, because only contracts can see its
+/// bytes.
 #[derive(Drop)]
 pub struct Passed {
     pub ghost bytes: { List ℕ },
@@ -14,19 +15,19 @@ impl Model for Passed {
     ghost also_owns = { λ _. ftrue };
 }
 
-/// A step of a stream's history.
+/// A step that extends the history of a stream.
 #[derive(Clone, Copy, Drop)]
 pub(crate) enum Pass<'a> {
     /// The start of the history, with no bytes.
     Nothing,
-    /// The history so far, and the bytes that follow it.
+    /// The history before a step, and the bytes that the step appends.
     More(&'a Passed, &'a [u8]),
 }
 
 impl Passed {
     ghost use Rattle.script_engine.specs.Passed.{passed_bytes};
 
-    /// Returns the history after a step.
+    /// Returns the history of a stream after a step.
     #[inline(always)]
     pub(crate) fn of(_pass: &Pass<'_>) -> Passed
         ensures { result.bytes ≡ passed_bytes _pass.now }

@@ -1,4 +1,4 @@
-//! A writer with a history.
+//! A writer that keeps a history of the bytes that it accepted.
 ghost use Rattle.std.specs.Prelude.{◌≡◌, [], Some};
 
 use crate::passed::{Pass, Passed};

@@ -1,7 +1,7 @@
-//! Tests of revisions, JSON values, fronts, logs and boards. Each test is a table of calls with their expected results
-//! as strings. The tables have worked examples, and each public call once with ample memory. The tests are in a crate
-//! above the crates that they test, because a crate with tests is proved twice. Trees and documents are tested by
-//! scripts of the program, and by other crates.
+//! Tests of revisions, JSON values, fronts, logs and boards. Each test is a table of calls, each with its expected
+//! result as a string. The tables have worked examples, and use each public call at least once, without failed
+//! allocations. The tests are in a separate crate, because a crate that contains tests is proved twice. Revision trees
+//! and documents are tested by scripts of the program, and in other crates.
 //!
 //! A call is an enum value, so a proof covers each kind of call once. The tables are statics, so a proof does not cover
 //! their rows.

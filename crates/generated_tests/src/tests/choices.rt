@@ -12,13 +12,13 @@ pub(crate) fn some(rng: &mut ChaCha8Rng) -> Picked {
     below(rng, 31) as Picked + 1
 }
 
-/// Returns all documents, or a random set.
+/// Returns the set of all documents, or a random set of documents.
 pub(crate) fn all_or_some(rng: &mut ChaCha8Rng) -> Picked {
     if below(rng, 2) == 0 { ALL } else { some(rng) }
 }
 
-/// Creates the selection of documents by number, or no selection if all documents are selected. The selection is
-/// created from ids in reverse order, with the first id given twice.
+/// Creates the selection of documents by number, or no selection if all documents are selected. The function creates
+/// the selection from ids in reverse order, with the first id given twice.
 pub(crate) fn chosen(rt: &impl Abort, alloc: Global, picked: Picked) -> Option<Chosen> {
     if picked == ALL {
         return None;

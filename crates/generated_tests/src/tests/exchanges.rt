@@ -1,4 +1,5 @@
-//! Compares requests of one database for another database's feed, and the fetched documents, with the reference.
+//! Compares one database's requests for another database's feed, and the documents fetched for these requests, with the
+//! reference.
 use crate::tests::checks::holds;
 use crate::tests::feeds::{number_of, put};
 use crate::tests::merges::{are, rev};
@@ -42,7 +43,7 @@ impl Side {
     }
 }
 
-/// Returns the index of a revision.
+/// Returns the index that the reference uses for a revision.
 pub(crate) fn place_of(rt: &impl Abort, wanted: Rev) -> usize {
     for place in 0..PLACES {
         if rev(rt, place) == wanted {
@@ -52,7 +53,7 @@ pub(crate) fn place_of(rt: &impl Abort, wanted: Rev) -> usize {
     PLACES
 }
 
-/// Returns the bits of revisions.
+/// Returns the mask with the reference's bits of the given revisions.
 fn mask_of(rt: &impl Abort, revs: &[Rev]) -> u32 {
     let mut mask = 0;
     for one in revs {
@@ -118,8 +119,8 @@ fn is_leaf(
     );
 }
 
-/// Asserts that the documents from an index on are the leaves of a tree above given revisions. Returns the index after
-/// the compared documents.
+/// Asserts that the documents from an index on are the leaves of a tree that are or descend from given revisions.
+/// Returns the index after the compared documents.
 fn brings_leaves(
     rt: &impl Abort,
     alloc: Global,
@@ -138,8 +139,8 @@ fn brings_leaves(
     at
 }
 
-/// Asserts that the gone revisions from an index on are those that a tree lacks. Returns the index after the compared
-/// items.
+/// Asserts that the gone revisions from an index on are the requested revisions that a tree lacks. Returns the index
+/// after the compared revisions.
 fn loses(
     rt: &impl Abort,
     parcel: &Parcel,
@@ -205,7 +206,8 @@ fn asked(rt: &impl Abort, alloc: Global, source: &Side, target: &Side) -> Asked 
     target.db.revs_diff(alloc, &window).expect(rt, "memory")
 }
 
-/// Grows both sides, and asserts requests and parcels. Returns the number of documents of the source.
+/// Puts random documents on both sides, and asserts requests and parcels. Returns the number of documents of the
+/// source.
 fn exchange(
     rt: &impl Abort,
     alloc: Global,
@@ -224,8 +226,8 @@ fn exchange(
     docs
 }
 
-/// Exchanges between a source and a target. The code is a separate function, because each further live variable in its
-/// caller lengthens the proof.
+/// Performs requests and fetches between a source and a target. This code is a separate function, because the proof
+/// grows with each variable that is live in its caller.
 fn with_target(rt: &impl Abort, alloc: Global, seed: u64, source: &mut Side) -> usize {
     let mut rng = ChaCha8Rng::seed_from_u64(seed);
     let mut target = Side::new(alloc, 2);

@@ -45,7 +45,8 @@ pub(crate) fn document(
     Doc::new(id(rt, alloc, number), ancestry, deleted, body(rt, alloc))
 }
 
-/// Creates a random document, and merges it into the plain side. Returns the document and the expected result.
+/// Creates a random document, and merges the document into the reference. Returns the document and the expected result
+/// of its put.
 pub(crate) fn document_by_chance(
     rt: &impl Abort,
     alloc: Global,
@@ -60,7 +61,7 @@ pub(crate) fn document_by_chance(
     (document(rt, alloc, number, &walk, deleted), answer)
 }
 
-/// Whether a put returns the expected result, given the update sequence after it.
+/// Whether a put returns the expected result, given the update sequence after the put.
 pub(crate) fn is_answer(answer: Result<Put, BaseFault>, wanted: Answer, update_seq: u64) -> bool {
     match answer {
         Ok(Put::Changed { seq }) => wanted == Answer::Changed && seq == update_seq,
@@ -85,14 +86,14 @@ pub(crate) fn put(
     holds(rt, is_answer(answer, wanted, plain.update_seq), "a put");
 }
 
-/// Asserts that a row has an id and the leaves of a tree.
+/// Asserts that a row has a given id, and has the leaves of a given tree.
 fn row_has(rt: &impl Abort, alloc: Global, row: &Row, number: usize, tree: &Reference) {
     let leaves = tree.leaves(alloc).expect(rt, "memory");
     let same = number_of(rt, row.id().text()) == number;
     holds(rt, same && are(rt, row.leaves(), &leaves), "a row");
 }
 
-/// Asserts that a row has the next document above a sequence. Returns its sequence.
+/// Asserts that a row has the reference's next document above a sequence. Returns its sequence.
 fn row_is(
     rt: &impl Abort,
     alloc: Global,
@@ -109,7 +110,7 @@ fn row_is(
     seq
 }
 
-/// Asserts that the window has the first rows above `since`, and the expected end.
+/// Asserts that the window has the expected end and the reference's first rows above `since`.
 fn window_is(
     rt: &impl Abort,
     alloc: Global,
@@ -167,7 +168,7 @@ fn page_refused(
     holds(rt, rightly, "a page is refused");
 }
 
-/// Performs forty puts, and reads a page after each.
+/// Performs forty puts, and reads a page after each put.
 fn grow(rt: &impl Abort, alloc: Global, rng: &mut ChaCha8Rng, db: &mut Database) {
     let mut plain = PlainSide::new();
     for _ in 0..40 {

@@ -1,5 +1,5 @@
-//! Compares two representations of a tree after random merges. Each call must have the same result in both
-//! representations.
+//! Compares two representations of a revision tree (`Tree` and its plain form) after random merges. Each call must have
+//! the same result for both representations of the tree.
 
 use crate::tests::checks::holds;
 use crate::tests::merges::{ancestry, below, content, places, rev};
@@ -28,7 +28,7 @@ fn plain_answer(rt: &impl Abort, answer: Result<Merged, TreeFault>) -> PlainAnsw
     }
 }
 
-/// Asserts that a revision has the content of the plain form.
+/// Asserts that a revision has the content that the plain form has for it.
 fn agree_on_content(rt: &impl Abort, tree: &Tree, plain: &PlainTree, one: Rev) {
     match (tree.content(one), plain.content(one)) {
         (Some(content), Some((deleted, byte))) => {
@@ -43,13 +43,13 @@ fn agree_on_content(rt: &impl Abort, tree: &Tree, plain: &PlainTree, one: Rev) {
     }
 }
 
-/// Asserts that a list of revisions equals that of the plain form.
+/// Asserts that a list of revisions equals a list of the plain form.
 fn are_same(rt: &impl Abort, answer: Result<Revs, AllocError>, wanted: &[Rev]) {
     let revs = answer.expect(rt, "revisions");
     holds(rt, revs.as_slice() == wanted, "revisions");
 }
 
-/// Asserts that a revision has the ancestry of the plain form.
+/// Asserts that a revision has the ancestry that the plain form has for it.
 fn agree_on_walk(rt: &impl Abort, alloc: Global, tree: &Tree, plain: &PlainTree, one: Rev) {
     match tree.ancestry(alloc, one) {
         Ok(walk) => is_walk(rt, alloc, plain, one, walk.revs()),
@@ -75,7 +75,7 @@ fn has_as(tree: &Tree, plain: &PlainTree, one: Rev) -> bool {
     stands && tree.origin(one) == origin && tree.is_leaf(one) == plain.is_leaf(one)
 }
 
-/// Asserts that both representations agree about a revision.
+/// Asserts that both representations of the tree agree about a revision.
 fn agree_on_rev(rt: &impl Abort, alloc: Global, tree: &Tree, plain: &PlainTree, one: Rev) {
     holds(rt, has_as(tree, plain, one), "a revision");
     holds(rt, tree.parent_of(one) == plain.parent_of(one), "a parent");
@@ -90,7 +90,7 @@ fn agree_on_leaves(rt: &impl Abort, alloc: Global, tree: &Tree, leaves: &[Rev]) 
     holds(rt, tree.winner() == leaves.first().copied(), "the winner");
 }
 
-/// Asserts that a tree has the leaves of the plain form above given revisions.
+/// Asserts that a tree and the plain form have the same leaves above given revisions.
 fn agree_on_above(
     rt: &impl Abort,
     alloc: Global,
@@ -121,7 +121,7 @@ fn agree(rt: &impl Abort, alloc: Global, tree: &Tree, plain: &PlainTree, asked: 
     }
 }
 
-/// Returns the origin of a round.
+/// Returns the origin that a merge of a given round has.
 fn origin_of(rng: &mut ChaCha8Rng, round: u64) -> Origin {
     if below(rng, 2) == 0 {
         Origin::Local(round)
@@ -158,7 +158,7 @@ fn merge(
     agree(rt, alloc, tree, plain, given.revs());
 }
 
-/// Merges into both representations, and reads other revisions.
+/// Merges an ancestry into both representations of the tree, and reads other revisions.
 fn merge_and_read(
     rt: &impl Abort,
     alloc: Global,
@@ -175,8 +175,8 @@ fn merge_and_read(
     agree(rt, alloc, tree, plain, asked.revs());
 }
 
-/// Performs fifty merges from one seed in both representations. After each merge, the call reads the given and other
-/// revisions, half of the time in a copy. After the last merge, the call reads every revision.
+/// Performs fifty merges from one seed in both representations. After each merge, the call reads the merged and other
+/// revisions, after half of the merges from a copy of the tree. After the last merge, the call reads every revision.
 fn merges_alike(rt: &impl Abort, alloc: Global, seed: u64, tree: &mut Tree) {
     let mut rng = ChaCha8Rng::seed_from_u64(seed);
     let mut plain = PlainTree::new(alloc);

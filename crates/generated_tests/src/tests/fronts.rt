@@ -21,8 +21,8 @@ fn low_water(start: u64, marks: &[bool; WINDOWS]) -> u64 {
     water
 }
 
-/// Returns the number of maximal runs of true above the low water. The run from the start to the low water is not
-/// counted.
+/// Returns the number of maximal runs of the value true above the low water. The count excludes the run from the start
+/// to the low water.
 fn range_count(marks: &[bool; WINDOWS]) -> usize {
     let mut count: usize = 0;
     let mut before = true;
@@ -44,7 +44,7 @@ fn filled(rt: &impl Abort, alloc: Global, start: u64) -> Front {
     front
 }
 
-/// Finishes a window, and asserts the result and the effect.
+/// Finishes a window of a front, and asserts the result and the effect of the call.
 fn finish_one(rt: &impl Abort, front: &mut Front, lo: u64, is_done: bool) {
     let wanted = if is_done {
         Err(FrontFault::AlreadyDone)
@@ -68,12 +68,12 @@ fn finish_one(rt: &impl Abort, front: &mut Front, lo: u64, is_done: bool) {
     );
 }
 
-/// Whether a front has the low water and the runs of a list of Booleans.
+/// Whether a front has the low water and the runs that a list of Booleans gives.
 fn is_marked(front: &Front, start: u64, marks: &[bool; WINDOWS]) -> bool {
     front.low_water() == low_water(start, marks) && front.range_count() == range_count(marks)
 }
 
-/// Tries forty times to finish a random window. The first try for a window succeeds, and later tries fail.
+/// Tries forty times to finish a random window. The first try to finish a window succeeds, and later tries fail.
 fn finishes(rt: &impl Abort, front: &mut Front, seed: u64) {
     let mut rng = ChaCha8Rng::seed_from_u64(seed);
     let start = seed % 7;
@@ -114,14 +114,14 @@ fn finish(rt: &impl Abort, front: &mut Front, number: u64) {
     front.finish(lo, hi).expect(rt, "a window that is not done");
 }
 
-/// Finishes the second window of each pair, from the front.
+/// Finishes the second window of each pair of windows, beginning with the first pair.
 fn finish_odd(rt: &impl Abort, front: &mut Front, pairs: u64) {
     for pair in 0..pairs {
         finish(rt, front, pair.saturating_mul(2).saturating_add(1));
     }
 }
 
-/// Finishes the first window of each pair, from the back.
+/// Finishes the first window of each pair of windows, beginning with the last pair.
 fn finish_even(rt: &impl Abort, front: &mut Front, pairs: u64) {
     for back in 0..pairs {
         let pair = pairs.saturating_sub(back).saturating_sub(1);

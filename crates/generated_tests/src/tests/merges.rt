@@ -1,4 +1,4 @@
-//! Performs random merges, and compares every result, and every read call after each merge, with the reference.
+//! Performs random merges, and compares each merge's result, and all read calls after it, with the reference.
 ghost use Rattle.std.specs.Prelude.{◌≤◌};
 
 use crate::tests::checks::holds;
@@ -11,7 +11,7 @@ use std::alloc::{AllocError, Global};
 use std::process::Abort;
 use std::sync::ArcSlice;
 
-/// Returns the signature at an index.
+/// Returns the signature that the reference has at an index.
 fn sig(rt: &impl Abort, place: usize) -> Sig {
     match Sig::parse(&[b'a' + (place % 3) as u8]) {
         Ok(sig) => sig,
@@ -19,7 +19,7 @@ fn sig(rt: &impl Abort, place: usize) -> Sig {
     }
 }
 
-/// Returns the revision at an index.
+/// Returns the revision that the reference has at an index.
 pub(crate) fn rev(rt: &impl Abort, place: usize) -> Rev {
     let text = [
         b'1' + (place % PLACES / 3) as u8,
@@ -65,7 +65,7 @@ pub(crate) fn places(rng: &mut ChaCha8Rng, alloc: Global) -> Result<Vec<usize>, 
     Ok(places)
 }
 
-/// Creates the ancestry at the indices.
+/// Creates the ancestry of the revisions at the given indices.
 pub(crate) fn ancestry(rt: &impl Abort, alloc: Global, places: &[usize]) -> Ancestry {
     let mut sigs = Vec::new(alloc);
     for place in places {
@@ -75,7 +75,7 @@ pub(crate) fn ancestry(rt: &impl Abort, alloc: Global, places: &[usize]) -> Ance
     Ancestry::from_parts(alloc, start as u32, &sigs).expect(rt, "an ancestry")
 }
 
-/// Asserts that a revision has the content of the reference.
+/// Asserts that a revision has the content that the reference has for it.
 fn agree_on_content(rt: &impl Abort, tree: &Tree, reference: &Reference, one: Rev, place: usize) {
     match (tree.content(one), reference.content(place)) {
         (Some(content), Some((deleted, body))) => {
@@ -96,7 +96,7 @@ fn assert_are(rt: &impl Abort, answer: Result<Revs, AllocError>, places: &[usize
     holds(rt, are(rt, revs.as_slice(), places), "revisions");
 }
 
-/// Asserts that a revision has the ancestry of the reference.
+/// Asserts that a revision has the ancestry that the reference has for it.
 fn agree_on_walk(
     rt: &impl Abort,
     alloc: Global,
@@ -183,7 +183,7 @@ fn agree_on_missing(
     assert_are(rt, tree.missing(alloc, &revs), &missing);
 }
 
-/// Asserts that the leaves above given revisions are those of the reference.
+/// Asserts that a tree and the reference have the same leaves above given revisions.
 fn agree_on_above(
     rt: &impl Abort,
     alloc: Global,
@@ -196,7 +196,8 @@ fn agree_on_above(
     assert_are(rt, tree.leaves_above(alloc, &revs), &above);
 }
 
-/// Asserts that the leaves above random revisions, and the missing revisions among them, are those of the reference.
+/// Asserts that a tree and the reference have the same leaves above random revisions, and lack the same ones of these
+/// revisions.
 fn agree_on_asked(
     rt: &impl Abort,
     alloc: Global,
@@ -209,7 +210,7 @@ fn agree_on_asked(
     agree_on_above(rt, alloc, tree, reference, &asked);
 }
 
-/// Asserts that the result of a merge is that of the reference.
+/// Asserts that a merge returns the result that the reference returns.
 fn answers(rt: &impl Abort, answer: Result<Merged, TreeFault>, wanted: Answer) {
     match answer {
         Ok(Merged::Changed) => holds(rt, wanted == Answer::Changed, "a change"),
@@ -230,7 +231,7 @@ fn contradiction(fault: TreeFault) -> Option<(Rev, Rev, Rev)> {
     }
 }
 
-/// Asserts that the error of a merge is that of the reference.
+/// Asserts that a merge returns the error that the reference returns.
 fn refused(rt: &impl Abort, fault: TreeFault, wanted: Answer) {
     let Some((child, known, given)) = contradiction(fault) else {
         rt.panic(format_args!("no contradiction"))
@@ -301,6 +302,6 @@ fn two_hundred_seeds_agree(rt: HostRuntime) {
         let mut tree = Tree::new(rt.alloc());
         refusals = refusals.saturating_add(merges(&rt, rt.alloc(), seed, &mut tree));
     }
-    // Merges succeed and fail often enough for both results to be tested.
+    // The test asserts that enough merges succeed and enough merges fail.
     assert!(rt; 1_000 < refusals && refusals < 9_000, "{refusals} refusals");
 }

@@ -1,6 +1,6 @@
 //! Networks of randomly diverging peers. After a replication through a hub, or twice around a ring, all peers have the
-//! same documents, a second round changes nothing, and audits are clean. After random hops, each peer that a chain of
-//! hops reaches has all leaves of the chain's first peer.
+//! same documents. A second round changes nothing, and audits find no error. After random hops, each peer that a chain
+//! of hops reaches has all leaves of the chain's first peer.
 use crate::tests::checks::holds;
 use crate::tests::feeds::id;
 use crate::tests::merges::below;
@@ -14,7 +14,7 @@ use rev_core::Rev;
 use std::alloc::Global;
 use std::process::Abort;
 
-/// The number of peers of a network, and the number of rounds.
+/// The number of peers of a network, and the number of rounds of a test.
 const PEERS: usize = 5;
 
 const MEETINGS: usize = 3;
@@ -106,9 +106,9 @@ fn hops(rt: &impl Abort, alloc: Global, rng: &mut ChaCha8Rng, sessions: &mut u12
     hops
 }
 
-/// Returns, for each peer, the peers that chains of hops reach from it, as bits.
+/// Returns a mask for each peer with the bits of all peers that chains of hops reach from this peer.
 ///
-/// The reference processes the hops once, without enumerating chains.
+/// The reference processes each hop once, and does not enumerate the chains of hops.
 fn reached(hops: &[Hop]) -> [u32; PEERS] {
     let mut reached = [0u32; PEERS];
     for (place, places) in reached.iter_mut().enumerate() {
@@ -200,7 +200,7 @@ fn net(rt: &impl Abort, alloc: Global) -> Net<Rules> {
     net
 }
 
-/// Lets peers diverge, synchronize through a hub or along a ring, and synchronize again, several times.
+/// Several times, edits the peers' documents at random, and replicates twice through a hub or along a ring.
 fn of_seed(rt: &impl Abort, alloc: Global, seed: u64) {
     let mut rng = ChaCha8Rng::seed_from_u64(seed);
     let mut sessions = 0;
@@ -231,8 +231,8 @@ fn of_seed(rt: &impl Abort, alloc: Global, seed: u64) {
     }
 }
 
-/// Lets peers diverge and replicate along random hops, several times. Returns how often chains led from every peer to
-/// every other peer.
+/// Several times, edits the peers' documents at random, and replicates along random hops. Returns how often chains led
+/// from every peer to every other peer.
 fn by_chance(rt: &impl Abort, alloc: Global, seed: u64) -> usize {
     let mut rng = ChaCha8Rng::seed_from_u64(seed);
     let mut sessions = 0;
@@ -260,6 +260,6 @@ fn thirty_nets_replicate_by_chance(rt: HostRuntime) {
     for seed in 0..30u64 {
         ends = ends.saturating_add(by_chance(&rt, rt.alloc(), seed));
     }
-    // In some of the rounds chains lead from every peer to every other peer, and in others they do not.
+    // The test asserts that chains of hops connect all peers in at least one round, and not in every round.
     assert!(rt; 5 < ends && ends < 85, "both kinds of ends: {ends}");
 }

@@ -1,5 +1,6 @@
 //! Replications of random pairs, by one thread and by the pool, of all documents and of two random selections. Each
-//! replication is compared with the plain model in both sides' trees, coverage, the report, and the session's ledger.
+//! replication is compared with the plain model. The test compares both sides' trees and coverage, the report, and the
+//! session's ledger.
 use crate::tests::checks::holds;
 use crate::tests::choices::{chosen, some};
 use crate::tests::feeds::{document_by_chance, is_answer};
@@ -19,17 +20,17 @@ use std::process::Abort;
 use std::sync::Wait;
 use std::thread::Threads;
 
-/// The number of choices for the refused document, of which some are not a document's number.
+/// The number of choices for the document that a filter refuses. Some choices are not the number of a document.
 const CHOICES: u32 = 8;
 
-/// The indices of all documents and of the two selections, of which one is replicated.
+/// The indices in the list of what a test replicates (all documents, the first selection, the second selection).
 const WHOLE: usize = 0;
 
 const FIRST: usize = 1;
 
 const SECOND: usize = 2;
 
-/// The indices of the two sources of a bench.
+/// The indices of the two sources in a bench's list.
 const SOURCE: usize = 0;
 
 const OTHER: usize = 1;
@@ -45,9 +46,9 @@ enum Call {
     Replicate(usize, usize),
 }
 
-/// A second source is replicated into a target with documents of its own. After the second source, the first source is
-/// replicated, for one selection and completely. After the first source has grown, it is replicated for both selections
-/// and completely again.
+/// The second source is replicated into a target that has documents of its own. Then the first source is replicated
+/// into the target, first for one selection and then completely. After further documents were loaded into the first
+/// source, it is replicated for both selections and then completely.
 static CALLS: &[Call] = &[
     Call::Grow(OTHER, 10),
     Call::GrowTarget(5),
@@ -80,7 +81,7 @@ impl Side {
         }
     }
 
-    /// Loads a random document into the peer and into the model, and asserts the same result.
+    /// Loads a random document into a peer and into its model, and asserts that both return the same result.
     fn load(&mut self, rt: &impl Abort, alloc: Global, rng: &mut ChaCha8Rng) {
         let (doc, wanted) = document_by_chance(rt, alloc, rng, &mut self.plain, IDS);
         let answer = self.peer.load(&doc);
@@ -153,7 +154,7 @@ impl Bench {
         }
     }
 
-    /// Replicates a source into the target, completely or for a selection, in a session of its own.
+    /// Replicates a source into the target, completely or for a selection, in a new session.
     fn replicate<R: Abort + Threads + Wait + Sync>(
         &mut self,
         rt: &R,
@@ -209,7 +210,7 @@ fn plan(
     }
 }
 
-/// Takes a peer out of its variable for a run of the pool.
+/// Moves a peer out of its variable, because a run of the pool takes its peers by value.
 fn taken(alloc: Global, place: &mut Peer<Rules>) -> Peer<Rules> {
     mem::replace(place, Peer::new(alloc, 0, Rules { deny: None }))
 }
@@ -248,7 +249,7 @@ fn carry_peers<R: Threads + Wait + Sync>(
     taken_back(ran, source, target)
 }
 
-/// Replicates the peers and the plain sides, and asserts that the reports, the ledgers and the sides agree.
+/// Replicates the peers and their plain models, and asserts that the reports, the ledgers and the trees agree.
 fn replicate<R: Abort + Threads + Wait + Sync>(
     rt: &R,
     alloc: Global,
@@ -272,7 +273,7 @@ fn replicate<R: Abort + Threads + Wait + Sync>(
     source.carried[how.choice % 3] = source.plain.update_seq;
 }
 
-/// Replicates the plain sides, and asserts that the report and the session's ledger agree with them.
+/// Replicates the plain models, and asserts that they agree with the report and the session's ledger.
 fn compare(
     rt: &impl Abort,
     alloc: Global,
@@ -309,7 +310,7 @@ fn wanted(source: &PlainSide, since: u64, session: SessionId, carried: &Carried)
     }
 }
 
-/// Performs the steps of a seed, with the given number of workers.
+/// Performs the steps that a seed determines, with the given number of workers.
 fn of_seed<R: Abort + Threads + Wait + Sync>(rt: &R, alloc: Global, seed: u64, workers: u64) {
     let mut bench = Bench::new(rt, alloc, seed, workers);
     for call in CALLS {

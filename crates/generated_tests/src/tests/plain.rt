@@ -1,6 +1,8 @@
-//! A tree in its plain form, which has the ancestries as they were given, and two lists with the data of each revision.
+//! The plain form of a tree: the ancestries as they were given, and two lists with the contents and origins of
+//! revisions.
 //!
-//! The plain form is slow and simple. Each call scans the lists, the first entry counts, and nothing is indexed.
+//! The plain form is slow and simple. Each call of the plain form scans the lists without an index, and uses the first
+//! entry that it finds.
 
 use rev_core::{Ancestry, Rev};
 use rev_tree::{Merged, Origin};
@@ -63,7 +65,7 @@ impl PlainTree {
         None
     }
 
-    /// Whether a revision is in the tree and is not a parent.
+    /// Whether a revision is a leaf, which means in the tree and not a parent.
     pub(crate) fn is_leaf(&self, rev: Rev) -> bool {
         for ancestry in &self.ancestries {
             if ancestry.contains(rev) && ancestry.head() != rev {
@@ -79,7 +81,8 @@ impl PlainTree {
         deleted(a).cmp(&deleted(b)).then(b.cmp(&a))
     }
 
-    /// Returns the leaves, winner first. Each leaf is inserted before the first leaf that it precedes.
+    /// Returns the leaves, winner first. The call inserts each leaf before the first leaf that it precedes in the order
+    /// of leaves.
     pub(crate) fn leaves(&self, alloc: Global) -> Result<Vec<Rev>, AllocError> {
         let mut leaves: Vec<Rev> = Vec::new(alloc);
         for entry in &self.origins {
@@ -94,7 +97,7 @@ impl PlainTree {
         Ok(leaves)
     }
 
-    /// Returns a revision and its ancestors, which are fewer than its generation.
+    /// Returns a revision and its ancestors, of which there are fewer than the revision's generation.
     pub(crate) fn ancestry(&self, alloc: Global, rev: Rev) -> Result<Vec<Rev>, AllocError> {
         let mut walk = Vec::new(alloc);
         let mut at = Some(rev);
@@ -135,7 +138,7 @@ impl PlainTree {
         Ok(missing)
     }
 
-    /// Returns the first given child with another known parent.
+    /// Returns the first child in a given ancestry that has another parent in the tree.
     fn contradiction(&self, revs: &[Rev]) -> Option<(Rev, Rev, Rev)> {
         for pair in revs.windows(2) {
             if let [child, given] = pair {
@@ -149,7 +152,7 @@ impl PlainTree {
         None
     }
 
-    /// Whether the tree has the revisions, their edges and a content of the head.
+    /// Whether the tree has the revisions and edges of an ancestry, and a content of its head.
     fn is_same(&self, ancestry: &Ancestry) -> bool {
         let revs = ancestry.revs();
         revs.iter().all(|rev| self.origin(*rev).is_some())
@@ -158,7 +161,7 @@ impl PlainTree {
             && self.content(ancestry.head()).is_some()
     }
 
-    /// Merges an ancestry, the content of its head and the origin of new revisions.
+    /// Merges an ancestry into the tree, with the content of its head and the origin of new revisions.
     pub(crate) fn merge(
         &mut self,
         alloc: Global,

@@ -6,10 +6,10 @@ use std::process::Abort;
 /// The number of possible documents, with ids d0 to d4.
 pub(crate) const IDS: usize = 5;
 
-/// The sequence of each document's latest change, and its tree.
+/// For each document, the sequence of its latest change, and its tree as bit masks.
 pub(crate) type Documents = [Option<(u64, Reference)>; IDS];
 
-/// A bit for each selected document, with all bits set if all documents are selected.
+/// A mask with a bit for each selected document. All bits are set if all documents are selected.
 pub(crate) type Picked = u32;
 
 /// All documents.
@@ -40,11 +40,11 @@ pub(crate) fn next_above(documents: &Documents, seq: u64, goal: u64) -> Option<(
 /// For each document, a mask with a bit for each revision of a set.
 pub(crate) type Masks = [u32; IDS];
 
-/// A row of a ledger has the document, its newest revision, and the child, known parent and given parent of a
-/// contradiction. If the filter refuses the document, the child and both parents are `PLACES`.
+/// A ledger row is the document, its newest revision, and the child, known parent and given parent of a contradiction.
+/// If the filter refuses the document, the child and both parents are `PLACES`.
 pub(crate) type Row = [usize; 5];
 
-/// The tree of each document with the sequence of its latest change, and the revisions of refused documents.
+/// A peer's plain model: each document's tree and latest sequence, and the revisions of refused documents.
 #[derive(Clone, Copy)]
 pub(crate) struct PlainSide {
     pub(crate) documents: Documents,
@@ -81,7 +81,7 @@ impl PlainSide {
         answer
     }
 
-    /// Merges a fetched document, or refuses it and returns its ledger row.
+    /// Merges a fetched document into a side, or refuses the document and returns its ledger row.
     pub(crate) fn take(
         &mut self,
         number: usize,
@@ -111,7 +111,7 @@ impl PlainSide {
     }
 }
 
-/// The counts of a replication, and its ledger rows.
+/// The counts of a replication, and the ledger rows of its session.
 #[derive(Drop)]
 pub(crate) struct Carried {
     pub(crate) checked: u64,
@@ -189,7 +189,8 @@ fn carry_document(
     }
 }
 
-/// Merges a leaf of a source's tree with its ancestry, or refuses it and returns its ledger row.
+/// Merges a leaf of a source's tree, with its ancestry, into the target, or refuses the leaf and returns its ledger
+/// row.
 pub(crate) fn take_leaf(
     rt: &impl Abort,
     alloc: Global,

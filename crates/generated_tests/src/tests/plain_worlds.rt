@@ -1,6 +1,6 @@
 //! A plain model of a world, written from docs/PROFILE.md, "Worlds", "Sessions of a peer", "Settling" and "Backup and
-//! restore". In the plain model, trees are bit masks, a feed is a scan of all documents, and messages and sessions are
-//! tables of plain rows.
+//! restore". The model represents trees as bit masks, a feed as a scan of all documents, and messages and sessions as
+//! tables of rows.
 use crate::tests::plain_sides::{
     ALL, IDS, Masks, Picked, PlainSide, Row, is_picked, next_above, take_leaf,
 };
@@ -69,13 +69,13 @@ struct Copied {
 /// Counts of how often a list of steps reached each situation that a restore creates.
 #[derive(Clone, Copy, Debug)]
 pub(crate) struct Met {
-    /// A backup was restored while windows, entries or logs were in transit.
+    /// The number of restores while windows, entries or logs were in transit.
     pub(crate) restores: u64,
-    /// A session began in a life that had ended.
+    /// The number of sessions that began in a life of the source that had ended.
     pub(crate) begins: u64,
-    /// A window was from another life than the session that should store it.
+    /// The number of windows from another life than the session that should store the window.
     pub(crate) windows: u64,
-    /// An entry was from another life than the source.
+    /// The number of entries from another life than the source.
     pub(crate) entries: u64,
 }
 
@@ -98,7 +98,7 @@ impl Met {
         self.entries = self.entries.saturating_add(other.entries);
     }
 
-    /// Returns the least of the four counts, which are those of restores, sessions, windows and entries.
+    /// Returns the least of the four counts (of restores, sessions, windows and entries).
     pub(crate) fn least(&self) -> u64 {
         self.restores
             .min(self.begins)
@@ -130,7 +130,7 @@ pub(crate) struct Sessions {
     ledger: Vec<(u128, Row)>,
 }
 
-/// Returns the number of bits that are set in masks.
+/// Returns the number of bits that are set in a list of masks.
 fn count(masks: &Masks) -> u64 {
     let mut all = 0u64;
     for mask in masks {
@@ -139,7 +139,7 @@ fn count(masks: &Masks) -> u64 {
     all
 }
 
-/// Returns the page of selected rows of a feed above a sequence, at or below a goal, in a life.
+/// Returns a page of a source's feed in a life. The page has the selected rows above a sequence and at or below a goal.
 fn page(side: &PlainSide, life: u64, since: u64, goal: u64, limit: u64, picked: Picked) -> Rows {
     let mut leaves = [0; IDS];
     let mut hi = since;
@@ -161,7 +161,7 @@ fn page(side: &PlainSide, life: u64, since: u64, goal: u64, limit: u64, picked: 
     }
 }
 
-/// Returns the leaves of rows that a side lacks.
+/// Returns the leaves of the given rows that a side lacks.
 fn missing(side: &PlainSide, rows: &Rows) -> Rows {
     let mut leaves = [0; IDS];
     for number in 0..IDS {
@@ -170,7 +170,7 @@ fn missing(side: &PlainSide, rows: &Rows) -> Rows {
     Rows { leaves, ..*rows }
 }
 
-/// Whether a side covers each leaf of rows.
+/// Whether a side covers each leaf of the given rows.
 fn covers(side: &PlainSide, rows: &Rows) -> bool {
     let mut covers = true;
     for number in 0..IDS {
@@ -179,7 +179,7 @@ fn covers(side: &PlainSide, rows: &Rows) -> bool {
     covers
 }
 
-/// Whether each requested document is in the rows.
+/// Whether each requested document has a row in the given rows.
 fn are_of(asked: &Rows, rows: &Rows) -> bool {
     let mut are = true;
     for number in 0..IDS {
@@ -243,8 +243,8 @@ impl Sessions {
         low
     }
 
-    /// Returns the common checkpoint of a log of the source and the sessions, which is the lesser recorded sequence of
-    /// the newest common session, or 0.
+    /// Returns the common checkpoint of a source's log and the target's sessions: the lesser recorded sequence of the
+    /// newest common session, or 0.
     fn agreed(&self, entries: &[Done]) -> u64 {
         for held in self.begun.iter().rev() {
             if let Some(place) = place_in(entries, held.done.session) {
@@ -255,8 +255,8 @@ impl Sessions {
         0
     }
 
-    /// Begins a session at the common checkpoint of a log of the source and the sessions, in the life of that log, if
-    /// it is valid.
+    /// If the session is valid, begins it at the common checkpoint of a source's log and the target's sessions, in the
+    /// log's life.
     fn begin(&mut self, rt: &impl Abort, session: u128, log: &SourceLog, goal: u64, time: u64) {
         let start = self.agreed(&log.entries);
         if start <= goal && self.get(session).is_none() {
@@ -290,7 +290,8 @@ impl Sessions {
         }
     }
 
-    /// Returns the index of the window of a request, if it is stored, is not done, and has each document.
+    /// Returns the index of the stored window of a request, if this window is not done and has a row for each requested
+    /// document.
     fn window_for(&self, session: u128, asked: &Rows) -> Option<usize> {
         self.windows.iter().position(|window| {
             window.session == session
@@ -301,7 +302,7 @@ impl Sessions {
         })
     }
 
-    /// Counts a document of a session. A ledger row means that the document was refused.
+    /// Counts a document as written or refused in a session. A ledger row means that the document was refused.
     fn count(&mut self, rt: &impl Abort, session: u128, row: Option<Row>) {
         let place = self.place(session).unwrap_or(0);
         let held = self.begun.get_mut(place).expect(rt, "a session");
@@ -314,19 +315,19 @@ impl Sessions {
         }
     }
 
-    /// Whether a side covers the window at an index.
+    /// Whether a side covers each leaf of the window at an index.
     fn is_covered(&self, rt: &impl Abort, window: usize, side: &PlainSide) -> bool {
         covers(side, &self.windows.get(window).expect(rt, "a window").rows)
     }
 
-    /// Marks the window at an index as done, and counts its leaves.
+    /// Marks the window at an index as done, and adds its leaves to the session's counts.
     fn finish(&mut self, rt: &impl Abort, window: usize) -> u64 {
         let stored = self.windows.get_mut(window).expect(rt, "a window");
         stored.is_done = true;
         count(&stored.rows.leaves)
     }
 
-    /// Marks the window at an index as done, and counts leaves and requested revisions.
+    /// Marks the window at an index as done, and adds its leaves and the requested revisions to the session's counts.
     fn mark(&mut self, rt: &impl Abort, session: u128, window: usize, asked: &Rows) {
         let checked = self.finish(rt, window);
         let place = self.place(session).unwrap_or(0);
@@ -374,7 +375,7 @@ fn settle(
     }
 }
 
-/// Settles the leaves of a document at or above the requested ones.
+/// Settles the leaves of a document that are or descend from requested revisions.
 fn settle_document(
     rt: &impl Abort,
     alloc: Global,
@@ -415,8 +416,8 @@ fn put_done(rt: &impl Abort, log: &mut Vec<Done>, done: Done) {
     }
 }
 
-/// Two sides, the target's sessions, the source's log, the messages, and backups of the source. Each list has its
-/// oldest item first.
+/// Two sides, the target's sessions, the source's log, the messages, and backups of the source. Each list of the model
+/// has its oldest item first.
 #[derive(Drop)]
 pub(crate) struct PlainWorld {
     pub(crate) source: PlainSide,
@@ -547,7 +548,7 @@ impl PlainWorld {
         self.logs.push(log).expect(rt, "memory");
     }
 
-    /// Begins a session from a log that was read, if it is valid.
+    /// Begins a session from a log in the message bag, if the session is valid.
     pub(crate) fn begin(
         &mut self,
         rt: &impl Abort,
@@ -565,7 +566,7 @@ impl PlainWorld {
         }
     }
 
-    /// Reads a page of the source, if there is one.
+    /// Reads a page of the source, if the source has one for the given bounds.
     pub(crate) fn page(&mut self, rt: &impl Abort, since: u64, goal: u64, limit: u64) {
         if limit != 0 && since < goal && goal <= self.source.update_seq {
             let life = self.log.life;
@@ -640,7 +641,7 @@ impl PlainWorld {
         self.copies.push(copied).expect(rt, "memory");
     }
 
-    /// Restores the source from a backup, in a life above those of source and backup.
+    /// Restores the source from a backup, in a life above the lives of the source and the backup.
     pub(crate) fn restore(&mut self, rt: &impl Abort, alloc: Global, copy: usize) {
         if let Some(copied) = self.copies.get(copy) {
             if self.windows.len() > 0 || self.entries.len() > 0 || self.logs.len() > 0 {

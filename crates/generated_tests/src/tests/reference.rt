@@ -1,4 +1,4 @@
-//! A tree of at most eighteen revisions as bits, for generations 1 to 6 with the signatures a, b and c.
+//! A tree as a mask of eighteen bits, one for each revision of generation 1 to 6 with signature a, b or c.
 //!
 //! The revision at index `p` has generation `p / 3 + 1` and signature `p % 3`, so indices are ordered as revisions are.
 //! The reference is written from docs/PROFILE.md, "Merging" and "Leaves and the winner", with masks for sets and `|`
@@ -10,7 +10,7 @@ use std::process::Abort;
 /// The number of possible revisions.
 pub(crate) const PLACES: usize = 18;
 
-/// Returns the bit of an index.
+/// Returns the bit of the revision at an index.
 pub(crate) fn bit(place: usize) -> u32 {
     1 << (place % PLACES)
 }
@@ -46,7 +46,7 @@ pub(crate) enum Answer {
     },
 }
 
-/// The set of revisions, and the parents, the contents and the origin of each revision.
+/// The set of revisions of the tree, with the parent, the content and the origin of each revision.
 #[derive(Clone, Copy)]
 pub(crate) struct Reference {
     revisions: u32,
@@ -92,7 +92,7 @@ impl Reference {
         self.origins[place % PLACES]
     }
 
-    /// Returns the first given child, newest first, that has another parent.
+    /// Returns the newest child in a given ancestry that has another parent in the tree.
     pub(crate) fn contradiction(&self, revs: &[usize]) -> Option<Answer> {
         for pair in revs.windows(2) {
             if let [child, given] = pair {
@@ -109,7 +109,7 @@ impl Reference {
         None
     }
 
-    /// Merges an ancestry, newest first, and a content of its head.
+    /// Merges an ancestry, newest first, and a content of its head into the tree.
     pub(crate) fn merge(&mut self, revs: &[usize], content: (bool, u8), origin: u64) -> Answer {
         if let Some(answer) = self.contradiction(revs) {
             return answer;
@@ -143,12 +143,12 @@ impl Reference {
             && self.contents == other.contents
     }
 
-    /// Returns a bit for each revision.
+    /// Returns a mask with a bit for each revision of the tree.
     pub(crate) fn revisions(&self) -> u32 {
         self.revisions
     }
 
-    /// Returns a bit for each revision that is not a parent.
+    /// Returns a mask with a bit for each revision of the tree that is not a parent.
     pub(crate) fn leaf_mask(&self) -> u32 {
         let mut parents = 0;
         for mask in self.parents {
@@ -157,7 +157,7 @@ impl Reference {
         self.revisions & !parents
     }
 
-    /// Whether a revision is in the tree and is not a parent.
+    /// Whether a revision is a leaf, which means in the tree and not a parent.
     pub(crate) fn is_leaf(&self, place: usize) -> bool {
         self.leaf_mask() & bit(place) != 0
     }
@@ -193,7 +193,7 @@ impl Reference {
         Ok(walk)
     }
 
-    /// Returns a bit for each revision of an ancestry.
+    /// Returns a mask with a bit for each revision of an ancestry.
     pub(crate) fn walk_mask(&self, rt: &impl Abort, alloc: Global, place: usize) -> u32 {
         mask_of(&self.ancestry(alloc, place).expect(rt, "memory"))
     }

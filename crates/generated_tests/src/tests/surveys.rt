@@ -32,7 +32,7 @@ fn contradicts(
     None
 }
 
-/// Returns the indices of the leaves of which another tree has another content.
+/// Returns the indices of the leaves whose content differs in another tree.
 fn differ(
     rt: &impl Abort,
     alloc: Global,
@@ -118,7 +118,7 @@ fn conflicts(rt: &impl Abort, alloc: Global, database: &Database, id: &DocId, li
     }
 }
 
-/// Adds a document to expected counts.
+/// Adds a document to the expected counts of a database's content.
 fn counts(census: &mut Census, tree: &Reference, leaves: usize, live: usize) {
     census.documents = census.documents.saturating_add(1);
     census.deleted = census.deleted.saturating_add(u64::from(live == 0));
@@ -144,7 +144,7 @@ fn in_conflict(rt: &impl Abort, alloc: Global, side: &Side) -> u64 {
     wanted.conflicts
 }
 
-/// Puts the documents of all leaves of a document.
+/// Puts, for each leaf of a document, the leaf's document into a database.
 fn give(rt: &impl Abort, alloc: Global, source: &Database, id: &DocId, target: &mut Database) {
     for doc in &documents_of(alloc, source, id).expect(rt, "memory") {
         holds(rt, target.put(doc, Origin::Local(0)).is_ok(), "a put");
@@ -187,8 +187,8 @@ fn survey(rt: &impl Abort, alloc: Global, source: &Side, target: &Side) -> [u64;
     [total.contradicting, total.differing, conflicts]
 }
 
-/// Tests the calls of `repl_inspect` with a source and a target. The code is a separate function, because each further
-/// live variable in its caller lengthens the proof.
+/// Tests the calls of `repl_inspect` with a source and a target. This code is a separate function, because the proof
+/// grows with each variable that is live in its caller.
 fn with_target(rt: &impl Abort, alloc: Global, seed: u64, source: &mut Side) -> [u64; 3] {
     let mut rng = ChaCha8Rng::seed_from_u64(seed);
     let mut target = Side::new(alloc, 2);
@@ -207,7 +207,7 @@ fn two_hundred_pairs_agree(rt: HostRuntime) {
             found[at] = found[at].saturating_add(more[at]);
         }
     }
-    // Contradicting documents, differing leaves and conflicts occur often enough to be tested.
+    // The test asserts that contradicting documents, differing leaves and conflicts occurred often enough.
     assert!(rt;
         found[0] > 100 && found[1] > 50 && found[2] > 100,
         "{found:?}"

@@ -22,7 +22,7 @@ use std::thread::Threads;
 /// The number of rounds in which both sides diverge and then synchronize.
 const MEETINGS: usize = 3;
 
-/// Returns one of a few random bodies, so that both sides sometimes make the same change.
+/// Returns a body from a small set at random, so that both sides sometimes make the same change.
 pub(crate) fn body(rt: &impl Abort, alloc: Global, rng: &mut ChaCha8Rng) -> Body {
     let text = format!(in alloc; "{{\"n\":{}}}", below(rng, 3)).expect(rt, "memory");
     let value = Value::from_slice(alloc, text.as_bytes()).expect(rt, "a value");
@@ -159,7 +159,7 @@ pub(crate) fn plan(
     }
 }
 
-/// Replicates in both directions: by one thread if there are no workers, else by the pool.
+/// Replicates in both directions, with the pool if the number of workers is above 0, and otherwise with one thread.
 fn meet<R: Abort + Threads + Wait + Sync>(
     rt: &R,
     alloc: Global,
@@ -177,7 +177,7 @@ fn meet<R: Abort + Threads + Wait + Sync>(
     (a, b, outcome.expect(rt, "nothing refused"))
 }
 
-/// Lets two peers diverge, synchronize, and synchronize again, several times.
+/// Several times, edits two peers' documents at random, and replicates twice in both directions.
 fn of_seed<R: Abort + Threads + Wait + Sync>(rt: &R, alloc: Global, seed: u64, workers: u64) {
     let mut rng = ChaCha8Rng::seed_from_u64(seed);
     let mut sessions = 0;
@@ -202,7 +202,7 @@ fn of_seed<R: Abort + Threads + Wait + Sync>(rt: &R, alloc: Global, seed: u64, w
     }
 }
 
-/// Edits d0 at the side that has it.
+/// Edits the document d0 at the side that has it.
 fn edit_d0(rt: &impl Abort, alloc: Global, rng: &mut ChaCha8Rng, peer: &mut Peer<Rules>) {
     let id = id(rt, alloc, 0);
     let parent = leaf(rt, alloc, rng, peer.db().tree(&id));
@@ -216,7 +216,7 @@ fn refusing(rt: &impl Abort, alloc: Global) -> Peer<Rules> {
     Peer::new(alloc, 2, Rules { deny: Some(deny) })
 }
 
-/// Tests two peers, the second of which refuses d0 each time: all other documents are the same after each round.
+/// Tests two peers, of which the second refuses d0. After each round, both peers have the same documents except d0.
 fn beside_refusals<R: Abort + Threads + Wait + Sync>(
     rt: &R,
     alloc: Global,

@@ -22,10 +22,11 @@ use std::process::Abort;
 /// The number of steps of a list.
 const STEPS: usize = 80;
 
-/// The number of steps at the start of a list, each of which loads a document.
+/// The number of steps at the start of a list that each load a document.
 const LOADS: usize = 4;
 
-/// Generates random steps. The model takes each generated step, and the step is added to the list.
+/// Generates random steps. A generator of steps. The model takes each generated step, and the generator adds the step
+/// to its list.
 #[derive(Drop)]
 struct Dealer {
     alloc: Global,
@@ -33,7 +34,7 @@ struct Dealer {
     /// The revisions of a document that is edited repeatedly, oldest first.
     chain: Vec<Rev>,
     model: PlainWorld,
-    /// The number of generated steps. The other number, `turn`, counts the steps of the replication.
+    /// The number of generated steps. The number `turn` counts the generated steps of the replication.
     number: usize,
     turn: usize,
 }
@@ -74,7 +75,7 @@ impl Dealer {
         }
     }
 
-    /// Returns the session to continue, or sometimes another session.
+    /// Returns the id of the session to continue, or sometimes the id of another session.
     fn session(&mut self) -> u128 {
         if below(&mut self.rng, 8) == 0 {
             below(&mut self.rng, 4) as u128
@@ -275,7 +276,7 @@ impl Dealer {
         }
     }
 
-    /// Generates a step out of order, by the number of its kind.
+    /// Generates a step that is out of order, given the number of the kind of step.
     fn odd(&mut self, rt: &impl Abort, kind: usize) -> Step {
         match kind {
             0 | 1 => self.load(rt, true),
@@ -309,7 +310,7 @@ impl Dealer {
     }
 }
 
-/// Computes the revisions of the document that is edited repeatedly. The model does not interpret the strings of the
+/// Computes all revisions of the document that is edited repeatedly. The model does not interpret the strings of the
 /// revisions.
 fn make_chain(rt: &impl Abort, alloc: Global, chain: &mut Vec<Rev>) {
     for _ in 0..6u64 {
@@ -416,7 +417,7 @@ fn compare_ledger(
     holds(rt, has, "a ledger");
 }
 
-/// Asserts that an audit of the replicated documents is clean.
+/// Asserts that an audit of the replicated documents finds no error.
 fn is_clean(
     rt: &impl Abort,
     alloc: Global,
@@ -445,7 +446,7 @@ fn compare_peers(
     compare_documents(rt, alloc, target, &model.target, &dealer.chain);
     compare_log(rt, source.source_log(alloc, &rep).ok(), &model.log.entries);
     holds(rt, source.db().life() == model.log.life, "the life");
-    // Each change of the source is a local write.
+    // In a world, each change of the source's database is a local write.
     let writes = source.locals().len() as u64;
     holds(rt, writes == model.source.update_seq, "the local writes");
     compare_sessions(rt, alloc, target, &rep, model);

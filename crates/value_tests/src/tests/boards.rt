@@ -1,12 +1,12 @@
-//! A worked example of the progress board, the board's errors, and each public call once with ample memory.
+//! Tests a worked example of the progress board, the board's errors, and each public call, without failed allocations.
 use progress_board::{Board, BoardFault};
 use std::alloc::Global;
 use std::process::Abort;
 
-/// The result of an addition.
+/// The result of adding to a worker's counter.
 type Added = Result<(), BoardFault>;
 
-/// Returns the results of additions and readings on a board of two workers and a viewer.
+/// Adds to the counters of a board of two workers and a viewer, reads the board, and returns the results.
 fn two_workers(alloc: Global) -> Option<([Added; 4], [(u64, u64); 2])> {
     let Ok((board, mut seats)) = Board::new(alloc, 2, 1) else {
         return None;
@@ -68,7 +68,7 @@ fn full_board(rt: HostRuntime) {
     assert!(rt; added == wanted && seen == (0, 9_007_199_254_740_991));
 }
 
-/// Numbers of workers and viewers, and the number of seats of the board.
+/// Test rows with the numbers of a board's workers and viewers, and the expected number of seats.
 static SEATS: &[(usize, usize, Result<usize, BoardFault>)] = &[
     (1, 1, Ok(2)),
     (64, 64, Ok(128)),

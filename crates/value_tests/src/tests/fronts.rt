@@ -1,5 +1,5 @@
-//! Worked examples of fronts: calls with their expected results. The examples of fronts use each public call at least
-//! once.
+//! Worked examples of fronts, which are calls with their expected results. The examples of fronts use each public call
+//! at least once.
 use crate::tests::texts::expect_answer;
 use range_front::Front;
 use std::alloc::Global;
@@ -9,7 +9,7 @@ use test_support::shown;
 /// A call on a front.
 #[derive(Clone, Copy)]
 enum Call {
-    /// Append the window up to a sequence.
+    /// Append a window that ends at a sequence.
     Append(u64),
     /// Reserve space to finish a window.
     Reserve,
@@ -41,14 +41,14 @@ fn answer(alloc: Global, front: &mut Front, call: &Call) -> Option<String> {
     }
 }
 
-/// Performs the calls in order, and asserts each result.
+/// Performs the calls in order, and asserts that each returns its expected result.
 fn run(rt: &impl Abort, alloc: Global, front: &mut Front, calls: &[(Call, &str)]) {
     for (i, (call, wanted)) in calls.iter().enumerate() {
         expect_answer(rt, i, answer(alloc, front, call), wanted);
     }
 }
 
-/// Windows up to 2, 4 and 6, finished out of order.
+/// Calls that append windows up to 2, 4 and 6, and finish the windows out of order.
 static OUT_OF_ORDER: &[(Call, &str)] = &[
     (Call::Append(2), "Ok(())"),
     (Call::Append(4), "Ok(())"),
@@ -68,7 +68,8 @@ static OUT_OF_ORDER: &[(Call, &str)] = &[
     (Call::Append(6), "Err(NotRising { end: 6 })"),
 ];
 
-/// Windows up to 2, 4, 6, 8 and 10, finished so that ranges appear, merge, and are passed by the low water.
+/// Calls that append windows up to 2, 4, 6, 8 and 10. Finishing the windows makes ranges appear, merge, and fall below
+/// the low water.
 static RANGES_MERGED: &[(Call, &str)] = &[
     (Call::Append(2), "Ok(())"),
     (Call::Append(4), "Ok(())"),

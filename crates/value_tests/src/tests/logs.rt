@@ -1,4 +1,5 @@
-//! Worked examples of logs: calls with their expected results, and each public call once with ample memory.
+//! Worked examples of logs, which are calls with their expected results. The examples use each public call, without
+//! failed allocations.
 use crate::tests::texts::expect_answer;
 use repl_log::{Counts, Entry, Log, Logs, Moment, RepId, common, rep_id, write_log};
 use rev_tree::SessionId;
@@ -6,12 +7,12 @@ use std::alloc::Global;
 use std::process::Abort;
 use test_support::{bare_entry, shown};
 
-/// A call on logs, which are named by index.
+/// A call on logs. An index names a log of the bench.
 #[derive(Clone, Copy)]
 enum Call<'a> {
-    /// Create the next log, which is empty.
+    /// Create an empty log as the bench's next log.
     Make,
-    /// Copy a log, as the next log.
+    /// Copy a log, and store the copy as the bench's next log.
     Copy(usize),
     /// Store the entry of a session that recorded up to a sequence and read nothing.
     Put(usize, u128, u64),
@@ -19,7 +20,8 @@ enum Call<'a> {
     PutOne(usize, u64),
     /// Store the entry of a session, which read nothing, in the log of the replication from database 1 into another.
     PutInto(u128, u128, u64),
-    /// Copy the log of the replication from database 1 into another, from a copy of all logs, as the next log.
+    /// Copy all logs, copy from them the log of the replication from database 1 into another, and store it as the next
+    /// log.
     CopyInto(u128),
     /// Read whether there is a log of the replication from database 1 into another.
     HasInto(u128),
@@ -27,15 +29,15 @@ enum Call<'a> {
     Has(usize, &'a [(u128, u64)]),
     /// Compare the logs of a source and a target.
     Common(usize, usize),
-    /// Write a copy of the replication id of the row `log_text`.
+    /// Copy the replication id of the row `log_text`, and format the copy as a string.
     Name,
-    /// Write a log of the replication of the row `log_text`.
+    /// Format a log of the replication of the row `log_text` as a string.
     Write(usize),
     /// Create a timestamp, and read its seconds.
     Moment(u64),
 }
 
-/// The calls of a test, each with its expected result.
+/// The calls of a test, and each call's expected result.
 type Rows = &'static [(Call<'static>, &'static str)];
 
 /// The logs of a test, and the logs of the replications from database 1.
@@ -71,7 +73,7 @@ impl Bench {
         }
     }
 
-    /// Performs the calls in order, and asserts each result.
+    /// Performs the calls in order, and asserts that each returns its expected result.
     fn run(&mut self, rt: &impl Abort, calls: &[(Call, &str)]) {
         for (i, (call, wanted)) in calls.iter().enumerate() {
             expect_answer(rt, i, self.answer(call), wanted);
@@ -99,7 +101,7 @@ impl Bench {
         }
     }
 
-    /// Stores a copy of a log.
+    /// Stores a copy of a log as the bench's next log.
     fn keep_copy(&mut self, at: usize) -> Option<String> {
         let Some(log) = self.logs.get(at) else {
             return None;
@@ -110,7 +112,7 @@ impl Bench {
         }
     }
 
-    /// Stores an optional entry in a log.
+    /// Stores an entry in a log, if the entry exists.
     fn put(&mut self, at: usize, entry: Option<Entry>) -> Option<String> {
         match (self.logs.get_mut(at), entry) {
             (Some(log), Some(entry)) => shown(self.alloc, &log.put(entry)),
@@ -118,7 +120,7 @@ impl Bench {
         }
     }
 
-    /// Stores an optional entry in the log of the replication from database 1 into another.
+    /// Stores an entry in the log of the replication from database 1 into another, if the entry exists.
     fn put_into(&mut self, target: u128, entry: Option<Entry>) -> Option<String> {
         match entry {
             Some(entry) => shown(self.alloc, &self.all.put(&from_one(target), entry)),
@@ -250,8 +252,8 @@ fn moment_text(alloc: Global, seconds: u64) -> Option<String> {
     }
 }
 
-/// Sessions A, B and C have the numbers 10, 11 and 12. The logs of the test are the source's log, the target's log, and
-/// an empty log.
+/// The sessions A, B and C have the session ids 10, 11 and 12. The logs of the test are the source's log, the target's
+/// log, and an empty log.
 static COMMON_ROWS: Rows = &[
     (Call::Make, "made"),
     (Call::Put(0, 10, 9), "Ok(())"),
@@ -272,7 +274,7 @@ fn common_session(rt: HostRuntime) {
     Bench::new(rt.alloc()).run(&rt, COMMON_ROWS);
 }
 
-/// The entry of an existing session is replaced in place.
+/// Storing a new entry of a session replaces the session's old entry, and keeps the entry's position in the log.
 static REPLACED_ROWS: Rows = &[
     (Call::Make, "made"),
     (Call::Put(0, 10, 9), "Ok(())"),
@@ -289,7 +291,7 @@ fn session_replaced(rt: HostRuntime) {
     Bench::new(rt.alloc()).run(&rt, REPLACED_ROWS);
 }
 
-/// Each replication has its own log, which begins with its first entry.
+/// Each replication has its own log, which is created when the replication's first entry is stored.
 static LOGS_ROWS: Rows = &[
     (Call::HasInto(2), "false"),
     (Call::PutInto(2, 10, 9), "Ok(())"),

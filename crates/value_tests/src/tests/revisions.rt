@@ -1,4 +1,5 @@
-//! Worked examples of revisions: calls with their expected results, and each call once with ample memory.
+//! Worked examples of revisions, which are calls with their expected results. The examples use each call, without
+//! failed allocations.
 use crate::tests::texts::{ancestry, expect_answer, sigs};
 use md5::{Digest, Md5};
 use rev_core::{Ancestry, KeptRev, Rev, new_rev};
@@ -11,11 +12,11 @@ use test_support::{rev, rev_text, revs_text, shown};
 enum Call<'a> {
     /// Parse a revision, and read its generation and its signature.
     Parse(&'a str),
-    /// Parse a revision, and write it.
+    /// Parse a revision, and format it as a string.
     Write(&'a str),
     /// Compare two revisions.
     Compare(&'a str, &'a str),
-    /// Create an ancestry from the newest generation and signatures.
+    /// Create an ancestry, given its newest generation and its signatures.
     Ancestry(u32, &'a [&'a str]),
     /// Create an ancestry, and read the revisions and the head of a copy.
     Copy(Parts<'a>),
@@ -23,7 +24,7 @@ enum Call<'a> {
     Contains(Parts<'a>, &'a str),
     /// Read the parent of a revision in the copy of an ancestry.
     Parent(Parts<'a>, &'a str),
-    /// Store a compact revision, and read from a copy whether its signature is short, and its string.
+    /// Store a revision in compact form, copy it, and read the copy's string and whether its signature is short.
     Keep(&'a str),
     /// Compute the hexadecimal digits of the digest of a string.
     Digest(&'a str),
@@ -33,7 +34,7 @@ enum Call<'a> {
     Edit(&'a str, bool, &'a str),
 }
 
-/// The calls of a test, each with its expected result.
+/// The calls of a test, and each call's expected result.
 type Rows = &'static [(Call<'static>, &'static str)];
 
 /// The newest generation of an ancestry, and its signatures.
@@ -49,7 +50,7 @@ const THREE: Parts<'static> = Parts {
     sigs: &["c", "b", "a"],
 };
 
-/// Performs the calls in order, and asserts each result.
+/// Performs the calls in order, and asserts that each returns its expected result.
 fn run(rt: &impl Abort, alloc: Global, calls: &[(Call, &str)]) {
     for (i, (call, wanted)) in calls.iter().enumerate() {
         expect_answer(rt, i, answer(alloc, call), wanted);
@@ -120,7 +121,7 @@ fn compared_texts(alloc: Global, first: &str, second: &str) -> Option<String> {
     }
 }
 
-/// Returns whether the first revision is less, and whether the two are equal.
+/// Returns whether the first of two revisions is less, and whether the two revisions are equal.
 fn compared(alloc: Global, first: Rev, second: Rev) -> Option<String> {
     let (less, equal) = (first < second, first == second);
     format!(in alloc; "less {less}, equal {equal}").ok()
@@ -197,7 +198,7 @@ fn kept_text(alloc: Global, text: &str) -> Option<String> {
     }
 }
 
-/// Returns whether a revision has a short signature, and a space.
+/// Returns whether a revision has a short signature, followed by a space.
 fn form_text(alloc: Global, rev: &Rev) -> Option<String> {
     match KeptRev::short(rev) {
         Some(_) => "short ".to_string(alloc).ok(),
@@ -304,7 +305,7 @@ fn makes_and_copies_an_ancestry(rt: HostRuntime) {
     run(&rt, rt.alloc(), ANCESTRY_ROWS);
 }
 
-/// Rows for a signature of 32 bytes and a signature of 33 bytes.
+/// Test rows for a signature of 32 bytes and for a signature of 33 bytes.
 const DIGITS: &str = "2-0123456789abcdef0123456789abcdef";
 
 const DIGITS_AND_ONE: &str = "2-0123456789abcdef0123456789abcdef0";
@@ -380,7 +381,8 @@ const LIVE: &str = r#"{"n":1}"#;
 
 const STATED: &str = "1-a\nlive\n{\"n\":1}";
 
-/// The signatures are the MD5 of the parent, the kind and the body, separated by line feeds.
+/// Each expected signature is the MD5 of the parent, the kind (`live` or `deleted`) and the body, separated by line
+/// feeds.
 static EDIT_ROWS: Rows = &[
     (Call::Decode("312d610a6c6976650a7b226e223a317d"), STATED),
     (Call::Digest(STATED), "c96964c5f2e1e7ba6a7331423f490bd6"),
@@ -403,7 +405,7 @@ fn ids_of_local_edits(rt: HostRuntime) {
     run(&rt, rt.alloc(), EDIT_ROWS);
 }
 
-/// The signature was computed by md5sum.
+/// The expected signature was computed with the program md5sum.
 const GREATEST: &str = "4294967295-62296738d45faefb3c4ca58de75db3a8";
 
 static GREATEST_ROWS: Rows = &[

@@ -1,4 +1,4 @@
-//! Texts that one reader reads as JSON values in order, with their expected compact form.
+//! Texts that one reader reads as JSON values in order, each with its expected compact form.
 use crate::tests::texts::expect_answer;
 use json_values::{LineValue, ValueReader};
 use serde_json::{Map, Value};
@@ -11,14 +11,14 @@ use test_support::shown;
 enum Call<'a> {
     /// Bytes.
     Read(&'a [u8]),
-    /// A text of arrays that are nested to a given depth.
+    /// A JSON text of arrays that are nested to a given depth.
     Nested(usize),
-    /// A text of an object with a given number of names in falling order. Each name of the object occurs twice, and the
-    /// second value of a name is the name's number.
+    /// A JSON text of an object with a given number of names in falling order. Each name of the object occurs twice,
+    /// and the second value of a name is the name's number.
     Falling(usize),
 }
 
-/// The texts to read, each with the compact form of its value, or the error.
+/// The texts that the test reads, each with the compact form of its value or with the expected error.
 type Rows = &'static [(Call<'static>, &'static str)];
 
 /// Reads all texts with one reader, and asserts each result.
@@ -29,7 +29,7 @@ fn run(rt: &impl Abort, alloc: Global, calls: &[(Call, &str)]) {
     }
 }
 
-/// Performs a call and returns its result.
+/// Reads a text and returns the result of reading it.
 fn answer(alloc: Global, reader: &mut ValueReader, call: &Call) -> Option<String> {
     match *call {
         Call::Read(bytes) => written(alloc, reader, bytes),
@@ -60,7 +60,7 @@ fn falling_text(alloc: Global, reader: &mut ValueReader, count: usize) -> Option
     }
 }
 
-/// Returns the compact form of the value that bytes denote, or the error.
+/// Returns the compact form of the JSON value in the given bytes, or the error.
 fn written(alloc: Global, reader: &mut ValueReader, bytes: &[u8]) -> Option<String> {
     match reader.read_line(alloc, bytes) {
         Ok(line) => value_text(alloc, line.value()),
@@ -157,7 +157,7 @@ fn append_null(alloc: Global, text: &mut String, number: usize) -> Option<()> {
     }
 }
 
-/// Appends a member whose name and value are a number, and the text after the member.
+/// Appends a member whose name and value are a given number, followed by a given text.
 fn append_number(alloc: Global, text: &mut String, number: usize, end: &str) -> Option<()> {
     match format!(in alloc; "\"{number:05}\":{number}{end}") {
         Ok(member) => text.push_str(member.as_str()).ok(),
