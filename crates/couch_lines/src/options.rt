@@ -57,14 +57,14 @@ Exit status: 0 success; 1 an entry was skipped, or `trees` ran out of memory for
 2 usage error; 3 the input is an error of CouchDB, is none of the above or is truncated, or
 reading, writing or an allocation failed.";
 
-/// Why a command line names no task.
+/// The reason why a command line names no task.
 #[derive(Drop)]
 pub enum NoTask {
-    /// `clap`'s error, which includes requests for help.
+    /// The error of `clap`, which includes requests for help.
     Words(Error),
     /// The task is unknown.
     Unknown,
-    /// The task does not take these arguments.
+    /// The named task does not take these arguments.
     Wrong(Named),
     /// An allocation failed.
     Memory,

@@ -1,4 +1,4 @@
-//! The program: its arguments, standard input and output, and exit status.
+//! Runs the program with its arguments and its standard streams, and determines its exit status.
 ghost use Rattle.std.specs.Prelude.{◌≡◌, ◌≤◌, ◌⊎◌, ℕ, List, Some, IfOk, map, string_bytes};
 ghost use Rattle.std.specs.Io.KnownBytes.{Keeps};
 ghost use Rattle.couch_lines.specs.Runs.{RunsStandard};
@@ -32,13 +32,13 @@ pub fn run_program<H: AllocGlobal + Env + Input + Print + Eprint>(rt: &H) -> u8
     }
 }
 
-/// Runs the program on standard input and output. Returns how the run ended, and both streams, whose bytes the contract
-/// names. Output is buffered, and flushed at the end.
+/// Runs the program on standard input and output. Returns how the run ended, and both streams. The contract names the
+/// bytes that went through the streams. Output is buffered, and flushed at the end.
 ///
 /// # Errors
 ///
-/// `OutOfMemory`: the output buffer cannot be allocated. If the buffer cannot be allocated, nothing has been read or
-/// written.
+/// `OutOfMemory`: the output buffer cannot be allocated. If the output buffer cannot be allocated, the call reads and
+/// writes nothing.
 fn run_standard<'a, H>(
     rt: &'a H,
     words: &[String],
@@ -58,7 +58,7 @@ where
     Ok((ended, reader, writer.into_inner()))
 }
 
-/// Flushes the output. Returns how the run ended, with a failed flush included.
+/// Flushes the output. Returns how the run ended, given whether flushing the output succeeded.
 fn flushed<W: ScriptWrite>(writer: &mut W, first: Ended) -> Ended
     ensures kept { Keeps (W.held writer.old) (W.held writer.new) }
     ensures flushed { (Keeps (W.held writer.new) (W.sent writer.new) × (result ≡ first)) ⊎ (result ≡ unflushed first) }
@@ -69,8 +69,8 @@ fn flushed<W: ScriptWrite>(writer: &mut W, first: Ended) -> Ended
     }
 }
 
-/// Returns the result of a run whose output could not be flushed. If an earlier error ended
-/// the run, the earlier error stays the result.
+/// Returns the result of a run whose output could not be flushed. If an earlier error ended the run, the call returns
+/// the earlier error.
 fn unflushed(ended: Ended) -> Ended
     ensures { result ≡ unflushed ended }
 {
@@ -85,8 +85,8 @@ fn unflushed(ended: Ended) -> Ended
     }
 }
 
-/// Returns the result of a drawing whose output could not be flushed. If an earlier error ended
-/// the run, the earlier error stays the result.
+/// Returns the result of a drawing whose output could not be flushed. If an earlier error ended the run, the call
+/// returns the earlier error.
 fn undrawn(ended: Result<bool, ScriptFault>) -> Result<bool, ScriptFault>
     ensures { result ≡ undrawn ended }
 {
@@ -96,8 +96,8 @@ fn undrawn(ended: Result<bool, ScriptFault>) -> Result<bool, ScriptFault>
     }
 }
 
-/// Returns the result of a conversion whose output could not be flushed. If an earlier error ended
-/// the run, the earlier error stays the result.
+/// Returns the result of a conversion whose output could not be flushed. If an earlier error ended the run, the call
+/// returns the earlier error.
 fn unwritten(ended: Result<u64, AnswerFault>) -> Result<u64, AnswerFault>
     ensures { result ≡ unwritten ended }
 {
@@ -210,7 +210,7 @@ fn hint_of(why: Refusal) -> &'static str {
     }
 }
 
-/// Returns bytes as a string, or an empty string if the bytes are not UTF-8.
+/// Returns the given bytes as a string, or an empty string if they are not UTF-8.
 fn text_of(bytes: &[u8]) -> &str {
     match str::from_utf8(bytes) {
         Ok(text) => text,

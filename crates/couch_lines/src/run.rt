@@ -1,4 +1,4 @@
-//! Runs the program over any reader and writer.
+//! Runs the program with a given reader as input and a given writer as output.
 ghost use Rattle.std.specs.Prelude.{◌≡◌, ℕ, List, [], Some, IfOk, OnOk, false, map, option_map, string_bytes};
 ghost use Rattle.response_output.specs.Stored.{words_of_wording};
 ghost use Rattle.std.specs.Io.KnownBytes.{Appends};
@@ -20,15 +20,14 @@ pub enum Ended {
     NotRun(NoTask),
     /// The program converted the input, or the conversion stopped early.
     Ran(Run),
-    /// The program drew the input, or drawing stopped early. The value is `false` if memory was insufficient for a
-    /// line.
+    /// The program drew the input, or drawing stopped early. The value is `false` if an allocation failed for a line.
     Drawn(Result<bool, ScriptFault>),
 }
 
 /// The result of a conversion.
 #[derive(Drop)]
 pub struct Run {
-    /// The number of skipped objects without a document, or why the conversion stopped early.
+    /// The number of skipped objects without a document, or the reason why the conversion stopped early.
     pub(crate) ended: Result<u64, AnswerFault>,
     /// The parser.
     pub(crate) reading: Reading,
@@ -45,8 +44,8 @@ pub fn run_words<'a, R: ScriptRead, W: ScriptWrite>(
 ) -> Ended
     ensures runs { RunsWords (map string_bytes words.entry.now) (R.left reader.old) (R.left reader.new)
         (W.held writer.old) (W.held writer.new) result }
-    // The clause `runs` holds also for the bytes that the reads returned. On success the reads returned the complete
-    // input.
+    // The clause `runs` describes the output by the bytes that the reads returned. If the call succeeds, the reads
+    // returned the complete input.
     ensures took { (input : List ℕ) × Appends (R.taken reader.old) (R.taken reader.new) input
         × RunsWords (map string_bytes words.entry.now) (Some input) (Some []) (W.held writer.old)
         (W.held writer.new) result }
@@ -91,14 +90,14 @@ fn draw<R: ScriptRead, W: ScriptWrite>(
     }
 }
 
-/// Returns the format of the picture.
+/// Returns the format (text or SVG) of the picture.
 fn form_of(svg: bool) -> Form
     ensures { result ≡ form_of svg }
 {
     if svg { Form::Svg } else { Form::Text }
 }
 
-/// Returns what a task looks for in its input.
+/// Returns the kind of items that a task looks for in its input.
 fn wanted_of(task: &Task) -> Wanted
     ensures { result ≡ wanted_of task.now }
 {

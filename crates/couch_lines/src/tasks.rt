@@ -11,22 +11,22 @@ use std::alloc::Global;
 /// A task with its arguments.
 #[derive(Drop)]
 pub enum Task {
-    /// Writes `load` lines for the documents in CouchDB responses. If the Boolean is true, each document is wrapped in
-    /// an envelope.
+    /// Writes `load` lines for the documents in CouchDB responses. If the task's Boolean is true, the task wraps each
+    /// document in an envelope.
     Load(String, bool),
-    /// Writes bodies of `_bulk_get` for each leaf in a changes feed or a `_revs_diff` response. The number is the
-    /// maximum of leaves per body, or 0 for one body.
+    /// Writes the bodies of `_bulk_get` requests for the leaves in a changes feed or a `_revs_diff` response. The
+    /// task's number is the maximum number of leaves in a request body, or 0 for a single body.
     Ids(u64),
-    /// Writes bodies of `_revs_diff` with the leaves of a changes feed. The number is the maximum of documents per
-    /// body, or 0 for one body.
+    /// Writes the bodies of `_revs_diff` requests for the leaves in a changes feed. The task's number is the maximum
+    /// number of documents in a request body, or 0 for a single body.
     Diff(u64),
     /// Writes a `doc` line for each leaf in the `change` lines of a script's output.
     Leaves(String),
-    /// Writes bodies of `_bulk_docs`. The number is the maximum of documents per body, and if the Boolean is true,
-    /// documents are unwrapped from envelopes.
+    /// Writes bodies of `_bulk_docs`. The task's number is the maximum number of documents in a body. If the task's
+    /// Boolean is true, the task unwraps documents from envelopes.
     Bulk(u64, bool),
-    /// Draws the output of a script, in SVG if the Boolean is true. With a database name, the task also writes the
-    /// commands that resolve conflicts.
+    /// Draws the output of a script, as SVG if the task's Boolean is true and otherwise as text. If the task has a
+    /// database name, it also writes the commands that resolve conflicts.
     Trees(Option<String>, bool),
 }
 
@@ -98,7 +98,7 @@ fn named_by(word: &str) -> Option<Named>
     }
 }
 
-/// Builds a task from its name, its argument, an argument that is not allowed, and the two flags.
+/// Builds a task from its name, its argument, a possible surplus argument, and the two flags.
 ///
 /// # Errors
 ///

@@ -26,8 +26,8 @@ pub struct Envelope {
     text: Vec<u8>,
     /// The text of the members that the envelope stores in its string.
     held: Vec<u8>,
-    /// Whether each member of the envelope outside of its string is known to have the text that the kit's JSON library
-    /// prints for it.
+    /// Whether each member outside of the envelope's string certainly has the text that the kit's JSON library prints
+    /// for the member.
     printed: bool,
     scratch: Scratch,
 }
@@ -80,8 +80,8 @@ impl Envelope {
         is_envelope(self.alloc, self.text.as_slice(), &mut self.scratch)
     }
 
-    /// Unwraps a document. Returns `false` if the text is not an object, or if a member `whole` is not a string of
-    /// members.
+    /// Unwraps a document. Returns `false` if the text is not an object, or if it has a member `whole` that is not a
+    /// string of members.
     pub fn take(&mut self, document: &[u8]) -> Result<bool, AllocError>
         ensures text { IfOk result (λ ok. unfolded document.now ≡ cond ok (Some (made_of self.new)) None) }
         ensures gives_back { (fs ws os : List (List ℕ)) → HasMembers document.now (fs ++ ws) → AreOthers fs
@@ -105,7 +105,7 @@ impl Envelope {
         self.is_json()
     }
 
-    /// Whether the text that was built is JSON.
+    /// Whether the text of the built envelope is JSON.
     fn is_json(&mut self) -> Result<bool, AllocError>
         ensures value { IfOk result (λ json. json ≡ is_json (made_of self.old)) }
         ensures same { made_of self.new ≡ made_of self.old }
@@ -146,7 +146,7 @@ impl Envelope {
         Ok(())
     }
 
-    /// Ends an envelope with the member `whole`. Returns `false` if the wrapped members are not UTF-8.
+    /// Ends the text of an envelope with the member `whole`. Returns `false` if the wrapped members are not UTF-8.
     fn end_fold(&mut self) -> Result<bool, AllocError>
         ensures is { IfOk result (λ ok. ok ≡ is_utf8 (held_of self.old)) }
         ensures made { IfOk result (λ ok. ok ≡ true
@@ -159,8 +159,8 @@ impl Envelope {
         Ok(true)
     }
 
-    /// Copies each member of an envelope, and the wrapped members instead of a member `whole`. Returns `false` if a
-    /// member `whole` is not a string of members.
+    /// Copies each member of an envelope. In place of a member `whole`, the call copies the wrapped members. Returns
+    /// `false` if the envelope has a member `whole` that is not a string of members.
     fn unfold(&mut self, document: &[u8]) -> Result<bool, AllocError>
         ensures { IfOk result (λ ok. all_taken (123 ∷ []) (members_in Outside 0 [] (drop 1 document.now))
             ≡ cond ok (Some (made_of self.new)) None) }
@@ -203,7 +203,7 @@ impl Envelope {
         self.add(member)
     }
 
-    /// Appends a member, with a comma before it if it is not the first member.
+    /// Appends a member, after a comma if the text already has a member.
     fn add(&mut self, member: &[u8]) -> Result<(), AllocError>
         ensures made { OnOk result (made_of self.new ≡ added (made_of self.old) member.now) }
         ensures held { held_of self.new ≡ held_of self.old }
@@ -215,7 +215,7 @@ impl Envelope {
         self.text.extend_from_slice(member)
     }
 
-    /// Appends a member to those that the envelope stores in its string.
+    /// Appends a member to the members that the envelope stores in its string.
     fn hold(&mut self, member: &[u8]) -> Result<(), AllocError>
         ensures held { OnOk result (held_of self.new ≡ held_with (held_of self.old) member.now) }
         ensures made { made_of self.new ≡ made_of self.old }
@@ -227,7 +227,8 @@ impl Envelope {
         self.held.extend_from_slice(member)
     }
 
-    /// Appends the member `whole` if there are wrapped members. Returns `false` if the wrapped members are not UTF-8.
+    /// Appends the member `whole` to the envelope if there are wrapped members. Returns `false` if the wrapped members
+    /// are not UTF-8.
     fn end_held(&mut self) -> Result<bool, AllocError>
         ensures is { IfOk result (λ ok. ok ≡ is_utf8 (held_of self.old)) }
         ensures made { IfOk result (λ ok. ok ≡ true
@@ -240,8 +241,8 @@ impl Envelope {
         quote(self.alloc, self.held.as_slice(), &mut self.text)
     }
 
-    /// Appends a member of an envelope, or the wrapped members if its name is `whole`. Returns `false` if a member
-    /// `whole` is not a string of members.
+    /// Appends a member of an envelope, or the wrapped members if the member's name is `whole`. Returns `false` if the
+    /// envelope has a member `whole` that is not a string of members.
     fn take_member(&mut self, member: &[u8]) -> Result<bool, AllocError>
         ensures { IfOk result (λ ok. taken_with (made_of self.old) member.now
             ≡ cond ok (Some (made_of self.new)) None) }
@@ -256,7 +257,7 @@ impl Envelope {
         Ok(true)
     }
 
-    /// Appends the wrapped members that a JSON string contains.
+    /// Appends the wrapped members, which are the content of a JSON string.
     fn take_held(&mut self, value: &[u8]) -> Result<bool, AllocError>
         ensures { IfOk result (λ ok. option_map (added (made_of self.old))
             (option_and_then if_any (string_of value.now)) ≡ cond ok (Some (made_of self.new)) None) }
@@ -288,7 +289,7 @@ fn behind_brace(document: &[u8]) -> &[u8]
     }
 }
 
-/// Returns the text after a member of `count` bytes and the comma that follows. Returns an empty text if no comma
+/// Returns the text after a member of `count` bytes and after the member's comma. Returns an empty text if no comma
 /// follows the member.
 fn behind_comma(text: &[u8], count: usize) -> &[u8]
     requires { count ≤ length text.now }

@@ -1,5 +1,4 @@
-//! Processes the text of a document: splits it into its members without parsing their values, and wraps members into an
-//! envelope.
+//! Splits the text of a document into its members without parsing their values, and wraps members into an envelope.
 //!
 //! docs/PROFILE.md, "Documents in envelopes", defines envelopes.
 #![tactic(auto)]

@@ -20,7 +20,8 @@ fn closes(byte: u8) -> bool
     byte == b'}' || byte == b']'
 }
 
-/// Whether a byte outside of strings ends a member. `nesting` is the number of brackets that are open in the member.
+/// Whether a byte that is not in a string ends a member. `nesting` is the number of brackets that are open in the
+/// member.
 #[inline(always)]
 fn ends(nesting: usize, byte: u8) -> bool
     ensures { result ≡ ends_member Outside nesting byte }
@@ -28,7 +29,7 @@ fn ends(nesting: usize, byte: u8) -> bool
     nesting == 0 && (byte == b',' || closes(byte))
 }
 
-/// Returns the number of open brackets after a byte outside of strings.
+/// Returns the number of open brackets after a byte that is not in a string.
 #[inline(always)]
 fn nesting_behind(nesting: usize, byte: u8) -> usize
     requires { nesting < 9223372036854775808 }
@@ -44,8 +45,8 @@ fn nesting_behind(nesting: usize, byte: u8) -> usize
     }
 }
 
-/// Returns the position after a quotation mark, a control character or a backslash in a string. The byte after a
-/// backslash is skipped.
+/// Returns the position after a quotation mark, a control character or a backslash in a string. The call skips the byte
+/// after a backslash.
 #[inline(always)]
 fn past_byte(text: &[u8], at: usize) -> usize
     requires { at < length text.now }
@@ -78,7 +79,7 @@ fn string_end(text: &[u8], from: usize) -> usize
     at
 }
 
-/// Returns the number of bytes of the first member, up to the comma or closing brace after it.
+/// Returns the number of bytes of the first member, which ends before a comma or a closing brace.
 pub(crate) fn first_length(text: &[u8]) -> usize
     ensures value { result ≡ first_length text.now }
     ensures within { result ≤ length text.now }

@@ -15,7 +15,7 @@ pub(crate) fn trimmed(text: &[u8]) -> &[u8]
     rest
 }
 
-/// Whether a member has a name, which is given with its quotation marks.
+/// Whether a member has a given name, which includes its quotation marks.
 pub(crate) fn has_name(member: &[u8], name: &[u8]) -> bool
     ensures { result ≡ has_name member.now name.now }
 {

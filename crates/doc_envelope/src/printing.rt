@@ -1,4 +1,4 @@
-//! Recognizes members of an envelope that have the text that the kit's JSON library prints for them.
+//! Recognizes members of an envelope whose texts are exactly as the kit's JSON library prints them.
 ghost use Rattle.std.specs.Prelude.{◌≡◌, ◌≤◌, ◌++◌, [], ◌∷◌, length, true, IfSome};
 ghost use Rattle.std.specs.Str.{bytes_eq};
 ghost use Rattle.doc_envelope.specs.Printed.{IsPrintedMember, IsPrintedValue, IsDigits, BeginsWithString, AreIds, IsStarted};
@@ -6,7 +6,7 @@ ghost use Rattle.doc_envelope.specs.Printed.{IsPrintedMember, IsPrintedValue, Is
 use json::is_number;
 use json_values::plain_end;
 
-/// Returns true only if a member, and each member before it, may be in an envelope and has the text that the kit's JSON
+/// Returns true only if a member and all earlier members may be in an envelope, and have the texts that the kit's JSON
 /// library prints.
 pub(crate) fn still_printed(printed: bool, member: &[u8]) -> bool
     ensures { result ≡ true → (printed ≡ true) × IsPrintedMember member.now }
@@ -150,8 +150,8 @@ fn is_start(text: &[u8]) -> bool
     }
 }
 
-/// Returns true only if a text is a list's strings of ASCII characters without escapes, with commas between the
-/// strings, and the brackets that close the list and its object.
+/// Returns true only if a text is comma-separated ASCII strings without escapes, followed by the brackets that close
+/// their list and its object.
 fn are_ids(text: &[u8]) -> bool
     ensures { result ≡ true → AreIds text.now }
 {

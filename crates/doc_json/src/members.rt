@@ -38,7 +38,7 @@ pub(crate) struct FoundMembers<'v, V> {
     pub(crate) has_fraction: bool,
 }
 
-/// In one pass over an object's members, finds the members that begin with `_`, and checks all other members.
+/// Scans an object's members once, finds the members that begin with `_`, and checks all other members.
 pub(crate) fn find_members<'v, V: JsonValue<'v>>(members: &'v V::Object) -> FoundMembers<'v, V>
     ensures id { option_map (λ v. V.seen v.now) result.id
         ≡ get_member (codes "_id") (V.members_seen members.now) }

@@ -1,4 +1,4 @@
-//! Splits texts at a byte or a word.
+//! Splits a text at a byte, or splits off the last word of a text.
 ghost use Rattle.std.specs.Prelude.{◌≡◌, ◌++◌, ◌∷◌, List, ℕ, [], IfSome, IfNone, true};
 ghost use Rattle.output_parser.specs.Words.{lacks};
 
@@ -28,7 +28,7 @@ pub fn cut_last(text: &[u8], byte: u8) -> Option<(&[u8], &[u8])>
     None
 }
 
-/// Removes a prefix, or returns `None` if the text does not begin with the prefix.
+/// Removes a prefix from a text, or returns `None` if the text does not begin with the prefix.
 pub fn behind<'a>(text: &'a [u8], beginning: &[u8]) -> Option<&'a [u8]>
     ensures some { IfSome result (λ x. text.now ≡ beginning.now ++ x.now) }
     ensures none { IfNone result ((rest : List ℕ) → text.now ≡ beginning.now ++ rest → ⊥) }
@@ -36,7 +36,7 @@ pub fn behind<'a>(text: &'a [u8], beginning: &[u8]) -> Option<&'a [u8]>
     text.strip_prefix(beginning)
 }
 
-/// Removes a suffix, or returns `None` if the text does not end with the suffix.
+/// Removes a suffix from a text, or returns `None` if the text does not end with the suffix.
 pub fn before<'a>(text: &'a [u8], end: &[u8]) -> Option<&'a [u8]>
     ensures some { IfSome result (λ x. text.now ≡ x.now ++ end.now) }
     ensures none { IfNone result ((front : List ℕ) → text.now ≡ front ++ end.now → ⊥) }
@@ -44,7 +44,8 @@ pub fn before<'a>(text: &'a [u8], end: &[u8]) -> Option<&'a [u8]>
     text.strip_suffix(end)
 }
 
-/// Splits off a name and the last word. Returns `None` if the text does not end with the name and one word.
+/// Splits a text into the text before a given name, and the word after the name at the end of the text. Returns `None`
+/// if the text does not end with the name and one word.
 pub fn cut_named<'a>(text: &'a [u8], name: &[u8]) -> Option<(&'a [u8], &'a [u8])>
     ensures some { IfSome result
         (λ x. (text.now ≡ x.0.now ++ (name.now ++ 32 ∷ x.1.now)) × (lacks 32 x.1.now ≡ true)) }

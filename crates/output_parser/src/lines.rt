@@ -14,8 +14,8 @@ use rev_core::Rev;
 use std::alloc::{AllocError, Global};
 use std::str;
 
-/// Parses a line (docs/PROFILE.md, "Answers" and "Pictures"). The result is a kind of line exactly if the line has that
-/// kind's format.
+/// Parses a line of a script's output (docs/PROFILE.md, "Answers" and "Pictures"). The result is a line of a given kind
+/// exactly if the line has the format of this kind.
 pub fn read_line(alloc: Global, line: &[u8]) -> Result<Told, AllocError>
     ensures { IfOk result (λ told. Tells line.now told) }
 {
@@ -91,7 +91,7 @@ fn read_doc(line: &[u8]) -> Option<(&str, u64)>
     }
 }
 
-/// Parses a `leaf` line into whether the leaf is live, and the leaf's ancestry.
+/// Parses a `leaf` line, and returns whether the leaf is live, and the leaf's ancestry.
 fn read_leaf(alloc: Global, line: &[u8]) -> Result<Option<(bool, Vec<Rev>)>, AllocError>
     ensures some { IfOk result (λ o. IfSome o (λ x. IsLeafLine line.now x.0 x.1.items)) }
     ensures none { IfOk result (λ o. IfNone o ((live : Bool) (revs : List RevId) → IsLeafLine line.now live revs → ⊥)) }
@@ -139,8 +139,8 @@ fn begins_with(revs: &[Rev], own: &[u8]) -> bool
     revs[0] == own
 }
 
-/// Parses a document id and revisions after a first word. Returns `None` if the line does not begin with the given
-/// word.
+/// Parses a line that has a given first word, a document id and revisions. Returns `None` if the line does not begin
+/// with the given word.
 fn read_listed<'a>(
     alloc: Global,
     line: &'a [u8],
@@ -158,7 +158,7 @@ fn read_listed<'a>(
     }
 }
 
-/// Splits the rest of a line into a document id and the text of revisions.
+/// Splits the text after a line's first word into a document id and the text of revisions.
 fn listed_parts<'a>(line: &'a [u8], word: &[u8]) -> Option<(&'a str, &'a [u8])>
     ensures some { IfSome result (λ x. ListedParts word.now line.now x.0.now x.1.now) }
     ensures none { IfNone result ((id list : List ℕ) → ListedParts word.now line.now id list → ⊥) }

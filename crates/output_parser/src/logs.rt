@@ -155,7 +155,7 @@ fn read_told(alloc: Global, values: &[&[u8]]) -> Result<Option<Entry>, AllocErro
     }))
 }
 
-/// Returns the id and the start time from the values of a session's members.
+/// Returns the session id and the start time, given the values of a session's members.
 fn texts<'a>(values: &[&'a [u8]]) -> Option<(&'a str, &'a str)>
     ensures some { IfSome result (λ x. (get_or (texts_of values.now) 8 [] ≡ x.0.now) × (get_or (texts_of values.now) 10 [] ≡ x.1.now)
         × IsUtf8 x.0.now × IsUtf8 x.1.now) }
@@ -170,8 +170,7 @@ fn texts<'a>(values: &[&'a [u8]]) -> Option<(&'a str, &'a str)>
     }
 }
 
-/// Returns the numbers of failed writes, of documents read, and of documents written from the values of a session's
-/// members.
+/// Given the values of a session's members, returns the numbers of failed writes, read documents and written documents.
 fn counts(values: &[&[u8]]) -> Option<(u64, u64, u64)>
     ensures some { IfSome result (λ x. IsNumber (get_or (texts_of values.now) 0 []) x.0 × IsNumber (get_or (texts_of values.now) 1 []) x.1
         × IsNumber (get_or (texts_of values.now) 2 []) x.2) }

@@ -5,8 +5,8 @@ ghost use Rattle.output_parser.specs.Words.{IsNumber};
 use itoa::Buffer;
 use std::str;
 
-/// Parses a decimal number without leading zeros. Returns `None` if the text is not a decimal number of at most 64
-/// bits, or has leading zeros.
+/// Parses a decimal number without leading zeros. Returns `None` if the text is not a decimal number below 2^64, or has
+/// leading zeros.
 pub fn number(text: &[u8]) -> Option<u64>
     ensures some { IfSome result (λ n. IsNumber text.now n) }
     ensures none { IfNone result ((n : ℕ) → IsNumber text.now n → ⊥) }

@@ -44,7 +44,7 @@ pub fn read_revs(alloc: Global, text: &[u8]) -> Result<Option<Vec<Rev>>, AllocEr
     Ok(Some(revs))
 }
 
-/// Whether the generation of each revision is one more than that of the revision after it.
+/// Whether the generation of each revision in a list is one more than the generation of the next revision.
 pub fn falls_by_one(revs: &[Rev]) -> bool
     ensures yes { result ≡ true → FallsByOne revs.now }
     ensures no { result ≡ false → FallsByOne revs.now → ⊥ }

@@ -10,7 +10,8 @@ use crate::told::{Column, Row, Table};
 use std::alloc::{AllocError, Global};
 use std::str;
 
-/// Parses a line of numbers for a table. Returns `None` if the line is not a line of numbers.
+/// Parses a line of numbers (from `info`, `compare` or of a session). Returns `None` if the line is not a line of
+/// numbers.
 pub fn read_row(alloc: Global, line: &[u8], table: Table) -> Result<Option<Row>, AllocError>
     ensures some { IfOk result (λ o. IfSome o (λ r. (r.table ≡ table) × IsRow table line.now (string_bytes r.name) r.numbers.items)) }
     ensures none { IfOk result (λ o. IfNone o ((name numbers : List ℕ) → IsRow table line.now name numbers → ⊥)) }
@@ -29,7 +30,7 @@ pub fn read_row(alloc: Global, line: &[u8], table: Table) -> Result<Option<Row>,
     }))
 }
 
-/// Returns the columns of a table in reverse order.
+/// Returns the columns of a table, the last column first.
 fn columns_back(table: Table) -> &'static [Column]
     ensures { result.now ≡ reverse (columns_of table) }
 {
@@ -110,7 +111,7 @@ fn name_of(front: &[u8], table: Table) -> Option<&str>
     }
 }
 
-/// Returns the bytes of the name at the start of a line of numbers.
+/// Returns the bytes of a line of numbers before its first column, which are the line's name.
 fn name_in(front: &[u8], table: Table) -> Option<&[u8]>
     ensures some { IfSome result (λ name. IsFront table name.now front.now) }
     ensures none { IfNone result ((name : List ℕ) → IsFront table name front.now → ⊥) }
@@ -130,7 +131,7 @@ fn empty_name(front: &[u8]) -> Option<&[u8]>
     if front.is_empty() { Some(front) } else { None }
 }
 
-/// Returns the name of a database, which the line has before the database's UUID.
+/// Returns the name of a database, which precedes the database's UUID in the line.
 fn database_name(front: &[u8]) -> Option<&[u8]>
     ensures some { IfSome result (λ name. IsFront tables.Info name.now front.now) }
     ensures none { IfNone result ((name : List ℕ) → IsFront tables.Info name front.now → ⊥) }

@@ -11,7 +11,7 @@ use rev_core::Rev;
 pub enum Told {
     /// A document in the output of `show`, with its id in JSON and the number of `leaf` lines that follow.
     Document { id: String, count: u64 },
-    /// A leaf in the output of `show`, with whether it is live and its known ancestry, the leaf first.
+    /// A leaf in the output of `show`: its known ancestry (the leaf first), and whether it is live.
     Leaf { live: bool, revs: Vec<Rev> },
     /// A document in the output of `conflicts`, with its id in JSON and its live leaves, the winner first.
     Conflict { id: String, revs: Vec<Rev> },
@@ -29,7 +29,7 @@ pub enum Told {
 #[derive(Drop)]
 pub struct Found {
     pub finding: Finding,
-    /// The document's id in JSON.
+    /// The id of the document as a JSON string.
     pub id: String,
     /// The revisions that the line of `compare` lists.
     pub revs: Vec<Rev>,
@@ -63,7 +63,7 @@ impl Finding {
 #[derive(Drop)]
 pub struct Row {
     pub table: Table,
-    /// The name of the database or the id of the session, and an empty text for `compare`.
+    /// The database's name, or the session's id, or an empty text for a line of `compare`.
     pub name: String,
     /// The numbers of the line, one for each column of the table, in order.
     pub numbers: Vec<u64>,
@@ -81,7 +81,7 @@ pub enum Table {
 }
 
 impl Table {
-    /// Returns the columns of the table for a kind of line.
+    /// Returns the columns that lines of numbers of a given kind have.
     pub fn columns(self) -> &'static [Column]
         ensures { result.now ≡ columns_of self }
     {
@@ -119,8 +119,8 @@ impl Table {
 /// A column of a table.
 #[derive(Clone, Copy, Debug, PartialEq, Eq)]
 pub enum Column {
-    /// The counts of `compare`, which are the source's documents and leaves, the leaves that the target lacks, the
-    /// contradicting documents, and the leaves that differ.
+    /// The counts of `compare`: the source's documents and leaves, the leaves that the target lacks, contradicting
+    /// documents, and leaves that differ.
     ComparedDocuments,
     ComparedLeaves,
     ComparedMissing,
@@ -146,7 +146,7 @@ pub enum Column {
 }
 
 impl Column {
-    /// Returns the text that a line has before the column's number, without the blank.
+    /// Returns the text before a column's number in a line of numbers, without the blank.
     pub fn text(self) -> &'static str
         ensures { result.now ≡ column_text self }
     {
@@ -197,7 +197,7 @@ pub struct Entry {
     pub failed: u64,
 }
 
-/// A member of a session in a log, in order.
+/// A member of a session in a printed log, in the order of printing.
 #[derive(Clone, Copy, Debug, PartialEq, Eq)]
 pub enum Member {
     Failed,

@@ -21,7 +21,7 @@ use std::thread::Threads;
 pub struct Audit<'v, 'a> {
     pub source: &'v str,
     pub target: &'v str,
-    /// The ids of the selected documents, which are strings. If the ids are absent, all documents are selected.
+    /// The ids of the selected documents, which are strings. If the line gives no ids, all documents are selected.
     pub doc_ids: Option<&'v Vec<LineValue<'a>>>,
 }
 
@@ -84,7 +84,7 @@ fn print(answer: &mut Vec<u8>, found: Found) -> Result<(), AllocError>
     }
 }
 
-/// Prints a leaf that is not covered.
+/// Prints a leaf that the target does not cover.
 fn push_hole(answer: &mut Vec<u8>, seq: u64, id: &str, rev: Rev) -> Result<(), AllocError>
     ensures { OnOk result
         (answer.new.items ≡ answer.old.items ++ hole_line (record { seq = seq; id = id.now; rev = rev })) }

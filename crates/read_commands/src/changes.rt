@@ -22,7 +22,7 @@ use std::thread::Threads;
 #[derive(Drop)]
 pub struct Changes<'a> {
     pub db: &'a str,
-    /// The sequence after which changes are listed.
+    /// The sequence after which the command lists changes.
     pub since: u64,
 }
 
@@ -66,10 +66,10 @@ impl<'v, 'a> Command<&'v Line<'a>> for Changes<'v> {
     }
 }
 
-/// The maximum number of rows per read.
+/// The maximum number of feed rows that one read returns.
 const PAGE: u64 = 10_000;
 
-/// Prints the rows of the feed after a sequence, and the update sequence.
+/// Prints the rows of a database's feed after a sequence, and the database's update sequence.
 fn print(
     alloc: Global,
     answer: &mut Vec<u8>,
@@ -96,7 +96,7 @@ fn print(
     Ok(())
 }
 
-/// Prints rows with their leaves.
+/// Prints rows of the feed with their leaves.
 #[derive(Drop)]
 struct ChangeRows;
 

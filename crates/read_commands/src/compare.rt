@@ -21,7 +21,7 @@ use std::alloc::{AllocError, Global};
 pub struct Compare<'v, 'a> {
     pub source: &'v str,
     pub target: &'v str,
-    /// The ids of the selected documents, which are strings. If the ids are absent, all documents are selected.
+    /// The ids of the selected documents, which are strings. If the line gives no ids, all documents are selected.
     pub doc_ids: Option<&'v Vec<LineValue<'a>>>,
 }
 
@@ -74,10 +74,10 @@ impl<'v, 'a> StreamingCommand<&'v Line<'a>> for Compare<'v, 'a> {
     }
 }
 
-/// The maximum number of rows per read.
+/// The maximum number of feed rows that one read returns.
 const PAGE: u64 = 100;
 
-/// The part of the output of `compare` that is still to be printed, and the totals so far.
+/// The part of the output of `compare` that is still to be printed, and the totals of the documents compared before.
 #[derive(Drop)]
 pub struct CompareRest {
     pub source: String,
@@ -87,7 +87,8 @@ pub struct CompareRest {
 }
 
 impl CompareRest {
-    /// Appends the lines of documents until the piece is full, then the totals. Returns whether more output is left.
+    /// Appends the lines of documents until the piece of output is full. After the last document, the call appends the
+    /// totals. Returns whether more of the command's output is left.
     pub fn more(
         &mut self,
         alloc: Global,
@@ -131,7 +132,7 @@ fn push_total(answer: &mut Vec<u8>, total: &Total) -> Result<(), AllocError>
     answer.extend_from_slice(b"\n")
 }
 
-/// Appends the numbers of compared documents and leaves.
+/// Appends the numbers of compared documents and leaves to the line of totals.
 fn push_compared(answer: &mut Vec<u8>, total: &Total) -> Result<(), AllocError>
     ensures { OnOk result (answer.new.items ≡ answer.old.items ++ compared_part total.now) }
 {
@@ -142,7 +143,7 @@ fn push_compared(answer: &mut Vec<u8>, total: &Total) -> Result<(), AllocError>
     answer.extend_from_slice(b" leaves")
 }
 
-/// Appends the numbers of differences.
+/// Appends the numbers of differences to the line of totals.
 fn push_found(answer: &mut Vec<u8>, total: &Total) -> Result<(), AllocError>
     ensures { OnOk result (answer.new.items ≡ answer.old.items ++ found_part total.now) }
 {
@@ -187,7 +188,7 @@ impl<'a> RowPrinter for ComparedRows<'a> {
     }
 }
 
-/// Prints the differences of a document.
+/// Prints the differences between the source's and the target's version of a document.
 fn push_comparison(
     answer: &mut Vec<u8>,
     id: &str,

@@ -61,10 +61,10 @@ impl<'v, 'a> StreamingCommand<&'v Line<'a>> for Conflicts<'v> {
     }
 }
 
-/// The maximum number of rows per read.
+/// The maximum number of feed rows that one read returns.
 const PAGE: u64 = 100;
 
-/// The part of the output of `conflicts` that is still to be printed, and the counts of the documents so far.
+/// The part of the output of `conflicts` that is still to be printed, and the counts of the documents read before.
 #[derive(Drop)]
 pub struct ConflictsRest {
     pub db: String,
@@ -73,7 +73,8 @@ pub struct ConflictsRest {
 }
 
 impl ConflictsRest {
-    /// Appends documents in conflict until the piece is full, then their number. Returns whether more output is left.
+    /// Appends documents in conflict until the piece of output is full. After the last document, the call appends their
+    /// number. Returns whether more of the command's output is left.
     pub fn more(
         &mut self,
         alloc: Global,
@@ -114,7 +115,7 @@ fn push_counts(answer: &mut Vec<u8>, census: &Census) -> Result<(), AllocError>
     answer.extend_from_slice(b" documents\n")
 }
 
-/// Prints rows whose documents are in conflict, with their live leaves, and counts all documents.
+/// Prints the documents of rows that are in conflict, with their live leaves, and counts all documents of the rows.
 #[derive(Drop)]
 struct ConflictRows<'a> {
     database: &'a Database,

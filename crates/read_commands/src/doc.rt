@@ -22,7 +22,7 @@ use std::thread::Threads;
 pub struct Doc<'a> {
     pub db: &'a str,
     pub id: &'a str,
-    /// The revision to print. If the revision is absent, the winner is printed.
+    /// The revision to print. If the line names no revision, the command prints the winner.
     pub rev: Option<&'a str>,
 }
 
@@ -78,7 +78,7 @@ impl<'v, 'a> Command<&'v Line<'a>> for Doc<'v> {
     }
 }
 
-/// Returns the named revision, or the winner if no revision is named.
+/// Returns the revision that the line names, or the winner if the line names no revision.
 fn chosen(tree: &Tree, named: Option<Rev>) -> Option<Rev>
     ensures { result ≡ chosen tree.now named }
 {

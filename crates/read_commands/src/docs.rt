@@ -21,9 +21,9 @@ use std::alloc::{AllocError, Global};
 #[derive(Drop)]
 pub struct Docs<'v, 'a> {
     pub db: &'v str,
-    /// The sequence after which documents are printed.
+    /// The sequence after which the command prints changed documents.
     pub since: u64,
-    /// The ids of the selected documents, which are strings. If the ids are absent, all documents are selected.
+    /// The ids of the selected documents, which are strings. If the line gives no ids, all documents are selected.
     pub doc_ids: Option<&'v Vec<LineValue<'a>>>,
 }
 
@@ -67,7 +67,8 @@ impl<'v, 'a> StreamingCommand<&'v Line<'a>> for Docs<'v, 'a> {
     }
 }
 
-/// The maximum number of rows per read. The maximum is small because documents can be large.
+/// The maximum number of feed rows that one read returns. The maximum number of rows is small because documents can be
+/// large.
 const PAGE: u64 = 16;
 
 /// The part of the output of `docs` that is still to be printed.
@@ -78,7 +79,8 @@ pub struct DocsRest {
 }
 
 impl DocsRest {
-    /// Appends documents until the piece is full, then the update sequence. Returns whether more output is left.
+    /// Appends documents until the piece of output is full. After the last document, the call appends the update
+    /// sequence. Returns whether more of the command's output is left.
     pub fn more(
         &mut self,
         alloc: Global,
@@ -112,7 +114,7 @@ impl DocsRest {
     }
 }
 
-/// Prints every leaf of the documents of rows.
+/// Prints every leaf of each row's document.
 #[derive(Drop)]
 struct DocumentRows<'a> {
     database: &'a Database,

@@ -12,16 +12,16 @@ use std::alloc::{AllocError, Global};
 /// The minimum size in bytes of a piece of output, except for the last piece.
 const PIECE: usize = 65_536;
 
-/// A position in a feed.
+/// A position in a changes feed.
 #[derive(Drop)]
 pub struct Walk {
-    /// The sequence after which rows are still to be printed.
+    /// The sequence after which the rows of the feed are not printed yet.
     pub since: u64,
-    /// The selected documents. If the selection is absent, all documents are selected.
+    /// The selected documents. If there is no selection, the feed has all documents.
     pub chosen: Option<Chosen>,
 }
 
-/// Prints and counts the rows of a feed.
+/// A trait of types that print and count the rows of a feed.
 pub trait RowPrinter {
     ghost use Rattle.std.specs.Prelude.{ℕ, List};
     ghost use Rattle.couch_base.specs.Feed.{RowValue};
@@ -29,10 +29,10 @@ pub trait RowPrinter {
     /// The counts.
     type Tally;
 
-    // The text that is printed for a row.
+    // The text that the type prints for a row.
     ghost row_text: { Self → RowValue → List ℕ };
 
-    // Whether the given counts are the counts of the given rows.
+    // Whether counting the given rows gives the given counts.
     ghost counts: { Self → Self.Tally → List RowValue → Type 0 } = { λ _ _ _. Unit {0} };
 
     /// Prints a row of the feed, and counts it.
@@ -52,8 +52,8 @@ pub trait RowPrinter {
 #[derive(Drop)]
 pub struct NoTally;
 
-/// Prints rows of the feed, at most `limit` per read, until the piece is full. Returns whether the piece is full. If
-/// the piece is not full, no rows are left.
+/// Prints rows of the feed until the piece of output is full. Each read of the feed returns at most `limit` rows.
+/// Returns whether the piece of output is full. If the piece of output is not full, no rows of the feed are left.
 pub fn fill<P: RowPrinter>(
     alloc: Global,
     piece: &mut Vec<u8>,
@@ -83,7 +83,7 @@ pub fn fill<P: RowPrinter>(
     Ok(false)
 }
 
-/// Prints all remaining rows, at most `limit` per read.
+/// Prints all remaining rows of the feed. Each read of the feed returns at most `limit` rows.
 pub fn print_feed<P: RowPrinter>(
     alloc: Global,
     answer: &mut Vec<u8>,

@@ -22,7 +22,7 @@ use std::thread::Threads;
 #[derive(Drop)]
 pub struct Ledger<'a> {
     pub target: &'a str,
-    /// The session id, as the number of its UUID.
+    /// The session id, which is a UUID as a number.
     pub session: u128,
 }
 
@@ -69,7 +69,7 @@ impl<'v, 'a> Command<&'v Line<'a>> for Ledger<'v> {
     }
 }
 
-/// Prints the rows of a ledger, and their number.
+/// Prints the rows of a session's ledger, and the number of rows.
 fn print(answer: &mut Vec<u8>, rows: &[Refused]) -> Result<(), AllocError>
     ensures { OnOk result (answer.new.items ≡ answer.old.items ++ ledger_text rows.now) }
 {
@@ -79,7 +79,7 @@ fn print(answer: &mut Vec<u8>, rows: &[Refused]) -> Result<(), AllocError>
     answer.extend_from_slice(b"\n")
 }
 
-/// Prints the rows of a ledger.
+/// Prints the rows of a session's ledger.
 fn push_rows(answer: &mut Vec<u8>, rows: &[Refused]) -> Result<(), AllocError>
     ensures { OnOk result (answer.new.items ≡ answer.old.items ++ flat_map refused_line rows.now) }
 {
@@ -89,7 +89,7 @@ fn push_rows(answer: &mut Vec<u8>, rows: &[Refused]) -> Result<(), AllocError>
     Ok(())
 }
 
-/// Prints a refused document, and why it was refused.
+/// Prints a refused document, and the reason why the target refused it.
 fn push_refused(answer: &mut Vec<u8>, refused: &Refused) -> Result<(), AllocError>
     ensures { OnOk result (answer.new.items ≡ answer.old.items ++ refused_line refused.now) }
 {
@@ -110,7 +110,7 @@ fn push_denied(answer: &mut Vec<u8>, id: &str, rev: Rev) -> Result<(), AllocErro
     answer.extend_from_slice(b"\n")
 }
 
-/// Prints a document that gives a revision a different parent.
+/// Prints a document that was refused because it gives a revision another parent than the tree.
 fn push_contradicted(
     answer: &mut Vec<u8>,
     id: &str,

@@ -1,7 +1,7 @@
-//! The commands that change nothing, with their parameters and output (docs/PROFILE.md, "Command lines" and "Answers").
+//! The read-only commands, with their parameters and output (docs/PROFILE.md, "Command lines" and "Answers").
 //!
-//! Each command has its own file. `feed` prints a database's feed row by row. A command whose output is produced in
-//! pieces implements `StreamingCommand` (`streaming_command`), and `rest` produces its remaining pieces.
+//! Each command has a source file of its own. `feed` prints a database's feed row by row. A command whose output is
+//! produced in pieces implements `StreamingCommand` (`streaming_command`), and `rest` produces its remaining pieces.
 #![tactic(auto)]
 
 mod audit;

@@ -22,11 +22,11 @@ pub struct Log<'v, 'a> {
     pub source: &'v str,
     pub target: &'v str,
     pub side: Side,
-    /// The ids of the selected documents, which are strings. If the ids are absent, all documents are selected.
+    /// The ids of the selected documents, which are strings. If the line gives no ids, all documents are selected.
     pub doc_ids: Option<&'v Vec<LineValue<'a>>>,
 }
 
-/// A side of a replication.
+/// The side of a replication, which is its source or its target.
 #[derive(Clone, Copy, Debug, PartialEq, Eq)]
 pub enum Side {
     Source,
@@ -86,7 +86,7 @@ impl<'v, 'a> Command<&'v Line<'a>> for Log<'v, 'a> {
     }
 }
 
-/// Reads the side, a required member.
+/// Reads the required member `side` of a line.
 fn side_member(value: &LineValue<'_>) -> Option<Side>
     ensures { result ≡ side_at (line_view value.now) }
 {
@@ -97,7 +97,7 @@ fn side_member(value: &LineValue<'_>) -> Option<Side>
     }
 }
 
-/// Returns the log of a replication on one side.
+/// Returns the log of a replication at its source or its target.
 fn log_held(
     alloc: Global,
     source: &Peer<Rules>,

@@ -8,8 +8,8 @@ use crate::docs::DocsRest;
 use script_databases::Databases;
 use std::alloc::{AllocError, Global};
 
-/// The part of an output that is still to be produced. A rest names its databases instead of borrowing them. The type
-/// `Rest` is small because each line returns a `Rest`.
+/// The part of a command's output that is still to be produced. A rest has the names of its databases, and does not
+/// borrow the databases. The type `Rest` is small because each line returns a `Rest`.
 #[derive(Drop)]
 pub enum Rest {
     Compare(Box<CompareRest>),
@@ -18,7 +18,8 @@ pub enum Rest {
 }
 
 impl Rest {
-    /// Appends output to a piece until it has at least 65,536 bytes. Returns whether more output is left.
+    /// Appends output to a piece until the piece has at least 65,536 bytes or the output ends. Returns whether more of
+    /// the command's output is left.
     pub fn more(
         &mut self,
         alloc: Global,

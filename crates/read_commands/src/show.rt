@@ -70,7 +70,7 @@ impl<'v, 'a> Command<&'v Line<'a>> for Show<'v> {
     }
 }
 
-/// Prints the leaves of a document.
+/// Prints the winner and all leaves of a document.
 fn print(alloc: Global, answer: &mut Vec<u8>, id: &str, tree: &Tree) -> Result<(), AllocError>
     ensures { OnOk result (answer.new.items ≡ answer.old.items ++ show_text id.now tree.now) }
 {
@@ -79,7 +79,7 @@ fn print(alloc: Global, answer: &mut Vec<u8>, id: &str, tree: &Tree) -> Result<(
     push_leaves(alloc, answer, tree, leaves.as_slice())
 }
 
-/// Prints the first line. `all` must be the leaves of the tree.
+/// Prints the first line. The caller passes in `all` the leaves of the tree.
 fn push_head(answer: &mut Vec<u8>, id: &str, tree: &Tree, all: &[Rev]) -> Result<(), AllocError>
     requires { all.now ≡ leaves tree.now }
     ensures { OnOk result (answer.new.items ≡ answer.old.items ++ head_line id.now tree.now) }
@@ -134,7 +134,7 @@ fn push_leaf(alloc: Global, answer: &mut Vec<u8>, tree: &Tree, leaf: &Rev) -> Re
     push_leaf_text(answer, leaf, deleted, rev_info.ancestry.revs())
 }
 
-/// Whether a known content is a deletion.
+/// Whether a content is known and deletes its document.
 fn is_deletion(content: Option<&Content>) -> bool
     ensures { result ≡ option_map_or (λ c. c.deleted) (option_copied content.entry) false }
 {

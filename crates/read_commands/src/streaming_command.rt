@@ -22,19 +22,19 @@ pub trait StreamingCommand<L>: Sized + Drop {
     // The JSON value of a line.
     ghost seen: { L → Data };
 
-    // The parameters of the command, independent of where they are stored.
+    // The values of the command's parameters, as contracts see them.
     ghost Ask: { Type 0 };
 
     ghost asked: { Self → Ask };
 
-    // The parameters that an object gives, if it has only members of the command, each of the right type.
+    // The parameters that a JSON object gives, if each of its members belongs to the command and has the right type.
     ghost asked_in: { Data → Result Ask Refusal };
 
-    // The possible results of the command, and the states that they leave.
+    // The results that the command may have, each with the state after the command.
     ghost answers: { Answering State Ask };
 
-    /// Reads the parameters from an object. Returns `None` if the object does not have the form of the command, and the
-    /// line fails with `BadCommand`.
+    /// Reads the parameters from an object. If the object does not have the form of the command, the call returns
+    /// `None`, and the line fails with `BadCommand`.
     fn read(line: L) -> Option<Self>
         ensures { needed (option_map asked result) ≡ asked_in (seen line) };
 
@@ -45,8 +45,8 @@ pub trait StreamingCommand<L>: Sized + Drop {
         ensures fits { IfOk result (λ rest. FitsRest databases.now rest) };
 }
 
-/// Runs a command whose output is produced in pieces, and returns the first piece and the rest. If a rest is returned,
-/// the first piece has at least 65,536 bytes.
+/// Runs a command whose output is produced in pieces, and returns the first piece and the rest. If the call returns a
+/// rest, the first piece has at least 65,536 bytes.
 #[inline(never)]
 pub fn begin_in<L, A: StreamingCommand<L>>(
     alloc: Global,
@@ -71,7 +71,7 @@ pub fn begin_in<L, A: StreamingCommand<L>>(
     give(alloc, databases, rest, answer)
 }
 
-/// Produces the first piece of an output, and returns the rest.
+/// Produces the first piece of a command's output, and returns the rest of the output.
 fn give(
     alloc: Global,
     databases: &Databases,
@@ -92,7 +92,7 @@ fn give(
     Ok(None)
 }
 
-/// Returns the result of a command whose output was produced completely.
+/// Returns the result of a command whose complete output is in the first piece.
 pub fn whole(served: Result<(), Refusal>) -> Result<Option<Rest>, Refusal>
     ensures told { (s : State) → (text : List ℕ) → told_begun s result text ≡ told_by served text }
     ensures fits { (s : State) → IfOk result (λ rest. Fits (FitsRest s) rest) }

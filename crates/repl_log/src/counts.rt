@@ -1,4 +1,4 @@
-//! The counts of a session.
+//! The counts of leaves and documents of a session.
 
 /// The numbers of leaves and documents that a session has processed.
 #[derive(Clone, Copy, Debug, PartialEq, Eq)]
@@ -7,7 +7,7 @@ pub struct Counts {
     pub checked: u64,
     /// The number of leaves in the rows of done windows that the target lacked.
     pub found: u64,
-    /// The number of documents read.
+    /// The number of documents that the session has read from the source.
     pub read: u64,
     /// The number of read documents that the target accepted.
     pub written: u64,

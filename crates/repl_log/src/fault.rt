@@ -6,13 +6,13 @@ ghost use Rattle.repl_log.specs.declared.fault.LogFault.TheVariants.{Memory};
 use std::alloc::{AllocError, AllocFailed};
 use thiserror::Error;
 
-/// The reason why a timestamp, an entry or a log was rejected, or that an allocation failed.
+/// The reason why a call rejected a timestamp, an entry or a log, or the failure of an allocation.
 #[derive(Clone, Copy, Debug, PartialEq, Eq, Error)]
 pub enum LogFault {
     /// The timestamp is after the year 9999.
     #[error("a moment after the year 9999")]
     BadMoment,
-    /// The log's entry of this session has a greater recorded sequence, `stored`.
+    /// The log already has an entry of this session with a greater recorded sequence, `stored`.
     #[error("older than the stored entry, which recorded {stored}")]
     Older { stored: u64 },
     /// A log without entries has no text.

@@ -54,8 +54,8 @@ impl Log {
         }
     }
 
-    /// Stores an entry. The entry of a new session becomes the first one, and the entry of an existing session is
-    /// replaced in place.
+    /// Stores an entry. The entry of a new session becomes the first entry. The entry of an existing session replaces
+    /// the old entry of this session.
     ///
     /// # Errors
     ///
@@ -96,7 +96,7 @@ impl Log {
         ensures err { OnErr result (self.new ≡ self.old) }
         ensures log { IsLog self.new }
     {
-        // The result is unused: the call only gives proofs the fact that no id occurs twice.
+        // The call's result is unused, and only gives proofs the fact that no session id occurs twice.
         let _len = self.entries.len();
         self.entries.insert(entry.session, entry)?;
         Ok(())
@@ -117,7 +117,7 @@ impl Log {
         self.entries.len()
     }
 
-    /// Returns the entry at an index, if there is one. The newest session has index 0.
+    /// Returns the entry at an index, if there is one. The index of the newest session's entry is 0.
     pub fn get(&self, place: usize) -> Option<Entry>
         ensures { option_map value_of result ≡ slice_get self.now place }
     {
@@ -129,11 +129,11 @@ impl Log {
         Some(*entry)
     }
 
-    /// Returns the recorded sequence of a session, if the log has it.
+    /// Returns the recorded sequence of a session, if the log has an entry of this session.
     pub fn recorded_of(&self, session: SessionId) -> Option<u64>
         ensures { result ≡ recorded_of self.now session }
     {
-        // The result is unused: the call only gives proofs the fact that no id occurs twice.
+        // The call's result is unused, and only gives proofs the fact that no session id occurs twice.
         let _len = self.entries.len();
         let entry = self.entries.get(&session)?;
         Some(entry.recorded)

@@ -11,7 +11,7 @@ use indexmap::IndexMap;
 use std::alloc::{AllocError, Global};
 use std::marker::Model;
 
-/// Logs by replication, in the order in which the replications began.
+/// The logs of replications, in the order in which the logs were created.
 pub struct Logs {
     logs: IndexMap<RepId, Log>,
 }
@@ -94,7 +94,7 @@ impl Logs {
         }
     }
 
-    /// Copies the logs, in the same order.
+    /// Copies all logs, and keeps their order.
     pub fn copy(&self, alloc: Global) -> Result<Logs, AllocError>
         ensures copied { IfOk result (λ l. l ≡ self.now) }
     {
@@ -119,7 +119,7 @@ fn fit(logs: &mut IndexMap<RepId, Log>)
     }
 }
 
-/// Copies a log with its replication.
+/// Copies a log together with its replication id.
 fn copied(alloc: Global, rep: &RepId, log: &Log) -> Result<(RepId, Log), AllocError>
     ensures copied { IfOk result (λ e. (e.0 ≡ rep.now) × (e.1 ≡ log.now)) }
 {

@@ -1,4 +1,4 @@
-//! Serializing a log as a compact JSON object.
+//! Serializes logs as compact JSON objects.
 ghost use Rattle.std.specs.Prelude.{◌≡◌, ◌++◌, false, OnOk, IfOk, string_bytes, codes, decimal};
 ghost use Rattle.httpdate.specs.Date.{unix_secs, date_text};
 ghost use Rattle.httpdate.specs.declared.date.HttpDate.{HttpDate as Date};
@@ -28,7 +28,7 @@ use std::alloc::{AllocError, Global};
 /// - `Memory`: an allocation failed.
 pub fn write_log(alloc: Global, id: &RepId, log: &Log) -> Result<Vec<u8>, LogFault>
     ensures answer { GivesUnlessMemory (bytes_of result) (log_text id.now log.now) }
-    // Times are formatted as `httpdate` formats them.
+    // The crate `httpdate` defines the format of the times.
     ensures times { (date : Date) → time_text (unix_secs date) ≡ date_text date }
 {
     let Some(newest) = log.get(0) else {
@@ -79,7 +79,7 @@ fn push_entries(alloc: Global, out: &mut Vec<u8>, log: &Log) -> Result<(), Alloc
     Ok(())
 }
 
-/// Appends a comma if `later` is true.
+/// Appends a comma to a buffer if `later` is true.
 fn push_comma(out: &mut Vec<u8>, later: bool) -> Result<(), AllocError>
     ensures { OnOk result (out.new.items ≡ out.old.items ++ comma_if later) }
 {
@@ -125,7 +125,7 @@ fn push_members(
     Ok(())
 }
 
-/// Appends a name with its punctuation, and an integer.
+/// Appends a member's name with its punctuation, followed by an integer.
 fn push_whole(out: &mut Vec<u8>, name: &str, number: u64) -> Result<(), AllocError>
     ensures { OnOk result (out.new.items ≡ out.old.items ++ (name.now ++ decimal number)) }
 {
@@ -134,7 +134,7 @@ fn push_whole(out: &mut Vec<u8>, name: &str, number: u64) -> Result<(), AllocErr
     out.extend_from_slice(buffer.format(number).as_bytes())
 }
 
-/// Appends a name with its punctuation, and a string in quotation marks.
+/// Appends a member's name with its punctuation, followed by a string in quotation marks.
 fn push_quoted(out: &mut Vec<u8>, name: &str, text: &str) -> Result<(), AllocError>
     ensures { OnOk result (out.new.items ≡ out.old.items ++ (name.now ++ quoted text.now)) }
 {
@@ -142,7 +142,7 @@ fn push_quoted(out: &mut Vec<u8>, name: &str, text: &str) -> Result<(), AllocErr
     push_text(out, text)
 }
 
-/// Formats a timestamp as an IMF-fixdate.
+/// Formats a timestamp as an HTTP date (IMF-fixdate).
 fn date(alloc: Global, moment: Moment) -> Result<String, AllocError>
     ensures { IfOk result (λ text. string_bytes text ≡ time_text moment) }
 {

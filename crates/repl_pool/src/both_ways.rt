@@ -14,18 +14,18 @@ use std::sync::Wait;
 use std::thread::Threads;
 use thiserror::Error;
 
-/// The run that failed, of the two runs in both directions, and why it failed.
+/// The run that failed (forward or reverse), and the reason why it failed.
 #[derive(Debug, Drop, Error)]
 pub enum SyncFault {
-    /// The run from the first peer into the second failed. The reverse run was not begun.
+    /// The run from the first peer into the second failed. In this case the reverse run did not begin.
     #[error("there: {0}")]
     There(PoolFault),
-    /// The run from the second peer into the first failed. The forward run had succeeded.
+    /// The run from the second peer into the first failed. In this case the forward run succeeded.
     #[error("back: {0}")]
     Back(PoolFault),
 }
 
-/// The result of replicating in both directions, with both peers and how the replication ended.
+/// The result of replicating in both directions, which has both peers, and the reports or the error.
 #[derive(Drop)]
 pub struct SyncRan<F: WriteFilter> {
     /// The first peer.
@@ -39,13 +39,13 @@ pub struct SyncRan<F: WriteFilter> {
 /// Replicates in both directions with a pool of threads: first `a` into `b`, then, if that succeeded, `b` into `a`.
 /// Each direction is a `run` with a plan of its own. Both runs of the replication use the same gate.
 ///
-/// The guarantees on success are those of `sync_alone`. For consistent peers (docs/PROFILE.md, "Tied peers"), each side
-/// has every leaf of each document that both plans select and neither side has refused. If the trees agreed before and
-/// had complete histories, both sides have the same document. Consistent peers stay consistent in both directions,
-/// whatever the result. Each of the two peers also stays consistent with every third peer that it was consistent with,
-/// if the third peer has a UUID of its own.
+/// If the call succeeds, it guarantees what `sync_alone` guarantees. If the peers are consistent (docs/PROFILE.md,
+/// "Tied peers"), each side then has every leaf of each document that both plans select and neither side has refused.
+/// If a document's two trees agreed before the call and had complete histories, both sides then have the same document.
+/// If the peers are consistent in both directions, they stay so for every result of the call. Each of the two peers
+/// also stays consistent with every third peer that it was consistent with, if the third peer has a UUID of its own.
 ///
-/// The call blocks until both runs end. It is not proved that the runs end.
+/// The call blocks until both runs end. The contract does not guarantee that the two runs end.
 pub fn sync<F: WriteFilter + Send + Sync, G: Gate + Sync, R: Threads + Wait + Sync>(
     rt: &R,
     alloc: Global,

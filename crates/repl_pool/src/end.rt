@@ -1,4 +1,4 @@
-//! The end of a run.
+//! Ends a run: concludes or records its session, and stores the session's entry in the source's log.
 ghost use Rattle.std.specs.Prelude.{◌≡◌, Some, Ok, Err, IfOk, IfErr, OnOk};
 ghost use Rattle.couch_base.specs.Database.{DatabaseValue};
 ghost use Rattle.repl_peer.specs.peer.Peer.{SessionValue, session_in};
@@ -23,8 +23,9 @@ fn record<F: WriteFilter>(target: &mut Peer<F>, plan: &Plan) -> PoolFault
     }
 }
 
-/// Concludes the session at the target if nothing failed or stopped and all sent parcels were received. If a step
-/// failed or stopped, a sent parcel was not received, or concluding fails, the call records the session's low water.
+/// Concludes the session at the target if no step failed or was stopped and all sent parcels were received. If a step
+/// failed or was stopped, a sent parcel was not received, or concluding fails, the call records the session's low
+/// water.
 fn close_target<F: WriteFilter>(
     target: &mut Peer<F>,
     plan: &Plan,
@@ -51,10 +52,10 @@ fn close_target<F: WriteFilter>(
     }
 }
 
-/// Stores the entry of a run's session, which the target has, in the source's log. The call skips an entry that is
-/// older than the stored entry.
+/// Stores the entry of a run's session, which the target has, in the source's log. If the source's log has a newer
+/// entry of the session, the call stores nothing.
 ///
-/// Returns the outcome, or `Memory` if the outcome is `Ok` and an allocation fails.
+/// The call returns the outcome of the run. If the outcome is `Ok` and an allocation fails, the call returns `Memory`.
 fn put_entry<F: WriteFilter>(
     source: &mut Peer<F>,
     target: &Peer<F>,

@@ -26,8 +26,8 @@ use std::sync::ledger::{Blank, Ledger};
 use std::sync::{Mutex, Wait};
 use std::thread::Threads;
 
-/// The result of a run, with both peers, the number of documents that each fetcher fetched, the writers' seats, and how
-/// the run ended.
+/// The result of a run, which has both peers, each fetcher's number of documents, the writers' seats, and the report or
+/// error.
 #[derive(Drop)]
 pub struct Ran<F: WriteFilter> {
     /// The source of the run, of which only the logs may have changed.
@@ -36,7 +36,8 @@ pub struct Ran<F: WriteFilter> {
     pub target: Peer<F>,
     /// The number of documents that each fetcher fetched. The list is empty if no fetcher was started.
     pub fetched: Vec<u64>,
-    /// The seats that the writers were given, in the given order. The list of seats is empty after `run`.
+    /// The seats that the caller gave to the writers, in the given order. After `run`, which has no board, the list of
+    /// seats is empty.
     pub seats: Vec<BoardSeat>,
     /// The report of the plan's session, or the error.
     pub outcome: Result<Report, PoolFault>,
@@ -62,7 +63,7 @@ struct Begun<F: WriteFilter> {
 }
 
 /// Returns the number of workers in each group. The number of workers in a group is the plan's number, but at most the
-/// number of windows that there may be, and 1 if there is nothing to read.
+/// possible number of windows, and 1 if no window is due.
 fn crew_of(plan: &Plan, start: u64, goal: u64) -> u64
     requires workers { 0 < plan.now.workers }
     requires batch { is_batch plan.now.batch ≡ true }
@@ -79,14 +80,14 @@ fn crew_of(plan: &Plan, start: u64, goal: u64) -> u64
     }
 }
 
-/// The board on which the writers show their progress, if there is one, and their seats.
+/// The board on which the writers show their progress, if the run has a board, and the writers' seats.
 #[derive(Drop)]
 struct Shows<'a> {
     board: Option<&'a Board>,
     seats: Vec<BoardSeat>,
 }
 
-/// Ends a run whose workers were not started, because an allocation failed, or because there was nothing to read.
+/// Ends a run whose workers were not started, because an allocation failed or because no window was due.
 fn without_workers<F: WriteFilter>(
     alloc: Global,
     begun: Begun<F>,
@@ -273,32 +274,32 @@ fn run_with<F: WriteFilter + Send + Sync, G: Gate + Sync, R: Threads + Wait + Sy
 
 /// Replicates the source's documents into the target with a pool of threads. The caller's thread begins the session at
 /// the common checkpoint of the two logs, and reads the source's feed in windows. The caller's thread stores each
-/// window at the target, and sends it to `plan.workers` fetchers, or to fewer if there may be fewer windows. Fetchers
-/// request the missing leaves at the target, count documents at the source, and send parcels to the same number of
-/// writers. The writers read and settle the parcels, and record the session. The target is behind a lock, and the
-/// source is shared. Workers call the gate at each place, without a lock. If the gate says that it never blocks, a
-/// fetcher and a writer share one thread in turn.
+/// window at the target, and sends the window to one of `plan.workers` fetchers (fewer if there can only be fewer
+/// windows). Fetchers request the missing leaves at the target, count documents at the source, and send parcels to the
+/// same number of writers. The writers read and settle the parcels, and record the session. The target is behind a
+/// lock, and the source is shared. Workers call the gate at each place (stage of a window), and hold no lock during the
+/// call. If the gate says that it never blocks, a fetcher and a writer share one thread in turn.
 ///
-/// After all workers have ended, the caller's thread concludes the session, or records it if it cannot be concluded.
-/// The caller's thread then stores the session's entry in the source's log, unless the log has a newer entry of the
-/// session. The call does not scan the feed again, because each leaf was checked when its window was marked as done. It
-/// is proved that no leaf above the start is uncovered if the session is concluded. The error `Hole`, which names an
-/// uncovered leaf, is therefore never returned.
+/// After all workers have ended, the caller's thread concludes the session. If concluding fails, the caller's thread
+/// records the session. The caller's thread then stores the session's entry in the source's log, unless the log has a
+/// newer entry of the session. The call does not scan the feed again, because each leaf was checked when its window was
+/// marked as done. The proof shows that every leaf above the start is covered if the session is concluded. The error
+/// `Hole`, which names an uncovered leaf, is therefore never returned.
 ///
 /// If the run succeeds, each leaf of the source's selected feed above the start is covered at the target. The report is
-/// that of the session, which began at the common checkpoint and is recorded at the source's update sequence. The
-/// fetchers' numbers of documents add up to the documents read. If the run succeeds with an initially empty target and
-/// nothing was refused, each selected document has the same revisions, parents and contents of leaves as at the source.
-/// If the peers were consistent (docs/PROFILE.md, "Tied peers"), each leaf of the source's complete selected feed is
-/// covered, including those below the start.
+/// the report of the session, which began at the common checkpoint and has recorded the source's update sequence. The
+/// sum of all fetchers' numbers of documents is the report's number of read documents. If the run succeeds, the target
+/// was empty, and no document was refused, each selected document has the source's revisions, parents and contents of
+/// leaves. If the peers were consistent (docs/PROFILE.md, "Tied peers"), each leaf of the source's complete selected
+/// feed is covered, also below the start.
 ///
-/// Whatever the result, the source changes only in its log. The returned target is the given target, or the given
-/// target after the session's begin and calls of the session with messages of the source. The target keeps everything
-/// it had, and consistent peers stay consistent. A third peer that was consistent with one of the two peers stays
+/// For every result, the run changes nothing of the source but its log. The returned target is the given target,
+/// perhaps after the session began and received messages of the source. The target keeps all its documents, sessions
+/// and logs, and consistent peers stay consistent. A third peer that was consistent with one of the two peers stays
 /// consistent with that peer. In two of the four cases of third peers, the third peer needs a UUID of its own
-/// (`KeepsOthersTied`). After a run, an audit of consistent peers is clean.
+/// (`KeepsOthersTied`). If the peers were consistent, an audit after the run finds no error.
 ///
-/// The call blocks until the run ends. It is not proved that a run ends.
+/// The call blocks until the run ends. The contract does not guarantee that a run ends.
 ///
 /// # Errors
 ///
@@ -309,7 +310,7 @@ fn run_with<F: WriteFilter + Send + Sync, G: Gate + Sync, R: Threads + Wait + Sy
 /// - `CountFull`: a fetcher's count of documents would exceed 9,007,199,254,740,991.
 /// - `Memory`: an allocation failed, or a thread cannot be created.
 ///
-/// If several workers failed or stopped, one of their errors is returned.
+/// If several workers failed or were stopped, the run returns one of their errors.
 pub fn run<F: WriteFilter + Send + Sync, G: Gate + Sync, R: Threads + Wait + Sync>(
     rt: &R,
     alloc: Global,
@@ -332,14 +333,14 @@ pub fn run<F: WriteFilter + Send + Sync, G: Gate + Sync, R: Threads + Wait + Syn
 /// Does the same as `run`, with a board on which viewers may read the progress meanwhile (`Board::read`). Each writer
 /// has the seat of a worker of the board. Before a writer settles a parcel, it adds the parcel's documents to its read
 /// counter. After settling, and before the gate is called at `Settled`, the writer adds the settled documents to its
-/// settled counter. No lock is taken for the board.
+/// settled counter. Updating and reading the board takes no lock.
 ///
-/// There must be one seat for each worker of the plan. The seats are returned in order, whatever the outcome, and no
-/// count has fallen. If the run succeeds, both counts, added up over the seats, have risen by the documents read in the
-/// report.
+/// The caller must give one seat for each worker of the plan. For every outcome, the call returns the seats in order,
+/// and no counter of a seat has decreased. If the run succeeds, the sums of all seats' read counters and settled
+/// counters have each risen by the report's number of read documents.
 ///
 /// In addition to the errors of `run`, the call returns `BoardFull` if a writer's read counter would exceed
-/// 9,007,199,254,740,991. The parcel that would exceed the counter's maximum is not settled.
+/// 9,007,199,254,740,991. The run does not settle the parcel that would make the counter exceed its maximum.
 pub fn run_on<F: WriteFilter + Send + Sync, G: Gate + Sync, R: Threads + Wait + Sync>(
     rt: &R,
     alloc: Global,

@@ -1,4 +1,4 @@
-//! Creating a board for a run and for its viewers.
+//! Creates a board for a run and for the viewers of the run.
 ghost use Rattle.std.specs.Prelude.{◌≡◌, true, IfOk, IfErr, vec_len};
 ghost use Rattle.std.specs.List.{All};
 ghost use Rattle.progress_board.specs.Seats.{CameWith, are_seats, new_fault};
@@ -7,13 +7,12 @@ ghost use Rattle.pool_workers.specs.Boards.{HasNothing, WorksAt};
 use progress_board::{Board, BoardFault, BoardSeat};
 use std::alloc::Global;
 
-/// A new board, the seats of its workers, for `run_on`, and the seats of its viewers, who may call `read` during the
-/// run.
+/// A new board, with the workers' seats for `run_on`, and the seats of viewers, which may call `read` during the run.
 #[derive(Drop)]
 pub struct Seats {
     /// The board.
     pub board: Board,
-    /// The seats of the board's workers, by number.
+    /// The seats of the board's workers, in the order of their numbers.
     pub workers: Vec<BoardSeat>,
     /// The seats of the board's viewers.
     pub viewers: Vec<BoardSeat>,

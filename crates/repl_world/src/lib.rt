@@ -1,4 +1,4 @@
-//! A crate of theorems about two peers and a bag of messages, under every order of steps.
+//! Theorems about two peers and a bag of messages between them, for every order of steps.
 //!
 //! The rules are in docs/PROFILE.md, "Worlds" and "Tied windows and messages".
 #![tactic(auto)]

@@ -53,11 +53,11 @@ impl<F: WriteFilter + Drop> World<F> {
     ghost use Rattle.repl_world.specs.Worlds.{new_answer};
     ghost use Rattle.repl_world.specs.Tied.{IsWorld, Tied, HoldNone};
 
-    /// Creates a world of two peers, with an empty message bag. The world's replication is that of the selected
-    /// documents, or of all documents if there is no selection.
+    /// Creates a world of two peers, with an empty message bag. The world replicates the selected documents, or all
+    /// documents if there is no selection.
     ///
-    /// Returns `SamePeer` if the two databases have the same UUID. If the target has no session of the replication from
-    /// the source, and the source has no entry of it, the new world is consistent.
+    /// Returns `SamePeer` if the two databases have the same UUID. The new world is consistent if the target has no
+    /// session of the world's replication and the source has no entry of it.
     pub fn new(
         alloc: Global,
         source: Peer<F>,
@@ -121,7 +121,7 @@ impl<F: WriteFilter> World<F> {
         self.bag.sizes()
     }
 
-    /// Does nothing, but gives proofs the invariant of the world.
+    /// Has no effect at run time, but gives proofs the invariant of the world.
     fn law(&self)
         ensures { IsWorld (F.refuses self.now.0.1) self.now.1 }
     {
@@ -132,12 +132,12 @@ impl<F: WriteFilter> World<F> {
 
     /// Takes steps in order.
     ///
-    /// A failed step has the effect of the failed call, and a step with an index that is not in the message bag changes
-    /// nothing. If an allocation fails in a step, the world is the one after the previous steps, except that a settling
-    /// may have settled a part of its parcel (`Stopped`).
+    /// If the call of a step fails, the step has the effect of the failed call. A step whose index is not in the
+    /// message bag changes nothing. If an allocation fails in a step, the step changes nothing, except that a settling
+    /// step may have settled a part of its parcel (`Stopped`).
     ///
-    /// If the world was consistent, it stays consistent, and the target covers what both logs claim of the source's
-    /// current feed.
+    /// If the world was consistent, it stays consistent, and the target covers all of the source's current feed that
+    /// both logs claim.
     pub fn run(&mut self, alloc: Global, steps: &[Step]) -> Result<(), AllocError>
         ensures filters { self.new.0 ≡ self.old.0 }
         ensures ok { OnOk result (self.new.1 ≡ run (F.refuses self.old.0.1) self.old.1 steps.now) }
@@ -218,7 +218,7 @@ impl<F: WriteFilter> World<F> {
         }
     }
 
-    /// Edits a document at the source.
+    /// Edits a document in the source's database.
     fn edit_source(
         &mut self,
         id: &DocId,
@@ -237,7 +237,7 @@ impl<F: WriteFilter> World<F> {
         }
     }
 
-    /// Edits a document at the target.
+    /// Edits a document in the target's database.
     fn edit_target(
         &mut self,
         id: &DocId,
@@ -256,7 +256,7 @@ impl<F: WriteFilter> World<F> {
         }
     }
 
-    /// Stores a document at the source as given.
+    /// Stores a document, with its ancestry as given, in the source's database.
     fn load_source(&mut self, doc: &Doc) -> Result<(), AllocError>
         ensures filters { self.new.0 ≡ self.old.0 }
         ensures ok { OnOk result (self.new.1 ≡ record self.old.1 { source = after_load self.old.1.source doc.now }) }
@@ -268,7 +268,7 @@ impl<F: WriteFilter> World<F> {
         }
     }
 
-    /// Stores a document at the target as given.
+    /// Stores a document, with its ancestry as given, in the target's database.
     fn load_target(&mut self, doc: &Doc) -> Result<(), AllocError>
         ensures filters { self.new.0 ≡ self.old.0 }
         ensures ok { OnOk result (self.new.1 ≡ record self.old.1 { target = after_load self.old.1.target doc.now }) }
@@ -458,7 +458,7 @@ impl<F: WriteFilter> World<F> {
     }
 }
 
-/// Converts a database error, of which only `Memory` ends a run.
+/// Converts a database error. Only the error `Memory` ends the run of a list of steps.
 fn passed(fault: BaseFault) -> Result<(), AllocError>
     ensures ok { OnOk result (fault ≡ base_faults.Memory → ⊥) }
     ensures err { OnErr result (fault ≡ base_faults.Memory) }

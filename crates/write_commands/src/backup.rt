@@ -55,7 +55,7 @@ impl<'v, 'a> Command<&'v Line<'a>> for Backup<'v> {
     }
 }
 
-/// Prints the two names, and the update sequence of the backup.
+/// Prints the names of the database and of the backup, and the update sequence of the backup.
 fn print(answer: &mut Vec<u8>, db: &str, name: &str, seq: u64) -> Result<(), AllocError>
     ensures { OnOk result (answer.new.items ≡ answer.old.items ++ backed_line db.now name.now seq) }
 {

@@ -59,7 +59,7 @@ impl<'v, 'a> Command<&'v Line<'a>> for Edit<'v, 'a> {
         })
     }
 
-    /// Runs `edit`. Prints nothing on success if the program is quiet.
+    /// Runs `edit`. If the program is quiet and the edit succeeds, the call prints nothing.
     fn serve<H: Threads + Wait + Sync>(
         &self,
         _rt: &H,
@@ -74,7 +74,7 @@ impl<'v, 'a> Command<&'v Line<'a>> for Edit<'v, 'a> {
     }
 }
 
-/// Edits a document, and prints the result. Parses the id first, then the parent, then the body.
+/// Edits a document, and prints the result. The call parses the document id first, then the parent, then the body.
 fn edit_loud(
     alloc: Global,
     databases: &mut Databases,
@@ -95,7 +95,7 @@ fn edit_loud(
     Ok(())
 }
 
-/// Prints the new revision, and its update sequence.
+/// Prints the new revision, and the update sequence that the edit got.
 fn print(answer: &mut Vec<u8>, db: &str, id: &str, edited: Edited) -> Result<(), AllocError>
     ensures { OnOk result (answer.new.items ≡ answer.old.items ++ edited_line db.now id.now edited) }
 {

@@ -52,7 +52,7 @@ impl<'v, 'a> Command<&'v Line<'a>> for Load<'v, 'a> {
         Some(Load { db, uuid, doc })
     }
 
-    /// Runs `load`. Prints nothing on success if the program is quiet.
+    /// Runs `load`. If the program is quiet and the line succeeds, the call prints nothing.
     fn serve<H: Threads + Wait + Sync>(
         &self,
         _rt: &H,
@@ -67,7 +67,7 @@ impl<'v, 'a> Command<&'v Line<'a>> for Load<'v, 'a> {
     }
 }
 
-/// Performs a `load` line, and prints the result. A UUID may be given only for a new database.
+/// Performs a `load` line, and prints the result. A line may give a UUID only if it creates a database.
 fn load_loud(
     alloc: Global,
     databases: &mut Databases,
@@ -129,7 +129,7 @@ fn load_named(
     }
 }
 
-/// Creates an empty database, unless it exists.
+/// Creates an empty database, unless the database already exists.
 fn open(
     alloc: Global,
     databases: &mut Databases,
@@ -150,7 +150,7 @@ fn open(
 
 /// Stores a document in an existing or a new database.
 ///
-/// The database is looked up separately only if the put fails, so that a successful put costs one lookup.
+/// The call looks up the database a second time only if the put fails, so a successful put needs only one lookup.
 fn put(
     alloc: Global,
     databases: &mut Databases,
@@ -193,7 +193,7 @@ fn put_new(
     make_with(alloc, databases, db, uuid, document, answer)
 }
 
-/// Generates the UUID of a new database.
+/// Generates a UUID for a new database.
 ///
 /// # Errors
 ///
@@ -231,7 +231,7 @@ fn make_empty(
     Ok(())
 }
 
-/// Creates a database with a document.
+/// Creates a database and stores a document in it.
 fn make_with(
     alloc: Global,
     databases: &mut Databases,
@@ -262,7 +262,7 @@ fn print_made(answer: &mut Vec<u8>, db: &str) -> Result<(), AllocError>
     Ok(())
 }
 
-/// Prints that a database exists.
+/// Prints that a database already exists.
 fn print_there(answer: &mut Vec<u8>, db: &str) -> Result<(), AllocError>
     ensures { OnOk result (answer.new.items ≡ answer.old.items ++ there_line db.now) }
 {

@@ -29,39 +29,39 @@ use std::thread::Threads;
 pub struct Replicate<'v, 'a> {
     pub source: &'v str,
     pub target: &'v str,
-    /// The ids of the selected documents, which are strings. If the ids are absent, all documents are selected.
+    /// The ids of the selected documents, which are strings. If the line gives no ids, all documents are selected.
     pub doc_ids: Option<&'v Vec<LineValue<'a>>>,
     pub options: Options,
 }
 
-/// The parameters of a replication other than its databases and selection. Absent ones are `None`; `alone` and
-/// `progress` are false if absent.
+/// The parameters of a replication other than its databases and selection. Absent ones are `None`; The parameters
+/// `alone` and `progress` are false if the line does not give them.
 #[derive(Clone, Copy, Debug, PartialEq, Eq)]
 pub struct Options {
-    /// The id of the new session, as the number of its UUID.
+    /// The id of the new session, which is a UUID as a number.
     pub session: Option<u128>,
-    /// Whether to use one thread.
+    /// Whether the replication uses only one thread.
     pub alone: bool,
-    /// The number of fetchers, and the number of writers.
+    /// The number of fetchers, which is also the number of writers.
     pub workers: Option<u64>,
     /// The maximum number of rows of a window.
     pub batch: Option<u64>,
-    /// The timestamp, in Unix time.
+    /// The timestamp of the session, in seconds of Unix time.
     pub at: Option<u64>,
     /// The number of windows after which the replication stops.
     pub stop_after: Option<u64>,
-    /// Whether to print the counters of the run. The option has no effect with one thread.
+    /// Whether the command prints the counters of the run. The option has no effect with one thread.
     pub progress: bool,
 }
 
-/// The way in which a replication ended that did not fail.
+/// How a successful replication ended.
 #[derive(Drop)]
 enum Ending {
     /// The replication reached its goal.
     Done(Report),
-    /// The replication reached its goal, and its board was read after the end.
+    /// The replication reached its goal, and the command read the progress board after the end.
     Shown(Watched),
-    /// The plan stopped the replication, and every window up to the variant's sequence is done.
+    /// The plan's limit stopped the replication, and every window up to the variant's sequence is done.
     Stopped(u64),
 }
 
@@ -122,8 +122,8 @@ impl<'v, 'a> Command<&'v Line<'a>> for Replicate<'v, 'a> {
     }
 }
 
-/// Runs a replication, and prints its result. A session id is generated, if needed, after both databases are found and
-/// before the ids of documents are parsed. The call blocks, unless the line requests one thread.
+/// Runs a replication, and prints its result. If the line gives no session id, the call generates one after it has
+/// found both databases and before it parses the document ids. The call blocks, unless the line requests one thread.
 #[inline(never)]
 pub fn serve_replication<H: Threads + Wait + Sync>(
     rt: &H,
@@ -183,7 +183,7 @@ fn session_asked(databases: &mut Databases, options: &Options) -> u128
     }
 }
 
-/// Builds the plan of a line, with the program's settings for absent parameters.
+/// Builds the plan of a `replicate` line. The program's settings replace parameters that the line does not give.
 ///
 /// # Errors
 ///
@@ -214,8 +214,8 @@ fn plan_asked(
     })
 }
 
-/// Replicates between the two existing databases of a line. The call uses one thread if the line says so, and otherwise
-/// the pool, with a progress board if the line requests it.
+/// Replicates the source database of a line into the target database, both of which exist. The call uses one thread if
+/// the line says so, and otherwise the pool, with a progress board if the line requests it.
 fn run_plan<H: Threads + Wait + Sync>(
     rt: &H,
     alloc: Global,
@@ -238,7 +238,7 @@ fn run_plan<H: Threads + Wait + Sync>(
     ending_of_run(databases.replicate(rt, alloc, ask.source, ask.target, plan))
 }
 
-/// Returns the ending of a pool run with a progress board.
+/// Returns how a run of the pool with a progress board ended.
 fn ending_of_watched(outcome: Result<Watched, PoolFault>) -> Result<Ending, Refusal>
     ensures { result ≡ ending_of_watched outcome }
 {
@@ -248,7 +248,8 @@ fn ending_of_watched(outcome: Result<Watched, PoolFault>) -> Result<Ending, Refu
     }
 }
 
-/// Returns the ending of a pool run. A run that its plan stopped has not failed.
+/// Returns how a run of the pool without a progress board ended. If the plan's limit stopped the run, the run has not
+/// failed.
 fn ending_of_run(outcome: Result<Report, PoolFault>) -> Result<Ending, Refusal>
     ensures { result ≡ ending_of_run outcome }
 {
@@ -261,7 +262,8 @@ fn ending_of_run(outcome: Result<Report, PoolFault>) -> Result<Ending, Refusal>
     }
 }
 
-/// Returns the ending of a replication by one thread. A replication that its plan stopped has not failed.
+/// Returns how a replication with one thread ended. If the plan's limit stopped the replication, the replication has
+/// not failed.
 fn ending_of(outcome: Result<Report, TargetFault>) -> Result<Ending, Refusal>
     ensures { result ≡ ending_of outcome }
 {
@@ -274,7 +276,7 @@ fn ending_of(outcome: Result<Report, TargetFault>) -> Result<Ending, Refusal>
     }
 }
 
-/// Prints the ending of a session.
+/// Prints how a session ended.
 fn print(
     alloc: Global,
     answer: &mut Vec<u8>,
@@ -314,7 +316,7 @@ fn print_report(alloc: Global, answer: &mut Vec<u8>, report: &Report) -> Result<
     answer.extend_from_slice(b"\n")
 }
 
-/// Appends the session id, the start and the recorded sequence.
+/// Appends the session id, the start and the recorded sequence of a session.
 fn push_session(alloc: Global, answer: &mut Vec<u8>, report: &Report) -> Result<(), AllocError>
     ensures { OnOk result (answer.new.items ≡ answer.old.items ++ session_part report.now) }
 {
@@ -327,7 +329,7 @@ fn push_session(alloc: Global, answer: &mut Vec<u8>, report: &Report) -> Result<
     push_number(answer, report.recorded)
 }
 
-/// Appends the number of checked leaves, and of missing leaves among them.
+/// Appends the number of leaves that a session checked, and the number of these leaves that the target lacked.
 fn push_checked(answer: &mut Vec<u8>, report: &Report) -> Result<(), AllocError>
     ensures { OnOk result (answer.new.items ≡ answer.old.items ++ checked_part report.now) }
 {
@@ -349,7 +351,7 @@ fn push_documents(answer: &mut Vec<u8>, report: &Report) -> Result<(), AllocErro
     push_number(answer, report.counts.failures)
 }
 
-/// Prints the low water of a session that its plan stopped.
+/// Prints the low water of a session that the plan's limit stopped.
 fn print_stopped(
     alloc: Global,
     answer: &mut Vec<u8>,

@@ -55,7 +55,7 @@ impl<'v, 'a> Command<&'v Line<'a>> for Restore<'v> {
     }
 }
 
-/// Prints the two names, and the update sequence and life of the database.
+/// Prints the names of the database and of the backup, and the database's update sequence and life.
 fn print(answer: &mut Vec<u8>, db: &str, name: &str, back: PutBack) -> Result<(), AllocError>
     ensures { OnOk result (answer.new.items ≡ answer.old.items ++ restored_line db.now name.now back) }
 {

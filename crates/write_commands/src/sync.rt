@@ -22,14 +22,14 @@ pub struct BothWays<'v, 'a> {
     pub back: Replicate<'v, 'a>,
 }
 
-/// The parameters of both directions.
+/// The parameters that apply to both directions of a `sync`.
 #[derive(Clone, Copy, Debug, PartialEq, Eq)]
 pub struct Shared {
-    /// The number of fetchers, and the number of writers.
+    /// The number of fetchers, which is also the number of writers.
     pub workers: Option<u64>,
     /// The maximum number of rows of a window.
     pub batch: Option<u64>,
-    /// The timestamp, in Unix time.
+    /// The timestamp of both sessions, in seconds of Unix time.
     pub at: Option<u64>,
     /// Whether each direction uses one thread.
     pub alone: bool,
@@ -80,8 +80,8 @@ impl<'v, 'a> Command<&'v Line<'a>> for BothWays<'v, 'a> {
         })
     }
 
-    /// Runs `sync`. The reverse direction does not start if the forward direction fails. The call blocks, unless the
-    /// line requests one thread.
+    /// Runs `sync`. If the replication from `a` to `b` fails, the replication from `b` to `a` does not start. The call
+    /// may block, unless the line requests replications with one thread.
     fn serve<H: Threads + Wait + Sync>(
         &self,
         rt: &H,
@@ -97,7 +97,7 @@ impl<'v, 'a> Command<&'v Line<'a>> for BothWays<'v, 'a> {
     }
 }
 
-/// Reads the parameters of both directions.
+/// Reads the parameters that apply to both directions of a `sync`.
 fn shared_of(value: &LineValue<'_>) -> Option<Shared>
     ensures { needed result ≡ shared_in (line_view value.now) }
 {

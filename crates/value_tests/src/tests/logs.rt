@@ -149,7 +149,7 @@ impl Bench {
         }
     }
 
-    /// Returns the result of writing a log.
+    /// Returns the result of formatting a log as a string.
     fn written(&self, at: usize) -> Option<String> {
         match self.logs.get(at) {
             Some(log) => written(self.alloc, &replication(), log),
@@ -236,7 +236,7 @@ fn named(alloc: Global, id: &RepId) -> Option<String> {
     String::from_utf8(name).ok()
 }
 
-/// Returns the result of writing a log.
+/// Returns the result of formatting a log as a string.
 fn written(alloc: Global, id: &RepId, log: &Log) -> Option<String> {
     match write_log(alloc, id, log) {
         Ok(text) => String::from_utf8(text).ok(),
