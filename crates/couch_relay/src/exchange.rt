@@ -1,4 +1,4 @@
-//! Sends a request and receives the response to it, over any reader and writer.
+//! Sends a request to any writer, and receives the response to the request from any reader.
 ghost use Rattle.std.specs.Prelude.{◌≡◌, ◌++◌, ℕ, List, IfOk, OnOk, OnErr};
 ghost use Rattle.std.specs.Io.KnownBytes.{Appends, Keeps};
 ghost use Rattle.relay_core.specs.Views.{request_view};
@@ -14,7 +14,7 @@ use relay_responses::read_response;
 use script_engine::{ScriptFault, ScriptRead, ScriptWrite, write_all};
 use std::alloc::Global;
 
-/// A response, with the date in the response's head.
+/// A response, and the date in the first line of the response.
 #[derive(Drop)]
 pub(crate) struct Dated {
     pub(crate) response: Response,
@@ -40,8 +40,8 @@ fn pass_on<W: ScriptWrite>(writer: &mut W) -> Result<(), ScriptFault>
 ///
 /// # Errors
 ///
-/// Returns `Memory` if an allocation failed, and then the output is unchanged. Returns `Write` if the writer failed,
-/// and then a prefix of the request was written.
+/// Returns `Memory` if an allocation failed. In this case the output is unchanged. Returns `Write` if the writer
+/// failed. In this case a prefix of the request was written.
 pub(crate) fn send<W: ScriptWrite>(
     alloc: Global,
     options: &RequestOptions,

@@ -40,7 +40,7 @@ fn side_of(name: &str) -> Option<Side>
     None
 }
 
-/// Returns a text's part before the first space, and its part after that space.
+/// Returns the part of a text before its first space, and the part after this space.
 fn split_word(text: &str) -> (&str, &str)
     ensures word { result.0.now ≡ word_in text.now }
     ensures rest { result.1.now ≡ rest_in text.now }
@@ -100,7 +100,7 @@ fn line_end(bytes: &[u8]) -> Option<usize>
     bytes.iter().position(|b| *b == 10)
 }
 
-/// Returns the length of the first line without its line feed, or of all bytes if they have no line feed.
+/// Returns the length of the first line without its line feed. Without a line feed, all bytes are the first line.
 fn line_len(bytes: &[u8]) -> usize
     ensures { result ≡ position_or_len is_line_end bytes.now }
 {
@@ -110,7 +110,7 @@ fn line_len(bytes: &[u8]) -> usize
     }
 }
 
-/// The maximum number of bytes in one read call.
+/// The maximum number of bytes that one read requests.
 const CHUNK: usize = 65536;
 
 impl Inbox {
@@ -127,7 +127,7 @@ impl Inbox {
         })
     }
 
-    /// Reads more bytes from the reader, and returns whether there were any.
+    /// Reads more bytes from the reader, and returns false at the end of the input.
     fn fill<R: ScriptRead>(&mut self, reader: &mut R) -> Result<bool, ScriptFault>
         requires { IsInbox self.old }
         ensures inbox { OnOk result (IsInbox self.new) }
@@ -164,8 +164,8 @@ impl Inbox {
         Err(ScriptFault::Read)
     }
 
-    /// Removes the first line of the next response from the input, and returns it parsed. Returns `None` if the input
-    /// ends or the next line is not the first line of a response.
+    /// Removes the first line of the next response from the input, and returns the parsed line. Returns `None` if the
+    /// input ends or the next line is not the first line of a response.
     pub(crate) fn head<R: ScriptRead>(
         &mut self,
         alloc: Global,
@@ -186,7 +186,7 @@ impl Inbox {
         Ok(head)
     }
 
-    /// Reads until `size` input bytes are available, and returns whether the input had them.
+    /// Reads until `size` input bytes are available, and returns false if the input ends before.
     pub(crate) fn has<R: ScriptRead>(
         &mut self,
         reader: &mut R,

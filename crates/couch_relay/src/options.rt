@@ -215,7 +215,7 @@ pub(crate) fn matches_of<'a>(
     }
 }
 
-/// Returns the value of an argument or option, or an empty string if the option is absent.
+/// Returns the value of an argument or option, or an empty string if the command line does not have it.
 fn text_of<'m, 'a>(matches: &'m ArgMatches<'a>, name: &str) -> &'m str
     ensures { result.now ≡ unwrap_or (first_value (found_of matches.now) name.now) [] }
 {

@@ -29,13 +29,13 @@ fn usage_status(status: u8) -> u8
     if status == 0 { 0 } else { 3 }
 }
 
-/// Runs the program over standard input and output. Returns how the run ended, and both streams, whose bytes the
-/// contract names.
+/// Runs the program on standard input and standard output. Returns how the run ended, and both streams. The contract
+/// names the bytes that went through the streams.
 ///
 /// # Errors
 ///
-/// Returns `OutOfMemory` if the output buffer cannot be allocated. If the buffer cannot be allocated, neither standard
-/// input nor standard output was used.
+/// Returns `OutOfMemory` if the output buffer cannot be allocated. If the output buffer cannot be allocated, the call
+/// reads and writes nothing.
 fn run_standard<'a, H>(
     rt: &'a H,
     words: &[String],
@@ -71,7 +71,7 @@ fn report_end<H: Print + Eprint>(rt: &H, ended: &Ended) -> u8
     }
 }
 
-/// Reports the fault of a run on standard error, if there is one, and returns the exit status.
+/// If a run had a fault, reports the fault on standard error. The call returns the exit status.
 fn report_run(rt: &impl Eprint, ended: &Result<u8, ScriptFault>) -> u8
     ensures { result ≡ exit_status ended.now }
 {

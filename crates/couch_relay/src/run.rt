@@ -1,4 +1,4 @@
-//! Runs a relay over any reader and writer.
+//! Runs a relay with a given reader as input and a given writer as output.
 ghost use Rattle.std.specs.Prelude.{◌≡◌, ◌++◌, ℕ, List, [], ◌==◌, not, length, IfOk, OnOk, OnErr, MatchOption, map, option_map, string_bytes};
 ghost use Rattle.std.specs.Str.{IsUtf8};
 ghost use Rattle.std.specs.Io.KnownBytes.{Appends, Keeps};
@@ -32,7 +32,7 @@ fn on_line(byte: u8) -> u8
     if byte == 10 || byte == 13 { 32 } else { byte }
 }
 
-/// Returns a text on one line. Line ends become spaces, and white space at the start and end is removed.
+/// Converts a text to a single line. Line ends become spaces, and white space at the start and end is removed.
 fn on_one_line(alloc: Global, text: &str) -> Result<String, AllocError>
     ensures { IfOk result (λ s. string_bytes s ≡ on_one_line text.now) }
 {
@@ -134,7 +134,7 @@ fn request_options(
     })
 }
 
-/// Returns the exit status after a request, if the request is the last of its run.
+/// Returns the exit status after a request, if it is the last request of the run.
 fn status_of(request: &Request<'_>) -> Option<u8>
     ensures { result ≡ status_after (request_view request.now) }
 {
@@ -211,8 +211,8 @@ fn choice_of<R: ScriptRead>(
 /// # Errors
 ///
 /// Returns `Read` if the reader failed, or after 2^64 - 1 requests. Returns `Write` if the writer failed. Returns
-/// `Memory` if an allocation failed. After an error, at most a prefix of one more request was written after the
-/// complete exchanges.
+/// `Memory` if an allocation failed. If the call returns an error, the output is the requests of the complete
+/// exchanges, and at most a prefix of one more request.
 pub(crate) fn run<R: ScriptRead, W: ScriptWrite>(
     alloc: Global,
     options: &Options<'_>,

@@ -12,7 +12,7 @@ use std::rt::Clock;
 use std::time::Instant;
 use std::{io, str};
 
-/// The maximum number of explained errors.
+/// The maximum number of errors that the reporter explains.
 const MOST_TOLD: u64 = 20;
 
 /// The limits of workers, batch size and timestamp (docs/PROFILE.md, "Limits").
@@ -35,9 +35,9 @@ pub struct ErrorReporter<'a, H> {
     told_at: Option<Instant>,
     /// The progress so far.
     seen: Seen,
-    /// The number of explained errors.
+    /// The number of errors that the reporter has explained.
     told: u64,
-    /// The number of errors by name.
+    /// The number of errors for each error name.
     counts: Vec<(&'static str, u64)>,
     /// The JSON reader for lines.
     values: ValueReader,
@@ -59,7 +59,7 @@ impl<'a, H: Eprint + Clock> Observe for ErrorReporter<'a, H> {
         }
     }
 
-    /// Reports the number of errors by name.
+    /// Reports the number of errors for each error name.
     fn close(&mut self) {
         if self.told_at.is_some() {
             let _ = eprint!(self.rt; "\r\x1b[K");

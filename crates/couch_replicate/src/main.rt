@@ -1,7 +1,8 @@
 //! A program that runs scripts of commands on in-memory document databases.
 //!
-//! docs/PROFILE.md, "Command lines" and "Answers", defines scripts. `script_engine` reads lines, and `commands` runs
-//! them on `script_databases`. This crate has the command line, the standard streams and the exit status.
+//! docs/PROFILE.md, "Command lines" and "Answers", defines scripts. The crate `script_engine` reads lines, and the
+//! crate `commands` runs the lines on the databases of `script_databases`. This crate handles the command line, the
+//! standard streams and the exit status.
 #![tactic(auto)]
 
 mod error_reporter;

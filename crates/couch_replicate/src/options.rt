@@ -172,7 +172,7 @@ fn settings_of(alloc: Global, matches: &ArgMatches<'_>) -> Result<Settings, NoSe
     })
 }
 
-/// Reads a numeric option, or its default.
+/// Reads the value of a numeric option, or the option's default if the option is absent.
 ///
 /// # Errors
 ///

@@ -1,4 +1,4 @@
-//! The program: its arguments, standard input and output, and exit status.
+//! Runs the program with its arguments and its standard streams, and determines its exit status.
 ghost use Rattle.std.specs.Prelude.{◌≡◌, ◌≤◌, ℕ, List, Some, IfOk, map, string_bytes};
 ghost use Rattle.couch_replicate.specs.RunWords.{RunsStandard};
 ghost use Rattle.couch_replicate.specs.Status.{ended_status, status_of};
@@ -19,7 +19,7 @@ use std::thread::Threads;
 /// Runs the program. Returns the exit status, which is 0 on success, 1 if a line failed, 2 for a usage error, and 3 if
 /// reading, writing or an allocation failed.
 ///
-/// `is_watched` is whether standard error is a terminal, which `--progress` requires.
+/// `is_watched` says whether standard error is a terminal, which the option `--progress` requires.
 pub fn run_program<H>(rt: &H, is_watched: bool) -> u8
 where
     H: AllocGlobal + Env + Input + Print + Eprint + Clock + Threads + Wait + Sync,
@@ -34,13 +34,13 @@ where
     }
 }
 
-/// Runs the program on standard input and output. Returns how the run ended, and both streams, whose bytes the contract
-/// names.
+/// Runs the program on standard input and output. Returns how the run ended, and both streams. The contract names the
+/// bytes that went through the streams.
 ///
 /// # Errors
 ///
-/// `OutOfMemory`: the output buffer cannot be allocated. If the buffer cannot be allocated, nothing has been read or
-/// written.
+/// `OutOfMemory`: the output buffer cannot be allocated. If the output buffer cannot be allocated, the call reads and
+/// writes nothing.
 fn run_standard<'a, H>(
     rt: &'a H,
     words: &[String],

@@ -1,4 +1,4 @@
-//! Runs the program over any reader and writer.
+//! Runs the program with a given reader as input and a given writer as output.
 ghost use Rattle.std.specs.Prelude.{map, string_bytes};
 ghost use Rattle.couch_replicate.specs.RunWords.{RunsWords};
 
@@ -16,11 +16,11 @@ use std::thread::Threads;
 pub enum Ended {
     /// No script was run, because the arguments give no settings.
     NotRun(NoSettings),
-    /// A script was run. The value is whether no line failed, or why the script stopped early.
+    /// A script was run. The variant says whether no line failed, or why the script stopped early.
     Ran(Result<bool, ScriptFault>),
 }
 
-/// Parses the arguments, of which the first is the program's name, and runs the script of the reader.
+/// Parses the arguments, of which the first is the program's name, and runs the script that the reader returns.
 ///
 /// The databases are not freed, because the program ends after this call.
 pub fn run_words<'a, H, R: ScriptRead, W: ScriptWrite>(

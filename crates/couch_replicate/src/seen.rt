@@ -2,12 +2,12 @@
 
 use std::str;
 
-/// The progress of a script.
+/// The progress of a script, as counts of its output.
 #[derive(Clone, Copy, Drop)]
 pub(crate) struct Seen {
     /// The number of successful `load` and `edit` lines.
     pub(crate) writes: u64,
-    /// The number of sessions that ended, at their goal or because their plan stopped them.
+    /// The number of sessions that reached their goal or were stopped by their plan.
     pub(crate) sessions: u64,
     /// The number of documents read by the sessions that reached their goal.
     pub(crate) read: u64,

@@ -28,7 +28,7 @@ pub(crate) enum Kind {
 /// A member of a command: its name, its type, and whether it is required.
 type Member = (&'static str, Kind, bool);
 
-/// The commands and their members other than `do`.
+/// A table of all commands, with each command's members other than `do`.
 static WORDS: &[(&str, &[Member])] = &[
     (
         "load",
@@ -142,11 +142,11 @@ static WORDS: &[(&str, &[Member])] = &[
     ),
 ];
 
-/// The reason why an object is not a command. If an object has several faults, the value is the fault that is found
-/// first.
+/// The reason why an object is not a command. If an object has several faults, the value is the fault that the search
+/// finds first.
 #[derive(Drop)]
 pub(crate) enum CommandFault<'v> {
-    /// The object has no member `do` that is a string.
+    /// The object has no member `do`, or its member `do` is not a string.
     NoWord,
     /// The command is unknown.
     UnknownWord(&'v str),
@@ -185,7 +185,7 @@ fn members_of(word: &str) -> Option<&'static [Member]> {
     None
 }
 
-/// Finds out why an object is not a valid object of a given command.
+/// Finds out why an object does not have the form of a given command.
 fn fault_among<'v>(object: &'v LineValue<'_>, members: &'static [Member]) -> CommandFault<'v> {
     for member in members {
         match object.get(member.0) {
@@ -272,7 +272,7 @@ fn is_uuid(text: &str) -> bool {
     Uuid::parse_str(text).is_ok()
 }
 
-/// Whether a string names a side.
+/// Whether a string names a side of a replication (`source` or `target`).
 fn is_side(text: &str) -> bool {
     is_same_text("source", text) || is_same_text("target", text)
 }

@@ -10,16 +10,16 @@ use itoa::Buffer;
 use json_values::{LineValue, ValueReader, is_same_text};
 use std::alloc::{AllocError, Global};
 
-/// Appends one explanation, which has the number of the line, the error name, the part at fault if the line shows it,
-/// and the meaning of the name (docs/PROFILE.md, "Names of refusals"). The part at fault is a command, a member, a
-/// document or a database. The explanation has the line's strings as JSON strings.
+/// Appends an explanation: the line's number, the error name, the part at fault if the line shows it, and the name's
+/// meaning (docs/PROFILE.md, "Names of refusals"). The part at fault is a command, a member, a document or a database.
+/// The explanation quotes strings of the line as JSON strings.
 ///
 /// The contract guarantees that the explanation is one line without hidden characters. The contract does not say which
-/// text explains the reason.
+/// text explains the reason of the error.
 ///
 /// # Errors
 ///
-/// Returns `AllocError` if an allocation fails, and part of the explanation may have been appended.
+/// Returns `AllocError` if an allocation fails. In this case a part of the explanation may have been appended.
 pub fn explain(
     values: &mut ValueReader,
     alloc: Global,
@@ -74,7 +74,7 @@ fn push_read_reason(text: &mut String, name: &str, object: &LineValue<'_>) -> Re
     push_words(text, sentence_of(name))
 }
 
-/// Appends why an object is not a command.
+/// Appends the reason why an object is not a command.
 fn push_fault(text: &mut String, fault: &CommandFault<'_>) -> Result<(), AllocError>
     ensures { OnOk result (AddsSeen (string_bytes text.old) (string_bytes text.new)) }
 {
@@ -91,7 +91,7 @@ fn push_fault(text: &mut String, fault: &CommandFault<'_>) -> Result<(), AllocEr
     }
 }
 
-/// Appends a member and the type that it must have.
+/// Appends the name of a member and the type that the member must have.
 fn push_wrong_kind(text: &mut String, member: &str, wanted: &str) -> Result<(), AllocError>
     ensures { OnOk result (AddsSeen (string_bytes text.old) (string_bytes text.new)) }
 {

@@ -7,7 +7,8 @@ use doc_json::has_fraction;
 use json_values::{LineValue, is_same_text};
 use std::alloc::AllocError;
 
-/// Appends the document, member or databases at fault and a colon. Appends nothing if the part at fault is unknown.
+/// Appends the document, member or databases at fault and a colon. If the part at fault is unknown, the call appends
+/// nothing.
 #[tactic(auto, using(crate::proofs::Seen::seen_none))]
 pub(crate) fn push_place(
     text: &mut String,
@@ -30,7 +31,7 @@ pub(crate) fn push_place(
     Ok(())
 }
 
-/// Appends a document, the document's member at fault if it is known, and a colon.
+/// Appends a document, the document's member at fault if this member is known, and a colon.
 fn push_document(
     text: &mut String,
     name: &str,
@@ -44,7 +45,7 @@ fn push_document(
     push_words(text, ": ")
 }
 
-/// Appends the document's member at fault, if it is known.
+/// Appends the document's member at fault, if this member is known.
 #[tactic(auto, using(crate::proofs::Seen::seen_none))]
 fn push_member(text: &mut String, name: &str, object: &LineValue<'_>) -> Result<(), AllocError>
     ensures { OnOk result (AddsSeen (string_bytes text.old) (string_bytes text.new)) }
@@ -99,7 +100,7 @@ fn text_of<'v>(object: &'v LineValue<'_>, name: &str) -> Option<&'v str> {
     }
 }
 
-/// Returns the member of the line's document or body that caused the error, if it is known.
+/// Returns the member of the line's document or body that caused the error, if this member is known.
 fn member_at_fault<'v>(name: &str, object: &'v LineValue<'_>) -> Option<&'v str> {
     let document = match object.get("doc") {
         Some(doc) => doc,
@@ -127,8 +128,8 @@ fn is_at_fault(name: &str, member: &str, value: &LineValue<'_>) -> bool {
     false
 }
 
-/// Whether a document must not have a given member. A document must not have `_deleted` with a value that is not a
-/// Boolean, or a member with an initial `_` other than the four known ones.
+/// Whether a document must not have a given member. A document must not have a member `_deleted` that is not a Boolean,
+/// or a member with an initial `_` that is not one of the four known members.
 fn is_odd(member: &str, value: &LineValue<'_>) -> bool {
     if is_same_text("_deleted", member) {
         return value.as_bool().is_none();

@@ -2,7 +2,8 @@
 
 use json_values::is_same_text;
 
-/// The error names of lines and their meanings. The table omits names that no line is expected to fail with.
+/// A table of the error names of lines and of the names' meanings. The table omits the error names with which no line
+/// is expected to fail.
 static SENTENCES: &[(&str, &str)] = &[
     (
         "Attachments",

@@ -1,4 +1,4 @@
-//! Parts of an explanation. No character of an appended text is hidden.
+//! Parts of an explanation. The functions of this file append no hidden character.
 ghost use Rattle.std.specs.Prelude.{string_bytes, OnOk};
 ghost use Rattle.error_messages.specs.Told.{AddsSeen};
 

@@ -17,7 +17,7 @@ fn or_empty(alloc: Global, revs: Option<IndexSet<String>>) -> IndexSet<String>
     }
 }
 
-/// Adds a revision to those of a document, unless the document has the revision already.
+/// Adds a revision to the revisions of a document, unless the table already has the revision for this document.
 pub fn add_pair(alloc: Global, docs: &mut Docs, id: &str, rev: &str) -> Result<(), AllocError>
     ensures { OnOk result (docs_view docs.new ≡ add_pair (docs_view docs.old) id.now rev.now) }
 {

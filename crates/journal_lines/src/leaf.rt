@@ -21,13 +21,13 @@ pub struct Leaf {
     pub rev: String,
     /// The generation of the revision.
     pub start: u64,
-    /// The names of the revision and of its ancestors, newest first, without generations.
+    /// The signatures (ids without the generation) of the revision and of its ancestors, newest first.
     pub names: Vec<String>,
     /// Whether the document's revision is deleted.
     pub deleted: bool,
 }
 
-/// Returns the revision with the given generation and name.
+/// Returns the revision with the given generation and signature.
 pub fn rev_of(alloc: Global, generation: u64, name: &str) -> Result<String, AllocError>
     ensures { IfOk result (λ rev. string_bytes rev ≡ rev_at generation name.now) }
 {
@@ -38,7 +38,7 @@ pub fn rev_of(alloc: Global, generation: u64, name: &str) -> Result<String, Allo
     Ok(rev)
 }
 
-/// Whether a revision has one of the given names, whose generations go down from `start`.
+/// Whether a revision is in an ancestry, given by the generation `start` of its newest revision and its signatures.
 fn is_in(alloc: Global, rev: &str, start: u64, names: &[String]) -> Result<bool, AllocError>
     ensures { IfOk result (λ is_in. is_in ≡ knows_at rev.now start (texts_of names.now)) }
 {
@@ -88,7 +88,8 @@ fn ancestry_in(
     }
 }
 
-/// Returns the generation and the names of a document's `_revisions`, or no names if the document lacks this member.
+/// Returns the start generation and the signatures of a document's `_revisions`, or no signatures if the document lacks
+/// this member.
 fn ancestry_of(alloc: Global, doc: &Value<'_>) -> Result<Option<(u64, Vec<String>)>, AllocError>
     ensures { IfOk result (λ o. option_map ancestry_view o ≡ ancestry_by (get (codes "_revisions") (value_view doc.now))) }
 {

@@ -13,7 +13,7 @@ use std::alloc::{AllocError, Global};
 /// The leaves of a document, with the sequence at which the document has them.
 #[derive(Drop)]
 pub struct Leaves {
-    /// The sequence, or `-` if none is known.
+    /// The sequence at which the document has the leaves, or `-` if the sequence is unknown.
     pub seq: String,
     /// The id of the document.
     pub id: String,
@@ -81,7 +81,7 @@ fn named_of(alloc: Global, seq: &str, value: &Value<'_>) -> Result<Option<Leaves
     Ok(Some(Leaves { seq, id, revs }))
 }
 
-/// Returns the JSON value of a text, or `None` if the text is not JSON.
+/// Returns the JSON value that a text contains, or `None` if the text is not JSON.
 pub fn value_of<'a>(
     alloc: Global,
     scratch: &'a mut Scratch,
@@ -111,7 +111,7 @@ fn list_of(
     Ok(leaves)
 }
 
-/// Returns the given bytes as a sequence, or `None` if they are not a sequence.
+/// Returns the given bytes as a sequence, or `None` if the bytes are not a sequence.
 fn seq_of(bytes: &[u8]) -> Option<&str>
     ensures { option_map (λ s. s.now) result ≡ option_and_then token (text_in bytes.now) }
 {

@@ -6,7 +6,7 @@ ghost use Rattle.journal_lines.specs.Members.{text_at, items_at, number_at, numb
 
 use json::Value;
 
-/// Returns an object's member with the given name, if it is a string.
+/// Returns an object's member with the given name, if the member is a string.
 pub fn text_at<'v, 'a>(value: &'v Value<'a>, name: &str) -> Option<&'a str>
     ensures { option_map (λ s. s.now) result ≡ text_at name.now (value_view value.now) }
 {
@@ -16,7 +16,7 @@ pub fn text_at<'v, 'a>(value: &'v Value<'a>, name: &str) -> Option<&'a str>
     }
 }
 
-/// Returns the items of a JSON value, if it is a list.
+/// Returns the items of a JSON value, if the value is a list.
 pub fn items_of<'v, 'a>(value: &'v Value<'a>) -> Option<&'v Vec<Value<'a>>>
     ensures { option_map (λ v. items_view v.now.items) result ≡ as_array (value_view value.now) }
 {
@@ -26,7 +26,7 @@ pub fn items_of<'v, 'a>(value: &'v Value<'a>) -> Option<&'v Vec<Value<'a>>>
     }
 }
 
-/// Returns an object's member with the given name, if it is a list.
+/// Returns an object's member with the given name, if the member is a list.
 pub fn items_at<'v, 'a>(value: &'v Value<'a>, name: &str) -> Option<&'v Vec<Value<'a>>>
     ensures { option_map (λ v. items_view v.now.items) result ≡ items_at name.now (value_view value.now) }
 {
@@ -36,14 +36,14 @@ pub fn items_at<'v, 'a>(value: &'v Value<'a>, name: &str) -> Option<&'v Vec<Valu
     }
 }
 
-/// Returns the number of a JSON value, if it has no sign, point and exponent.
+/// Returns the number that a JSON value is, if the number has no sign, point and exponent.
 fn number_of(value: &Value<'_>) -> Option<u64>
     ensures { result ≡ number_in (value_view value.now) }
 {
     value.as_u64()
 }
 
-/// Returns an object's member with the given name, if it is a number without sign, point and exponent.
+/// Returns an object's member with the given name, if the member is a number without sign, point and exponent.
 pub(crate) fn number_at(value: &Value<'_>, name: &str) -> Option<u64>
     ensures { result ≡ number_at name.now (value_view value.now) }
 {

@@ -41,7 +41,7 @@ pub(crate) fn cut_at_blank(bytes: &[u8]) -> Option<(&[u8], &[u8])>
     Some((&bytes[..end], &bytes[end + 1..]))
 }
 
-/// Appends a string as JSON, in quotation marks.
+/// Appends a string as a JSON string, in quotation marks.
 pub fn push_json(alloc: Global, out: &mut Vec<u8>, text: &str) -> Result<(), AllocError>
     ensures { OnOk result (out.new.items ≡ out.old.items ++ quoted text.now) }
 {
@@ -70,8 +70,8 @@ fn is_plain(bytes: &[u8]) -> bool
     bytes.iter().all(|b| is_plain_byte(*b))
 }
 
-/// Appends a revision. A revision of letters, digits, `-`, `_` and `.` is appended unchanged, and any other as a JSON
-/// string.
+/// Appends a revision. The call appends a revision of letters, digits, `-`, `_` and `.` unchanged, and any other
+/// revision as a JSON string.
 pub fn push_rev(alloc: Global, out: &mut Vec<u8>, rev: &str) -> Result<(), AllocError>
     ensures { OnOk result (out.new.items ≡ out.old.items ++ rev_text rev.now) }
 {

@@ -27,7 +27,7 @@ fn instance_of<'v, 'a>(value: &'v Value<'a>) -> &'a str
     if word == "0" { "-" } else { word }
 }
 
-/// Appends a line with the server's identity, the database's identity, and the update sequence.
+/// Appends a line with the identity of a server, the identity of a database, and the database's update sequence.
 fn push_info(text: &mut Vec<u8>, value: &Value<'_>) -> Result<(), AllocError>
     ensures { OnOk result (text.new.items ≡ text.old.items ++ info_text (value_view value.now)) }
 {

@@ -9,7 +9,7 @@ ghost use Rattle.journal_responses.specs.Members.{seq_in, seq_at};
 use journal_lines::is_token;
 use json::Value;
 
-/// Returns the given string if it is a sequence.
+/// Returns the given string if the string is a sequence.
 fn token_of<'a>(text: &'a str) -> Option<&'a str>
     ensures { option_map (λ s. s.now) result ≡ token text.now }
 {
@@ -27,7 +27,7 @@ pub(crate) fn seq_of<'v, 'a>(value: &'v Value<'a>) -> Option<&'a str>
     }
 }
 
-/// Returns an object's member with the given name, if it is a sequence.
+/// Returns an object's member with the given name, if the member is a sequence.
 pub(crate) fn seq_at<'v, 'a>(value: &'v Value<'a>, name: &str) -> Option<&'a str>
     ensures { option_map (λ s. s.now) result ≡ seq_at name.now (value_view value.now) }
 {

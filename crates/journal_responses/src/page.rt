@@ -67,7 +67,7 @@ fn has_rev(revs: &[String], rev: &str) -> bool
     false
 }
 
-/// Returns copies of the given revisions, each revision once.
+/// Returns copies of the given revisions without duplicates.
 fn each_once(alloc: Global, revs: &[String]) -> Result<Vec<String>, AllocError>
     ensures { IfOk result (λ v. texts_of v.items ≡ each_once (texts_of revs.now)) }
 {
@@ -125,14 +125,15 @@ fn rows_of(alloc: Global, items: &Vec<Value<'_>>) -> Result<Option<Vec<Leaves>>,
     Ok(Some(rows))
 }
 
-/// Whether a row is printed. If `several` is set, only a row with two or more leaves is printed.
+/// Whether the call prints a state line for a row of changes. If `several` is true, the call prints only rows with two
+/// or more leaves.
 fn is_printed(several: bool, row: &Leaves) -> bool
     ensures { result ≡ is_printed several (leaves_view row.now) }
 {
     if several { row.revs.len() >= 2 } else { true }
 }
 
-/// Appends the state line of a row, if the row is printed.
+/// Appends the state line of a row of changes, if the row is printed.
 fn push_row(
     alloc: Global,
     text: &mut Vec<u8>,
@@ -169,7 +170,7 @@ fn push_rows(
     Ok(())
 }
 
-/// Returns the number of documents after a page, or `-` if the number is missing or `null`.
+/// Returns the number of changed documents after a page, or `-` if the response has no such number.
 fn pending_of<'v, 'a>(value: &'v Value<'a>) -> Option<&'a str>
     ensures { option_map (λ s. s.now) result ≡ pending_in (get (codes "pending") (value_view value.now)) }
 {
@@ -228,7 +229,7 @@ fn push_last(text: &mut Vec<u8>, rows: usize, last: &str, pending: &str) -> Resu
     Ok(())
 }
 
-/// Appends a page, which is a state line for each row, or for each row with several leaves, and the last line.
+/// Appends the text of a page: a state line for each row (or for each row with several leaves), and the last line.
 fn push_page(
     alloc: Global,
     text: &mut Vec<u8>,
@@ -246,14 +247,14 @@ fn push_page(
     )
 }
 
-/// Appends a state line for each row of a page of changes. If `several` is set, only a row with two or more leaves has
+/// Appends a state line for each row of a page of changes. If `several` is true, only a row with two or more leaves has
 /// a state line. The last line of a page has the number of rows, the last sequence, and the number of documents after
 /// the page.
 ///
 /// # Errors
 ///
 /// Returns `Error` if the value is an error of CouchDB, or `Other` if the value is neither a page nor an error. Returns
-/// `Memory` if an allocation failed. After an error, part of the page's text may have been appended.
+/// `Memory` if an allocation failed. If the call returns an error, it may have appended a part of the page's text.
 pub fn page_of(
     alloc: Global,
     text: &mut Vec<u8>,

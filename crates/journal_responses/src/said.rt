@@ -1,4 +1,4 @@
-//! Responses that do not have the requested form.
+//! The errors for responses that do not have the requested form.
 ghost use Rattle.std.specs.Prelude.{◌≡◌, IfErr, IfOk, Some, option_map};
 ghost use Rattle.json.specs.Json.{document};
 ghost use Rattle.json.specs.Value.{value_view};
@@ -60,7 +60,7 @@ pub fn read_said<'a>(
     value_of(alloc, scratch, text)
 }
 
-/// Returns the members `error` and `reason` of a JSON value, if it is an error of CouchDB.
+/// Returns the members `error` and `reason` of a JSON value, if the value is an error of CouchDB.
 fn error_in<'v, 'a>(value: &'v Value<'a>) -> Option<(&'a str, &'a str)>
     ensures { option_map (λ p. (p.0.now, p.1.now)) result ≡ error_in (value_view value.now) }
 {
@@ -70,7 +70,7 @@ fn error_in<'v, 'a>(value: &'v Value<'a>) -> Option<(&'a str, &'a str)>
     }
 }
 
-/// Returns the error of CouchDB with the given name and reason.
+/// Returns the fault for CouchDB's error with the given name and reason.
 fn error_of(alloc: Global, error: &str, reason: &str) -> Result<Said, AllocError>
     ensures { IfOk result (IsErrorOf error.now reason.now) }
 {

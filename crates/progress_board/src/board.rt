@@ -33,11 +33,11 @@ pub(crate) fn board_of(table: BoardTable, workers: usize) -> Board
 impl Board {
     ghost use Rattle.progress_board.specs.Seats.{CameWith, IsLater, SameSeat, read_refusal, settled_refusal, seen_read, seen_settled, SeesItself};
 
-    /// Returns the totals of all workers, first of settled and then of read documents, as the seat sees them.
+    /// Returns the sums of all workers' settled counters and read counters, as the seat sees the counters.
     ///
-    /// The total of settled documents is at most that of read documents, and neither is below an earlier total for this
-    /// seat. A worker sees at least its own additions. The call never blocks, and does not allocate. The seat must have
-    /// been created with this board.
+    /// The settled total is at most the read total, and each total is at least every earlier total that this seat saw.
+    /// The totals that a worker sees include all additions that this worker has made. The call does not block and does
+    /// not allocate. The seat must be one that was created together with this board.
     pub fn read(&self, seat: &mut BoardSeat) -> (u64, u64)
         requires came { CameWith self.now seat.old }
         ensures came { CameWith self.now seat.new }
@@ -61,7 +61,7 @@ impl Board {
     /// - `NotWorker`: the seat is a viewer's.
     /// - `BoardFull`: the worker's counter would exceed 2^53 - 1.
     ///
-    /// The call never blocks, and does not allocate. The seat must have been created with this board.
+    /// The call does not block and does not allocate. The seat must be one that was created together with this board.
     pub fn add_read(&self, seat: &mut BoardSeat, n: u64) -> Result<(), BoardFault>
         requires came { CameWith self.now seat.old }
         ensures came { CameWith self.now seat.new }
@@ -95,7 +95,7 @@ impl Board {
     /// - `NotWorker`: the seat is a viewer's.
     /// - `AheadOfRead`: the worker would have settled more than it has read.
     ///
-    /// The call never blocks, and does not allocate. The seat must have been created with this board.
+    /// The call does not block and does not allocate. The seat must be one that was created together with this board.
     pub fn add_settled(&self, seat: &mut BoardSeat, n: u64) -> Result<(), BoardFault>
         requires came { CameWith self.now seat.old }
         ensures came { CameWith self.now seat.new }

@@ -1,8 +1,8 @@
 //! A board of counters that threads share without a lock. The board shows how many documents each worker has read and
 //! settled, and viewers read the totals.
 //!
-//! A worker changes only its own two counters. For one seat, the totals never fall, the settled total never exceeds the
-//! read total, and no total counts documents that no worker added. The rules are in docs/PROFILE.md, "The progress
+//! A worker changes only its own two counters. The totals that one seat sees never decrease, and count only documents
+//! that workers added. The settled total never exceeds the read total. The rules are in docs/PROFILE.md, "The progress
 //! board".
 #![tactic(auto)]
 

@@ -1,4 +1,4 @@
-//! Creates a board with its seats.
+//! Creates a board and the seats of its workers and viewers.
 ghost use Rattle.std.specs.Prelude.{◌≡◌, ◌+◌, ◌<◌, ◌≤◌, true, [], IfOk, IfErr, length, vec_len, vec_capacity};
 ghost use Rattle.progress_board.specs.Rule.{dealer, AllZero};
 ghost use Rattle.progress_board.specs.Seats.{SeatsAre, are_seats, new_fault, AreNew};
@@ -65,7 +65,7 @@ fn lay_words(
     Table::<(), SeatView, u64, BoardRule, Global>::of_words(alloc, words, &(workers as u64))
 }
 
-/// Appends the seats of the workers.
+/// Appends the seats of the board's workers to a list.
 fn add_workers(table: &BoardTable, dealing: &mut Place, workers: usize, seats: &mut Vec<BoardSeat>)
     requires board { (table.now.shared.key ≡ workers) × (table.now.shared.table_id.words ≡ workers + workers) }
     requires desk { (dealing.old.table_id ≡ table.now.shared.table_id) × (dealing.old.me ≡ (dealer workers 0, [])) }
@@ -81,7 +81,7 @@ fn add_workers(table: &BoardTable, dealing: &mut Place, workers: usize, seats: &
     }
 }
 
-/// Appends the seats of the viewers.
+/// Appends the seats of the board's viewers to a list.
 fn add_viewers(
     table: &BoardTable,
     dealing: &mut Place,

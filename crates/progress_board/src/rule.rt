@@ -1,12 +1,12 @@
 //! The facts that a seat has about the counters, and the rule that the counters satisfy.
 //!
-//! No value of the types in this file exists at run time. The types represent what proofs know about the counters.
+//! No value of the types in this file exists at run time. The types of this file represent what proofs know about the
+//! counters of a board.
 
 use atomic_table::{Play, Split, TableRule};
 use std::collections::LinkedList;
 
-/// The facts that a seat has, which are whether it creates seats or is a worker's, its number, and a lower bound for
-/// each counter.
+/// The facts that a seat has: the kind of the seat, its number, and a lower bound for each counter.
 pub struct SeatView {
     pub deals: bool,
     pub works: bool,
@@ -15,8 +15,8 @@ pub struct SeatView {
     pub settles: LinkedList<u64>,
 }
 
-/// The rule of a board of k workers. Counters 0 to k - 1 count the documents that each worker has read, and counters k
-/// to 2k - 1 those that it has settled.
+/// The rule that the counters of a board of k workers always satisfy. Counters 0 to k - 1 count the documents that each
+/// worker has read. Counters k to 2k - 1 count the documents that each worker has settled.
 pub struct BoardRule;
 
 impl TableRule<(), SeatView, u64> for BoardRule {

@@ -4,10 +4,10 @@ ghost use Rattle.progress_board.specs.Rule.{most, IsFresh};
 
 use crate::steps::Place;
 
-/// A seat of a board, which is a viewer's, or a worker's with a number and two counters of its own.
+/// A seat of a board, which belongs to a viewer, or to a worker with a number and two counters.
 ///
-/// A seat stores what it has seen of every worker's counters. Only the holder of a worker's seat can change that
-/// worker's counters.
+/// A seat knows a lower bound for each worker's counters, which is the value that it saw last. Only the holder of a
+/// worker's seat can change that worker's counters.
 #[derive(Drop)]
 pub struct BoardSeat {
     pub(crate) place: Place,
@@ -27,7 +27,7 @@ pub struct BoardSeat {
     ghost held: { works ≡ true → number < length place.me.0.reads },
 }
 
-/// Creates a seat that has seen no counter.
+/// Creates a seat that has loaded no counter yet.
 pub(crate) fn seat_of(place: Place, works: bool, number: usize, workers: usize) -> BoardSeat
     requires empty { place.me.1 ≡ [] }
     requires fresh { IsFresh workers works number place.me.0 }

@@ -11,7 +11,7 @@ use std::alloc::Global;
 /// The counters of a board, two for each worker, with their rule.
 pub(crate) type BoardTable = Table<(), SeatView, u64, BoardRule, Global>;
 
-/// Access to the counters, with a seat's facts about them.
+/// Access to the counters of a board, with a seat's facts about these counters.
 pub(crate) type Place = Seat<(), SeatView>;
 
 /// Loads the read counter of worker `i`.
@@ -82,7 +82,7 @@ pub(crate) fn add_to_settled(
         .fetch_add::<AddsSettled>(place, workers + number, n);
 }
 
-/// Splits a worker's seat off the seat that creates seats.
+/// Creates a worker's seat from the seat that creates other seats.
 pub(crate) fn hire(table: &BoardTable, dealer: &mut Place, workers: usize) -> Place
     requires board { (table.now.shared.key ≡ workers) × (table.now.shared.table_id.words ≡ workers + workers) }
     requires dealer { (dealer.old.table_id ≡ table.now.shared.table_id) × (dealer.old.me.1 ≡ [])
@@ -93,7 +93,7 @@ pub(crate) fn hire(table: &BoardTable, dealer: &mut Place, workers: usize) -> Pl
     table.shared.split_seat::<ToWorker>(dealer)
 }
 
-/// Splits a viewer's seat off the seat that creates seats.
+/// Creates a viewer's seat from the seat that creates other seats.
 pub(crate) fn admit(table: &BoardTable, dealer: &mut Place, workers: usize) -> Place
     requires board { (table.now.shared.key ≡ workers) × (table.now.shared.table_id.words ≡ workers + workers)
         × (0 < workers) }

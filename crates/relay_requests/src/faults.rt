@@ -25,7 +25,7 @@ pub(crate) fn fault_name(fault: &Fault) -> &'static str
     }
 }
 
-/// Returns the description of the error of a `_bulk_docs` row, or of a missing row.
+/// Returns the description of a `_bulk_docs` row's error. If there is no row, the description says this.
 fn row_error_text(alloc: Global, error: &Option<(String, String)>) -> Result<String, AllocError>
     ensures { IfOk result (λ s. string_bytes s
         ≡ row_error_text (option_map (λ e. (string_bytes e.0, string_bytes e.1)) error.now)) }
@@ -55,7 +55,7 @@ fn missing_text(
     )
 }
 
-/// Returns the description of the fault that leaves are missing on the target.
+/// Returns the description of the fault `Unaccounted`, which says that leaves are missing on the target.
 fn unaccounted_text(alloc: Global, leaf: &Unaccounted) -> Result<String, AllocError>
     ensures { IfOk result (λ s. string_bytes s ≡ fault_text (fault_view (Fault.Unaccounted leaf.now))) }
 {

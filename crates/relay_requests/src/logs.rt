@@ -76,7 +76,7 @@ fn put_rev(writer: &mut Writer, rev: &Option<String>) -> Result<(), AllocError>
     }
 }
 
-/// Writes a log's members for the session, the recorded sequence, and the version of the format.
+/// Writes the members of a log for its session id, its recorded sequence, and its format version.
 pub(crate) fn put_position(
     writer: &mut Writer,
     session_id: &str,
@@ -125,21 +125,21 @@ fn log_head(
     Ok(writer.into_inner())
 }
 
-/// A session id, with a sequence that the session has recorded.
+/// A session id, and a sequence that the session has recorded.
 #[derive(Clone, Copy, Drop)]
 pub(crate) struct Recorded<'a> {
     pub(crate) session_id: &'a str,
     pub(crate) seq: &'a str,
 }
 
-/// Returns the number of kept entries that belong to a session.
+/// Returns the number of entries of a session among the entries that a log keeps.
 fn count_of_session(kept: &[Recorded<'_>], session_id: &str) -> usize
     ensures { result ≡ count_by (is_of_session session_id.now) (kept_view kept.now) }
 {
     kept.iter().filter(|r| r.session_id == session_id).count()
 }
 
-/// Whether one of the kept entries has the given session and recorded sequence.
+/// Whether one of the entries that a log keeps has the given session id and recorded sequence.
 fn has_entry(kept: &[Recorded<'_>], session_id: &str, seq: &str) -> bool
     ensures { result ≡ list_any (λ r. is_recorded session_id.now seq.now (recorded_view r)) kept.now }
 {
@@ -147,28 +147,28 @@ fn has_entry(kept: &[Recorded<'_>], session_id: &str, seq: &str) -> bool
         .any(|r| r.session_id == session_id && r.seq == seq)
 }
 
-/// Whether the kept entries say that a session has recorded a sequence.
+/// Whether the entries that a log keeps say that a session has recorded a sequence.
 fn is_recorded(kept: &[Recorded<'_>], session_id: &str, seq: &str) -> bool
     ensures { result ≡ list_any (is_recorded session_id.now seq.now) (kept_view kept.now) }
 {
     has_entry(kept, session_id, seq)
 }
 
-/// Whether a log may keep one more entry (the maximum is 50).
+/// Whether a log may keep one more entry (a log keeps at most 50 entries).
 fn has_space(kept: &[Recorded<'_>]) -> bool
     ensures { result ≡ nat_lt (length (kept_view kept.now)) 50 }
 {
     kept.len() < 50
 }
 
-/// Whether a log may keep one more entry of a session (the maximum is 2).
+/// Whether a log may keep one more entry of a session (a log keeps at most 2 entries of a session).
 fn has_space_for(kept: &[Recorded<'_>], session_id: &str) -> bool
     ensures { result ≡ nat_lt (count_by (is_of_session session_id.now) (kept_view kept.now)) 2 }
 {
     count_of_session(kept, session_id) < 2
 }
 
-/// Whether a log that already keeps the given entries also keeps an older entry.
+/// Whether a log that keeps the given entries also keeps a given older entry.
 fn may_keep(kept: &[Recorded<'_>], entry: &LogEntry) -> bool
     ensures { result ≡ may_keep (kept_view kept.now) (entry_view entry.now) }
 {

@@ -1,4 +1,4 @@
-//! The notices of a run, and the report at its end.
+//! The notices of a run, and the report at the end of the run.
 ghost use Rattle.std.specs.Prelude.{◌≡◌, ◌++◌, IfOk, OnOk, option_map, string_bytes};
 ghost use Rattle.json.specs.Print.{print};
 ghost use Rattle.relay_core.specs.Views.{fault_view, notice_view};
@@ -91,7 +91,7 @@ pub(crate) fn exit_status(fault: Option<&Fault>, counts: &Counts) -> &'static st
     }
 }
 
-/// Writes the member `ok` of a run's report, and the members for the fault if there is one.
+/// Writes the member `ok` of a run's report. If the run failed, the call also writes the members for the fault.
 fn put_ok(alloc: Global, writer: &mut Writer, fault: Option<&Fault>) -> Result<(), AllocError>
     ensures before { OnOk result (writer.new.before ≡ writer.old.before) }
     ensures tokens { OnOk result (writer.new.tokens

@@ -17,11 +17,11 @@ pub struct RequestOptions {
     pub filter: String,
     /// Further parameters of the request for changes, percent-encoded by the caller.
     pub query: String,
-    /// The body of the request for changes, a selection of documents on one line.
+    /// The selection of documents, on one line, which is the body of the request for changes.
     pub choice: String,
 }
 
-/// Returns the path of both replication logs, which depends on source, target and selection.
+/// Returns the path of both replication logs, which depends on the source, the target and the selection.
 pub fn log_path(
     alloc: Global,
     source: &str,

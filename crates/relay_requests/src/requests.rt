@@ -31,7 +31,7 @@ fn encoded(alloc: Global, text: &str) -> Result<String, AllocError>
     Ok(out)
 }
 
-/// Returns the parameters of a longpoll request, or nothing without a timeout.
+/// Returns the parameters of a longpoll request, or an empty string if the request has no timeout.
 fn wait_text(alloc: Global, wait: Option<u32>) -> Result<String, AllocError>
     ensures { IfOk result (λ s. string_bytes s ≡ wait_text wait) }
 {
@@ -52,7 +52,7 @@ fn filter_text(alloc: Global, filter: &str) -> Result<String, AllocError>
     format!(in alloc; "&filter={filter}")
 }
 
-/// Returns the part of a path for the further parameters of the request for changes.
+/// Returns the part of the path that has the further parameters of the request for changes.
 fn query_text(alloc: Global, query: &str) -> Result<String, AllocError>
     ensures { IfOk result (λ s. string_bytes s ≡ query_text query.now) }
 {
@@ -105,7 +105,7 @@ fn changes_path(
     )
 }
 
-/// Returns a head and a body, each followed by a line feed.
+/// Returns the head line and the body line of a request, each followed by a line feed.
 fn two_lines(mut head: Vec<u8>, body: &[u8]) -> Result<Vec<u8>, AllocError>
     ensures { IfOk result (λ text. text.items ≡ two_lines head.items body.now) }
 {
@@ -115,7 +115,7 @@ fn two_lines(mut head: Vec<u8>, body: &[u8]) -> Result<Vec<u8>, AllocError>
     Ok(head)
 }
 
-/// Returns the head of a request that reads or stores a server's replication log.
+/// Returns the head line of a request that reads or stores a server's replication log.
 fn log_head(alloc: Global, path: &str, side: Side, method: &str) -> Result<String, AllocError>
     ensures { IfOk result (λ s. string_bytes s ≡ side_text side ++ codes " " ++ method.now ++ codes " " ++ path.now) }
 {

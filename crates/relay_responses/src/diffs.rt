@@ -16,7 +16,7 @@ use std::alloc::{AllocError, Global};
 /// The values of an object's members, by member name.
 type Members<'v, 'a> = IndexMap<&'a str, &'v Value<'a>>;
 
-/// Returns the members of an object, each name once, with the value of the last member of that name.
+/// Returns the members of an object by name. If several members have the same name, the last of them counts.
 fn last_members<'v, 'a>(
     alloc: Global,
     members: &'v Vec<(&'a str, Value<'a>)>,
@@ -30,7 +30,7 @@ fn last_members<'v, 'a>(
     Ok(found)
 }
 
-/// Returns the strings of a list, or `None` if an item is not a string.
+/// Returns the strings in a JSON list, or `None` if an item of the list is not a string.
 fn strings_of(alloc: Global, items: &Vec<Value<'_>>) -> Result<Option<Vec<String>>, AllocError>
     ensures { IfOk result (λ o. option_map (λ v. texts_of v.items) o ≡ each_item as_str (items_view items.now.items)) }
 {
@@ -44,7 +44,7 @@ fn strings_of(alloc: Global, items: &Vec<Value<'_>>) -> Result<Option<Vec<String
     Ok(Some(strings))
 }
 
-/// Returns the missing leaves of a document, or `None` if the value does not list leaves.
+/// Returns the missing leaves of a document, or `None` if the JSON value does not list leaves.
 fn missing_at(alloc: Global, id: &str, value: &Value<'_>) -> Result<Option<DocLeaves>, AllocError>
     ensures { IfOk result (λ o. option_map doc_view o ≡ missing_at (id.now, value_view value.now)) }
 {
@@ -58,7 +58,7 @@ fn missing_at(alloc: Global, id: &str, value: &Value<'_>) -> Result<Option<DocLe
     Ok(Some(DocLeaves { id, revs }))
 }
 
-/// Returns the missing leaves that the members name, or `None` if a member does not list leaves.
+/// Returns the missing leaves that an object's members name, or `None` if a member does not list leaves.
 fn each_missing(
     alloc: Global,
     members: &Members<'_, '_>,

@@ -13,7 +13,7 @@ use json::{Value, to_vec};
 use relay_core::{LogEntry, ReplicationLog};
 use std::alloc::{AllocError, Global};
 
-/// Returns the compact JSON text of a value.
+/// Returns the compact JSON text of a JSON value.
 fn json_of(alloc: Global, value: &Value<'_>) -> Result<String, AllocError>
     requires { HasNumbers (value_view value.now) }
     ensures { IfOk result (λ s. string_bytes s ≡ print (json_tokens (value_view value.now))) }
@@ -24,7 +24,8 @@ fn json_of(alloc: Global, value: &Value<'_>) -> Result<String, AllocError>
     }
 }
 
-/// Returns an entry of a log's history, or `None` if the value lacks a session id or a recorded sequence.
+/// Returns the history entry that a JSON value describes, or `None` if the value lacks a session id or a recorded
+/// sequence.
 fn entry_of(alloc: Global, value: &Value<'_>) -> Result<Option<LogEntry>, AllocError>
     requires { HasNumbers (value_view value.now) }
     ensures { IfOk result (λ o. option_map entry_view o ≡ entry_in (value_view value.now)) }

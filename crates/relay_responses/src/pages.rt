@@ -24,8 +24,8 @@ fn are_plain(bytes: &[u8]) -> bool
     bytes.iter().all(|b| *b >= 32 && *b != 127)
 }
 
-/// Returns a string, or `None` if it has an ASCII control character. A string without control characters does not break
-/// the line that contains it.
+/// Returns a string, or `None` if the string has an ASCII control character. A string without control characters can be
+/// printed in one line.
 fn plain<'a>(text: &'a str) -> Option<&'a str>
     ensures { option_map (λ s. s.now) result ≡ plain text.now }
 {
@@ -112,7 +112,7 @@ fn known_or_empty<'a>(alloc: Global, known: Option<IndexSet<&'a str>>) -> IndexS
     }
 }
 
-/// Adds the leaves of a row of changes to those of the row's document.
+/// Adds the leaves in a row of changes to the leaves of the row's document.
 fn add_row<'a>(alloc: Global, docs: &mut Docs<'a>, row: &'a DocLeaves) -> Result<(), AllocError>
     ensures { OnOk result (docs_in docs.new.entries ≡ add_row (docs_in docs.old.entries) (doc_view row.now)) }
 {
@@ -154,7 +154,7 @@ fn copied_docs(alloc: Global, docs: &Docs<'_>) -> Result<Vec<DocLeaves>, AllocEr
     Ok(copies)
 }
 
-/// Returns each document of the rows once, with the leaves of all its rows.
+/// Returns each document of the rows once, with the leaves of all rows of this document.
 fn merged(alloc: Global, rows: &[DocLeaves]) -> Result<Vec<DocLeaves>, AllocError>
     ensures { IfOk result (λ v. docs_view v.items ≡ merged (docs_view rows.now)) }
 {
@@ -165,7 +165,7 @@ fn merged(alloc: Global, rows: &[DocLeaves]) -> Result<Vec<DocLeaves>, AllocErro
     copied_docs(alloc, &docs)
 }
 
-/// Returns the number of documents after a page, if the response gives the number.
+/// Returns the number of changed documents after a page, if the response gives this number.
 fn pending_of(alloc: Global, value: &Value<'_>) -> Result<Option<Option<String>>, AllocError>
     ensures { IfOk result (λ o. option_map (option_map string_bytes) o
         ≡ pending_of (get (codes "pending") (value_view value.now))) }
@@ -190,7 +190,7 @@ fn is_zero(pending: &Option<String>) -> bool
     }
 }
 
-/// Returns the page of changes that a JSON value describes, or `None` if it is not a page.
+/// Returns the page of changes that a JSON value describes, or `None` if the value is not a page.
 pub(crate) fn page_of(alloc: Global, value: &Value<'_>) -> Result<Option<ChangesPage>, AllocError>
     ensures { IfOk result (λ o. option_map page_view o ≡ page_in (value_view value.now)) }
 {

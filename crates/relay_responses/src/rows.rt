@@ -10,7 +10,7 @@ use json::Value;
 use relay_core::RowError;
 use std::alloc::{AllocError, Global};
 
-/// Returns the reason of an error, which is empty if the response gives none.
+/// Returns the reason of an error, or an empty string if the response gives no reason.
 fn reason_of(alloc: Global, value: &Value<'_>) -> Result<String, AllocError>
     ensures { IfOk result (λ s. string_bytes s ≡ text_or_empty (text_at (codes "reason") (value_view value.now))) }
 {
@@ -20,7 +20,7 @@ fn reason_of(alloc: Global, value: &Value<'_>) -> Result<String, AllocError>
     }
 }
 
-/// Returns the error that a row reports, or `None` if the row reports none.
+/// Returns the error that a row reports, or `None` if the row reports no error.
 fn row_error_of(alloc: Global, value: &Value<'_>) -> Result<Option<RowError>, AllocError>
     ensures { IfOk result (λ o. option_map row_error_view o ≡ row_error_in (value_view value.now)) }
 {
@@ -42,7 +42,7 @@ fn row_error_of(alloc: Global, value: &Value<'_>) -> Result<Option<RowError>, Al
     }))
 }
 
-/// Returns the errors that the rows of a list report.
+/// Returns the errors that the rows of a JSON list report.
 fn errors_of(alloc: Global, items: &Vec<Value<'_>>) -> Result<Vec<RowError>, AllocError>
     ensures { IfOk result (λ v. row_errors_view v.items ≡ some_items row_error_in (items_view items.now.items)) }
 {

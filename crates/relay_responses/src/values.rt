@@ -9,7 +9,7 @@ ghost use Rattle.relay_responses.specs.Read.{text_at, items_at, digits_in, seque
 use json::Value;
 use std::alloc::{AllocError, Global};
 
-/// Returns an object's member with the given name, if it is a string.
+/// Returns an object's member with the given name, if the member is a string.
 pub(crate) fn text_at<'v, 'a>(value: &'v Value<'a>, name: &str) -> Option<&'a str>
     ensures { option_map (λ s. s.now) result ≡ text_at name.now (value_view value.now) }
 {
@@ -19,7 +19,7 @@ pub(crate) fn text_at<'v, 'a>(value: &'v Value<'a>, name: &str) -> Option<&'a st
     }
 }
 
-/// Returns the items of a JSON value, if it is a list.
+/// Returns the items of a JSON value, if the value is a list.
 pub(crate) fn items_of<'v, 'a>(value: &'v Value<'a>) -> Option<&'v Vec<Value<'a>>>
     ensures { option_map (λ v. items_view v.now.items) result ≡ as_array (value_view value.now) }
 {
@@ -29,7 +29,7 @@ pub(crate) fn items_of<'v, 'a>(value: &'v Value<'a>) -> Option<&'v Vec<Value<'a>
     }
 }
 
-/// Returns an object's member with the given name, if it is a list.
+/// Returns an object's member with the given name, if the member is a list.
 pub(crate) fn items_at<'v, 'a>(value: &'v Value<'a>, name: &str) -> Option<&'v Vec<Value<'a>>>
     ensures { option_map (λ v. items_view v.now.items) result ≡ items_at name.now (value_view value.now) }
 {
@@ -45,7 +45,7 @@ fn are_digits(bytes: &[u8]) -> bool
     bytes.iter().all(|b| b.is_ascii_digit())
 }
 
-/// Returns a number's text if it consists of digits, without sign, point and exponent.
+/// Returns the text of a number, if the text consists only of digits.
 fn digits_of<'a>(text: &'a str) -> Option<&'a str>
     ensures { option_map (λ s. s.now) result ≡ digits_in text.now }
 {
@@ -67,7 +67,7 @@ fn sequence_of<'v, 'a>(value: &'v Value<'a>) -> Option<&'a str>
     }
 }
 
-/// Returns an object's member with the given name, if it is a sequence.
+/// Returns an object's member with the given name, if the member is a sequence.
 pub(crate) fn sequence_at<'v, 'a>(value: &'v Value<'a>, name: &str) -> Option<&'a str>
     ensures { option_map (λ s. s.now) result ≡ sequence_at name.now (value_view value.now) }
 {

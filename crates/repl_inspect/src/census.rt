@@ -11,10 +11,10 @@ use couch_base::{Database, Row};
 use rev_tree::Tree;
 use std::alloc::{AllocError, Global};
 
-/// The number of feed rows that are read at once.
+/// The number of feed rows in one page that the call reads.
 const PAGE: u64 = 1000;
 
-/// The counts of a set of documents. Each count is capped at 9,007,199,254,740,991.
+/// The counts of documents, leaves and revisions in a set of documents. Each count is capped at 9,007,199,254,740,991.
 #[derive(Clone, Copy, Debug, PartialEq, Eq)]
 pub struct Census {
     /// The number of documents, including deleted ones.
@@ -59,7 +59,7 @@ impl Census {
     }
 }
 
-/// Counts the content of a database. The call reads the feed in pages.
+/// Counts the content of a database. The call reads the database's feed in pages.
 pub fn census_of(alloc: Global, database: &Database) -> Result<Census, AllocError>
     ensures { IfOk result (λ c. c ≡ census_of (trees database.now)) }
 {
@@ -74,7 +74,7 @@ pub fn census_of(alloc: Global, database: &Database) -> Result<Census, AllocErro
     Ok(census)
 }
 
-/// Adds the documents of rows to the counts.
+/// Adds the documents of feed rows to the counts.
 fn add_rows(
     alloc: Global,
     database: &Database,

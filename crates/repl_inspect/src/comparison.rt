@@ -60,16 +60,16 @@ impl Comparison {
         self.missing.as_slice()
     }
 
-    /// Returns the first revision in the ancestries of the missing leaves to which the target gives another parent.
-    /// Leaves are searched in order, and each ancestry from the newest revision on. The target would refuse the leaf
-    /// that has this revision in its ancestry.
+    /// Returns the first revision that has another parent at the target, among the ancestries of the missing leaves.
+    /// The call searches the missing leaves in order, and each leaf's ancestry from the newest revision on. The target
+    /// would refuse the leaf that has this revision in its ancestry.
     pub fn contradiction(&self) -> Option<Contradiction>
         ensures { result ≡ self.now.contradiction }
     {
         self.contradiction
     }
 
-    /// Returns the source's leaves of which both sides have different contents, winner first.
+    /// Returns the source's leaves whose contents differ at the target, winner first.
     pub fn differing(&self) -> &[Rev]
         ensures { result.now ≡ self.now.differing }
     {
@@ -97,8 +97,8 @@ pub(crate) fn compare_trees(
     })
 }
 
-/// Returns the first contradiction of the ancestries of leaves with the target's tree. The given leaves are leaves of
-/// the source.
+/// Returns the first revision in the ancestries of leaves whose parent differs in the target's tree. The given leaves
+/// are leaves of the source's document.
 fn first_under(
     alloc: Global,
     source: &Tree,
@@ -117,7 +117,7 @@ fn first_under(
     Ok(None)
 }
 
-/// Returns the revisions of which both trees have different contents.
+/// Returns the revisions whose contents differ between the two trees.
 fn differing_of(
     alloc: Global,
     source: &Tree,
@@ -135,7 +135,7 @@ fn differing_of(
     Ok(found)
 }
 
-/// Whether both trees have different contents of a revision.
+/// Whether both trees have a content of a revision, and the two contents differ.
 fn is_other(source: &Tree, target: &Tree, rev: Rev) -> bool
     ensures { result ≡ differs source.now target.now rev }
 {

@@ -7,7 +7,8 @@ use rev_core::Rev;
 use rev_tree::Tree;
 use std::alloc::{AllocError, Global};
 
-/// Returns the live leaves of a document, winner first, if it has two or more, and otherwise an empty list.
+/// Returns the live leaves of a document, winner first. If the document has fewer than two live leaves, the list is
+/// empty.
 pub fn conflicting(alloc: Global, tree: &Tree) -> Result<Vec<Rev>, AllocError>
     ensures { IfOk result (λ v. v.items ≡ conflicting tree.now) }
 {
@@ -26,7 +27,7 @@ pub(crate) fn live(alloc: Global, tree: &Tree) -> Result<Vec<Rev>, AllocError>
     live_of(alloc, tree, leaves.as_slice())
 }
 
-/// Returns the revisions that are not deleted.
+/// Returns those of the given revisions that do not delete the document.
 fn live_of(alloc: Global, tree: &Tree, revs: &[Rev]) -> Result<Vec<Rev>, AllocError>
     ensures { IfOk result (λ v. v.items ≡ filter (λ r. not (is_deleted tree.now r)) revs.now) }
 {

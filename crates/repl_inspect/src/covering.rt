@@ -1,4 +1,4 @@
-//! Compares the complete feed of a source with a target, and states what the result says about coverage.
+//! Compares the complete feed of a source with a target. The contract states what the result says about covered leaves.
 ghost use Rattle.std.specs.Prelude.{◌≡◌, IfOk};
 ghost use Rattle.std.specs.Option.{option_copied};
 ghost use Rattle.couch_base.specs.Feed.{chosen_feed};

@@ -1,4 +1,4 @@
-//! The leaves of a document, each as a document.
+//! Returns the leaves of a document, each as a document with its ancestry.
 ghost use Rattle.std.specs.Prelude.{◌≡◌, true, map, IfOk};
 ghost use Rattle.std.specs.List.{list_all};
 ghost use Rattle.rev_tree.specs.Tree.{is_leaf};
@@ -17,9 +17,8 @@ use std::alloc::{AllocError, Global};
 /// Returns the leaves of a document, winner first, each as a document with its known ancestry and its content. The list
 /// is empty if the database does not have the document.
 ///
-/// A peer without documents and sessions, with enough sequences left, accepts the documents of all rows of a feed if
-/// they are loaded in order. After all documents are loaded, each selected document of the peer is as in the original
-/// database.
+/// If the documents of all rows of a feed are loaded in order into an empty peer with enough sequences left, the peer
+/// accepts all of them. After the last load, the peer has each selected document as the original database has it.
 pub fn documents_of(alloc: Global, database: &Database, id: &DocId) -> Result<Vec<Doc>, AllocError>
     ensures documents { IfOk result (λ v. v.items ≡ documents_at database.now id.now) }
     ensures documents_load_back { LoadBack database.now }
@@ -30,7 +29,7 @@ pub fn documents_of(alloc: Global, database: &Database, id: &DocId) -> Result<Ve
     documents_at(alloc, database, id, leaves.as_slice())
 }
 
-/// Returns leaves of a document, each as a document.
+/// Returns the given leaves of a document, each as a document.
 fn documents_at(
     alloc: Global,
     database: &Database,

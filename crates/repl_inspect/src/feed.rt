@@ -14,11 +14,11 @@ use doc_json::{Chosen, DocId};
 use rev_tree::Tree;
 use std::alloc::{AllocError, Global};
 
-/// The number of feed rows that are read at once.
+/// The number of feed rows in one page that the call reads.
 const PAGE: u64 = 1000;
 
-/// Compares a document of a source with the target's document by their trees alone, without regard to replications. A
-/// missing document counts as a document without revisions.
+/// Compares the trees that a source and a target have of a document. The comparison ignores sessions and logs. If one
+/// side lacks the document, the comparison treats this side's tree as empty.
 pub fn compare(
     alloc: Global,
     source: &Database,
@@ -54,7 +54,7 @@ pub(crate) fn compare_databases(
     Ok(total)
 }
 
-/// Adds the comparisons of rows to a total.
+/// Adds the comparisons of the documents of feed rows to a total.
 fn add_rows(
     alloc: Global,
     source: &Database,

@@ -9,12 +9,12 @@ use rev_core::Rev;
 pub enum LedgerRow {
     /// The write filter refuses the document. The variant names the document's newest revision.
     Denied { rev: Rev },
-    /// The document's ancestry gives a revision another parent than the tree does. The variant names the newest
-    /// revision whose parent differs.
+    /// The ancestry of the document contradicts the tree, because a revision has another parent in the tree. The
+    /// variant names the newest revision whose parent differs.
     Contradicted { rev: Rev, known: Rev, given: Rev },
 }
 
-/// Explains a row of a ledger.
+/// Returns the reason for a row of a ledger, with the revision that caused it.
 pub fn ledger_row(refused: &Refused) -> LedgerRow
     ensures { Says refused.now result }
 {

@@ -18,7 +18,7 @@ use std::alloc::{AllocError, Global};
 /// of the selected documents.
 ///
 /// The result is `Clean` if the two peers are consistent (docs/PROFILE.md, "Tied peers"). The call reads the source's
-/// feed in place.
+/// feed without copying it.
 pub fn audit<F: WriteFilter, G: WriteFilter>(
     alloc: Global,
     source: &Peer<F>,
@@ -41,7 +41,7 @@ pub fn audit<F: WriteFilter, G: WriteFilter>(
 
 /// Returns the first leaf of the source's selected feed above a sequence that the target does not cover, or `Clean`.
 ///
-/// The call reads the source's feed in place.
+/// The call reads the source's feed without copying it.
 pub fn hole_above<F: WriteFilter, G: WriteFilter>(
     alloc: Global,
     source: &Peer<F>,
@@ -66,7 +66,7 @@ pub fn hole_above<F: WriteFilter, G: WriteFilter>(
 /// Returns the first leaf of the source's selected feed above one sequence and at or below another that the target does
 /// not cover, or `Clean`.
 ///
-/// The call reads the source's feed in place.
+/// The call reads the source's feed without copying it.
 pub fn hole_within<F: WriteFilter, G: WriteFilter>(
     alloc: Global,
     source: &Peer<F>,
@@ -89,8 +89,8 @@ pub fn hole_within<F: WriteFilter, G: WriteFilter>(
     Ok(Audit::Clean)
 }
 
-/// Returns the first leaf of a changed document that the target does not cover, or `Clean` if there is none or the
-/// document is not selected.
+/// Returns the first leaf of a changed document that the target does not cover. If all its leaves are covered or the
+/// document is not selected, the call returns `Clean`.
 fn hole_in<G: WriteFilter>(
     alloc: Global,
     target: &Peer<G>,

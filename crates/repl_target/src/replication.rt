@@ -31,7 +31,7 @@ pub const MOST_ROWS: u64 = 10_000;
 pub struct Plan {
     /// The id of the new session.
     pub session: SessionId,
-    /// The number of fetchers and the number of writers, which `replicate_alone` ignores.
+    /// The number of fetchers, which is also the number of writers. The call `replicate_alone` ignores this number.
     pub workers: u64,
     /// The maximum number of rows of a window: 1 to 10,000.
     pub batch: u64,
@@ -44,7 +44,7 @@ pub struct Plan {
 }
 
 impl Plan {
-    /// Copies the plan. The copy shares the selection.
+    /// Copies the plan. The copy of a plan shares the selection.
     pub fn copy(&self) -> Result<Plan, AllocError>
         ensures copied { IfOk result (λ plan. plan ≡ self.now) }
     {
@@ -64,16 +64,15 @@ impl Plan {
 }
 
 /// Replicates the source's documents into the target, on one thread. The replication starts at the common checkpoint of
-/// the two logs, and ends at the source's update sequence. Each window is settled before the next one is read. After
-/// all windows, the session is recorded, first at the target, then in the source's log.
+/// the two logs, and ends at the source's update sequence. The call settles each window before it reads the next
+/// window. After the last window, the call records the session, first at the target and then in the source's log.
 ///
-/// If the call succeeds, each leaf of the source's selected feed above the start is covered at the target, and the
-/// report is the session's. If the call succeeds with an initially empty target and nothing was refused, each selected
-/// document has the same revisions, parents and contents of leaves as at the source. The source's database never
-/// changes.
+/// If the call succeeds, the target covers each leaf of the source's selected feed above the start, and the report is
+/// the session's report. If the call succeeds, the target was empty, and no document was refused, each selected
+/// document has the source's revisions, parents and contents of leaves. The source's database never changes.
 ///
 /// Consistent peers (docs/PROFILE.md, "Tied peers") stay consistent for every selection and every result, so an audit
-/// after the call is clean. If the peers are consistent and the call succeeds, each leaf of the source's complete
+/// after the call finds no error. If the peers are consistent and the call succeeds, each leaf of the source's complete
 /// selected feed is covered, also below the start. A third peer that was consistent with one of the two peers stays
 /// consistent with that peer, as a source and as a target. In two of the four cases of third peers, the third peer
 /// needs a UUID of its own (`KeepsOthersTied`).
@@ -84,10 +83,11 @@ impl Plan {
 ///
 /// - `BadBatch`: the batch is not 1 to 10,000.
 /// - `SamePeer`: the two databases have the same UUID.
-/// - The error of a step. The steps before the failed step, and the failed step itself, keep their effects.
+/// - The error of a step of the replication. The steps before the failed step, and the failed step itself, keep their
+///   effects.
 /// - `Unfinished`: the plan's `stop_after` windows were read, and they end below the goal. Both sides are recorded.
 ///
-/// An entry that is older than the stored entry of the source's log is skipped without an error.
+/// If the source's log has a newer entry of the session, the call stores no entry and returns no error.
 pub fn replicate_alone<F: WriteFilter, G: WriteFilter>(
     alloc: Global,
     source: &mut Peer<F>,
@@ -179,8 +179,8 @@ pub fn check_plan(source: u128, target: u128, plan: &Plan) -> Result<(), TargetF
 }
 
 /// Begins the session of a plan, and returns its start. The session starts at the common checkpoint of the two logs,
-/// with the checkpoint's session as its base, or at 0 if the logs have no common checkpoint. The goal of the session is
-/// the source's update sequence.
+/// and has the checkpoint's session as its base. Without a common checkpoint, the session starts at 0. The goal of the
+/// session is the source's update sequence.
 ///
 /// Returns `Memory`, or an error of `Peer::begin`. An error changes nothing.
 pub fn begin_plan<F: WriteFilter, G: WriteFilter>(
@@ -246,7 +246,7 @@ fn read_windows<F: WriteFilter, G: WriteFilter>(
     Ok(())
 }
 
-/// Whether a plan allows another window after a given number of windows.
+/// Whether a plan allows one more window after a given number of windows was read.
 pub fn has_left(stop_after: Option<u64>, windows: u64) -> bool
     ensures { result ≡ has_left stop_after windows }
 {
@@ -256,8 +256,8 @@ pub fn has_left(stop_after: Option<u64>, windows: u64) -> bool
     }
 }
 
-/// Reads the window above a sequence, stores it, and settles the leaves that the target lacks. Returns the end of the
-/// window.
+/// Reads the window above a sequence, stores the window at the target, and settles the leaves that the target lacks.
+/// Returns the end of the window.
 fn carry_window<F: WriteFilter, G: WriteFilter>(
     alloc: Global,
     source: &Peer<F>,
@@ -288,7 +288,8 @@ fn carry_window<F: WriteFilter, G: WriteFilter>(
     Ok(hi)
 }
 
-/// Records the session at the target, then in the source's log. Returns the result of concluding the session.
+/// Records the session of a plan at the target, and stores the session's entry in the source's log. Returns the result
+/// of concluding the session.
 fn close<F: WriteFilter, G: WriteFilter>(
     source: &mut Peer<F>,
     target: &mut Peer<G>,
@@ -306,7 +307,7 @@ fn close<F: WriteFilter, G: WriteFilter>(
     concluded
 }
 
-/// Concludes the session of a plan, or records it if it cannot be concluded.
+/// Concludes the session of a plan. If concluding fails, the call records the session.
 fn record_at_target<G: WriteFilter>(
     target: &mut Peer<G>,
     plan: &Plan,
@@ -325,8 +326,8 @@ fn record_at_target<G: WriteFilter>(
     }
 }
 
-/// Stores the entry of a plan's session, which the target has, in the source's log. The call skips an entry that is
-/// older than the stored entry.
+/// Stores the entry of a plan's session, which the target has, in the source's log. If the source's log has a newer
+/// entry of the session, the call stores nothing.
 ///
 /// An error changes nothing.
 pub fn record_at_source<F: WriteFilter, G: WriteFilter>(

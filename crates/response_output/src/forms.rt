@@ -1,4 +1,4 @@
-//! The text that each output format has around documents, ids and revisions.
+//! The text that each output format writes around documents, ids and revisions.
 ghost use Rattle.std.specs.Prelude.{◌≡◌};
 ghost use Rattle.response_output.specs.Forms.{opening as opening_of, separator as separator_of, ends as ends_of, closing as closing_of, empty as empty_of, before_rev as before_rev_of, has_lists as has_lists_of};
 
@@ -7,13 +7,13 @@ ghost use Rattle.response_output.specs.Forms.{opening as opening_of, separator a
 pub enum Form {
     /// `load` lines of a script, one for each document.
     Loads,
-    /// Bodies of `_bulk_get` requests, which request leaves.
+    /// The bodies of `_bulk_get` requests, each of which requests leaves.
     Asked,
-    /// Bodies of `_revs_diff` requests, which request the missing revisions.
+    /// The bodies of `_revs_diff` requests, which ask a server for missing revisions.
     Diffs,
     /// `doc` lines of a script, one for each revision.
     Docs,
-    /// Bodies of `_bulk_docs` requests, which store documents.
+    /// The bodies of `_bulk_docs` requests, which store documents.
     Bodies,
 }
 
@@ -82,7 +82,7 @@ pub(crate) fn before_rev(form: Form) -> &'static [u8]
     }
 }
 
-/// Whether the revisions of a document are written as one list.
+/// Whether the output format writes the revisions of a document as one list.
 pub(crate) fn has_lists(form: Form) -> bool
     ensures { result ≡ has_lists_of form }
 {

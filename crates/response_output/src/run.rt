@@ -27,10 +27,11 @@ use thiserror::Error;
 /// Why reading stopped early.
 #[derive(Debug, Drop, Error)]
 pub enum AnswerFault {
-    /// The parser rejected the input. `at` is the number of bytes read, including the rejected byte.
+    /// The parser rejected the input. The field `at` is the number of bytes that the parser read, including the
+    /// rejected byte.
     #[error("refused: {why} at byte {at}")]
     Refused { why: Refusal, at: u64 },
-    /// A device or an allocation failed.
+    /// The reader, the writer or an allocation failed.
     #[error("{fault}")]
     Device { fault: ScriptFault },
 }
@@ -53,7 +54,7 @@ impl From<AllocError> for AnswerFault {
     }
 }
 
-/// Writes the item that the last byte completed.
+/// Writes the item that the last byte of the response completed.
 fn tell<W: ScriptWrite>(
     reading: &Reading,
     wording: &mut Wording,
@@ -102,7 +103,7 @@ fn feed<W: ScriptWrite>(
     Ok(())
 }
 
-/// Returns the result of a run whose input has ended.
+/// Returns the result of a run after the end of the input.
 fn ended(reading: &Reading) -> Result<u64, AnswerFault>
     ensures { result ≡ ended_of (state_of reading.now) }
 {
@@ -115,7 +116,7 @@ fn ended(reading: &Reading) -> Result<u64, AnswerFault>
     }
 }
 
-/// Reads a line feed if the input's last line has no line end.
+/// If the input's last line has no line end, passes a line feed to the parser.
 fn feed_rest<W: ScriptWrite>(
     reading: &mut Reading,
     wording: &mut Wording,
@@ -153,7 +154,7 @@ fn end<W: ScriptWrite>(
     }
 }
 
-/// Handles the end of the input, and closes the output.
+/// Handles the end of the input, and writes the text that closes the output.
 fn finish<W: ScriptWrite>(
     reading: &mut Reading,
     wording: &mut Wording,
@@ -213,14 +214,14 @@ fn run_chunks<R: ScriptRead, W: ScriptWrite>(
 }
 
 /// Reads responses to the end of the input with a new parser, and writes each item as soon as it is complete. Returns
-/// the number of objects that were skipped because they have no document.
+/// the number of objects that the parser skipped because they have no document.
 ///
 /// # Errors
 ///
-/// - `Refused` if the input is not a response. The items before the rejected byte have been written.
-/// - `Device` if a device or an allocation failed. The device's fault is `Read` if the reader failed in this call, or
-///   after 4,294,967,295 reads of at most 65,536 bytes. The fault is `Write` if the writer failed in this call, and
-///   `Memory` if an allocation failed.
+/// - `Refused` if the input is not a response. All items before the rejected byte have been written.
+/// - `Device` if the reader, the writer or an allocation failed. The fault in `Device` is `Read` if the reader failed
+///   in this call, or after 4,294,967,295 reads of at most 65,536 bytes. The fault in `Device` is `Write` if the writer
+///   failed in this call, and `Memory` if an allocation failed.
 pub fn run_answers<R: ScriptRead, W: ScriptWrite>(
     alloc: Global,
     reading: &mut Reading,
@@ -237,8 +238,9 @@ pub fn run_answers<R: ScriptRead, W: ScriptWrite>(
         → IsAnswered reading.old.wanted text held → ReadsAnswers (words_of_wording wording.old) held
         (W.held writer.old) (W.held writer.new) result }
 
-    // If the caller requests only documents, the call writes the documents in the output of a script. If the caller
-    // requests changes, the call writes the changes in the output of a script.
+    // If the input is the output of a script and the caller requests only documents, the call writes the documents of
+    // the script's output. If the input is the output of a script and the caller requests changes, the call writes the
+    // changes in the script's output.
     ensures script { (text : List ℕ) → (held : List Piece) → wants_documents reading.old.wanted ≡ true
         → is_strict reading.old.wanted ≡ true → R.left reader.old ≡ Some text
         → IsScript reading.old.wanted text held → ReadsAnswers (words_of_wording wording.old) held
@@ -258,8 +260,8 @@ pub fn run_answers<R: ScriptRead, W: ScriptWrite>(
     ensures ok { IfOk result (λ passed. Answered reading.old.wanted (words_of_wording wording.old)
         (R.left reader.old) (W.held writer.old) (W.held writer.new) passed) }
     ensures end { OnOk result (IsAtEnd (R.left reader.new)) }
-    // The clauses `ok` and `fault` hold also for the bytes that the reads returned. On success the reads returned the
-    // complete input.
+    // The clauses `ok` and `fault` describe the output by the bytes that the reads returned. If the call succeeds, the
+    // reads returned the complete input.
     ensures took { (input : List ℕ) × Appends (R.taken reader.old) (R.taken reader.new) input
         × Converts result reading.old.wanted (words_of_wording wording.old) (Some input) (W.held writer.old)
         (W.held writer.new) }

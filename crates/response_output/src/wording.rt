@@ -10,11 +10,11 @@ use doc_envelope::id_of;
 use response_parser::Found;
 use std::alloc::{AllocError, Global};
 
-/// The state of a formatter of documents, ids and revisions.
+/// A formatter of documents, ids and revisions, and its state.
 #[derive(Drop)]
 pub struct Wording {
     form: Form,
-    /// The text that the formatter writes before each item.
+    /// The text that the formatter writes before each item of the output.
     begins: Vec<u8>,
     /// The last id.
     id: Vec<u8>,
@@ -31,7 +31,8 @@ pub struct Wording {
 }
 
 impl Wording {
-    /// Creates a formatter of `load` lines, one for each document. The name of the database is copied unchanged.
+    /// Creates a formatter of `load` lines, one for each document. The formatter writes the name of the database
+    /// unchanged.
     pub fn loads(alloc: Global, db: &str) -> Result<Wording, AllocError>
         ensures { IfOk result (λ wording. words_of_wording wording ≡ loads_of db.now) }
     {
@@ -44,8 +45,8 @@ impl Wording {
         Ok(made(alloc, Form::Loads, begins, 0))
     }
 
-    /// Creates a formatter of `_bulk_get` bodies, which request `size` revisions per body, or all revisions in one body
-    /// if `size` is 0.
+    /// Creates a formatter of `_bulk_get` bodies. Each body requests at most `size` revisions. If `size` is 0, one body
+    /// requests all revisions.
     pub fn asked(alloc: Global, size: u64) -> Result<Wording, AllocError>
         ensures { IfOk result (λ wording. words_of_wording wording ≡ asked_of size) }
     {
@@ -53,15 +54,16 @@ impl Wording {
         Ok(made(alloc, Form::Asked, begins, size))
     }
 
-    /// Creates a formatter of `_revs_diff` bodies of `size` documents, or of one body with all documents if `size` is
-    /// 0.
+    /// Creates a formatter of `_revs_diff` bodies. Each body has at most `size` documents. If `size` is 0, one body has
+    /// all documents.
     pub fn diffs(alloc: Global, size: u64) -> Wording
         ensures { words_of_wording result ≡ diffs_of size }
     {
         made(alloc, Form::Diffs, Vec::new(alloc), size)
     }
 
-    /// Creates a formatter of `doc` lines, one for each revision. The name of the database is copied unchanged.
+    /// Creates a formatter of `doc` lines, one for each revision. The formatter writes the name of the database
+    /// unchanged.
     pub fn docs(alloc: Global, db: &str) -> Result<Wording, AllocError>
         ensures { IfOk result (λ wording. words_of_wording wording ≡ docs_of db.now) }
     {
@@ -74,8 +76,8 @@ impl Wording {
         Ok(made(alloc, Form::Docs, begins, 0))
     }
 
-    /// Creates a formatter of `_bulk_docs` bodies of `size` documents, or of one body with all documents if `size` is
-    /// 0.
+    /// Creates a formatter of `_bulk_docs` bodies. Each body has at most `size` documents. If `size` is 0, one body has
+    /// all documents.
     pub fn bodies(alloc: Global, size: u64) -> Wording
         ensures { words_of_wording result ≡ bodies_of size }
     {
@@ -84,7 +86,7 @@ impl Wording {
 
     /// Formats an item.
     ///
-    /// After a failed allocation the formatter must not be used further.
+    /// After a failed allocation, the caller must not use the formatter again.
     pub fn put(&mut self, found: Found, text: &[u8]) -> Result<(), AllocError>
         ensures text { OnOk result (made_of self.new ≡ text_for (words_of_wording self.old) found text.now) }
         ensures words { OnOk result
@@ -162,7 +164,7 @@ impl Wording {
         self.put_first(rev)
     }
 
-    /// Formats the first of a document's requested revisions.
+    /// Formats the first requested revision of a document.
     fn put_first(&mut self, rev: &[u8]) -> Result<(), AllocError>
         requires { made_of self.old ≡ [] }
         ensures text { OnOk result (made_of self.new ≡ first_rev_text (words_of_wording self.old) rev.now) }
@@ -237,7 +239,7 @@ impl Wording {
         Ok(())
     }
 
-    /// Whether one more item fills the request body, which is then closed.
+    /// Whether one more item fills the request body, after which the formatter closes the body.
     fn is_full(&self) -> bool
         ensures { result ≡ is_full (words_of_wording self.now) }
     {
@@ -254,7 +256,7 @@ impl Wording {
     }
 }
 
-/// Creates a formatter that has written nothing.
+/// Creates a formatter that has formatted no item.
 fn made(alloc: Global, form: Form, begins: Vec<u8>, size: u64) -> Wording
     ensures { words_of_wording result ≡ words_of form begins.items size }
 {
@@ -270,7 +272,7 @@ fn made(alloc: Global, form: Form, begins: Vec<u8>, size: u64) -> Wording
     }
 }
 
-/// Returns a count increased by one, or 2^64 - 1 if the count has that maximum.
+/// Returns a count plus one, or 2^64 - 1 if the count is already 2^64 - 1.
 fn more(count: u64) -> u64
     ensures { result ≡ more count }
 {

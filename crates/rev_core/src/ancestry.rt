@@ -7,10 +7,9 @@ use crate::sig::Sig;
 use std::alloc::{AllocError, Global};
 use std::marker::Model;
 
-/// A revision and its known ancestors, newest first: at least one revision, and each is one generation below the
-/// previous.
+/// A revision and its known ancestors, newest first. Each ancestor is one generation below the revision before it.
 ///
-/// An ancestry may end above generation 1 if the older ancestors are not known.
+/// The oldest revision of an ancestry may be above generation 1, because older ancestors may be unknown.
 #[derive(Debug, Drop)]
 pub struct Ancestry {
     revs: Vec<Rev>,
@@ -60,7 +59,7 @@ impl Ancestry {
         Ok(Ancestry { revs })
     }
 
-    /// Wraps a list of revisions that is known to be an ancestry.
+    /// Wraps a list of revisions that the caller knows to be an ancestry.
     pub fn from_revs(revs: Vec<Rev>) -> Ancestry
         requires { IsAncestry revs.items }
         ensures { result ≡ revs.items }
@@ -68,7 +67,7 @@ impl Ancestry {
         Ancestry { revs }
     }
 
-    /// Returns the revisions, newest first.
+    /// Returns the revisions of the ancestry, newest first.
     pub fn revs(&self) -> &[Rev]
         ensures all { result.now ≡ self.now }
         ensures ancestry { IsAncestry self.now }

@@ -6,7 +6,7 @@ ghost use Rattle.rev_core.specs.declared.fault.RevFault.TheVariants.{Memory};
 use std::alloc::{AllocError, AllocFailed};
 use thiserror::Error;
 
-/// The reason why a string or a list was rejected, or that an allocation failed.
+/// The reason why a call rejected a string or a list, or the failure of an allocation.
 #[derive(Clone, Copy, Debug, PartialEq, Eq, Error)]
 pub enum RevFault {
     /// The string has no `-`, or the part before the first `-` is not a generation.
@@ -21,7 +21,7 @@ pub enum RevFault {
     /// The number of signatures exceeds the newest generation, so a generation would be below 1.
     #[error("more revisions than generations")]
     StartTooSmall,
-    /// The parent has the greatest possible generation, 4,294,967,295.
+    /// The parent of a new revision has the greatest possible generation, 4,294,967,295.
     #[error("no generation after 4294967295")]
     GenerationFull,
     /// An allocation failed.

@@ -8,10 +8,11 @@ use crate::short_sig::ShortSig;
 use std::alloc::{AllocError, Global};
 use std::marker::Model;
 
-/// A revision in 24 bytes instead of the 72 of a `Rev`, for lists of many revisions.
+/// A compact revision, which takes 24 bytes instead of the 72 bytes of a `Rev`, for lists of many revisions.
 ///
-/// A revision with a short signature is stored in the value itself, and any other revision in a heap block. A signature
-/// is short if it is the 32 lower-case hexadecimal digits of a digest, as most signatures are, or has at most 16 bytes.
+/// The value itself stores a revision with a short signature. A revision with another signature is stored in a heap
+/// block. A signature is short if it is the 32 lower-case hexadecimal digits of a digest, as most signatures are, or
+/// has at most 16 bytes.
 #[derive(Debug)]
 pub struct KeptRev {
     form: Form,
@@ -24,7 +25,7 @@ impl Drop for KeptRev {
     }
 }
 
-/// The two forms in which a revision is stored.
+/// The two forms in which a compact revision is stored.
 #[derive(Debug, Drop)]
 enum Form {
     Short {
@@ -61,7 +62,7 @@ impl KeptRev {
     }
 
     /// Converts a revision with a short signature, without allocating. Returns `None` if the signature is not short.
-    // The function is not inlined, because an edit would take more instructions with the inlined function.
+    // The function is not inlined, because inlining it makes an edit slower.
     #[inline(never)]
     pub fn short(rev: &Rev) -> Option<KeptRev>
         ensures { result ≡ short_of rev.now }
@@ -78,7 +79,7 @@ impl KeptRev {
         })
     }
 
-    /// Stores the revision in a heap block.
+    /// Stores a revision in a heap block.
     fn long(alloc: Global, rev: &Rev) -> Result<KeptRev, AllocError>
         ensures { IfOk result (λ k. k ≡ rev.now) }
     {

@@ -11,8 +11,8 @@ use crate::sig::Sig;
 use md5::{Digest, Md5};
 use std::alloc::{AllocError, Global};
 
-/// Computes the revision id of a local edit. The id has the generation after the parent's, and a digest of the parent,
-/// the deleted flag and the body's serialized form.
+/// Computes the revision id of a local edit. The new generation is one above the parent's generation. The signature is
+/// a digest of the parent, the deleted flag and the serialized body.
 ///
 /// # Errors
 ///

@@ -49,12 +49,12 @@ impl Rev {
         Rev { generation, sig }
     }
 
-    /// Parses a revision id. The call splits the string at its first `-`. For a revision, `parse` accepts only the
-    /// string that `write` returns.
+    /// Parses a revision id. The call splits the string at its first `-`. The only string that `parse` converts to a
+    /// given revision is the string that `write` returns for it.
     ///
     /// # Errors
     ///
-    /// - `BadGeneration`: there is no `-`, or the part before it is not a generation.
+    /// - `BadGeneration`: the string has no `-`, or the part before the first `-` is not a generation.
     /// - `BadSig`: the part after the `-` is not a signature.
     pub fn parse(text: &[u8]) -> Result<Rev, RevFault>
         ensures read { result ≡ rev_read text.now }
@@ -170,7 +170,7 @@ impl Hash for Rev {
     }
 }
 
-/// Returns the index of the first `-`.
+/// Returns the index of the first `-` in a string.
 fn first_dash(text: &[u8]) -> Option<usize>
     ensures { result ≡ position is_dash text.now }
 {

@@ -6,14 +6,14 @@ ghost use Rattle.rev_core.specs.ShortSig.{bytes_in, digit_of, digits_of, is_hex_
 
 use crate::sig::Sig;
 
-/// The number of digits of a digest.
+/// The number of hexadecimal digits of an MD5 digest.
 const DIGITS: usize = 32;
 
 /// The number of bytes in two 64-bit integers.
 const ROOM: usize = 16;
 
 /// A short signature, packed into two little-endian integers of eight bytes. `len` is the number of bytes of the
-/// signature. A `len` of 0 means that the signature is the 32 hexadecimal digits of the 16 bytes.
+/// signature. If `len` is 0, the signature is the 32 hexadecimal digits of the 16 packed bytes.
 #[derive(Clone, Copy)]
 pub(crate) struct ShortSig {
     pub(crate) len: u8,
@@ -22,7 +22,7 @@ pub(crate) struct ShortSig {
 }
 
 impl ShortSig {
-    /// Packs a signature, or returns `None` if it is not short.
+    /// Packs a signature, or returns `None` if the signature is not short.
     pub(crate) fn of(sig: &Sig) -> Option<ShortSig>
         ensures text { IfSome result (λ s. text_in s.len s.front s.back ≡ sig.now) }
         ensures short { is_some result ≡ is_short sig.now }
@@ -41,7 +41,7 @@ impl ShortSig {
         Some(ShortSig::new(text.len() as u8, &sig.front()))
     }
 
-    /// Packs sixteen bytes with a length.
+    /// Packs sixteen bytes and the length of a signature.
     fn new(len: u8, bytes: &[u8; ROOM]) -> ShortSig
         ensures len { result.len ≡ len }
         ensures bytes { bytes_in result.front result.back ≡ bytes.now }
@@ -93,8 +93,8 @@ fn is_hex_digit(b: u8) -> bool
     (b >= b'0') & (b <= b'9') | (b >= b'a') & (b <= b'f')
 }
 
-/// Whether each byte is a hexadecimal digit, and the 16 bytes that the digits encode. The first half of the string has
-/// the high digits of all bytes, and the second half the low digits.
+/// Returns whether each of 32 bytes is a hexadecimal digit, and the 16 bytes that these digits encode. The first half
+/// of the string has the high digits of all packed bytes, and the second half has the low digits.
 fn joined(text: &[u8]) -> ([u8; ROOM], bool)
     requires { length text.now ≡ 32 }
     ensures all { result.1 ≡ list_all is_hex_digit text.now }
@@ -111,7 +111,8 @@ fn joined(text: &[u8]) -> ([u8; ROOM], bool)
     (bytes, all)
 }
 
-/// Returns the value of a hexadecimal digit. For any other byte the value is unspecified, but below 16.
+/// Returns the value of a hexadecimal digit. If the byte is not a digit, the returned value is unspecified, but below
+/// 16.
 fn value_of(digit: u8) -> u8
     ensures low { result < 16 }
     ensures digit { is_hex_digit digit ≡ true → digit_of result ≡ digit }
@@ -123,7 +124,8 @@ fn value_of(digit: u8) -> u8
     }
 }
 
-/// Formats bytes as hexadecimal digits. The high digits of all bytes come first, and then the low digits.
+/// Formats packed bytes as hexadecimal digits. The result has the high digits of all bytes first, and then the low
+/// digits.
 fn digits_of(bytes: &[u8; ROOM]) -> [u8; DIGITS]
     ensures { result ≡ digits_of bytes.now }
 {
@@ -138,7 +140,7 @@ fn digits_of(bytes: &[u8; ROOM]) -> [u8; DIGITS]
     text
 }
 
-/// Returns the hexadecimal digit of a value.
+/// Returns the hexadecimal digit of a value below 16.
 fn digit_of(value: u8) -> u8
     requires { value < 16 }
     ensures { result ≡ digit_of value }

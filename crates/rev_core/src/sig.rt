@@ -69,7 +69,7 @@ impl Sig {
         &self.bytes[..self.len as usize]
     }
 
-    /// Returns the first sixteen bytes of the signature, with zeros after a shorter signature.
+    /// Returns the first sixteen bytes of the signature, with zeros after the end of a shorter signature.
     pub(crate) fn front(&self) -> [u8; 16]
         ensures { result ≡ take 16 (padded self.now) }
     {
@@ -147,7 +147,7 @@ fn all_sig_bytes(text: &[u8]) -> bool
     ensures { result ≡ list_all is_sig_byte text.now }
 {
     let mut all = true;
-    // Without an early exit, the compiler can process many bytes per instruction.
+    // The loop has no early exit, so that the compiler can process many bytes per instruction.
     for b in text {
         all = is_sig_byte(*b) & all;
     }
@@ -161,14 +161,14 @@ fn is_sig_byte(b: u8) -> bool
     b.is_ascii_alphanumeric() || b == b'-' || b == b'_' || b == b'.'
 }
 
-/// Returns the string with zeros after it, 64 bytes in all.
+/// Returns 64 bytes, which are the bytes of the string followed by zeros.
 fn padded(text: &[u8]) -> [u8; 64]
     requires { length text.now ≤ 64 }
     ensures { result ≡ padded text.now }
 {
     let mut bytes = [0; 64];
     if text.len() == 32 {
-        // Most signatures are the digits of a digest, and a copy of a known length needs no call.
+        // Most signatures are the 32 digits of a digest, for which the compiler can inline a copy of fixed length.
         bytes[..32].copy_from_slice(text);
     } else {
         bytes[..text.len()].copy_from_slice(text);

@@ -20,13 +20,13 @@ pub struct Synced {
     pub back: Report,
 }
 
-/// The replication that failed, of the two replications in both directions, and why it failed.
+/// The replication that failed (forward or reverse), and the reason why it failed.
 #[derive(Debug, Drop, Error)]
 pub enum SyncFault {
-    /// The replication from the first peer into the second failed. The reverse replication was not begun.
+    /// The replication from the first peer into the second failed. In this case the reverse replication did not begin.
     #[error("there: {0}")]
     There(TargetFault),
-    /// The replication from the second peer into the first failed. The forward replication had succeeded.
+    /// The replication from the second peer into the first failed. In this case the forward replication succeeded.
     #[error("back: {0}")]
     Back(TargetFault),
 }
@@ -35,13 +35,13 @@ pub enum SyncFault {
 /// direction is a `replicate_alone` with a plan of its own.
 ///
 /// Suppose that the peers are consistent in both directions (docs/PROFILE.md, "Tied peers"), and that the call
-/// succeeds. For each document that both plans select and neither side has refused, each side has every leaf of the
-/// other side after the call. If the document's two trees agreed before the call and had complete histories, both sides
+/// succeeds. After the call, each side has every leaf that the other side has of a document that both plans select and
+/// neither side has refused. If the document's two trees agreed before the call and had complete histories, both sides
 /// have the same revisions, parents, contents of leaves and winner. Two trees agree if no revision has two parents or
-/// two contents. After the call, the trees of the document agree again and have complete histories.
+/// two contents. After the call, the document's two trees still agree and have complete histories.
 ///
-/// Consistent peers stay consistent in both directions, whatever the result. Each of the two peers also stays
-/// consistent with every third peer that it was consistent with, if the third peer has a UUID of its own.
+/// If the peers are consistent in both directions, they stay so for every result of the call. Each of the two peers
+/// also stays consistent with every third peer that it was consistent with, if the third peer has a UUID of its own.
 pub fn sync_alone<F: WriteFilter, G: WriteFilter>(
     alloc: Global,
     a: &mut Peer<F>,
