@@ -1,5 +1,5 @@
-//! Calls on a network. After a failed allocation, no peer was added, no document was written, and audits find no error.
-//! If hops fail, repeating them with other session ids has the same result as hops that do not fail.
+//! Calls on a network. After a failed allocation, no peer was added, no document was written, and audits find no
+//! uncovered leaf. If hops fail, repeating them with other session ids has the same result as hops that do not fail.
 use crate::peers::{body, doc, doc_id};
 use crate::replications::{is_memory, is_nothing, plan};
 use anyhow::{Result, bail};
@@ -82,7 +82,7 @@ fn is_clean(alloc: Global, net: &Net<Rules>, source: usize, target: usize) -> bo
     }
 }
 
-/// Whether no audit between two peers finds an error.
+/// Whether no audit between two peers finds an uncovered leaf.
 fn are_clean(alloc: Global, net: &Net<Rules>) -> bool {
     let mut clean = true;
     for source in 0..PEERS {
@@ -197,7 +197,7 @@ fn sequences(net: &Net<Rules>) -> Option<u64> {
 }
 
 /// Writes and replicates in a network of three peers. Returns the sum of the peers' update sequences, and whether no
-/// audit finds an error.
+/// audit finds an uncovered leaf.
 fn ended(alloc: Global, net: &mut Net<Rules>) -> Option<(u64, bool)> {
     let Ok(at) = Moment::new(10) else {
         return None;

@@ -1,6 +1,6 @@
 //! Calls the pool's `run` with one worker on the caller's thread, and with two fetchers and two writers on threads of
-//! their own. After a failed allocation, the run returns both peers, an audit finds no error, and another run reaches
-//! the goal.
+//! their own. After a failed allocation, the run returns both peers, an audit finds no uncovered leaf, and another run
+//! reaches the goal.
 use crate::peers::load;
 use crate::replications::{is_clean, is_memory, plan};
 use anyhow::{Result, bail};
@@ -108,7 +108,8 @@ fn fill(alloc: Global, source: &mut Peer<Rules>) -> Option<()> {
     Some(())
 }
 
-/// Returns the recorded sequence of the last run, the target's update sequence, and whether an audit finds no error.
+/// Returns the recorded sequence of the last run, the target's update sequence, and whether an audit finds no uncovered
+/// leaf.
 fn ended<G: Gate + Sync, R: Threads + Wait + Sync>(
     rt: &R,
     alloc: Global,

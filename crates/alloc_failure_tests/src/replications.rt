@@ -1,4 +1,5 @@
-//! `replicate_alone`. After a failed allocation, an audit finds no error, and another replication reaches the goal.
+//! `replicate_alone`. After a failed allocation, an audit finds no uncovered leaf, and another replication reaches the
+//! goal.
 use crate::peers::load;
 use anyhow::{Result, bail};
 use repl_log::Moment;
@@ -79,7 +80,7 @@ fn fill(alloc: Global, source: &mut Peer<Rules>) -> Option<()> {
 }
 
 /// Returns the recorded sequence of the last replication, the target's update sequence, and whether an audit finds no
-/// error.
+/// uncovered leaf.
 fn ended(
     alloc: Global,
     source: &mut Peer<Rules>,

@@ -223,7 +223,8 @@ fn is_clean(alloc: Global, world: &World<Rules>) -> bool {
     }
 }
 
-/// Returns the session's recorded sequence, the values observed at the end, and whether an audit finds no error.
+/// Returns the session's recorded sequence, the values observed at the end, and whether an audit finds no uncovered
+/// leaf.
 fn ended(alloc: Global, world: &mut World<Rules>) -> Option<(u64, Seen, bool)> {
     let all = match steps(alloc) {
         Some(all) => Some(all),

@@ -17,7 +17,8 @@ pub const BAD_COMMAND_LINE: u8 = 2;
 ///
 /// # Errors
 ///
-/// The error is `OutOfMemory` if an allocation fails. Any other error means that an argument is not valid Unicode.
+/// The error is `OutOfMemory` if an allocation fails. If the error is not `OutOfMemory`, an argument is not valid
+/// Unicode.
 pub fn words_of<H: AllocGlobal + Env>(rt: &H) -> io::Result<Vec<String>> {
     let words = env::args(rt)?.collect(rt.alloc())?;
     Ok(words)
@@ -36,8 +37,8 @@ pub fn report_bad_arguments(rt: &impl Eprint, error: &io::Error) -> u8
     }
 }
 
-/// Prints `clap`'s message, and returns the exit status, which is 0 for help and version, 3 if memory ran out, and 2
-/// for other errors.
+/// Prints `clap`'s message, and returns the exit status. The status is 0 for help and version, 3 if an allocation
+/// failed, and 2 for other errors.
 pub fn report_arguments<H: Print + Eprint>(rt: &H, error: &Error) -> u8
     ensures { result ≡ kind_status (kind_of error.now) }
 {

@@ -6,7 +6,8 @@ ghost use Rattle.cli_common.specs.Words.{IsFound, flag_option, hidden_option, pr
 use clap::{Arg, ArgAction, ArgMatches, Command, Error};
 use std::alloc::Global;
 
-/// Defines a program without arguments, with its name, its description, and the text after its help.
+/// Defines the command line of a program without arguments, given the program's name, its description, and the text
+/// after its help.
 pub fn program<'a>(alloc: Global, name: &'a str, about: &'a str, help: &'a str) -> Command<'a>
     ensures { app_of result ≡ program_app name.entry.now }
 {

@@ -22,24 +22,24 @@ pub trait Command<L>: Sized + Drop {
     // The JSON value of a line.
     ghost seen: { L → Data };
 
-    // The parameters of the command, independent of where they are stored.
+    // The values of the command's parameters, as contracts see them.
     ghost Ask: { Type 0 };
 
     ghost asked: { Self → Ask };
 
-    // The parameters that an object gives, if it has only members of the command, each of the right type.
+    // The parameters that a JSON object gives, if each of its members belongs to the command and has the right type.
     ghost asked_in: { Data → Result Ask Refusal };
 
-    // The possible results of the command, and the states that they leave.
+    // The results that the command may have, each with the state after the command.
     ghost answers: { Answering State Ask };
 
-    /// Reads the parameters from an object. Returns `None` if the object does not have the form of the command, and the
-    /// line fails with `BadCommand`.
+    /// Reads the parameters from an object. If the object does not have the form of the command, the call returns
+    /// `None`, and the line fails with `BadCommand`.
     fn read(line: L) -> Option<Self>
         ensures { needed (option_map asked result) ≡ asked_in (seen line) };
 
-    /// Runs the command, and writes its output into the buffer. Every line may fail with `Memory`, and in that case the
-    /// command had its complete effect or no effect.
+    /// Runs the command, and writes its output into the buffer. Every line may fail with `Memory`. If a line fails with
+    /// `Memory`, its command had its complete effect or no effect.
     fn serve<H: Threads + Wait + Sync>(
         &self,
         rt: &H,

@@ -1,5 +1,5 @@
-//! Parses the ids, revisions, bodies and documents of a line. Commands call the functions of this module in the order
-//! of checks.
+//! Parses the ids, revisions, bodies and documents of a line. Each command calls these parsing functions in the order
+//! in which PROFILE lists the checks.
 ghost use Rattle.std.specs.Prelude.{◌≡◌, option_map};
 ghost use Rattle.std.specs.Option.{option_copied};
 ghost use Rattle.json_values.specs.LineView.{line_view, line_items};
@@ -56,8 +56,8 @@ fn choose(ids: Vec<DocId>) -> Result<Option<Chosen>, Refusal>
 ///
 /// # Errors
 ///
-/// The call returns the first of these errors, which are `NoId` or `ReservedId` for the first invalid id, `NoneChosen`,
-/// `TooManyChosen`.
+/// The call returns `NoId` or `ReservedId` for the first invalid id. If all ids are valid, it may return `NoneChosen`
+/// or `TooManyChosen`.
 pub fn read_choice(
     alloc: Global,
     ids: Option<&Vec<LineValue<'_>>>,
@@ -73,7 +73,7 @@ pub fn read_choice(
     }
 }
 
-/// Parses an optional revision id.
+/// Parses a revision id, if the line gives one.
 pub fn read_rev(text: Option<&str>) -> Result<Option<Rev>, Refusal>
     ensures { result ≡ rev_given (option_copied text.entry) }
 {
@@ -96,7 +96,7 @@ fn read_content(alloc: Global, part: &LinePart<'_, '_>) -> Result<Body, Refusal>
     }
 }
 
-/// Parses an optional body. An absent body means an empty object.
+/// Parses an optional body. If the line gives no body, the call returns the body `{}`.
 pub fn read_content_or_empty(
     alloc: Global,
     body: &Option<LinePart<'_, '_>>,

@@ -1,5 +1,5 @@
 //! The interface of commands (`command`), and the functions that commands share. The shared functions read the members
-//! of a line (`members`), parse their values (`given`), and print (`texts`).
+//! of a line (`members`), parse the members' values (`given`), and print results (`texts`).
 #![tactic(auto)]
 
 mod command;

@@ -1,4 +1,4 @@
-//! Reads typed members of a line's object.
+//! Reads members of a line's JSON object, each of which must have a given type.
 ghost use Rattle.std.specs.Prelude.{◌≡◌, map, option_map};
 ghost use Rattle.std.specs.List.{list_all, list_any};
 ghost use Rattle.std.specs.Str.{bytes_eq};
@@ -30,7 +30,8 @@ pub fn name_member<'v>(value: &'v LineValue<'_>, key: &str) -> Option<&'v str>
     }
 }
 
-/// Reads an optional Boolean. Returns `Some(None)` if the member is absent, and `None` if the member has another type.
+/// Reads an optional Boolean. Returns `Some(None)` if the object lacks the member, and `None` if the member has a wrong
+/// type.
 pub fn optional_flag(value: &LineValue<'_>, key: &str) -> Option<Option<bool>>
     ensures { result ≡ optional as_bool key.now (line_view value.now) }
 {
@@ -56,7 +57,7 @@ pub fn optional_text<'v>(value: &'v LineValue<'_>, key: &str) -> Option<Option<&
     }
 }
 
-/// Reads an optional list of strings.
+/// Reads an optional member that must be a list of strings.
 pub fn optional_texts<'v, 'a>(
     value: &'v LineValue<'a>,
     key: &str,
@@ -88,7 +89,7 @@ fn are_texts(items: &Vec<LineValue<'_>>) -> bool
     true
 }
 
-/// Reads an optional integer from 0 to 2^64 - 1.
+/// Reads an optional member that must be an integer from 0 to 2^64 - 1.
 pub fn optional_whole(value: &LineValue<'_>, key: &str) -> Option<Option<u64>>
     ensures { result ≡ optional as_whole key.now (line_view value.now) }
 {

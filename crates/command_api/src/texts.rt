@@ -10,7 +10,8 @@ use itoa::Buffer;
 use rev_core::Rev;
 use std::alloc::{AllocError, Global};
 
-/// Appends a number. A number of four digits, the usual case, is copied in one step if there is capacity for it.
+/// Appends a number. If the buffer has enough capacity, the call copies a number of four digits, the usual case, in one
+/// step.
 #[inline(never)]
 pub fn push_number(text: &mut Vec<u8>, number: u64) -> Result<(), AllocError>
     ensures { OnOk result (text.new.items ≡ text.old.items ++ decimal number) }
@@ -46,7 +47,7 @@ fn push_any_number(text: &mut Vec<u8>, number: u64) -> Result<(), AllocError>
     text.extend_from_slice(digits.format(number).as_bytes())
 }
 
-/// Appends a count. A count of one digit, the usual case, has a short path.
+/// Appends a count. The call handles a count of one digit, the usual case, on a fast path.
 #[inline(always)]
 pub fn push_count(text: &mut Vec<u8>, count: usize) -> Result<(), AllocError>
     ensures { OnOk result (text.new.items ≡ text.old.items ++ decimal count) }
@@ -58,8 +59,8 @@ pub fn push_count(text: &mut Vec<u8>, count: usize) -> Result<(), AllocError>
     push_number(text, count as u64)
 }
 
-/// Appends a revision. A signature of 32 bytes with a generation of one or three digits, the usual case, is copied in
-/// one step if there is capacity for it.
+/// Appends a revision. If the buffer has enough capacity, the call copies a usual revision (a signature of 32 bytes, a
+/// generation of one or three digits) in one step.
 #[inline(never)]
 pub fn push_rev(text: &mut Vec<u8>, rev: &Rev) -> Result<(), AllocError>
     ensures { OnOk result (text.new.items ≡ text.old.items ++ rev_text rev.now) }
@@ -108,7 +109,7 @@ fn three_digit_text(generation: u32, sig: &[u8]) -> [u8; 36]
     text
 }
 
-/// Appends a revision, part by part.
+/// Appends the generation, the hyphen and the signature of a revision one by one.
 #[inline(never)]
 fn push_parts(text: &mut Vec<u8>, generation: u32, sig: &[u8]) -> Result<(), AllocError>
     ensures { OnOk result (text.new.items ≡ text.old.items ++ (decimal generation ++ 45 ∷ sig.now)) }
@@ -118,7 +119,7 @@ fn push_parts(text: &mut Vec<u8>, generation: u32, sig: &[u8]) -> Result<(), All
     text.extend_from_slice(sig)
 }
 
-/// Appends a generation. A generation of one digit, the usual case, has a short path.
+/// Appends a generation. The call handles a generation of one digit, the usual case, on a fast path.
 #[inline(always)]
 fn push_generation(text: &mut Vec<u8>, generation: u32) -> Result<(), AllocError>
     ensures { OnOk result (text.new.items ≡ text.old.items ++ decimal generation) }
@@ -143,7 +144,7 @@ pub fn push_revs(text: &mut Vec<u8>, revs: &[Rev]) -> Result<(), AllocError>
     Ok(())
 }
 
-/// Appends a string as JSON.
+/// Appends a string as a JSON string.
 #[inline(always)]
 pub fn push_json(text: &mut Vec<u8>, string: &str) -> Result<(), AllocError>
     ensures { OnOk result (text.new.items ≡ text.old.items ++ quoted string.now) }
@@ -151,7 +152,7 @@ pub fn push_json(text: &mut Vec<u8>, string: &str) -> Result<(), AllocError>
     push_text(text, string)
 }
 
-/// Appends a line with a keyword, a document id and revisions. Appends nothing if there are no revisions.
+/// Appends a line with a keyword, a document id and revisions. If there are no revisions, the call appends nothing.
 pub fn push_revs_line(
     text: &mut Vec<u8>,
     word: &[u8],
@@ -184,7 +185,7 @@ fn push_line_of_revs(
     Ok(())
 }
 
-/// Appends the line with the last sequence of a feed.
+/// Appends the last line of a printed feed, which has the update sequence.
 pub fn push_last(text: &mut Vec<u8>, last: u64) -> Result<(), AllocError>
     ensures { OnOk result (text.new.items ≡ text.old.items ++ last_line last) }
 {

@@ -27,7 +27,7 @@ use std::mem;
 use std::sync::Wait;
 use std::thread::Threads;
 
-/// The server of a script: its databases, the runtime, the JSON reader, and the observer.
+/// The interpreter of a script, with the script's databases, the runtime, the JSON reader, and the observer.
 #[derive(Drop)]
 struct Interpreter<'a, H, L> {
     rt: &'a H,
@@ -113,7 +113,7 @@ fn answer_line<H: Threads + Wait + Sync>(
 ///
 /// # Errors
 ///
-/// `BadLine` if the line is not a JSON object, or `Memory`, which may be returned for any line.
+/// The call returns `BadLine` if the line is not a JSON object. The call may return `Memory` for any line.
 pub fn read_object<'a>(
     values: &'a mut ValueReader,
     alloc: Global,
@@ -133,15 +133,15 @@ pub fn read_object<'a>(
     Ok(value)
 }
 
-/// Runs a script: reads lines to the end of the input, runs each as one command, and writes their output in order
-/// (docs/PROFILE.md, "Command lines" and "Answers"). Returns true if no line failed.
+/// Runs a script: reads lines to the end of the input, runs each line as one command, and writes the output of all
+/// lines in order (docs/PROFILE.md, "Command lines" and "Answers"). Returns true if no line failed.
 ///
 /// Before each read, the output of all lines read so far is flushed. A line that runs out of memory fails with
-/// `Memory`, and the script continues. The observer learns the result of each line and the start of its output, and
-/// does not affect the output.
+/// `Memory`, and the script continues. The observer gets the result of each line and the start of the line's output,
+/// and does not affect the output.
 ///
-/// The call blocks on the threads of `replicate` and `sync` lines, and it is not proved that the call returns. The
-/// databases are not freed, because freeing takes long and a program ends after this call.
+/// The call waits for the threads of `replicate` and `sync` lines. The contract does not guarantee that the call
+/// returns. The call does not free the databases, because freeing them takes long and the program ends after this call.
 ///
 /// # Errors
 ///
@@ -160,20 +160,21 @@ pub fn run_script<H, R: ScriptRead, W: ScriptWrite, L: ObserveAnswers>(
 ) -> Result<bool, ScriptFault>
 where
     H: AllocGlobal + Threads + Wait + Sync,
-    // The written text is the output of the lines of the complete input.
+    // If the call succeeds, the written text is the output of all lines of the complete input.
     ensures answers { IfOk result
         (λ clean. (input : List ℕ) × (text : List ℕ) × (state : State) × Gives (R.left reader.old) input
         × Appends (W.held writer.old) (W.held writer.new) text
         × IsAnswered LinesAnswer (no_databases (program_of settings.now)) input clean text state) }
-    // All databases are consistent with each other before and after every line. No audit therefore reports a hole. If a
-    // session prints that it reached its goal, the target covers the source's selected feed.
+    // All databases are consistent with each other before and after every line. An `audit` line therefore never reports
+    // a leaf that is not covered. If a `replicate` line prints that its session reached its goal, the target covers the
+    // source's selected feed.
     ensures trust { IfOk result
         (λ clean. (input : List ℕ) × (text : List ℕ) × (state : State) × Gives (R.left reader.old) input
         × Appends (W.held writer.old) (W.held writer.new) text
         × IsAnswered TrustedLines (no_databases (program_of settings.now)) input clean text state) }
     ensures end { OnOk result (IsAtEnd (R.left reader.new)) }
-    // The clauses `took` and `ended` state the guarantee for the bytes that the reads returned, and that the last read
-    // returned the end of the input.
+    // The clauses `took` and `ended` state this guarantee for the bytes that the reads returned, and say that the last
+    // read found the end of the input.
     ensures took { IfOk result
         (λ clean. (input : List ℕ) × (text : List ℕ) × (state : State)
         × Appends (R.taken reader.old) (R.taken reader.new) input × Appends (W.held writer.old) (W.held writer.new) text
@@ -181,22 +182,23 @@ where
     ensures ended { OnOk result (R.ended reader.new) }
     ensures counted { OnOk result ((R.failures reader.new ≡ R.failures reader.old)
         × (W.failures writer.new ≡ W.failures writer.old)) }
-    // After an error, the text is a prefix of the output of the lines, and the named device has failed. `Memory` occurs
-    // before anything is read, or while a line is read, and the output of all earlier lines is complete.
+    // If the call returns an error, the written text is a prefix of the lines' output, and the device that the error
+    // names has failed. The call returns `Memory` only before the first read or while it reads a line, and the output
+    // of all earlier lines is complete.
     ensures fault { IfErr result (λ fault. (input : List ℕ) × (text : List ℕ) × Gives (R.left reader.old) input
         × Appends (W.held writer.old) (W.held writer.new) text
         × IsToldUntil fault LinesAnswer (no_databases (program_of settings.now)) input text
         × IsFaultOf fault (R.reads reader.old) (R.reads reader.new) (R.failures reader.old) (R.failures reader.new)
         (W.failures writer.old) (W.failures writer.new)) }
-    // The clause `trust_until` states the guarantee for the output before an error.
+    // The clause `trust_until` states which guarantees hold for the output that was written before an error.
     ensures trust_until { IfErr result (λ fault. (input : List ℕ) × (text : List ℕ) × Gives (R.left reader.old) input
         × Appends (W.held writer.old) (W.held writer.new) text
         × IsToldUntil fault TrustedLines (no_databases (program_of settings.now)) input text) }
     ensures took_until { IfErr result (λ fault. (input : List ℕ) × (text : List ℕ)
         × Appends (R.taken reader.old) (R.taken reader.new) input × Appends (W.held writer.old) (W.held writer.new) text
         × IsToldUntil fault TrustedLines (no_databases (program_of settings.now)) input text) }
-    // If a read fails, the output of all lines that were read is complete. Unless a write failed, the output of all
-    // lines that were read has been flushed. The clause `read` describes the state before each read, because each read
+    // If a read fails, the output of all lines that were read is complete. Unless a write failed, the call has flushed
+    // the output of all lines that were read. The clause `read` describes the state before each read, because each read
     // may fail.
     ensures read { IfErr result (λ fault. fault ≡ Read → (taken : List ℕ) × (text : List ℕ) × (state : State)
         × Consumes (R.left reader.old) (R.left reader.new) taken × Appends (W.held writer.old) (W.held writer.new) text

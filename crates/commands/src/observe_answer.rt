@@ -4,8 +4,8 @@ use script_engine::{Nobody, Observe};
 
 /// An observer of the results of lines (`Observe`) and of the start of their output.
 pub trait ObserveAnswers: Observe {
-    /// Notes the output of a successful line, or its first piece, before `observe` is called for the line. The call of
-    /// an observer does not affect the script's output.
+    /// Observes the output of a successful line, or the first piece of this output, before `observe` is called for the
+    /// line. Calling an observer does not affect the script's output.
     fn observe_answer(&mut self, answer: &[u8]);
 }
 

@@ -63,8 +63,8 @@ fn command_name_of(value: &LineValue<'_>) -> Option<CommandName>
     }
 }
 
-/// Runs the command of an object, and returns its output, or the first piece of its output and the rest. The call
-/// blocks if the command is `replicate` or `sync`.
+/// Runs the command of an object, and returns its output, or the first piece of its output and the rest. The call may
+/// block if the command is `replicate` or `sync`.
 pub fn serve<H: Threads + Wait + Sync>(
     rt: &H,
     alloc: Global,

@@ -11,7 +11,7 @@ use json_values::{LinePart, ReadFault, ValueReader};
 use std::alloc::Global;
 
 /// Wraps a document, and reads the envelope in the way `couch_replicate` reads the document of a `load` line. Returns
-/// `None` if the document cannot be wrapped, or the envelope is not read as JSON.
+/// `None` if the document cannot be wrapped, or the JSON reader rejects the envelope.
 ///
 /// # Errors
 ///

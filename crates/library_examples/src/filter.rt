@@ -1,5 +1,5 @@
-//! A custom write filter, and replication in both directions between an office and a phone that refuses large
-//! documents.
+//! An example of a custom write filter. An office and a phone, which refuses large documents, replicate in both
+//! directions.
 use anyhow::{Result, bail};
 use doc_json::{Doc, DocId, read_body, write_doc};
 use repl_log::Moment;
@@ -28,7 +28,7 @@ impl WriteFilter for Small {
     }
 }
 
-/// Writes on both sides, replicates in both directions, and prints the documents of each side.
+/// Writes documents on both sides, replicates in both directions, and prints the documents of each side.
 pub fn run(rt: &HostRuntime) -> Result<()> {
     let mut office = Peer::new(rt.alloc(), 1, Rules { deny: None });
     let mut phone = Peer::new(rt.alloc(), 2, Small { most: 40 });
@@ -70,7 +70,7 @@ fn meet(rt: &HostRuntime, office: &mut Peer<Rules>, phone: &mut Peer<Small>) -> 
     Ok(())
 }
 
-/// Creates a plan for all documents, with a given session number.
+/// Creates a plan that replicates all documents in a session with a given id.
 fn plan(session: u128) -> Result<Plan> {
     Ok(Plan {
         session: SessionId(session),
@@ -82,7 +82,7 @@ fn plan(session: u128) -> Result<Plan> {
     })
 }
 
-/// Prints a document's winner, or that it does not exist.
+/// Prints the winner of a document, or that the document does not exist.
 fn show<F: WriteFilter>(rt: &HostRuntime, peer: &Peer<F>, id: &str) -> Result<()> {
     let name = DocId::parse(rt.alloc(), id)?;
     let Some(winner) = peer.db().tree(&name).and_then(|tree| tree.winner()) else {

@@ -1,5 +1,5 @@
-//! Three laptops and a hub are the peers of one network. The laptops write independently, and synchronize through the
-//! hub twice.
+//! An example in which three laptops and a hub are the peers of one network. The laptops write independently, and
+//! synchronize through the hub twice.
 use anyhow::Result;
 use doc_json::{DocId, read_body};
 use repl_log::Moment;
@@ -14,7 +14,7 @@ use std::str::from_utf8;
 /// The peers of the network, of which the first is the hub.
 const NAMES: [&str; 4] = ["hub", "ann", "ben", "cleo"];
 
-/// Lets the laptops write and synchronize, twice, and audits every pair.
+/// Twice, the laptops write documents and synchronize. Then the call audits every pair of peers.
 pub fn run(rt: &HostRuntime) -> Result<()> {
     let mut net = Net::new(rt.alloc());
     for uuid in 1..5u64 {
@@ -68,7 +68,7 @@ fn meet(alloc: Global, net: &mut Net<Rules>, session: u128) -> Result<()> {
     Ok(())
 }
 
-/// Creates a plan for each laptop, with consecutive session numbers.
+/// Creates a plan for each laptop, with consecutive session ids.
 fn plans(alloc: Global, first: u128) -> Result<Vec<Plan>> {
     let mut plans = Vec::new(alloc);
     for number in 0..3u64 {
@@ -111,7 +111,7 @@ fn winner(alloc: Global, peer: &Peer<Rules>, id: &DocId) -> Result<(String, usiz
     Ok((text, tree.leaf_count()))
 }
 
-/// Returns the number of audits between two peers that find a hole.
+/// Returns the number of pairs of peers whose audit finds a leaf that is not covered.
 fn holes(alloc: Global, net: &Net<Rules>) -> Result<usize> {
     let mut found = 0usize;
     for source in 0..NAMES.len() {
@@ -124,7 +124,7 @@ fn holes(alloc: Global, net: &Net<Rules>) -> Result<usize> {
     Ok(found)
 }
 
-/// Whether an audit found a hole.
+/// Whether an audit found a leaf that is not covered.
 fn is_hole(found: Audit) -> bool {
     match found {
         Audit::Clean => false,

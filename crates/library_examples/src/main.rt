@@ -1,5 +1,5 @@
-//! Four examples of using the libraries. Each module is independent, and its `run` is what the `main` of a program
-//! would be.
+//! Four examples of using the libraries. Each module is an independent example, whose function `run` could be the
+//! `main` of a program.
 #![tactic(auto)]
 
 mod backup;

@@ -1,5 +1,6 @@
-//! A replication by threads with a progress display. A shop of a thousand orders and its copy are two peers. Four
-//! fetchers and four writers copy the orders, while a viewer reads the progress. The progress goes to standard error.
+//! An example of a replication by several threads with a progress display. A shop with a thousand orders and a copy of
+//! the shop are two peers. Four fetchers and four writers copy the orders, while a viewer reads the progress. The
+//! example prints the progress to standard error.
 ghost use Rattle.std.specs.Prelude.{◌≡◌, vec_len};
 ghost use Rattle.std.specs.List.{All};
 ghost use Rattle.progress_board.specs.Seats.{CameWith};
@@ -28,7 +29,7 @@ const WORKERS: usize = 4;
 /// The maximum number of times the viewer reads the board.
 const LOOKS: u64 = 10_000_000;
 
-/// Copies the shop while a viewer reads the progress.
+/// Replicates the shop into its copy while a viewer reads the progress.
 pub fn run<R: Threads + Wait + Print + Eprint + Sync>(rt: &R, alloc: Global) -> Result<()> {
     let mut shop = Peer::new(alloc, 1, Rules { deny: None });
     let copy = Peer::new(alloc, 2, Rules { deny: None });
@@ -74,7 +75,8 @@ fn write_orders(alloc: Global, shop: &mut Peer<Rules>) -> Result<()> {
     Ok(())
 }
 
-/// Runs the pool with a viewer. Returns the result of the run, and the totals that the viewer read last.
+/// Runs the pool while a viewer reads the progress board. Returns the result of the run, and the totals that the viewer
+/// read last from the board.
 fn run_watched<R: Threads + Wait + Eprint + Sync>(
     rt: &R,
     alloc: Global,
@@ -113,8 +115,8 @@ fn run_watched<R: Threads + Wait + Eprint + Sync>(
     )
 }
 
-/// Reads the board until the run has ended, and prints each new progress. The viewer reads the board once more after
-/// the end of the run.
+/// Reads the board until the run has ended, and prints the totals whenever they have changed. The viewer reads the
+/// board once more after the end of the run.
 fn watch<R: Eprint>(rt: &R, board: &Board, ended: &AtomicBool, viewer: BoardSeat) -> (u64, u64)
     requires { CameWith board.now viewer }
 {

@@ -1,4 +1,4 @@
-//! Splits a text at a byte, or splits off the last word of a text.
+//! Splits a text at a byte, or before its last part without spaces.
 ghost use Rattle.std.specs.Prelude.{◌≡◌, ◌++◌, ◌∷◌, List, ℕ, [], IfSome, IfNone, true};
 ghost use Rattle.output_parser.specs.Words.{lacks};
 
@@ -44,8 +44,8 @@ pub fn before<'a>(text: &'a [u8], end: &[u8]) -> Option<&'a [u8]>
     text.strip_suffix(end)
 }
 
-/// Splits a text into the text before a given name, and the word after the name at the end of the text. Returns `None`
-/// if the text does not end with the name and one word.
+/// Splits a text that ends with a given name, a space and a last part without spaces. The call returns the text before
+/// the name, and the last part. Returns `None` if the text does not have this form.
 pub fn cut_named<'a>(text: &'a [u8], name: &[u8]) -> Option<(&'a [u8], &'a [u8])>
     ensures some { IfSome result
         (λ x. (text.now ≡ x.0.now ++ (name.now ++ 32 ∷ x.1.now)) × (lacks 32 x.1.now ≡ true)) }

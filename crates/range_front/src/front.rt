@@ -13,7 +13,7 @@ use std::marker::Model;
 /// done. The done windows above the low water are stored as ranges that touch neither each other nor the low water.
 pub struct Front {
     start: u64,
-    /// The upper bounds of the windows, in rising order.
+    /// The upper bounds of the front's windows, in rising order.
     ends: Vec<u64>,
     /// The low water.
     mark: u64,
@@ -75,7 +75,7 @@ impl Front {
         self.start
     }
 
-    /// Returns the upper bound of the last window, or the start if there is no window.
+    /// Returns the upper bound of the last window. If the front has no window, the call returns its start.
     pub fn end(&self) -> u64
         ensures value { result ≡ end_of self.now.front }
         ensures front { IsFront self.now.front }
@@ -111,7 +111,7 @@ impl Front {
 
     /// Reserves space, so that the next `finish` does not return `Memory`, even if windows are appended before it.
     ///
-    /// The call does not change the windows, whether or not the allocation succeeds.
+    /// The call never changes the windows, even if the allocation fails.
     pub fn reserve(&mut self) -> Result<(), AllocError>
         ensures room { OnOk result (0 < self.new.room) }
         ensures kept { self.new.front ≡ self.old.front }

@@ -1,4 +1,4 @@
-//! The low water, and the ranges above it.
+//! The low water of a front, and the ranges of done windows above the low water.
 ghost use Rattle.std.specs.Prelude.{◌≡◌, ℕ, ◌<◌, ◌≤◌, ◌++◌, length, take, drop, OnErr, IsOk};
 ghost use Rattle.std.specs.List.Sorted.{IsPartitionPoint};
 ghost use Rattle.std.specs.Vec.{vec_len, vec_capacity};
@@ -13,7 +13,7 @@ pub(crate) struct DoneRange {
     pub(crate) hi: u64,
 }
 
-/// Returns the index of the first range that ends at or above a bound.
+/// Returns the index of the first range of done windows that ends at or above a given sequence.
 fn place_from(ranges: &[DoneRange], bound: u64) -> usize
     requires { (mark : ℕ) × Apart mark ranges.now }
     ensures within { result ≤ length ranges.now }
@@ -37,8 +37,8 @@ pub(crate) fn is_covered(mark: u64, ranges: &[DoneRange], hi: u64) -> bool
     }
 }
 
-/// Removes the range at an index if it begins at `hi`. Returns the sequence up to which all windows are done after the
-/// removal.
+/// Removes the range at an index if this range begins at `hi`. Returns the end of the removed range, or `hi` if the
+/// call removed no range.
 fn absorb(ranges: &mut Vec<DoneRange>, place: usize, hi: u64) -> u64
     ensures reach { result ≡ (absorbed hi (drop place ranges.old.items)).0 }
     ensures rest { ranges.new.items ≡ take place ranges.old.items ++ (absorbed hi (drop place ranges.old.items)).1 }
@@ -53,8 +53,8 @@ fn absorb(ranges: &mut Vec<DoneRange>, place: usize, hi: u64) -> u64
     }
 }
 
-/// Marks `(lo, hi]`, which is above the low water and outside the ranges, as done. The call merges the new range with
-/// the ranges that it touches.
+/// Marks the window `(lo, hi]` as done. The window is above the low water and in no range. The call merges the new
+/// range with the ranges that it touches.
 ///
 /// An error changes nothing.
 pub(crate) fn join(

@@ -20,14 +20,14 @@ use repl_target::{Peer, Plan, Report, TargetFault, WriteFilter, replicate_alone}
 use rev_core::Rev;
 use std::alloc::Global;
 
-/// Replicates along hops between the peers of a network, in order, until one fails. Each hop is a `replicate_alone`
+/// Replicates along hops between the peers of a network, in order, until a hop fails. Each hop is a `replicate_alone`
 /// with the hop's plan.
 ///
-/// If every two peers are consistent (docs/PROFILE.md, "Nets"), every two peers stay consistent, also if the call
-/// fails. Suppose that the call succeeds, that each plan selects a document, that no peer has refused that document,
-/// and that its trees agreed and had complete histories. If the assumptions about a document hold, and chains of hops
-/// lead from every peer to every other peer, all peers have the same document, with the same winner. The trees of the
-/// document agree again and have complete histories.
+/// If every two peers are consistent (docs/PROFILE.md, "Nets"), they stay consistent, even if the call fails. Suppose
+/// that the call succeeds, each plan selects a document, no peer has refused this document, and the document's trees
+/// agreed and had complete histories. If this holds and chains of hops lead from every peer to every other peer, all
+/// peers then have the same document with the same winner. After the call, the trees of the document at all peers still
+/// agree and have complete histories.
 pub fn replicate_along<F: WriteFilter>(
     alloc: Global,
     peers: &mut [Peer<F>],
@@ -52,10 +52,10 @@ pub fn replicate_along<F: WriteFilter>(
 
 /// Stores a user's document at one peer of a network (`Peer::load`).
 ///
-/// Consistent peers stay consistent, also if the call fails. If the trees of the document agreed and had complete
-/// histories, they still do, under two conditions. The first condition is that the new document gives no revision
-/// another parent or content than a peer has. The second condition is that the history of the new document is complete,
-/// or ends at a revision that its peer has.
+/// If every two peers are consistent, they stay consistent, even if the call fails. If the document's trees agreed and
+/// had complete histories, they still do after the call under two conditions. The first condition is that the stored
+/// document gives no revision a parent or content that differs from a peer's. The second condition is that the ancestry
+/// of the stored document is complete, or its oldest revision is in the peer's tree.
 pub fn load_at<F: WriteFilter>(
     peers: &mut [Peer<F>],
     place: usize,
@@ -82,9 +82,9 @@ pub fn load_at<F: WriteFilter>(
 
 /// Edits a document at one peer of a network (`Peer::edit`).
 ///
-/// Consistent peers stay consistent, also if the call fails. If the trees of the document agreed and had complete
-/// histories, they still do, provided that no peer has the new revision with another parent or content. No peer has the
-/// new revision with another parent or content unless two different edits have the same MD5.
+/// If every two peers are consistent, they stay consistent, even if the call fails. If the document's trees agreed and
+/// had complete histories, they still do, unless a peer has the new revision with another parent or content. A peer has
+/// the new revision with another parent or content only if two different edits have the same MD5.
 pub fn edit_at<F: WriteFilter>(
     peers: &mut [Peer<F>],
     place: usize,
@@ -114,7 +114,7 @@ pub fn edit_at<F: WriteFilter>(
     }
 }
 
-/// The function has no effect, but gives proofs the invariant of each peer's database.
+/// The function has no effect at run time, but gives proofs the invariant of each peer's database.
 fn hold_laws<F: WriteFilter>(peers: &[Peer<F>])
     ensures { AllLawful (peers_of peers.now) }
 {

@@ -13,19 +13,19 @@ pub enum NetFault {
     /// The network has no peer at the given index.
     #[error("no peer is at place {0}")]
     NoPeer(usize),
-    /// The peer at the given index already has the UUID.
+    /// The peer at the given index already has the UUID of the new peer.
     #[error("the peer at place {0} has this UUID")]
     SameUuid(usize),
     /// The hop at the given index failed, and the hops before it succeeded.
     #[error("hop {0}: {1}")]
     Hop(usize, TargetFault),
-    /// The number of plans in a direction is not the number of peers other than the hub.
+    /// The number of plans for a direction differs from the number of peers without the hub.
     #[error("one plan each way is wanted for each peer behind the hub")]
     Plans,
-    /// An allocation failed, and nothing was added or replicated.
+    /// An allocation failed. The call added no peer and replicated nothing.
     #[error("out of memory")]
     Memory,
-    /// The write at the peer failed.
+    /// The write of a document at a peer failed.
     #[error("{0}")]
     Write(BaseFault),
 }

@@ -13,11 +13,12 @@ use repl_target::{Peer, Plan, WriteFilter};
 use std::alloc::{AllocError, Global};
 
 /// Replicates every peer of a network into the hub, which is the first peer, and then the hub into every other peer.
-/// One thread makes all replications, two per peer. The plans are given for the peers other than the hub, in order.
+/// One thread performs all replications, which are two for each peer other than the hub. For each direction, the caller
+/// gives a plan for each peer other than the hub, in order.
 ///
-/// Consistent peers stay consistent, also if the call fails. Suppose that all plans select a document that no peer has
-/// refused, and whose trees agreed and had complete histories. If the call succeeds, the supposed document is the same
-/// at all peers, and its trees agree again and have complete histories.
+/// If every two peers are consistent, they stay consistent, even if the call fails. Suppose that all plans select a
+/// document, no peer has refused this document, and its trees agreed and had complete histories. If the call succeeds,
+/// all peers then have the same document, and its trees still agree and have complete histories.
 ///
 /// # Errors
 ///
@@ -44,7 +45,7 @@ pub fn sync_by_hub<F: WriteFilter>(
     replicate_along(alloc, peers, &hops)
 }
 
-/// Creates the hops for the plans.
+/// Creates the hops from and to the hub that the given plans describe.
 fn hub_hops(alloc: Global, there: &[Plan], back: &[Plan]) -> Result<Vec<Hop>, AllocError>
     ensures { IfOk result (λ hops. hops.items ≡ gathers 0 there.now ++ spreads 0 back.now) }
 {

@@ -1,4 +1,4 @@
-//! A crate of theorems about any number of peers, and replications between any two of them.
+//! Theorems about any number of peers, and about replications between any two of these peers.
 //!
 //! The rules are in docs/PROFILE.md, "Nets".
 #![tactic(auto)]

@@ -13,10 +13,11 @@ use rev_core::Rev;
 use std::alloc::{AllocError, Global};
 use std::marker::Model;
 
-/// A network is a list of peers that were added empty, with what they have written and replicated to one another.
+/// A network is a list of peers. Each peer was empty when it was added, and has since then written and replicated
+/// documents only within the network.
 ///
-/// Every two peers of a network are consistent in both directions (docs/PROFILE.md, "Nets"). Calls of a network
-/// therefore do not require consistent peers, and an audit between two peers is always clean.
+/// Every two peers of a network are consistent in both directions (docs/PROFILE.md, "Nets"). The calls of a network
+/// therefore need no assumption about consistency, and an audit between two peers never finds an uncovered leaf.
 #[derive(Drop)]
 pub struct Net<F: WriteFilter> {
     peers: Vec<Peer<F>>,
@@ -94,8 +95,8 @@ impl<F: WriteFilter> Net<F> {
         self.peers.get(place)
     }
 
-    /// Does nothing, but gives proofs the invariant of the network. If a document was made only by edits, and no two
-    /// different edits have the same MD5, then all trees of that document agree and have complete histories.
+    /// Has no effect at run time, but gives proofs the invariant of the network. If a document was made only by edits,
+    /// and no two different edits have the same MD5, then all trees of that document agree and have complete histories.
     pub fn law(&self)
         ensures net { IsNet (peers_of self.now) }
         ensures agree { MadeAgree (peers_of self.now) }
@@ -163,7 +164,7 @@ impl<F: WriteFilter> Net<F> {
         sync_by_hub(alloc, &mut self.peers, there, back)
     }
 
-    /// Audits the replication between two peers. The result for two different indices is always `Clean`.
+    /// Audits the replication between two peers. If the two indices differ, the result of the audit is always `Clean`.
     pub fn audit(
         &self,
         alloc: Global,

@@ -297,7 +297,7 @@ fn run_with<F: WriteFilter + Send + Sync, G: Gate + Sync, R: Threads + Wait + Sy
 /// perhaps after the session began and received messages of the source. The target keeps all its documents, sessions
 /// and logs, and consistent peers stay consistent. A third peer that was consistent with one of the two peers stays
 /// consistent with that peer. In two of the four cases of third peers, the third peer needs a UUID of its own
-/// (`KeepsOthersTied`). If the peers were consistent, an audit after the run finds no error.
+/// (`KeepsOthersTied`). If the peers were consistent, an audit after the run finds no uncovered leaf.
 ///
 /// The call blocks until the run ends. The contract does not guarantee that a run ends.
 ///

@@ -72,10 +72,10 @@ impl Plan {
 /// document has the source's revisions, parents and contents of leaves. The source's database never changes.
 ///
 /// Consistent peers (docs/PROFILE.md, "Tied peers") stay consistent for every selection and every result, so an audit
-/// after the call finds no error. If the peers are consistent and the call succeeds, each leaf of the source's complete
-/// selected feed is covered, also below the start. A third peer that was consistent with one of the two peers stays
-/// consistent with that peer, as a source and as a target. In two of the four cases of third peers, the third peer
-/// needs a UUID of its own (`KeepsOthersTied`).
+/// after the call finds no uncovered leaf. If the peers are consistent and the call succeeds, each leaf of the source's
+/// complete selected feed is covered, also below the start. A third peer that was consistent with one of the two peers
+/// stays consistent with that peer, as a source and as a target. In two of the four cases of third peers, the third
+/// peer needs a UUID of its own (`KeepsOthersTied`).
 ///
 /// # Errors
 ///

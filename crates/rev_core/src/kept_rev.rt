@@ -62,7 +62,7 @@ impl KeptRev {
     }
 
     /// Converts a revision with a short signature, without allocating. Returns `None` if the signature is not short.
-    // The function is not inlined, because inlining it makes an edit slower.
+    // The function is not inlined, because inlining it increases the number of instructions of an edit.
     #[inline(never)]
     pub fn short(rev: &Rev) -> Option<KeptRev>
         ensures { result ≡ short_of rev.now }

@@ -1,8 +1,8 @@
 //! Runs a script of commands from standard input with the default settings, and prints the results.
 //!
-//! The program has the interpreter of `couch_replicate`, and therefore the same results, but no options. The program
-//! builds faster than `couch_replicate`, because it does not use a library for command lines. docs/PROFILE.md, "Command
-//! lines" and "Answers", defines a script.
+//! The program uses the interpreter of `couch_replicate`, so its results are the same, but it has no options. The
+//! program builds faster than `couch_replicate`, because it does not use a library for command lines. docs/PROFILE.md,
+//! "Command lines" and "Answers", defines a script.
 #![tactic(auto)]
 
 ghost use Rattle.std.specs.Prelude.{◌≡◌, ℕ, List, Some, IfOk};
@@ -18,13 +18,13 @@ use std::process::ExitCode;
 use std::sync::Wait;
 use std::thread::Threads;
 
-/// Runs the script on standard input with the default settings. Returns whether every line was accepted, and both
-/// streams, whose bytes the contract names.
+/// Runs the script on standard input with the default settings. Returns whether no line failed, and both streams. The
+/// contract names the bytes that went through the streams.
 ///
 /// # Errors
 ///
-/// `OutOfMemory`: the output buffer cannot be allocated. If the buffer cannot be allocated, nothing has been read or
-/// written.
+/// `OutOfMemory`: the output buffer cannot be allocated. If the output buffer cannot be allocated, the call reads and
+/// writes nothing.
 fn run_standard<'a, H>(
     rt: &'a H,
 ) -> io::Result<

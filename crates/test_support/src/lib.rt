@@ -1,6 +1,6 @@
-//! Helpers that several test crates share: strings of results, revisions from strings, and a minimal log entry.
+//! Helpers that several test crates share, which format results, parse revisions, and create a minimal log entry.
 //!
-//! This crate has no contracts: its results are compared with strings written by hand.
+//! This crate has no contracts, because tests compare its results with strings written by hand.
 #![tactic(auto)]
 
 mod entries;

@@ -9,7 +9,7 @@ pub fn rev(text: &str) -> Option<Rev> {
     Rev::parse(text.as_bytes()).ok()
 }
 
-/// Formats a value with `Debug`.
+/// Formats a value with the trait `Debug`.
 pub fn shown<T: Debug>(alloc: Global, value: &T) -> Option<String> {
     format!(in alloc; "{value:?}").ok()
 }

@@ -55,7 +55,7 @@ fn push_unit(out: &mut String, unit: u32) -> Result<(), AllocError>
     out.push(hex_digit(unit % 16))
 }
 
-/// Returns the hexadecimal digit of a number.
+/// Returns the hexadecimal digit of a number below 16.
 fn hex_digit(digit: u32) -> char
     requires { digit < 16 }
     ensures { result ≡ digit_char digit }
@@ -91,8 +91,8 @@ pub fn push_visible(out: &mut String, text: &str) -> Result<(), AllocError>
     Ok(())
 }
 
-/// Appends a character of a JSON string. A quotation mark or a backslash is appended after a backslash, and a hidden
-/// character as its escape.
+/// Appends a character of a JSON string. The call appends a backslash before a quotation mark or a backslash, and the
+/// escape of a hidden character.
 fn push_quoted_char(out: &mut String, c: char) -> Result<(), AllocError>
     ensures { OnOk result (string_bytes out.new ≡ string_bytes out.old ++ encode_utf8_all (quoted_char c)) }
 {

@@ -110,7 +110,7 @@ impl<'v, 'a> Command<&'v Line<'a>> for Replicate<'v, 'a> {
         })
     }
 
-    /// Runs `replicate`. The call blocks, unless the line requests one thread.
+    /// Runs `replicate`. The call may block, unless the line requests a replication with one thread.
     fn serve<H: Threads + Wait + Sync>(
         &self,
         rt: &H,
@@ -123,7 +123,8 @@ impl<'v, 'a> Command<&'v Line<'a>> for Replicate<'v, 'a> {
 }
 
 /// Runs a replication, and prints its result. If the line gives no session id, the call generates one after it has
-/// found both databases and before it parses the document ids. The call blocks, unless the line requests one thread.
+/// found both databases and before it parses the document ids. The call may block, unless the line requests a
+/// replication with one thread.
 #[inline(never)]
 pub fn serve_replication<H: Threads + Wait + Sync>(
     rt: &H,

@@ -1,6 +1,6 @@
 //! Networks of randomly diverging peers. After a replication through a hub, or twice around a ring, all peers have the
-//! same documents. A second round changes nothing, and audits find no error. After random hops, each peer that a chain
-//! of hops reaches has all leaves of the chain's first peer.
+//! same documents. A second round changes nothing, and audits find no uncovered leaf. After random hops, each peer that
+//! a chain of hops reaches has all leaves of the chain's first peer.
 use crate::tests::checks::holds;
 use crate::tests::feeds::id;
 use crate::tests::merges::below;

@@ -417,7 +417,7 @@ fn compare_ledger(
     holds(rt, has, "a ledger");
 }
 
-/// Asserts that an audit of the replicated documents finds no error.
+/// Asserts that an audit of the replicated documents finds no uncovered leaf.
 fn is_clean(
     rt: &impl Abort,
     alloc: Global,

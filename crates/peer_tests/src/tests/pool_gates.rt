@@ -242,7 +242,8 @@ static CLEAN: Rows = &[(Call::Audit(A, B), "clean")];
 
 static AT_GOAL: Rows = &[(Call::Common(A, B, REP), "11")];
 
-/// Asserts that the gate stops a run at a stage of a window, and that an audit of the stopped run finds no error.
+/// Asserts that the gate stops a run at a stage of a window, and that an audit of the stopped run finds no uncovered
+/// leaf.
 pub(crate) fn expect_stop<G: Gate + Sync, R: Abort + Threads + Wait + Sync>(
     rt: &R,
     alloc: Global,

@@ -1,4 +1,4 @@
-//! Devices that read and write few bytes per call, and fail at a chosen call.
+//! Readers and writers that transfer few bytes per call and fail at a chosen call.
 
 use crate::tests::engine::{ANSWERS, LINES, Lengths};
 use script_engine::{OverRead, OverWrite, ScriptFault, ScriptRead, ScriptWrite, run_lines};
@@ -39,8 +39,8 @@ impl ScriptRead for NarrowReader<'_> {
 /// Each line has 16 bytes including the line end, and one call of the reader returns 16 bytes.
 const SIXTEEN: &str = "a line of these\na line of these\na line of these\n";
 
-/// Each test row has lines, the number of successful reads, and the output up to the failure. Every complete line is
-/// handled before the next read.
+/// Each test row has lines, the number of successful reads, and the output up to the failure. The engine handles every
+/// complete line before the next read.
 static READS: &[(&str, u64, &str)] = &[
     (SIXTEEN, 0, ""),
     (SIXTEEN, 1, "0\n"),
@@ -104,8 +104,8 @@ impl ScriptWrite for NarrowWriter {
     }
 }
 
-/// In successive runs, each write fails in turn. The written text is a prefix of the output, and its length is the
-/// number of earlier writes.
+/// The test makes one run for each write, in which this write fails. The written text is a prefix of the output, and
+/// has one byte for each write before the failed write.
 #[test]
 fn stops_at_a_failed_write(rt: HostRuntime) -> Result<(), Fail> {
     let writes = ANSWERS.len() as u64;
@@ -127,7 +127,7 @@ fn stops_at_a_failed_write(rt: HostRuntime) -> Result<(), Fail> {
     Ok(())
 }
 
-/// A writer that buffers everything, and fails at a chosen flush.
+/// A writer that buffers all bytes, and fails at a chosen flush.
 #[derive(Drop)]
 struct GatheringWriter {
     given: Vec<u8>,
@@ -196,7 +196,7 @@ fn answers_go_out_before_each_read(rt: HostRuntime) -> Result<(), Fail> {
     Ok(())
 }
 
-/// Reads 1,500 lines and a line of 40,000 bytes, with 16 bytes per call.
+/// Runs a script of 1,500 lines and a line of 40,000 bytes, with a reader that returns 16 bytes per call.
 #[test]
 fn four_thousand_reads(rt: HostRuntime) -> Result<(), Fail> {
     let (mut input, mut wanted) = (Vec::new(rt.alloc()), Vec::from_slice(rt.alloc(), b"0\n")?);

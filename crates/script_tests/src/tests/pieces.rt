@@ -5,7 +5,7 @@ use script_engine::{OverRead, OverWrite, ScriptFault, Serve, run_lines};
 use std::alloc::{AllocError, Global};
 use std::test::Fail;
 
-/// The rest of an output, which is the line end.
+/// The rest of a line's output, which is only the line end.
 #[derive(Drop)]
 pub(crate) struct LineEnd;
 
@@ -13,7 +13,7 @@ pub(crate) struct LineEnd;
 #[derive(Drop)]
 pub(crate) struct Echo {
     alloc: Global,
-    /// The capacity that is reserved for the line end.
+    /// The capacity that the server reserves for the line end.
     room: usize,
 }
 
@@ -44,7 +44,7 @@ impl Serve for Echo {
     fn observe(&mut self, _number: u64, _line: &[u8], _refused: Option<&'static str>) {}
 }
 
-/// Appends a line after a `>`.
+/// Appends a `>` followed by a line.
 fn push_marked(answer: &mut Vec<u8>, line: &[u8]) -> Result<(), AllocError>
     ensures { OnOk result (answer.new.items ≡ answer.old.items ++ (codes ">" ++ line.now)) }
 {
