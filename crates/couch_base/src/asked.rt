@@ -14,7 +14,8 @@ pub struct Wanted {
     revs: Revs,
 }
 
-// `Drop` is implemented by hand here so that it is proved once (docs/DECISIONS.md, "Letting values go").
+// `Drop` is implemented by hand because its derived code would be proved again in each crate that owns such a value
+// (docs/DECISIONS.md, "Letting values go").
 impl Drop for Wanted {
     fn drop(self) {
         let Wanted { id: _, revs: _ } = self;
@@ -71,7 +72,8 @@ pub struct Asked {
     docs: Vec<Wanted>,
 }
 
-// `Drop` is implemented by hand here so that it is proved once (docs/DECISIONS.md, "Letting values go").
+// `Drop` is implemented by hand because its derived code would be proved again in each crate that owns such a value
+// (docs/DECISIONS.md, "Letting values go").
 impl Drop for Asked {
     fn drop(self) {
         let Asked {

@@ -26,7 +26,8 @@ pub struct Parcel {
     made: Vec<Option<PreparedTree>>,
 }
 
-// `Drop` is implemented by hand here so that it is proved once (docs/DECISIONS.md, "Letting values go").
+// `Drop` is implemented by hand because its derived code would be proved again in each crate that owns such a value
+// (docs/DECISIONS.md, "Letting values go").
 impl Drop for Parcel {
     fn drop(self) {
         let Parcel {

@@ -40,8 +40,8 @@ fn pass_on<W: ScriptWrite>(writer: &mut W) -> Result<(), ScriptFault>
 ///
 /// # Errors
 ///
-/// Returns `Memory` if an allocation failed. In this case the output is unchanged. Returns `Write` if the writer
-/// failed. In this case a prefix of the request was written.
+/// Returns `Memory` if an allocation failed. If the call returns `Memory`, the output is unchanged. Returns `Write` if
+/// the writer failed. If the call returns `Write`, it has written a prefix of the request.
 pub(crate) fn send<W: ScriptWrite>(
     alloc: Global,
     options: &RequestOptions,

@@ -100,7 +100,8 @@ fn line_end(bytes: &[u8]) -> Option<usize>
     bytes.iter().position(|b| *b == 10)
 }
 
-/// Returns the length of the first line without its line feed. Without a line feed, all bytes are the first line.
+/// Returns the length of the first line without its line feed. If the bytes have no line feed, all bytes are the first
+/// line.
 fn line_len(bytes: &[u8]) -> usize
     ensures { result ≡ position_or_len is_line_end bytes.now }
 {

@@ -28,7 +28,8 @@ pub struct Body {
     text: ArcSlice<u8>,
 }
 
-// `Drop` is implemented by hand here so that it is proved once (docs/DECISIONS.md, "Letting values go").
+// `Drop` is implemented by hand because its derived code would be proved again in each crate that owns such a value
+// (docs/DECISIONS.md, "Letting values go").
 impl Drop for Body {
     fn drop(self) {
         let Body { text: _ } = self;

@@ -33,7 +33,8 @@ pub struct Chosen {
     marks: ArcSlice<bool>,
 }
 
-// `Drop` is implemented by hand here so that it is proved once (docs/DECISIONS.md, "Letting values go").
+// `Drop` is implemented by hand because its derived code would be proved again in each crate that owns such a value
+// (docs/DECISIONS.md, "Letting values go").
 impl Drop for Chosen {
     fn drop(self) {
         let Chosen { ids: _, marks: _ } = self;

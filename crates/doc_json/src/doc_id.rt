@@ -64,7 +64,8 @@ pub struct DocId {
     text: IdText,
 }
 
-// `Drop` is implemented by hand here so that it is proved once (docs/DECISIONS.md, "Letting values go").
+// `Drop` is implemented by hand because its derived code would be proved again in each crate that owns such a value
+// (docs/DECISIONS.md, "Letting values go").
 impl Drop for DocId {
     fn drop(self) {
         let DocId { text: _ } = self;

@@ -19,7 +19,8 @@ use std::alloc::{AllocError, Global};
 ///
 /// # Errors
 ///
-/// Returns `AllocError` if an allocation fails. In this case a part of the explanation may have been appended.
+/// Returns `AllocError` if an allocation fails. If the call returns an error, it may have appended a part of the
+/// explanation.
 pub fn explain(
     values: &mut ValueReader,
     alloc: Global,

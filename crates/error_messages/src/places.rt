@@ -56,7 +56,7 @@ fn push_member(text: &mut String, name: &str, object: &LineValue<'_>) -> Result<
     }
 }
 
-/// Appends a database and a colon.
+/// Appends the name of a database and a colon.
 fn push_database(text: &mut String, db: &str) -> Result<(), AllocError>
     ensures { OnOk result (AddsSeen (string_bytes text.old) (string_bytes text.new)) }
 {

@@ -107,7 +107,7 @@ impl<'a> Lexer<'a> {
     }
 
     /// Reads the next lexeme if it is a short number, which has a few digits and an optional minus sign. If the next
-    /// lexeme is not such a number, the call reads nothing.
+    /// lexeme is not a short number, the call reads nothing.
     #[inline(always)]
     pub(crate) fn integer(&mut self) -> Option<Number>
         ensures kept { result ≡ None → self.new ≡ self.old }

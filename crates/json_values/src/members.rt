@@ -134,7 +134,8 @@ fn put_listed<'a, T: Drop>(
     }
 }
 
-/// Moves the last member to an index by repeated swaps with the member before it. The number of swaps is usually small.
+/// Moves the last member to an index by repeated swaps with the member before it. Few swaps are needed, because members
+/// usually come nearly in order of their names.
 #[inline(always)]
 fn move_last<'a, T>(entries: &mut Vec<(&'a str, T)>, place: usize)
     requires { place < length entries.old.items }

@@ -14,7 +14,7 @@ use std::str::from_utf8;
 /// The peers of the network, of which the first is the hub.
 const NAMES: [&str; 4] = ["hub", "ann", "ben", "cleo"];
 
-/// Twice, the laptops write documents and synchronize. Then the call audits every pair of peers.
+/// Twice, the laptops write documents and synchronize. At the end, the call audits every pair of peers.
 pub fn run(rt: &HostRuntime) -> Result<()> {
     let mut net = Net::new(rt.alloc());
     for uuid in 1..5u64 {

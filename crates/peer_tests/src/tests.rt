@@ -1,7 +1,8 @@
 //! Tests of databases and peers. Each test is a table of calls, each with its expected result as a string.
 //!
-//! A bench holds the databases or peers of a test, and the values that were read and fetched from them. A call is an
-//! enum value. A proof therefore covers each kind of call once, and a test is data without a proof of its own.
+//! A bench holds the databases or peers of a test, and the values that were read and fetched from them. Each kind of
+//! call is a variant of an enum. The prover therefore handles each kind of call once, and a test is a table that needs
+//! no proof.
 
 // Calls on databases.
 mod database_rows;

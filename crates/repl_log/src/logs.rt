@@ -16,7 +16,8 @@ pub struct Logs {
     logs: IndexMap<RepId, Log>,
 }
 
-// `Drop` is implemented by hand here so that it is proved once (docs/DECISIONS.md, "Letting values go").
+// `Drop` is implemented by hand because its derived code would be proved again in each crate that owns such a value
+// (docs/DECISIONS.md, "Letting values go").
 impl Drop for Logs {
     fn drop(self) {
         let Logs { logs: _ } = self;

@@ -25,8 +25,8 @@ use std::alloc::Global;
 ///
 /// If every two peers are consistent (docs/PROFILE.md, "Nets"), they stay consistent, even if the call fails. Suppose
 /// that the call succeeds, each plan selects a document, no peer has refused this document, and the document's trees
-/// agreed and had complete histories. If this holds and chains of hops lead from every peer to every other peer, all
-/// peers then have the same document with the same winner. After the call, the trees of the document at all peers still
+/// agreed and had complete histories. If chains of hops also lead from every peer to every other peer, all peers have
+/// the same document with the same winner after the call. After the call, the trees of the document at all peers still
 /// agree and have complete histories.
 pub fn replicate_along<F: WriteFilter>(
     alloc: Global,

@@ -52,7 +52,7 @@ pub enum TargetFault {
     /// The base is not an earlier session of the session's replication.
     #[error("no such base session")]
     NoSuchBase,
-    /// The start exceeds the recorded sequence of the base session. Without a base session, the start exceeds 0.
+    /// The start exceeds the recorded sequence of the base session. If there is no base session, the start exceeds 0.
     #[error("the start is above {recorded}, which its base has recorded")]
     StartAboveBase {
         recorded: u64,

@@ -43,7 +43,8 @@ pub struct Peer<F: WriteFilter> {
     pub(crate) outgoing: Logs,
 }
 
-// `Drop` is implemented by hand here so that it is proved once (docs/DECISIONS.md, "Letting values go").
+// `Drop` is implemented by hand because its derived code would be proved again in each crate that owns such a value
+// (docs/DECISIONS.md, "Letting values go").
 impl<F: WriteFilter + Drop> Drop for Peer<F> {
     fn drop(self) {
         let Peer {
@@ -204,7 +205,8 @@ impl<F: WriteFilter> Peer<F> {
         self.db.page(alloc, since, goal, limit, chosen)
     }
 
-    /// Returns a page of the changes feed, for arguments that have a page (`Database::page_due`).
+    /// Returns a page of the changes feed, if the arguments are ones for which `page` returns no argument error
+    /// (`Database::page_due`).
     pub fn page_due(
         &self,
         alloc: Global,

@@ -17,10 +17,10 @@ use thiserror::Error;
 /// The run that failed (forward or reverse), and the reason why it failed.
 #[derive(Debug, Drop, Error)]
 pub enum SyncFault {
-    /// The run from the first peer into the second failed. In this case the reverse run did not begin.
+    /// The run from the first peer into the second failed. If the forward run failed, the reverse run did not begin.
     #[error("there: {0}")]
     There(PoolFault),
-    /// The run from the second peer into the first failed. In this case the forward run succeeded.
+    /// The run from the second peer into the first failed. If the reverse run failed, the forward run had succeeded.
     #[error("back: {0}")]
     Back(PoolFault),
 }

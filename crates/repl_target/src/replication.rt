@@ -179,8 +179,8 @@ pub fn check_plan(source: u128, target: u128, plan: &Plan) -> Result<(), TargetF
 }
 
 /// Begins the session of a plan, and returns its start. The session starts at the common checkpoint of the two logs,
-/// and has the checkpoint's session as its base. Without a common checkpoint, the session starts at 0. The goal of the
-/// session is the source's update sequence.
+/// and has the checkpoint's session as its base. If the logs have no common checkpoint, the session starts at 0. The
+/// goal of the session is the source's update sequence.
 ///
 /// Returns `Memory`, or an error of `Peer::begin`. An error changes nothing.
 pub fn begin_plan<F: WriteFilter, G: WriteFilter>(

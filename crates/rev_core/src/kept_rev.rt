@@ -18,7 +18,8 @@ pub struct KeptRev {
     form: Form,
 }
 
-// `Drop` is implemented by hand here so that it is proved once (docs/DECISIONS.md, "Letting values go").
+// `Drop` is implemented by hand because its derived code would be proved again in each crate that owns such a value
+// (docs/DECISIONS.md, "Letting values go").
 impl Drop for KeptRev {
     fn drop(self) {
         let KeptRev { form: _ } = self;

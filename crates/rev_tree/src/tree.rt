@@ -29,7 +29,8 @@ pub struct Tree {
     best: usize,
 }
 
-// `Drop` is implemented by hand here so that it is proved once (docs/DECISIONS.md, "Letting values go").
+// `Drop` is implemented by hand because its derived code would be proved again in each crate that owns such a value
+// (docs/DECISIONS.md, "Letting values go").
 impl Drop for Tree {
     fn drop(self) {
         let Tree { nodes: _, best: _ } = self;

@@ -16,8 +16,8 @@ impl Nodes {
     /// was the winner before the merge.
     ///
     /// The ancestry's head becomes the winner if it goes before the previous winner in the order of leaves. If the head
-    /// does not go before a previous winner that is still a leaf, the previous winner stays the winner. If neither the
-    /// ancestry's head nor the previous winner is the winner, the call looks for the winner among all leaves.
+    /// does not go before a previous winner that is still a leaf, the previous winner stays the winner. If the winner
+    /// is neither the ancestry's head nor the previous winner, the call looks for the winner among all leaves.
     pub(crate) fn winner_after(&mut self, before: usize, head: usize) -> usize
         requires before { before < length self.old.items }
         requires head { head < length self.old.items }

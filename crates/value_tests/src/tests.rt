@@ -3,8 +3,8 @@
 //! allocations. The tests are in a separate crate, because a crate that contains tests is proved twice. Revision trees
 //! and documents are tested by scripts of the program, and in other crates.
 //!
-//! A call is an enum value, so a proof covers each kind of call once. The tables are statics, so a proof does not cover
-//! their rows.
+//! Each kind of call is a variant of an enum, so the prover handles each kind of call once. The tables are statics,
+//! whose rows the prover does not process.
 
 // Revisions.
 mod revisions;

@@ -28,7 +28,7 @@ fn keep(alloc: Global, backups: &mut Vec<Backup>, backup: Backup) -> Option<Stri
     text
 }
 
-/// Restores a peer by index.
+/// Restores the peer at an index from a backup.
 pub(crate) fn restore_at(
     alloc: Global,
     peer: Option<&mut Peer<Rules>>,

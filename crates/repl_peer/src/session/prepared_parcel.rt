@@ -18,7 +18,8 @@ pub struct PreparedParcel {
     arrivals: Vec<Written>,
 }
 
-// `Drop` is implemented by hand here so that it is proved once (docs/DECISIONS.md, "Letting values go").
+// `Drop` is implemented by hand because its derived code would be proved again in each crate that owns such a value
+// (docs/DECISIONS.md, "Letting values go").
 impl Drop for PreparedParcel {
     fn drop(self) {
         let PreparedParcel {

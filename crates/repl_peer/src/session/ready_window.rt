@@ -13,7 +13,8 @@ pub struct ReadyWindow {
     done: Option<DoneWindow>,
 }
 
-// `Drop` is implemented by hand here so that it is proved once (docs/DECISIONS.md, "Letting values go").
+// `Drop` is implemented by hand because its derived code would be proved again in each crate that owns such a value
+// (docs/DECISIONS.md, "Letting values go").
 impl Drop for ReadyWindow {
     fn drop(self) {
         let ReadyWindow { window: _, done: _ } = self;

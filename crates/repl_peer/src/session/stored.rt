@@ -23,7 +23,7 @@ pub(crate) struct Checked {
 }
 
 /// Checks that a parcel's window exists, has a row for each document and is not done, and that the counts do not
-/// overflow. Returns the parcel's window, or the error.
+/// overflow. Returns the parcel's window, or the error of settling the parcel.
 pub(crate) fn check(session: &Session, parcel: &Parcel) -> Result<Checked, TargetFault>
     ensures ok { IfOk result
         (λ found. Passes session.now parcel.now found.place found.leaves found.asked) }

@@ -23,10 +23,12 @@ pub struct Synced {
 /// The replication that failed (forward or reverse), and the reason why it failed.
 #[derive(Debug, Drop, Error)]
 pub enum SyncFault {
-    /// The replication from the first peer into the second failed. In this case the reverse replication did not begin.
+    /// The replication from the first peer into the second failed. If the forward replication failed, the reverse
+    /// replication did not begin.
     #[error("there: {0}")]
     There(TargetFault),
-    /// The replication from the second peer into the first failed. In this case the forward replication succeeded.
+    /// The replication from the second peer into the first failed. If the reverse replication failed, the forward
+    /// replication had succeeded.
     #[error("back: {0}")]
     Back(TargetFault),
 }
