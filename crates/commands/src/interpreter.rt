@@ -133,8 +133,8 @@ pub fn read_object<'a>(
     Ok(value)
 }
 
-/// Runs a script: reads lines to the end of the input, runs each line as one command, and writes the output of all
-/// lines in order (docs/PROFILE.md, "Command lines" and "Answers"). Returns true if no line failed.
+/// Runs a script. The call reads lines to the end of the input, runs each line as one command, and writes the output of
+/// all lines in order (docs/PROFILE.md, "Command lines" and "Answers"). Returns true if no line failed.
 ///
 /// Before each read, the output of all lines read so far is flushed. A line that runs out of memory fails with
 /// `Memory`, and the script continues. The observer gets the result of each line and the start of the line's output,

@@ -12,7 +12,7 @@ use crate::doc_id::is_special;
 use crate::json_value::JsonValue;
 use json_values::is_same_text;
 
-/// Whether a member begins with `_`.
+/// Whether the name of a member begins with `_`.
 pub(crate) fn has_special<'v, V: JsonValue<'v>>(members: &'v V::Object) -> bool
     ensures { result ≡ has_special (V.members_seen members.now) }
 {

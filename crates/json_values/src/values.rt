@@ -107,7 +107,7 @@ fn read_other<'a>(
     }
 }
 
-/// Reads the items up to the end of an array.
+/// Reads the items of an array, up to its closing bracket.
 #[cycle(read)]
 #[inline(never)]
 fn read_items<'a>(
@@ -132,7 +132,7 @@ fn read_items<'a>(
     Ok(found)
 }
 
-/// Reads the members up to the end of an object.
+/// Reads the members of an object, up to its closing brace.
 #[cycle(read)]
 #[inline(never)]
 fn read_members<'a>(

@@ -152,7 +152,7 @@ fn of_peers(
     }
 }
 
-/// Performs a call with a selection that changes nothing.
+/// Performs a read-only call with a selection.
 fn read(
     alloc: Global,
     source: &Peer<Rules>,

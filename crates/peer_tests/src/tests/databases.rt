@@ -160,7 +160,7 @@ fn of_one(alloc: Global, db: &mut Database, held: &mut Held, call: &Call) -> Opt
     }
 }
 
-/// Performs a call on one database that changes nothing.
+/// Performs a read-only call on one database.
 fn read(alloc: Global, db: &Database, call: &Call) -> Option<String> {
     match *call {
         Call::Numbers(_) => numbers_text(alloc, db),

@@ -69,7 +69,7 @@ impl Bench {
         }
     }
 
-    /// Performs a call that changes nothing.
+    /// Performs a read-only call.
     fn read(&self, call: &Call) -> Option<String> {
         match *call {
             Call::Audit(source, target) => self.audit(source, target),

@@ -42,7 +42,7 @@ const D: &str = r#"{"_id":"d","_rev":"1-a"}"#;
 /// the parent, the kind and the body.
 const NEXT: &str = "2-1c600d37126a8e6d3c67d6f7a6a5c299";
 
-/// A session of `REP` without a base, from 0 to 1.
+/// The parameters of a session of the replication `REP` from 0 to 1, without a base session.
 const TO_ONE: Beginning = Beginning {
     rep: REP,
     base: None,
@@ -50,7 +50,7 @@ const TO_ONE: Beginning = Beginning {
     goal: 1,
 };
 
-/// A session of `REP` without a base, from 0 to 9.
+/// The parameters of a session of the replication `REP` from 0 to 9, without a base session.
 const TO_NINE: Beginning = Beginning {
     rep: REP,
     base: None,
@@ -58,7 +58,7 @@ const TO_NINE: Beginning = Beginning {
     goal: 9,
 };
 
-/// A session of `REP` based on the first one, from 1 to 2.
+/// The parameters of a session of the replication `REP` from 1 to 2, whose base is the first session.
 const FROM_ONE: Beginning = Beginning {
     rep: REP,
     base: Some(S1),

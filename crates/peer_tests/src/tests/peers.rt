@@ -258,7 +258,7 @@ fn of_one_alone(alloc: Global, peer: &mut Peer<Rules>, call: &Call) -> Option<St
     }
 }
 
-/// Performs a call on one peer that changes nothing.
+/// Performs a read-only call on one peer.
 fn read(alloc: Global, peer: &Peer<Rules>, call: &Call) -> Option<String> {
     match *call {
         Call::Numbers(_) => numbers_text(alloc, peer.db()),
@@ -295,7 +295,7 @@ fn of_two(alloc: Global, peers: &mut Vec<Peer<Rules>>, call: &Call) -> Option<St
     }
 }
 
-/// Performs a call on a source and a target that changes nothing.
+/// Performs a read-only call on a source and a target.
 fn compare(
     alloc: Global,
     source: &Peer<Rules>,

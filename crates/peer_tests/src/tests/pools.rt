@@ -233,7 +233,7 @@ fn of_one(alloc: Global, peer: &mut Peer<Rules>, call: &Call) -> Option<String> 
     }
 }
 
-/// Performs a call on one peer that changes nothing.
+/// Performs a read-only call on one peer.
 fn read(alloc: Global, peer: &Peer<Rules>, call: &Call) -> Option<String> {
     match *call {
         Call::Tree(_, id) => tree(alloc, peer.db(), id),

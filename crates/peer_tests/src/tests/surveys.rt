@@ -69,7 +69,7 @@ impl Bench {
         }
     }
 
-    /// Performs a call that changes nothing.
+    /// Performs a read-only call.
     fn ask(&self, call: &Call) -> Option<String> {
         match *call {
             Call::Compare(id) => self.compare(id),

@@ -80,7 +80,7 @@ impl Bench {
         }
     }
 
-    /// Performs a call that changes nothing.
+    /// Performs a read-only call on logs.
     fn reading(&self, call: &Call) -> Option<String> {
         match *call {
             Call::HasInto(target) => self.has_into(target),
