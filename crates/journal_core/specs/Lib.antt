@@ -5,4 +5,4 @@ pub use Journal.{Confirmed, IsGreatest, block, nothing}
 unfoldable pub use Journal.{block_hash, first_chain, first_seq, is_sum, sum_head, sum_line}
 pub use Places.{IsAt, Place, TookAs, closed, damaged, ended, ended_by, held_more, is_confirmed, next, place_after, start}
 unfoldable pub use Places.{end_in, hash_at, right_end, seq_of}
-pub use Sealing.{EndsSeal, IsSealed, IsSealing, Seals, SealsBlock, wrong_after}
+pub use Sealing.{EndsSeal, HasSealed, IsSealed, IsSealedOn, IsSealing, Seals, SealsBlock, wrong_after}

@@ -30,16 +30,26 @@ abbrev pub EndsSeal : Seal → List ℕ → List ℕ → Seal → Type 0
 EndsSeal old rest text new = new.wrong ≡ None → (rest ≡ []) × ((chain seq : List ℕ) (lines : List (List ℕ)) → IsSealing chain seq lines old
     → All (λ line. is_sum line ≡ false) lines × (text ≡ sum_line (length lines) (block_hash chain seq (joined lines)) seq ++ codes "\n"))
 
--- The input is the lines of a block, and the line that ends the block is written. With the line that ends it, the block
--- continues every journal that ends with the hash `chain`.
-pub record IsSealed (chain seq : List ℕ) (left held held' : Option (List ℕ)) : Type 0 where
+-- The input consists of the lines of a block, and the line that ends the block is written. With its last line, the
+-- block continues every journal that ends with the hash `chain`. The statement `given` holds for the input.
+pub record IsSealedOn (chain seq : List ℕ) (given : List ℕ → Type 0) (held held' : Option (List ℕ)) : Type 0 where
   pub lines : List (List ℕ)
-  pub gives : Gives left (joined lines)
+  pub gives : given (joined lines)
   pub written : Appends held held' (sum_line (length lines) (block_hash chain seq (joined lines)) seq ++ codes "\n")
   pub continues : (before : List (List ℕ)) (seq' : List ℕ) → Confirmed before chain seq'
       → Confirmed (before ++ (lines ++ sum_line (length lines) (block_hash chain seq (joined lines)) seq ∷ [])) (block_hash chain seq (joined lines)) seq
 
--- The input is the lines of a block, and the line that ends the block is written, unless the block has a wrong line.
+-- A block was sealed from the bytes `left` that the reader had left before the call.
+abbrev pub IsSealed : List ℕ → List ℕ → Option (List ℕ) → Option (List ℕ) → Option (List ℕ) → Type 0
+IsSealed chain seq left held held' = IsSealedOn chain seq (Gives left) held held'
+
+-- A block was sealed from the bytes `left`, unless the block has a wrong line.
 abbrev pub SealsBlock : List ℕ → List ℕ → Option (List ℕ) → Option (List ℕ) → Option (List ℕ) → Option ℕ → Type 0
 SealsBlock chain seq left held held' None = IsSealed chain seq left held held'
 SealsBlock chain seq left held held' (Some lines) = ⊤
+
+-- A block was sealed from the bytes that the reads of the call returned, unless the block has a wrong line. The
+-- arguments `taken` and `taken'` are the bytes that all reads returned before and after the call.
+abbrev pub HasSealed : List ℕ → List ℕ → Option (List ℕ) → Option (List ℕ) → Option (List ℕ) → Option (List ℕ) → Option ℕ → Type 0
+HasSealed chain seq taken taken' held held' None = IsSealedOn chain seq (Appends taken taken') held held'
+HasSealed chain seq taken taken' held held' (Some lines) = ⊤

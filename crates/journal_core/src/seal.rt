@@ -1,6 +1,6 @@
 //! Seals a block of a journal with a checksum.
-ghost use Rattle.std.specs.Prelude.{◌≡◌, IfOk, [], None};
-ghost use Rattle.journal_core.specs.Sealing.{EndsSeal, IsSealing, Seals, SealsBlock, wrong_after};
+ghost use Rattle.std.specs.Prelude.{◌≡◌, IfOk, OnOk, [], None};
+ghost use Rattle.journal_core.specs.Sealing.{EndsSeal, HasSealed, IsSealing, Seals, SealsBlock, wrong_after};
 
 use crate::sums::{added, hasher_of, hex_of, is_sum, sum_line};
 use line_reader::{LineTask, run_task};
@@ -99,7 +99,11 @@ pub fn seal_block<R: ScriptRead, W: ScriptWrite>(
     reader: &mut R,
     writer: &mut W,
 ) -> Result<Option<u64>, ScriptFault>
-    ensures { IfOk result (λ wrong. SealsBlock chain.now seq.now (R.left reader.old) (W.held writer.old) (W.held writer.new) wrong) }
+    ensures seals { IfOk result (λ wrong. SealsBlock chain.now seq.now (R.left reader.old) (W.held writer.old)
+        (W.held writer.new) wrong) }
+    ensures took { IfOk result (λ wrong. HasSealed chain.now seq.now (R.taken reader.old) (R.taken reader.new)
+        (W.held writer.old) (W.held writer.new) wrong) }
+    ensures ended { OnOk result (R.ended reader.new) }
 {
     let mut task = Seal::new(alloc, chain, seq)?;
     run_task(alloc, &mut task, reader, writer)?;

@@ -1,9 +1,9 @@
 -- Bytes that were read, and what they wrote.
-use Rattle.proof_prelude.proofs.{◌≡◌, ℕ, zero, suc, ◌+◌, ◌-◌, ◌<◌, List, [], ◌∷◌, ◌++◌, length, take, drop, slice_index, true, false, Option, Some, Result, Ok, Err, OnOk, All, refl, sym, ap, subst, ◌∙◌, arith, eqb-true, append_assoc, append-nil, All-push, All-nil, Appends, Appends-nil, Appends-trans}
+use Rattle.proof_prelude.proofs.{◌≡◌, ℕ, zero, suc, ◌+◌, ◌-◌, ◌<◌, List, [], ◌∷◌, ◌++◌, length, take, drop, slice_index, true, false, Option, Some, Result, Ok, Err, OnOk, refl, sym, ap, subst, ◌∙◌, arith, eqb-true, append_assoc, append-nil, All-push, All-nil, Appends, Appends-nil, Appends-trans}
 use Rattle.memchr.specs.Find.{IsFirstByte, is_byte}
-use Rattle.script_engine.specs.{has_line_end, is_line_end, Gives}
+use Rattle.script_engine.specs.{has_line_end, is_line_end}
 use Rattle.script_engine.proofs.{open-joined, rest_all}
-use Rattle.line_reader.specs.{AreLines, joined, HasRun, IsDone, Runs, Steps, more, none}
+use Rattle.line_reader.specs.{joined, HasRun, IsDoneOn, Steps, more, none}
 
 pub joined-append : (lines : List (List ℕ)) (line : List ℕ) → joined (lines ++ line ∷ []) ≡ joined lines ++ (line ++ 10 ∷ [])
 joined-append [] line = refl
@@ -51,19 +51,35 @@ HasRun-line {steps = steps} {start} {state} {held} {held'} {taken} {begun} line 
 }
 
 -- the end of the input was read
-pub HasRun-done : {S : Type 0} {steps ends : Steps S} {start state : S} {held held' : Option (List ℕ)} {input begun : List ℕ} (left : Option (List ℕ)) (rest last_text written : List ℕ) (new : S) (held'' : Option (List ℕ)) → HasRun steps start held input state begun held' → Gives left input → rest ≡ begun → ends state rest last_text new → written ≡ last_text → Appends held' held'' written → IsDone steps ends start left held new held''
-HasRun-done {steps = steps} {ends} {start} {state} {held} {held'} {input} {begun} left rest last_text written new held'' h gives is ended a w = record {
+pub HasRun-done : {S : Type 0} {steps ends : Steps S} {start state : S} {held held' : Option (List ℕ)} {input begun : List ℕ} (rest last_text written : List ℕ) (new : S) (held'' : Option (List ℕ)) → HasRun steps start held input state begun held' → rest ≡ begun → ends state rest last_text new → written ≡ last_text → Appends held' held'' written → IsDoneOn steps ends start (λ bytes. bytes ≡ input) held new held''
+HasRun-done {steps = steps} {ends} {start} {state} {held} {held'} {input} {begun} rest last_text written new held'' h is ended a w = record {
   input = input;
   lines = h.lines;
   rest = begun;
   text = h.text;
   last_text = last_text;
   last = state;
-  gives = gives;
+  gives = refl;
   splits = h.splits;
   runs = h.runs;
   ended = subst (λ z. ends state z last_text new) is ended;
   written = Appends-trans held held' held'' h.text last_text h.written (subst (Appends held' held'') a w);
+}
+
+-- the input, of which more is known
+pub IsDone-given : {S : Type 0} {steps ends : Steps S} {start state : S} {held held' : Option (List ℕ)} {input : List ℕ} (given : List ℕ → Type 0) → given input → IsDoneOn steps ends start (λ bytes. bytes ≡ input) held state held' → IsDoneOn steps ends start given held state held'
+IsDone-given given gives d = record {
+  input = d.input;
+  lines = d.lines;
+  rest = d.rest;
+  text = d.text;
+  last_text = d.last_text;
+  last = d.last;
+  gives = subst given (sym d.gives) gives;
+  splits = d.splits;
+  runs = d.runs;
+  ended = d.ended;
+  written = d.written;
 }
 
 -- the same bytes

@@ -1,4 +1,4 @@
 pub mod Lines
 pub mod Tasks
 pub use Lines.{AreLines, joined}
-pub use Tasks.{HasRun, IsDone, Runs, Steps, more, none}
+pub use Tasks.{HasDone, HasRun, IsDone, IsDoneOn, Runs, Steps, more, none}

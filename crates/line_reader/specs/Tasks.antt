@@ -1,5 +1,5 @@
 -- Tasks that read lines.
-use Rattle.std.specs.Prelude.{◌≡◌, ℕ, List, [], ◌∷◌, ◌++◌, Option}
+use Rattle.std.specs.Prelude.{ℕ, List, [], ◌∷◌, ◌++◌, Option}
 use Rattle.std.specs.Io.KnownBytes.{Appends}
 use Rattle.script_engine.specs.Device.{Gives}
 use Rattle.line_reader.specs.Lines.{AreLines}
@@ -27,9 +27,9 @@ pub record HasRun {S : Type 0} (steps : Steps S) (start : S) (held : Option (Lis
   pub runs : Runs steps start lines text state
   pub written : Appends held held' text
 
--- The complete input of the reader was run, and its text is written. The argument `left` is what the reader had left
--- before the run. The arguments `held` and `held'` are what the writer has accepted, before and after.
-pub record IsDone {S : Type 0} (steps ends : Steps S) (start : S) (left held : Option (List ℕ)) (state : S)
+-- A task ran over the complete input, and the task's text is written. The statement `given` holds for the input. The
+-- arguments `held` and `held'` are the bytes that the writer has accepted before and after the run.
+pub record IsDoneOn {S : Type 0} (steps ends : Steps S) (start : S) (given : List ℕ → Type 0) (held : Option (List ℕ)) (state : S)
     (held' : Option (List ℕ)) : Type 0 where
   pub input : List ℕ
   pub lines : List (List ℕ)
@@ -37,8 +37,18 @@ pub record IsDone {S : Type 0} (steps ends : Steps S) (start : S) (left held : O
   pub text : List ℕ
   pub last_text : List ℕ
   pub last : S
-  pub gives : Gives left input
+  pub gives : given input
   pub splits : AreLines input lines rest
   pub runs : Runs steps start lines text last
   pub ended : ends last rest last_text state
   pub written : Appends held held' (text ++ last_text)
+
+-- A task ran over the bytes `left` that the reader had left before the run.
+abbrev pub IsDone : {S : Type 0} → Steps S → Steps S → S → Option (List ℕ) → Option (List ℕ) → S → Option (List ℕ) → Type 0
+IsDone steps ends start left held state held' = IsDoneOn steps ends start (Gives left) held state held'
+
+-- A task ran over the bytes that the reads of the call returned. The arguments `taken` and `taken'` are the bytes that
+-- all reads returned before and after the call.
+abbrev pub HasDone : {S : Type 0} → Steps S → Steps S → S → Option (List ℕ) → Option (List ℕ) → Option (List ℕ) → S → Option (List ℕ)
+    → Type 0
+HasDone steps ends start taken taken' held state held' = IsDoneOn steps ends start (Appends taken taken') held state held'

@@ -2,9 +2,8 @@
 ghost use Rattle.std.specs.Prelude.{◌≡◌, ◌∷◌, [], ◌++◌, ℕ, List, Option, IfErr, OnOk};
 ghost use Rattle.std.specs.Io.KnownBytes.{IsAtEnd};
 ghost use Rattle.script_engine.specs.Chunks.{AreChunks};
-ghost use Rattle.script_engine.specs.Device.{Gives};
 ghost use Rattle.script_engine.specs.Faults.{IsOfWriter, IsFaultOf};
-ghost use Rattle.line_reader.specs.Tasks.{HasRun, IsDone};
+ghost use Rattle.line_reader.specs.Tasks.{HasDone, HasRun, IsDone, IsDoneOn};
 
 use crate::task::LineTask;
 use memchr::memchr;
@@ -81,9 +80,9 @@ fn finish<T: LineTask, W: ScriptWrite>(
     progress: &mut Progress,
     writer: &mut W,
 ) -> Result<(), ScriptFault>
-    ensures ok { OnOk result ((start : T) (left held : Option (List ℕ)) (input : List ℕ) → Gives left input
+    ensures ok { OnOk result ((start : T) (held : Option (List ℕ)) (input : List ℕ)
         → HasRun T.steps start held input task.old progress.old.begun.items (W.held writer.old)
-        → IsDone T.steps T.ends start left held task.new (W.held writer.new)) }
+        → IsDoneOn T.steps T.ends start (λ bytes. bytes ≡ input) held task.new (W.held writer.new)) }
     ensures counted { OnOk result (W.failures writer.new ≡ W.failures writer.old) }
     ensures fault { IfErr result (λ fault. IsOfWriter fault (W.failures writer.old) (W.failures writer.new)) }
 {
@@ -113,7 +112,10 @@ pub fn run_task<T: LineTask, R: ScriptRead, W: ScriptWrite>(
 ) -> Result<(), ScriptFault>
     ensures ok { OnOk result (IsDone T.steps T.ends task.old (R.left reader.old) (W.held writer.old) task.new
         (W.held writer.new)) }
+    ensures took { OnOk result (HasDone T.steps T.ends task.old (R.taken reader.old) (R.taken reader.new)
+        (W.held writer.old) task.new (W.held writer.new)) }
     ensures end { OnOk result (IsAtEnd (R.left reader.new)) }
+    ensures ended { OnOk result (R.ended reader.new) }
     ensures counted { OnOk result ((R.failures reader.new ≡ R.failures reader.old)
         × (W.failures writer.new ≡ W.failures writer.old)) }
     ensures fault { IfErr result (λ fault. IsFaultOf fault (R.reads reader.old) (R.reads reader.new)

@@ -1,6 +1,6 @@
 //! Reads a complete input into memory.
 ghost use Rattle.std.specs.Prelude.{◌≡◌, IfOk, IfErr, OnOk};
-ghost use Rattle.std.specs.Io.KnownBytes.{IsAtEnd};
+ghost use Rattle.std.specs.Io.KnownBytes.{Appends, IsAtEnd};
 ghost use Rattle.script_engine.specs.Device.{Gives};
 ghost use Rattle.script_engine.specs.Faults.{IsFaultOf};
 
@@ -15,7 +15,9 @@ use std::alloc::Global;
 /// `Memory` if an allocation failed.
 pub fn read_all<R: ScriptRead>(alloc: Global, reader: &mut R) -> Result<Vec<u8>, ScriptFault>
     ensures ok { IfOk result (λ bytes. Gives (R.left reader.old) bytes.items) }
+    ensures took { IfOk result (λ bytes. Appends (R.taken reader.old) (R.taken reader.new) bytes.items) }
     ensures end { OnOk result (IsAtEnd (R.left reader.new)) }
+    ensures ended { OnOk result (R.ended reader.new) }
     ensures counted { OnOk result (R.failures reader.new ≡ R.failures reader.old) }
     ensures fault { IfErr result (λ fault. IsFaultOf fault (R.reads reader.old) (R.reads reader.new)
         (R.failures reader.old) (R.failures reader.new) 0 0) }

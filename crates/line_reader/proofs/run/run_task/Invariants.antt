@@ -1,5 +1,5 @@
 -- What was read has been run, and its text is written.
-use Rattle.proof_prelude.proofs.{◌≡◌, ◌-◌, ℕ, List, Consumes}
+use Rattle.proof_prelude.proofs.{◌≡◌, ◌-◌, ℕ, List, Appends, Consumes}
 use Rattle.script_engine.specs.{HasRead, AreChunks, max_reads}
 use Rattle.line_reader.specs.{HasRun}
 use Rattle.line_reader.proofs.run.run_task.Given as goal
@@ -11,6 +11,7 @@ invariant-loop-more g l =
     record {
       taken : List ℕ;
       consumes : Consumes (R.left l.fn.reader) (R.left l.reader) taken;
+      took : Appends (R.taken l.fn.reader) (R.taken l.reader) taken;
       run : HasRun g.T.LineTask.steps l.fn.task (W.held l.fn.writer) taken l.task l.progress.begun.items (W.held l.writer);
       chunks : AreChunks l.chunks;
       reads : HasRead l.chunks.turns (R.reads l.fn.reader) (R.reads l.reader) (R.failures l.fn.reader) (R.failures l.reader);

@@ -1,5 +1,5 @@
 -- The bytes are those that were read.
-use Rattle.proof_prelude.proofs.{◌≡◌, ◌-◌, Consumes}
+use Rattle.proof_prelude.proofs.{◌-◌, Appends, Consumes}
 use Rattle.script_engine.specs.{HasRead, AreChunks, max_reads}
 use Rattle.line_reader.proofs.whole.read_all.Given as goal
 
@@ -8,6 +8,7 @@ invariant-loop-more g l =
     let R = g.R.ScriptRead in
     record {
       consumes : Consumes (R.left l.fn.reader) (R.left l.reader) l.bytes.items;
+      took : Appends (R.taken l.fn.reader) (R.taken l.reader) l.bytes.items;
       chunks : AreChunks l.chunks;
       reads : HasRead l.chunks.turns (R.reads l.fn.reader) (R.reads l.reader) (R.failures l.fn.reader) (R.failures l.reader);
     }
