@@ -6,6 +6,7 @@ pub use ties.Ties.{AreTiedBackups, AreTiedEntries, Asks, IsReached, IsSentEntry,
 pub use ties.Ties.{IsTiedWindow, IsTiedWith, KeepsOthersTied, LogsAreHonest, Names, StaysTied}
 pub use replication.Calls.{AllFrom, Append, Begin, Call, Conclude, EachStored, Edit, IsFrom, IsGrown, IsLeft, IsPageOf, Load, Record, Settle, Stop}
 pub use replication.Calls.{after_call, after_calls, after_some, most_settled, settled_of}
+pub use replication.Expected.{IsExpected, StopsShort}
 pub use replication.Leaves.{HasGrownBy, IsPut, Leaves}
 pub use replication.Replication.{Carries, Closes, CoversFrom, IsEmpty, IsReported, PutsOver, Reading, Reads, ReadsAll, ReadsUntil, Replicates}
 pub use replication.Replication.{SameDocument, SameDocuments, WindowRefused, after_begins, base_at, beginning_between, begins_answer, checkpoint_of}

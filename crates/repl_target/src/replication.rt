@@ -9,6 +9,7 @@ ghost use Rattle.repl_peer.specs.peer.Backups.{BackupValue};
 ghost use Rattle.repl_target.specs.ties.Ties.{IsTiedPair, IsTiedWith, KeepsOthersTied};
 ghost use Rattle.repl_peer.specs.peer.Peer.{SessionValue, session_in, entry_of};
 ghost use Rattle.repl_peer.specs.session.Sessions.{session_answer, conclude_answer};
+ghost use Rattle.repl_target.specs.replication.Expected.{IsExpected};
 ghost use Rattle.repl_target.specs.replication.Replication.{Reading, is_batch, plan_answer, start_between, begins_answer, after_begins, Carries, WindowRefused, has_left, ReadsAll, ReadsUntil, closed, PutsOver, Closes, Replicates, CoversFrom, IsReported, IsEmpty, SameDocuments};
 ghost use Rattle.repl_peer.specs.peer.Law.{Lawful};
 ghost use Rattle.repl_peer.specs.declared.fault.TargetFault.TheVariants as faults;
@@ -113,6 +114,9 @@ pub fn replicate_alone<F: WriteFilter, G: WriteFilter>(
         → CoversFeed source.old.1 target.new.1 plan.now.chosen source.old.1.db.update_seq) }
     ensures clean { (chosen : Choice) → IsTiedPair source.old.1 target.old.1 chosen
         → audit_answer source.new.1 target.new.1 chosen ≡ None }
+    ensures expected { IfErr result
+        (λ why. IsTiedPair source.old.1 target.old.1 plan.now.chosen
+        → IsExpected source.old.1 target.old.1 plan.now why) }
 {
     source.law();
     target.law();

@@ -8,3 +8,4 @@ pub mod OthersStayTied
 pub mod BothWays
 pub mod BegunSessions
 pub mod ReadCounts
+pub mod ExpectedErrors

@@ -15,7 +15,7 @@ use Rattle.repl_target.proofs.lemmas.replication.ReplicationAsCalls.{grown-later
 
 -- ---- lists
 
-not_missed : {X : Type 0} (p : X → Bool) (xs : List X) (x : X) → Among x xs → p x ≡ true → find p xs ≡ None → ⊥
+pub not_missed : {X : Type 0} (p : X → Bool) (xs : List X) (x : X) → Among x xs → p x ≡ true → find p xs ≡ None → ⊥
 not_missed p [] x m h none = absurd m
 not_missed p (y ∷ ys) x m h none =
     cond_both (p y) (Some y) (find p ys) (λ o. o ≡ None → ⊥)

@@ -75,7 +75,7 @@ session_reached refuses c db p law s m tied life n less =
 
 -- ---- entries of both logs
 
-entry_session : (target : PeerValue) (rep : RepId) (t : EntryValue) → Among t (target_log target rep) → (s : SessionValue) × Among s target.sessions × (s.rep ≡ rep) × (t ≡ entry_of s)
+pub entry_session : (target : PeerValue) (rep : RepId) (t : EntryValue) → Among t (target_log target rep) → (s : SessionValue) × Among s target.sessions × (s.rep ≡ rep) × (t ≡ entry_of s)
 entry_session target rep t m =
     let g = Among-map entry_of t _ m in
     let f = Among-filter (λ (s : SessionValue). same_rep s.rep rep) g.0 target.sessions g.1 in
