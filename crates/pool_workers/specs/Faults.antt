@@ -22,10 +22,16 @@ IsLateOn may_fill may_stop fault = Unit {0}
 
 -- ---- errors from workers' halts
 
--- A possible error of a worker's call on the target, which is any error except `Unfinished`.
+-- A possible error of a worker's call on the target of a run.
 abbrev pub IsStepFault : TargetFault → Type 0
-IsStepFault (refusals.Unfinished low_water) = ⊥
-IsStepFault fault = Unit {0}
+IsStepFault (refusals.Gap expected) = Unit {0}
+IsStepFault refusals.ForeignParcel = Unit {0}
+IsStepFault refusals.AlreadyDone = Unit {0}
+IsStepFault refusals.CountFull = Unit {0}
+IsStepFault (refusals.Stopped settled rest cause) = Unit {0}
+IsStepFault (refusals.Uncovered seq id rev) = Unit {0}
+IsStepFault refusals.Memory = Unit {0}
+IsStepFault fault = ⊥
 
 -- A possible error of a run in which a worker halted.
 abbrev pub IsHaltOn : Type 0 → (Place → Type 0) → PoolFault → Type 0

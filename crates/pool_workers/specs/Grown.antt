@@ -1,11 +1,11 @@
 -- The target that the lock of a run protects, as specified in docs/PROFILE.md, "The pool".
-use Rattle.std.specs.Prelude.{◌≡◌, ℕ, Bool, Option, Some}
+use Rattle.std.specs.Prelude.{◌≡◌, ℕ, Bool, List, Option, Some}
 use Rattle.rev_tree.specs.declared.origin.SessionId.{SessionId}
 use Rattle.doc_json.specs.Document.{Document}
 use Rattle.doc_json.specs.Chosen.{Choice}
 use Rattle.couch_base.specs.Database.{DatabaseValue}
 use Rattle.couch_base.specs.Messages.{ParcelValue, open_revs}
-use Rattle.repl_peer.specs.peer.Peer.{PeerValue}
+use Rattle.repl_peer.specs.peer.Peer.{PeerValue, SessionValue, session_in}
 use Rattle.repl_target.specs.replication.Calls.{IsGrown}
 use Rattle.repl_target.specs.declared.replication.Plan.{Plan}
 use Rattle.repl_peer.specs.session.ReadCounts.{read_in}
@@ -15,6 +15,11 @@ use Rattle.pool_workers.specs.Paging.{KeepsPages}
 abbrev pub IsAnswerOf : DatabaseValue → ParcelValue → Type 0
 IsAnswerOf source p = p ≡ open_revs source p.asked
 
+-- The target has the run's session, which is of the source's life, and whose goal is the source's update sequence.
+abbrev pub HasRun : DatabaseValue → SessionId → List SessionValue → Type 0
+HasRun source run sessions =
+    (s : SessionValue) × (session_in sessions run ≡ Some s) × (s.life ≡ source.life) × (s.goal ≡ source.update_seq)
+
 module _ {F : Type 0} (refuses : F → Document → Bool) where
   -- The filter is the given one, and the peer has grown from the given one by calls of a run whose messages come from
   -- the source.
@@ -22,10 +27,11 @@ module _ {F : Type 0} (refuses : F → Document → Bool) where
   GrownPeer source chosen run given now = (now.0 ≡ given.0) × IsGrown (refuses given.0) source chosen run given.1 now.1
 
   -- The target while a run is in progress. During a run, the target has grown from the given peer by calls of the run.
-  -- During a run, the run's session has read `total` documents, its windows are pages of the source, and the plan
-  -- allows `more` windows.
+  -- During a run, the run's session is stored at the target, the session has read `total` documents, its windows are
+  -- pages of the source, and the plan allows `more` windows.
   abbrev pub TargetKeeps : DatabaseValue → Plan → Option ((F × PeerValue) × SessionId) → SessionId → ℕ → Option ℕ
       → F × PeerValue → Type 0
   TargetKeeps source plan given session total more now =
       (g : F × PeerValue) × (given ≡ Some (g, session)) × GrownPeer source plan.chosen session g now
       × (read_in now.1.sessions session ≡ total) × KeepsPages source plan session more now.1.sessions
+      × HasRun source session now.1.sessions

@@ -15,7 +15,7 @@ pub use Windows.{Covers, KeepsRole, Numbered, has_read, has_taken, numbers, wind
 pub use Faults.{Allows, AllowsOn, IsHaltOn, IsLateOn, IsOneFault, IsStepFault, fault_of}
 pub use Boards.{AreBack, AreRisen, AreSeated, AreSeats, HasNothing, HaveRisenBy, HaveShown, IsRisen, IsSeated, MayFill, WorksAt, held}
 pub use Paging.{AllowsMore, HasNoWindows, HasPages, IsNext, IsOneLess, KeepsPages}
-pub use Grown.{GrownPeer, IsAnswerOf, TargetKeeps}
+pub use Grown.{GrownPeer, HasRun, IsAnswerOf, TargetKeeps}
 pub use Workers.{FetcherKnows, WriterKnows, WriterShows, amounts, names}
 pub use Gathered.{FetchedKnows, IsOneOf, WrittenKnows}
 pub use Scopes.{StandBy}

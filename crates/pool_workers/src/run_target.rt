@@ -3,7 +3,7 @@ ghost use Rattle.std.specs.Prelude.{◌≡◌, ℕ, ◌+◌, ◌<◌, ◌≤◌,
 ghost use Rattle.std.specs.Coded.{coded×};
 ghost use Rattle.rev_tree.specs.declared.origin.SessionId.{SessionId};
 ghost use Rattle.pool_workers.specs.Faults.{IsStepFault};
-ghost use Rattle.pool_workers.specs.Grown.{TargetKeeps};
+ghost use Rattle.pool_workers.specs.Grown.{HasRun, TargetKeeps};
 ghost use Rattle.pool_workers.specs.Paging.{IsOneLess, HasNoWindows, LetsStore};
 ghost use Rattle.repl_target.specs.replication.Replication.{has_left};
 ghost use Rattle.couch_base.specs.Messages.{revs_diff};
@@ -84,6 +84,7 @@ impl<F: WriteFilter, S: SourceBrand, T: TargetBrand<F>, L: Ledger> RunTarget<F, 
         requires given { T.given ≡ Some (target, session) }
         requires none { read_in target.1.sessions session ≡ 0 }
         requires fresh { HasNoWindows session target.1.sessions }
+        requires run { HasRun S.source session target.1.sessions }
         requires more { more ≡ S.plan.stop_after }
         requires ledger { ledger.total ≡ 0 }
         ensures { result ≡ target }

@@ -8,7 +8,7 @@ use Rattle.repl_peer.specs.{Report, PeerValue, SessionValue, is_of, session_in, 
 use Rattle.repl_target.specs.{Plan, begins_answer, after_begins, beginning_between, Record, Conclude, IsGrown}
 use Rattle.repl_peer.proofs.{session_found}
 use Rattle.repl_target.proofs.{found-is, concludes, grown_law, grown-later, grown-one, copied}
-use Rattle.pool_workers.specs.{GrownPeer}
+use Rattle.pool_workers.specs.{GrownPeer, HasRun}
 use Rattle.repl_pool.specs.{EndsWell}
 
 module _ {F : Type 0} (refuses : F → Document → Bool) (db : DatabaseValue) (chosen : Choice) (run : SessionId) where
@@ -42,10 +42,16 @@ held_grown refuses db chosen given now id law l h held =
     let k = calls.1.sessions held.0 found.0 in
     (k.0, ap (λ n. find (λ (x : SessionValue). x.id.0 == n) now.1.sessions) (sym found.1) ∙ found-is now.1.sessions held.0.id k.0 calls.0.distinct k.1 k.2.id)
 
--- the target has a session that has begun
+-- the session that has begun
+begun_is : (source target : PeerValue) (plan : Plan) (begun : PeerValue) → begins_answer source target plan ≡ Ok tt → begun ≡ after_begins source target plan → session_in begun.sessions plan.session ≡ Some (new_session plan.session (beginning_between source target plan.chosen) plan.at)
+begun_is source target plan begun ok is =
+    let new = new_session plan.session (beginning_between source target plan.chosen) plan.at in
+    ap (λ (q : PeerValue). session_in q.sessions plan.session) (is ∙ ap (begun_by target new) ok)
+    ∙ cond-true (is_of plan.session new) (Some new) (session_in target.sessions plan.session) (eq-eqb plan.session.0 plan.session.0 refl)
+
 pub begun_held : (source target : PeerValue) (plan : Plan) (begun : PeerValue) → begins_answer source target plan ≡ Ok tt → begun ≡ after_begins source target plan → (s : SessionValue) × (session_in begun.sessions plan.session ≡ Some s)
-begun_held source target plan begun ok is =
-    let new = new_session plan.session (beginning_between source target plan.chosen) plan.at in (
-      new,
-      ap (λ (q : PeerValue). session_in q.sessions plan.session) (is ∙ ap (begun_by target new) ok) ∙ cond-true (is_of plan.session new) (Some new) (session_in target.sessions plan.session) (eq-eqb plan.session.0 plan.session.0 refl),
-    )
+begun_held source target plan begun ok is = (new_session plan.session (beginning_between source target plan.chosen) plan.at, begun_is source target plan begun ok is)
+
+-- it is of the source's life, with its update sequence as goal
+pub begun_run : (source target : PeerValue) (plan : Plan) (begun : PeerValue) → begins_answer source target plan ≡ Ok tt → begun ≡ after_begins source target plan → HasRun source.db plan.session begun.sessions
+begun_run source target plan begun ok is = (new_session plan.session (beginning_between source target plan.chosen) plan.at, begun_is source target plan begun ok is, refl, refl)

@@ -4,11 +4,12 @@ pub mod Closing
 pub mod LowWater
 pub mod Shown
 pub mod NewSeats
+pub mod RunErrors
 pub mod RunLaws
 pub mod Syncing
 pub mod Crews
 pub use RunPages.{begun_fresh}
-pub use Ending.{begun_held, grown_conclude, grown_record, grown_then, held_grown}
+pub use Ending.{begun_held, begun_run, grown_conclude, grown_record, grown_then, held_grown}
 pub use Closing.{ends_either, puts_entry}
 pub use Shown.{risen_by, shown_end}
 pub use NewSeats.{new_left, new_taken}

@@ -16,6 +16,7 @@ use Rattle.progress_board.specs.{Board, BoardSeat}
 use Rattle.repl_pool.proofs.RunPages.{is_paged, closes_pages}
 use Rattle.repl_pool.proofs.Ending.{ends_well}
 use Rattle.repl_pool.proofs.LowWater.{recorded_tells}
+use Rattle.repl_pool.proofs.RunErrors.{early_expected, begin_expected, run_expected}
 
 -- ---- the given peer
 
@@ -159,6 +160,7 @@ module _ {F : Type 0} (refuses : F → Document → Bool) (may_fill : Type 0) (m
     others = others_same source.1 target.1;
     audited = λ chosen. tied_none (refuses target.0) source.1 target.1 chosen lawful;
     put = inl (refl, refl, record { fault = why; told = refl; due = inl early });
+    expected = λ tied. early_expected may_fill may_stop source.1 target.1 plan why early;
     well = tt;
     whole = tt;
   }
@@ -187,6 +189,7 @@ module _ {F : Type 0} (refuses : F → Document → Bool) (may_fill : Type 0) (m
             due = inr (elim due [ inl none ↦ inl (ap faults.Refused none) | inr begins ↦ inr (why, begins, refl) ]);
           },
         );
+        expected = λ tied. begin_expected may_fill may_stop source.1 target.1 plan (refuses target.0) why lawful tied due;
         well = tt;
         whole = tt;
       })
@@ -222,6 +225,7 @@ module _ {F : Type 0} (refuses : F → Document → Bool) (may_fill : Type 0) (m
           put = late.1;
           unfinished = run_tells refuses may_fill may_stop source.1 begun plan counts source'.1 target'.1 outcome e;
         });
+        expected = run_expected may_fill may_stop source.1 target.1 plan refuses begun counts source'.1 target'.1 outcome law lawful_begun ok is e;
         well = well;
         whole = whole_of (refuses target.0) source.1 target.1 target'.1 plan (sum counts) law lawful l' ok since outcome well;
       }

@@ -26,6 +26,7 @@ use Rattle.pool_workers.specs.declared.gate.Place.{Place}
 use Rattle.pool_workers.specs.declared.fault.PoolFault.{PoolFault}
 use Rattle.pool_workers.specs.declared.fault.PoolFault.TheVariants as faults
 use Rattle.repl_pool.specs.Early.{early_answer}
+use Rattle.repl_pool.specs.Expected.{IsExpectedRun}
 use Rattle.repl_pool.specs.Pages.{IsPaged}
 
 -- ---- end of a run
@@ -189,6 +190,10 @@ pub record RunsOn {F : Type 0} (refuses : F → Document → Bool) (may_fill : T
   -- If a run's session has not begun, both peers are unchanged and the error says why. If a run's session has begun, it
   -- has read pages of the source, and its entry is stored at the source.
   pub put : LeavesOrPuts plan source target source' target' outcome
+  -- If the peers of a run were consistent, the error of the run is one that `IsExpectedRun` lists.
+  pub expected : IfErr outcome
+      (λ why. IsTiedPair source.1 target.1 plan.chosen
+      → IsExpectedRun may_fill may_stop source.1 target.1 plan why)
   -- The guarantees of a run that succeeded.
   pub well : IfOk outcome (EndsWell source.1 target.1 target'.1 plan (sum fetched))
   -- If the peers of a successful run were consistent, the target covers the source's complete selected feed, including

@@ -6,7 +6,7 @@ ghost use Rattle.repl_peer.specs.peer.Peer.{SessionValue, session_in};
 ghost use Rattle.repl_peer.specs.session.ReadCounts.{read_in};
 ghost use Rattle.repl_target.specs.replication.Replication.{is_batch};
 ghost use Rattle.doc_json.specs.Chosen.{Choice};
-ghost use Rattle.pool_workers.specs.Grown.{GrownPeer};
+ghost use Rattle.pool_workers.specs.Grown.{GrownPeer, HasRun};
 ghost use Rattle.pool_workers.specs.Paging.{HasNoWindows};
 ghost use Rattle.pool_workers.specs.Boards.{WorksAt, AreRisen, HaveRisenBy, MayFill, AreSeats, AreBack, HaveShown};
 ghost use Rattle.repl_pool.specs.Crews.{crew_of};
@@ -149,6 +149,7 @@ fn run_begun<
     requires given { T.given ≡ Some (begun.target, plan.now.session) }
     requires none { read_in begun.target.1.sessions plan.now.session ≡ 0 }
     requires fresh { HasNoWindows plan.now.session begun.target.1.sessions }
+    requires run { HasRun begun.source.1.db plan.now.session begun.target.1.sessions }
     requires held { (s : SessionValue) × (session_in begun.target.1.sessions plan.now.session ≡ Some s) }
     ensures filter { result.source.0 ≡ begun.source.0 }
     ensures source { result.source.1 ≡ record begun.source.1 { outgoing = result.source.1.outgoing } }

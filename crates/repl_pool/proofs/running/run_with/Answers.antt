@@ -4,7 +4,7 @@ use Rattle.repl_target.proofs.{begun_reads}
 use Rattle.pool_workers.specs.{MayFill}
 use Rattle.pool_workers.proofs.{seats_seated, seats_fewer, back_same}
 use Rattle.repl_pool.specs.{early_answer}
-use Rattle.repl_pool.proofs.{begun_held, begun_fresh, crew_some, crew_most, Passes, passes, runs_early, runs_refused, runs_begun, shown_well}
+use Rattle.repl_pool.proofs.{begun_held, begun_run, begun_fresh, crew_some, crew_most, Passes, passes, runs_early, runs_refused, runs_begun, shown_well}
 use Rattle.repl_pool.proofs.running.run_with.Goals as goal
 
 pub run_begun-requires-clause-workers : goal.run_begun-requires-clause-workers
@@ -37,6 +37,9 @@ run_begun-requires-clause-none g c κs within =
 
 pub run_begun-requires-clause-fresh : goal.run_begun-requires-clause-fresh
 run_begun-requires-clause-fresh g c κs within = begun_fresh c.args.source.1 c.args.target.1 c.args.plan.now c.begin_plan.new.target.1 c.in-Ok.ensures.ok.0 c.in-Ok.ensures.ok.1
+
+pub run_begun-requires-clause-run : goal.run_begun-requires-clause-run
+run_begun-requires-clause-run g c κs within = begun_run c.args.source.1 c.args.target.1 c.args.plan.now c.begin_plan.new.target.1 c.in-Ok.ensures.ok.0 c.in-Ok.ensures.ok.1
 
 pub run_begun-requires-clause-held : goal.run_begun-requires-clause-held
 run_begun-requires-clause-held g c κs within = begun_held c.args.source.1 c.args.target.1 c.args.plan.now c.begin_plan.new.target.1 c.in-Ok.ensures.ok.0 c.in-Ok.ensures.ok.1

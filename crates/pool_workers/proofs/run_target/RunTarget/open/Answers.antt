@@ -8,4 +8,4 @@ invariant_of-result g c =
     subst (λ m. TargetKeeps g.F.WriteFilter.refuses g.S.SourceBrand.source g.S.SourceBrand.plan g.T.TargetBrand.given c.args.session c.args.ledger.total m c.args.target) (sym c.requires.more)
     (subst (λ n. TargetKeeps g.F.WriteFilter.refuses g.S.SourceBrand.source g.S.SourceBrand.plan g.T.TargetBrand.given c.args.session n g.S.SourceBrand.plan.stop_after c.args.target) (sym c.requires.ledger)
     (subst (λ o. TargetKeeps g.F.WriteFilter.refuses g.S.SourceBrand.source g.S.SourceBrand.plan o c.args.session 0 g.S.SourceBrand.plan.stop_after c.args.target) (sym c.requires.given)
-    (starts g.F.WriteFilter.refuses g.S.SourceBrand.source g.S.SourceBrand.plan c.args.target c.args.session c.requires.none c.requires.fresh)))
+    (starts g.F.WriteFilter.refuses g.S.SourceBrand.source g.S.SourceBrand.plan c.args.target c.args.session c.requires.none c.requires.fresh c.requires.run)))

@@ -17,4 +17,4 @@ returns-clause-most g c =
     (taken_most (g.F.WriteFilter.refuses c.self.inside.target.0) c.self.inside.target.1 c.self.inside.session c.into_ready-ready.result c.settle_into-result.new.self.1 c.settle_into-result.result c.law.ensures.peer.sessions c.settle_into-result.ensures.settles)
 
 pub returns-clause-step : goal.returns-clause-step
-returns-clause-step g c = settle_step (g.F.WriteFilter.refuses c.self.inside.target.0) c.self.inside.target.1 c.self.inside.session c.into_ready-ready.result c.settle_into-result.result c.settle_into-result.new.self.1 c.settle_into-result.ensures.settles
+returns-clause-step g c = settle_step g.S.SourceBrand.source (g.F.WriteFilter.refuses c.self.inside.target.0) c.self.inside.target.1 c.self.inside.session c.into_ready-ready.result c.settle_into-result.result c.settle_into-result.new.self.1 c.self.invariant.5 c.settle_into-result.ensures.settles
