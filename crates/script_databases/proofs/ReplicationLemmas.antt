@@ -6,6 +6,7 @@ use Rattle.doc_json.specs.Document.{Document}
 use Rattle.repl_peer.specs.{LawfulSessions, PeerValue, rules_refuse, Report, TargetFault, Rules}
 use Rattle.repl_peer.proofs.{IsLaterPeer-same}
 use Rattle.repl_target.specs.{IsLeft, is_batch, not_planned, plan_answer, Plan}
+use Rattle.repl_target.proofs.{plan_expected}
 use Rattle.repl_peer.specs.declared.fault.TargetFault.TheVariants as refusals
 use Rattle.pool_workers.specs.{PoolFault, Place}
 use Rattle.repl_pool.specs.{early_answer, EarlyOrLate, LeavesOrPuts, RunsOn}
@@ -163,6 +164,7 @@ run_denied full may plan deny s t s' t' fetched outcome same runs = record {
   others = runs.others;
   audited = runs.audited;
   put = leaves_denied deny plan s t s' t' outcome runs.put;
+  expected = runs.expected;
   well = runs.well;
   whole = runs.whole;
 }
@@ -171,7 +173,7 @@ run_denied full may plan deny s t s' t' fetched outcome same runs = record {
 
 pub alone_refused : (g : Beside) (es : Entries) (a b : List ℕ) (s t : PeerValue) (plan : Plan) (why : TargetFault) → get (peers_of es) a ≡ Some s → get (peers_of es) b ≡ Some t → plan_answer s.db.uuid t.db.uuid plan ≡ Err why →
     ReplicatesBetween ReplicatesAlone (state_of g es) a b plan (Err why) (state_of g es)
-alone_refused g es a b s t plan why there there' refused = (s, t, there, there', (s, t, not_planned refused, record { log = refl; later = IsLaterPeer-same t; tied = λ chosen backups h. h; well = tt; whole = tt }, state_kept g es a b s t there there'))
+alone_refused g es a b s t plan why there there' refused = (s, t, there, there', (s, t, not_planned refused, record { log = refl; later = IsLaterPeer-same t; tied = λ chosen backups h. h; well = tt; whole = tt; expected = λ tied. plan_expected s t plan why refused }, state_kept g es a b s t there there'))
 
 module _ (g : Beside) (es : Entries) (a b : List ℕ) (s t : PeerValue) (plan : Plan) (why : PoolFault) (there : get (peers_of es) a ≡ Some s) (there' : get (peers_of es) b ≡ Some t) (lawful : LawfulSessions (deny_refuses g.program.deny) t) (refused : early_answer s t plan ≡ Err why) where
   pub run_refused : ReplicatesBetween ReplicatesByPool (state_of g es) a b plan (Err why) (state_of g es)

@@ -11,7 +11,7 @@ pub use Databases.{changed_at, drawn_one, edited_answer, edited_as, edited_at, i
 pub use Databases.{put_back_answer, put_back_by, put_back_of, text_cmp, with_backup, with_changed, with_peer}
 pub use Replications.{KeepsTied, Nowhere, ReplicatesAlone, ReplicatesBetween, ReplicatesByPool, ReplicatesWatched, deny_refuses, unwatched}
 pub use Replications.{with_both}
-pub use Stored.{AllDeny, Beside, Entries, IsIndex, beside_of, by_text, denied_of, deny_of, peers_of, program_of, state_of}
+pub use Stored.{AllDeny, Beside, Entries, IsIndex, beside_of, by_text, copies_of, denied_of, deny_of, peers_of, program_of, state_of}
 pub use AllTied.{AreCopiesOf, ComeFromOthers, CoversUpTo, IsCopyOfOne, IsKnown, IsOther, LeadToOthers}
 pub use declared.databases.Edited.{Edited}
 pub use declared.refusal.Refusal.{Refusal}

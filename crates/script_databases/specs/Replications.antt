@@ -1,5 +1,5 @@
 -- Replications between two of the databases, as specified in docs/PROFILE.md, "Command lines".
-use Rattle.std.specs.Prelude.{◌≡◌, ◌⊎◌, ℕ, Bool, false, nat_eq, List, Option, Some, Result, Ok, Err, IfOk, OnOk, ◌≤◌}
+use Rattle.std.specs.Prelude.{◌≡◌, ◌⊎◌, ℕ, Bool, false, nat_eq, List, Option, Some, Result, Ok, Err, IfOk, IfErr, OnOk, ◌≤◌}
 use Rattle.std.specs.List.{starts_with}
 use Rattle.std.specs.Option.{option_map_or}
 use Rattle.doc_json.specs.Document.{Document}
@@ -14,6 +14,7 @@ use Rattle.repl_peer.specs.peer.Later.{IsLaterPeer}
 use Rattle.repl_peer.specs.peer.Peer.{PeerValue}
 use Rattle.repl_target.specs.Audit.{CoversFeed}
 use Rattle.repl_target.specs.replication.Replication.{IsReported, Replicates}
+use Rattle.repl_target.specs.replication.Expected.{IsExpected}
 use Rattle.repl_target.specs.ties.Ties.{IsTiedPair, IsTiedWith}
 use Rattle.repl_peer.specs.declared.fault.Report.{Report}
 use Rattle.repl_peer.specs.declared.fault.TargetFault.{TargetFault}
@@ -37,7 +38,7 @@ with_both old source target s t = with_peer (with_peer old source s) target t
 -- A replication by one thread changes of the source only its log, and the target is a later one. Peers that were tied
 -- are still tied after a replication, with all backups of the source, for every selection. If a replication succeeded,
 -- the report is that of its session. If a replication succeeded and the two peers were tied before, the target covers
--- the source's selected feed.
+-- the source's selected feed. If a replication between tied peers failed, the error is one that `IsExpected` lists.
 pub record KeepsTied (s t : PeerValue) (plan : Plan) (result : Result Report TargetFault) (s' t' : PeerValue) : Type 0
   where
     pub log : s' ≡ record s { outgoing = s'.outgoing }
@@ -46,6 +47,7 @@ pub record KeepsTied (s t : PeerValue) (plan : Plan) (result : Result Report Tar
         → IsTiedWith backups s' t' chosen
     pub well : IfOk result (λ report. IsReported s t t' plan report)
     pub whole : OnOk result (IsTiedPair s t plan.chosen → CoversFeed s t' plan.chosen s.db.update_seq)
+    pub expected : IfErr result (λ why. IsTiedPair s t plan.chosen → IsExpected s t plan why)
 
 -- The possible results of a replication by one thread, including errors, and the state after it. If a replication's
 -- source and target are the same database, every plan is rejected.

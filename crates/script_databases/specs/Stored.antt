@@ -4,9 +4,11 @@ use Rattle.std.specs.declared.alloc.Global.{Global}
 use Rattle.std.specs.FinMap as finmap
 use Rattle.std.specs.FinMap.{FinMap}
 use Rattle.std.specs.List.{list_any}
+use Rattle.repl_peer.specs.peer.Backups.{BackupValue}
 use Rattle.repl_peer.specs.peer.Peer.{PeerValue}
 use Rattle.repl_peer.specs.declared.peer.filter.Rules.{Rules}
 use Rattle.script_databases.specs.Databases.{Program, State, NamedBackupValue, IsTaken, text_cmp}
+use Rattle.script_databases.specs.declared.backups.BackupName.{BackupName}
 use Rattle.script_databases.specs.declared.settings.Settings.{Settings}
 
 -- The values of a table's entries, by the bytes of the entries' names.
@@ -65,6 +67,10 @@ program_of s =
 
 abbrev pub beside_of : Settings → ℕ → List NamedBackupValue → Beside
 beside_of s drawn backups = record { program = program_of s; drawn = drawn; backups = backups }
+
+-- The list of backups in the entries of a map.
+abbrev pub copies_of : List (BackupName × BackupValue) → List NamedBackupValue
+copies_of entries = map (λ e. record { db = string_bytes e.0.db; name = string_bytes e.0.name; backup = e.1 }) entries
 
 -- The list contains exactly the UUIDs of the databases.
 pub record IsIndex (s : State) (uuids : List ℕ) : Type 0 where

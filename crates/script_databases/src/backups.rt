@@ -1,62 +1,77 @@
 //! Named backups of databases (docs/PROFILE.md, "Backup and restore").
-ghost use Rattle.std.specs.Prelude.{◌≡◌, IfOk, string_bytes};
+ghost use Rattle.std.specs.Prelude.{◌≡◌, ◌++◌, ◌∷◌, [], None, IfOk, OnErr, OnOk, string_bytes};
 ghost use Rattle.std.specs.Option.{option_copied};
-ghost use Rattle.script_databases.specs.Databases.{NamedBackupValue, is_named, backup_among};
+ghost use Rattle.script_databases.specs.Databases.{NamedBackupValue, backup_among};
 
+use indexmap::IndexMap;
 use repl_target::Backup;
 use std::alloc::{AllocError, Global};
 use std::marker::Model;
 
-/// A backup, with the name of its database and its own name. Each database has at most one backup of a name.
-#[derive(Drop)]
-pub struct NamedBackup {
+/// The key of a backup, which has the name of its database and the name of the backup. Each database has at most one
+/// backup of a name.
+#[derive(Debug, Drop, PartialEq, Eq, Hash)]
+pub struct BackupName {
     db: String,
     name: String,
-    backup: Backup,
 }
 
-impl Model for NamedBackup {
-    ghost use Rattle.std.specs.Prelude.{string_bytes};
-    ghost use Rattle.script_databases.specs.Databases.{NamedBackupValue, coded_named_backup};
-
-    ghost Value = { NamedBackupValue };
-
-    ghost coded = { coded_named_backup };
-
-    ghost view = { λ k. record { db = string_bytes k.db; name = string_bytes k.name; backup = k.backup } };
-}
-
-impl NamedBackup {
-    /// Stores a backup under the names of its database and of the backup.
-    pub fn new(
-        alloc: Global,
-        db: &str,
-        name: &str,
-        backup: Backup,
-    ) -> Result<NamedBackup, AllocError>
-        ensures { IfOk result (λ k. k ≡ record { db = db.now; name = name.now; backup = backup }) }
+impl BackupName {
+    /// Creates the key of the backup `name` of the database `db`.
+    pub fn new(alloc: Global, db: &str, name: &str) -> Result<BackupName, AllocError>
+        ensures db { IfOk result (λ k. string_bytes k.db ≡ db.now) }
+        ensures name { IfOk result (λ k. string_bytes k.name ≡ name.now) }
     {
         let db = String::from_str(alloc, db)?;
         let name = String::from_str(alloc, name)?;
-        Ok(NamedBackup { db, name, backup })
-    }
-
-    /// Whether a backup is the backup `name` of the database `db`.
-    fn is_named(&self, db: &str, name: &str) -> bool
-        ensures { result ≡ is_named db.now name.now self.now }
-    {
-        self.db.as_str() == db && self.name.as_str() == name
+        Ok(BackupName { db, name })
     }
 }
 
-/// Finds the backup `name` of the database `db`.
-pub fn find_backup<'a>(backups: &'a [NamedBackup], db: &str, name: &str) -> Option<&'a Backup>
-    ensures { option_copied result ≡ backup_among backups.now db.now name.now }
-{
-    for copy in backups {
-        if copy.is_named(db, name) {
-            return Some(&copy.backup);
+/// Backups by key, the oldest first.
+#[derive(Drop)]
+pub struct Backups {
+    by_name: IndexMap<BackupName, Backup>,
+}
+
+impl Model for Backups {
+    ghost use Rattle.std.specs.Prelude.{List};
+    ghost use Rattle.std.specs.Coded.{coded_list};
+    ghost use Rattle.script_databases.specs.Databases.{NamedBackupValue, coded_named_backup};
+    ghost use Rattle.script_databases.specs.Stored.{copies_of};
+
+    ghost Value = { List NamedBackupValue };
+
+    ghost coded = { coded_list coded_named_backup };
+
+    ghost view = { λ b. copies_of b.by_name.entries };
+}
+
+impl Backups {
+    /// Creates an empty set of backups.
+    pub fn new(alloc: Global) -> Backups
+        ensures { result ≡ [] }
+    {
+        Backups {
+            by_name: IndexMap::new(alloc),
         }
     }
-    None
+
+    /// Returns the backup with this key, if it exists.
+    pub fn find(&self, name: &BackupName) -> Option<&Backup>
+        ensures { option_copied result ≡ backup_among self.now (string_bytes name.now.db) (string_bytes name.now.name) }
+    {
+        self.by_name.get(name)
+    }
+
+    /// Adds a backup under an unused key. An error changes nothing.
+    pub fn add(&mut self, name: BackupName, backup: Backup) -> Result<(), AllocError>
+        requires absent { backup_among self.old (string_bytes name.db) (string_bytes name.name) ≡ None }
+        ensures ok { OnOk result (self.new ≡ self.old
+            ++ record { db = string_bytes name.db; name = string_bytes name.name; backup = backup } ∷ []) }
+        ensures err { OnErr result (self.new ≡ self.old) }
+    {
+        self.by_name.insert(name, backup)?;
+        Ok(())
+    }
 }

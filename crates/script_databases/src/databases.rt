@@ -6,7 +6,7 @@ ghost use Rattle.script_databases.specs.AllTied.{AllTied, CoversUpTo};
 ghost use Rattle.script_databases.specs.Databases.{State, coded_state};
 ghost use Rattle.script_databases.specs.Stored.{IsIndex, AllDeny, beside_of, program_of, state_of};
 
-use crate::backups::{NamedBackup, find_backup};
+use crate::backups::{BackupName, Backups};
 use crate::made_ids::MadeIds;
 use crate::pair::{find_both, put_in, take_out};
 use crate::refusal::Refusal;
@@ -49,7 +49,7 @@ pub struct Databases {
     /// The number of generated ids.
     drawn: u128,
     /// Backups, the oldest first.
-    backups: Vec<NamedBackup>,
+    backups: Backups,
 }
 
 // `Drop` is implemented by hand here so that it is proved once (docs/DECISIONS.md, "Letting values go").
@@ -70,9 +70,9 @@ impl Model for Databases {
 
     ghost coded = { coded_state };
 
-    ghost view = { λ a. state_of (beside_of a.settings a.drawn a.backups.items) a.by_name.entries };
+    ghost view = { λ a. state_of (beside_of a.settings a.drawn a.backups) a.by_name.entries };
 
-    ghost invariant = { λ a. IsIndex (state_of (beside_of a.settings a.drawn a.backups.items) a.by_name.entries) a.uuids.keys
+    ghost invariant = { λ a. IsIndex (state_of (beside_of a.settings a.drawn a.backups) a.by_name.entries) a.uuids.keys
         × AllDeny (program_of a.settings).deny a.by_name.entries };
 }
 
@@ -94,7 +94,7 @@ impl Databases {
             by_name: IndexMap::new(alloc),
             uuids: IndexSet::new(alloc),
             drawn: 0,
-            backups: Vec::new(alloc),
+            backups: Backups::new(alloc),
         })
     }
 
@@ -235,7 +235,8 @@ impl Databases {
         let Some(peer) = self.by_name.get(db) else {
             return Err(Refusal::NoDatabase);
         };
-        if find_backup(&self.backups, db, name).is_some() {
+        let key = BackupName::new(alloc, db, name)?;
+        if self.backups.find(&key).is_some() {
             return Err(Refusal::BackupExists);
         }
         let backup = match peer.backup(alloc) {
@@ -243,8 +244,7 @@ impl Databases {
             Err(fault) => return Err(Refusal::from(fault)),
         };
         let seq = backup.db().update_seq();
-        let copy = NamedBackup::new(alloc, db, name, backup)?;
-        self.backups.push(copy)?;
+        self.backups.add(key, backup)?;
         Ok(seq)
     }
 
@@ -263,10 +263,12 @@ impl Databases {
         ensures err { OnErr result (self.new ≡ self.old) }
         ensures tied { AllTied self.old → AllTied self.new }
     {
+        let alloc = *self.by_name.allocator();
+        let key = BackupName::new(alloc, db, name)?;
         let Some(peer) = self.by_name.get_mut(db) else {
             return Err(Refusal::NoDatabase);
         };
-        let Some(backup) = find_backup(&self.backups, db, name) else {
+        let Some(backup) = self.backups.find(&key) else {
             return Err(Refusal::NoBackup);
         };
         peer.restore(backup)?;

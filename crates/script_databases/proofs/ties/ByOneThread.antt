@@ -1,9 +1,9 @@
 -- Replications by one thread keep all databases tied, and cover what they report.
-use Rattle.proof_prelude.proofs.{◌≡◌, ◌≢◌, ◌⊎◌, inl, inr, ℕ, Bool, List, [], Result, Ok, Err, refl, sym, subst, Some, IfOk, eqb-false}
+use Rattle.proof_prelude.proofs.{◌≡◌, ◌≢◌, ◌⊎◌, inl, inr, ℕ, Bool, List, [], Result, Ok, Err, refl, sym, subst, Some, IfOk, IfErr, eqb-false}
 use Rattle.doc_json.specs.Document.{Document}
 use Rattle.repl_log.specs.{EntryValue}
 use Rattle.repl_peer.specs.{TargetFault, PeerValue, rep_between, after_put_entry, Report}
-use Rattle.repl_target.specs.{Plan, Replicates, not_planned, no_memory, not_begun, cut, ended}
+use Rattle.repl_target.specs.{Plan, IsExpected, Replicates, not_planned, no_memory, not_begun, cut, ended}
 use Rattle.script_databases.specs.{State, peer_at, with_both, KeepsTied, deny_refuses, ReplicatesAlone, CoversUpTo}
 use Rattle.script_databases.specs.AllTied.{AllTied}
 use Rattle.repl_target.proofs.{replicates_left}
@@ -50,3 +50,8 @@ module _ (old : State) (h : AllTied old) (a b : List ℕ) (s t : PeerValue) (at_
         alone_tied (deny_refuses old.program.deny) s t plan s' t' old h a b at_s at_t result replicates keeps,
         alone_covers (deny_refuses old.program.deny) s t plan s' t' old h a b at_s at_t result replicates keeps,
       )
+
+  -- each error is an expected one
+  pub alone_fails : (result : Result Report TargetFault) (new : State) → ReplicatesAlone old a b s t plan result new → IfErr result (IsExpected s t plan)
+  alone_fails (Ok report) new ran = tt
+  alone_fails (Err why) new (s', t', replicates, keeps, is) = keeps.expected (h.tied a b s t at_s at_t plan.chosen [] (λ x j. absurd j)).pair

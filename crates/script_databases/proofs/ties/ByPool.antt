@@ -1,11 +1,11 @@
 -- Pool runs keep all databases tied, and cover what they report.
-use Rattle.proof_prelude.proofs.{◌≡◌, ◌≢◌, inl, inr, ℕ, List, [], Result, Ok, Err, refl, sym, ap, subst, ◌∙◌, Option, Some, IfOk, eqb-false, sum}
+use Rattle.proof_prelude.proofs.{◌≡◌, ◌≢◌, inl, inr, ℕ, List, [], Result, Ok, Err, refl, sym, ap, subst, ◌∙◌, Option, Some, IfOk, IfErr, eqb-false, sum}
 use Rattle.repl_peer.specs.{PeerValue, Report}
 use Rattle.repl_target.specs.{Plan, IsTiedPair, CoversFeed}
 use Rattle.script_databases.specs.{State, peer_at, with_both, Nowhere, deny_refuses, ReplicatesByPool, ReplicatesWatched, unwatched, CoversUpTo, Watched}
 use Rattle.script_databases.specs.AllTied.{AllTied}
 use Rattle.pool_workers.specs.{PoolFault}
-use Rattle.repl_pool.specs.{early_answer, EarlyOrLate, EndsWell, RunsOn}
+use Rattle.repl_pool.specs.{early_answer, EarlyOrLate, EndsWell, IsExpectedRun, RunsOn}
 use Rattle.script_databases.proofs.ReplicationLemmas.{run_apart}
 use Rattle.script_databases.proofs.ties.TwoChanged.{Moves}
 use Rattle.script_databases.proofs.ties.Replications.{Unchanged, covered_at, moved_tied, put_of}
@@ -73,3 +73,19 @@ module _ (old : State) (h : AllTied old) (a b : List ℕ) (s t : PeerValue) (at_
         run_tied (Unit {0}) plan old.program.deny s t s' t' fetched (unwatched result) runs old h a b at_s at_t,
         run_covers (Unit {0}) plan old.program.deny s t s' t' fetched (unwatched result) runs old h a b at_s at_t,
       )
+
+  -- ---- each error is an expected one
+
+  pair : IsTiedPair s t plan.chosen
+  pair = (h.tied a b s t at_s at_t plan.chosen [] (λ x j. absurd j)).pair
+
+  told : (full : Type 0) (result : Result Report PoolFault) → IfErr result (λ why. IsTiedPair s t plan.chosen → IsExpectedRun full Nowhere s t plan why) → IfErr result (IsExpectedRun full Nowhere s t plan)
+  told full (Ok report) expected = tt
+  told full (Err why) expected = expected pair
+
+  pub pool_fails : (result : Result Report PoolFault) (new : State) → ReplicatesByPool old a b s t plan result new → IfErr result (IsExpectedRun ⊥ Nowhere s t plan)
+  pool_fails result new (s', t', fetched, runs, is) = told ⊥ result runs.expected
+
+  pub watched_fails : (result : Result Watched PoolFault) (new : State) → ReplicatesWatched old a b s t plan result new → IfErr (unwatched result) (IsExpectedRun (Unit {0}) Nowhere s t plan)
+  watched_fails result new (inl (early, none, is)) = subst (λ (r : Result Watched PoolFault). IfErr (unwatched r) (IsExpectedRun (Unit {0}) Nowhere s t plan)) (sym none) tt
+  watched_fails result new (inr (few, s', t', fetched, runs, is)) = told (Unit {0}) (unwatched result) runs.expected

@@ -65,18 +65,30 @@ edit_tied old h a p at id parent deleted body =
     let e = edit_by_load (λ q. (q.outgoing ≡ p.outgoing) × (q.sessions ≡ p.sessions)) p (λ _. (refl, refl)) (refl, refl) id parent deleted body in
     local_tied old h a p (after_edit p id parent deleted body) at (edit_later p id parent deleted body) e.0 e.1
 
+-- the stored backup of a name
+kept_copy : (old : State) (a name : List ℕ) (b : BackupValue) → backup_at old a name ≡ Some b → (k : NamedBackupValue) × Among k old.backups × (k.db ≡ a) × (k.backup ≡ b)
+kept_copy old a name b kept = by (find (is_named a name) old.backups) refl kept
+  where
+    by : (o : Option NamedBackupValue) → find (is_named a name) old.backups ≡ o → option_map (λ (k : NamedBackupValue). k.backup) o ≡ Some b → (k : NamedBackupValue) × Among k old.backups × (k.db ≡ a) × (k.backup ≡ b)
+    by None e f = absurd (none-some b f)
+    by (Some k) e f =
+        let m = found_member (is_named a name) old.backups k e in
+        (k, m.0, id_is k.db a (and_parts _ _ m.1).0, same_Some k.backup b f)
+
+-- a backup has the UUID of its database
+pub own_uuid : (old : State) → AllTied old → (a name : List ℕ) (p : PeerValue) (b : BackupValue) → peer_at old a ≡ Some p → backup_at old a name ≡ Some b → b.db.uuid ≡ p.db.uuid
+own_uuid old h a name p b at kept =
+    let copy = kept_copy old a name b kept in
+    let own = h.known.copies copy.0 copy.1 in
+    let one : own.peer ≡ p = same_Some own.peer p (sym own.there ∙ ap (peer_at old) copy.2 ∙ at) in
+    ap (λ (x : BackupValue). x.db.uuid) (sym copy.3) ∙ own.uuid ∙ ap (λ (x : PeerValue). x.db.uuid) one
+
 -- by a restore
 pub restore_tied : (old : State) → AllTied old → (a name : List ℕ) (p : PeerValue) (b : BackupValue) → peer_at old a ≡ Some p → backup_at old a name ≡ Some b → AllTied (with_peer old a (after_restore p b))
 restore_tied old h a name p b at kept = go (restore_answer p b) refl
   where
     copy : (k : NamedBackupValue) × Among k old.backups × (k.db ≡ a) × (k.backup ≡ b)
-    copy = by (find (is_named a name) old.backups) refl kept
-      where
-        by : (o : Option NamedBackupValue) → find (is_named a name) old.backups ≡ o → option_map (λ (k : NamedBackupValue). k.backup) o ≡ Some b → (k : NamedBackupValue) × Among k old.backups × (k.db ≡ a) × (k.backup ≡ b)
-        by None e f = absurd (none-some b f)
-        by (Some k) e f =
-            let m = found_member (is_named a name) old.backups k e in
-            (k, m.0, id_is k.db a (and_parts _ _ m.1).0, same_Some k.backup b f)
+    copy = kept_copy old a name b kept
 
     only : AreCopiesOf old a (b ∷ [])
     only x (inl e) = (copy.0, copy.1, copy.2, copy.3 ∙ sym e)

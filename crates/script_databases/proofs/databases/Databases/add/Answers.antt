@@ -8,19 +8,19 @@ use Rattle.script_databases.proofs.databases.Databases.add.Goals as goal
 
 pub invariant_of-self : goal.invariant_of-self
 invariant_of-self c =
-    let g = beside_of c.self.inside.settings c.self.inside.drawn c.self.inside.backups.items in
+    let g = beside_of c.self.inside.settings c.self.inside.drawn c.self.inside.backups in
     subst (λ (es : Entries). IsIndex (state_of g es) c.self.inside.uuids.keys × AllDeny g.program.deny es) (sym c.in_err-reserve.ensures.entries) c.self.invariant
 
 pub invariant_of-self-in_err-insert : goal.invariant_of-self-in_err-insert
 invariant_of-self-in_err-insert c =
-    let g = beside_of c.self.inside.settings c.self.inside.drawn c.self.inside.backups.items in
+    let g = beside_of c.self.inside.settings c.self.inside.drawn c.self.inside.backups in
     let es = c.reserve.new.self.entries in
     subst (λ (uuids : List ℕ). IsIndex (state_of g es) uuids × AllDeny g.program.deny es) (sym c.in_err-insert.ensures.err)
     (subst (λ (es : Entries). IsIndex (state_of g es) c.self.inside.uuids.keys × AllDeny g.program.deny es) (sym c.in_ok-reserve.ensures.entries) c.self.invariant)
 
 pub invariant_of-self-2 : goal.invariant_of-self-2
 invariant_of-self-2 c =
-    let g = beside_of c.self.inside.settings c.self.inside.drawn c.self.inside.backups.items in
+    let g = beside_of c.self.inside.settings c.self.inside.drawn c.self.inside.backups in
     let es = c.self.inside.by_name.entries in
     let new = c.insert-2.new.self.entries in
     let name = c.args.name.now in
@@ -37,7 +37,7 @@ invariant_of-self-2 c =
 
 pub returns-clause-ok : goal.returns-clause-ok
 returns-clause-ok c =
-    let g = beside_of c.self.inside.settings c.self.inside.drawn c.self.inside.backups.items in
+    let g = beside_of c.self.inside.settings c.self.inside.drawn c.self.inside.backups in
     let name = c.args.name.now in
     let peer = c.args.peer in
     let peers = written (λ p. p.1) c.reserve.new.self c.insert-2.new.self (string_bytes c.in_ok-key.key) name peer c.in_ok-key.ensures.ok c.in_ok-insert-2.ensures.updates

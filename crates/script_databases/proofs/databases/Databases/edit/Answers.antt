@@ -7,12 +7,12 @@ use Rattle.script_databases.proofs.databases.Databases.edit.Goals as goal
 
 pub returns-in_default-clause-answer : goal.returns-in_default-clause-answer
 returns-in_default-clause-answer c =
-    let g = beside_of c.self.inside.settings c.self.inside.drawn c.self.inside.backups.items in
+    let g = beside_of c.self.inside.settings c.self.inside.drawn c.self.inside.backups in
     inl (ap (λ o. edited_answer o c.args.id.now c.args.parent c.args.deleted c.args.body.now) (ap (λ (s : State). peer_at s c.args.name.now) (sym c.self.view_is) ∙ peer_absent g c.self.inside.by_name.entries c.args.name.now c.in_default.ensures.value))
 
 pub returns : goal.returns
 returns c =
-    let g = beside_of c.self.inside.settings c.self.inside.drawn c.self.inside.backups.items in
+    let g = beside_of c.self.inside.settings c.self.inside.drawn c.self.inside.backups in
     let there = ap (λ (s : State). peer_at s c.args.name.now) (sym c.self.view_is) ∙ peer_there g c.self.inside.by_name.entries c.args.name.now c.in-Some.peer.now c.in-Some.ensures.value in
     let seq = c.update_seq-seq.ensures.seq ∙ ap (λ (d : DatabaseValue). d.update_seq) c.db.ensures.value ∙ ap (λ (p : PeerValue). p.db.update_seq) c.in_ok-rev.ensures.ok in
     let u = c.edit.new.self in
@@ -32,7 +32,7 @@ returns c =
 
 pub invariant_of-self-2 : goal.invariant_of-self-2
 invariant_of-self-2 c =
-    let g = beside_of c.self.inside.settings c.self.inside.drawn c.self.inside.backups.items in
+    let g = beside_of c.self.inside.settings c.self.inside.drawn c.self.inside.backups in
     let l = c.in-Some.peer.now in
     let u = c.edit.new.self in
     tables_stay g c.self.inside.by_name (c.get_mut.follows.lender u) c.args.name.now l u c.in-Some.ensures.value ((c.get_mut.follows.holds u).3 (search rules)) c.self.inside.uuids.keys
@@ -40,7 +40,7 @@ invariant_of-self-2 c =
 
 pub returns-in_err-rev : goal.returns-in_err-rev
 returns-in_err-rev c =
-    let g = beside_of c.self.inside.settings c.self.inside.drawn c.self.inside.backups.items in
+    let g = beside_of c.self.inside.settings c.self.inside.drawn c.self.inside.backups in
     let fault = c.in_err-rev.field-0.0 in
     let there = ap (λ (s : State). peer_at s c.args.name.now) (sym c.self.view_is) ∙ peer_there g c.self.inside.by_name.entries c.args.name.now c.in-Some.peer.now c.in-Some.ensures.value in
     let told = err_from_is_err_and c.from_residual.result c.from_residual.ensures.1 in
@@ -57,7 +57,7 @@ returns-in_err-rev c =
 
 pub invariant_of-self-in_err-rev : goal.invariant_of-self-in_err-rev
 invariant_of-self-in_err-rev c =
-    let g = beside_of c.self.inside.settings c.self.inside.drawn c.self.inside.backups.items in
+    let g = beside_of c.self.inside.settings c.self.inside.drawn c.self.inside.backups in
     let u = c.edit.new.self in
     tables_stay g c.self.inside.by_name (c.get_mut.follows.lender u) c.args.name.now c.in-Some.peer.now u c.in-Some.ensures.value ((c.get_mut.follows.holds u).3 (search rules)) c.self.inside.uuids.keys
     (ap (λ (p : PeerValue). p.db.uuid) c.in_err-rev.ensures.err) c.edit.ensures.filter c.self.invariant

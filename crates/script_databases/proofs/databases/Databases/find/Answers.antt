@@ -7,4 +7,4 @@ use Rattle.script_databases.proofs.databases.Databases.find.Goals as goal
 pub returns : goal.returns
 returns c =
     ap (λ (o : Option (Rules × PeerValue)). option_map (λ (p : Rules × PeerValue). p.1) o) c.get.ensures.value
-    ∙ found_at (beside_of c.self.inside.settings c.self.inside.drawn c.self.inside.backups.items) c.self.inside.by_name.entries c.args.self.now c.args.name.now c.self.view_is
+    ∙ found_at (beside_of c.self.inside.settings c.self.inside.drawn c.self.inside.backups) c.self.inside.by_name.entries c.args.self.now c.args.name.now c.self.view_is

@@ -6,12 +6,12 @@ use Rattle.script_databases.proofs.databases.Databases.load.Goals as goal
 
 pub returns-in_default-clause-answer : goal.returns-in_default-clause-answer
 returns-in_default-clause-answer c =
-    let g = beside_of c.self.inside.settings c.self.inside.drawn c.self.inside.backups.items in
+    let g = beside_of c.self.inside.settings c.self.inside.drawn c.self.inside.backups in
     inl (ap (λ o. load_answer o c.args.doc.now) (ap (λ (s : State). peer_at s c.args.name.now) (sym c.self.view_is) ∙ peer_absent g c.self.inside.by_name.entries c.args.name.now c.in_default.ensures.value))
 
 pub returns : goal.returns
 returns c =
-    let g = beside_of c.self.inside.settings c.self.inside.drawn c.self.inside.backups.items in
+    let g = beside_of c.self.inside.settings c.self.inside.drawn c.self.inside.backups in
     let there = ap (λ (s : State). peer_at s c.args.name.now) (sym c.self.view_is) ∙ peer_there g c.self.inside.by_name.entries c.args.name.now c.in-Some.peer.now c.in-Some.ensures.value in
     let u = c.load.new.self in
     let left = c.get_mut.follows.lender u in
@@ -27,7 +27,7 @@ returns c =
 
 pub invariant_of-self-2 : goal.invariant_of-self-2
 invariant_of-self-2 c =
-    let g = beside_of c.self.inside.settings c.self.inside.drawn c.self.inside.backups.items in
+    let g = beside_of c.self.inside.settings c.self.inside.drawn c.self.inside.backups in
     let l = c.in-Some.peer.now in
     let u = c.load.new.self in
     tables_stay g c.self.inside.by_name (c.get_mut.follows.lender u) c.args.name.now l u c.in-Some.ensures.value ((c.get_mut.follows.holds u).3 (search rules)) c.self.inside.uuids.keys
@@ -35,7 +35,7 @@ invariant_of-self-2 c =
 
 pub returns-in_err-put : goal.returns-in_err-put
 returns-in_err-put c =
-    let g = beside_of c.self.inside.settings c.self.inside.drawn c.self.inside.backups.items in
+    let g = beside_of c.self.inside.settings c.self.inside.drawn c.self.inside.backups in
     let fault = c.in_err-put.field-0.0 in
     let there = ap (λ (s : State). peer_at s c.args.name.now) (sym c.self.view_is) ∙ peer_there g c.self.inside.by_name.entries c.args.name.now c.in-Some.peer.now c.in-Some.ensures.value in
     let told = err_from_is_err_and c.from_residual.result c.from_residual.ensures.1 in
@@ -52,7 +52,7 @@ returns-in_err-put c =
 
 pub invariant_of-self-in_err-put : goal.invariant_of-self-in_err-put
 invariant_of-self-in_err-put c =
-    let g = beside_of c.self.inside.settings c.self.inside.drawn c.self.inside.backups.items in
+    let g = beside_of c.self.inside.settings c.self.inside.drawn c.self.inside.backups in
     let u = c.load.new.self in
     tables_stay g c.self.inside.by_name (c.get_mut.follows.lender u) c.args.name.now c.in-Some.peer.now u c.in-Some.ensures.value ((c.get_mut.follows.holds u).3 (search rules)) c.self.inside.uuids.keys
     (ap (λ (p : PeerValue). p.db.uuid) c.in_err-put.ensures.err) c.load.ensures.filter c.self.invariant

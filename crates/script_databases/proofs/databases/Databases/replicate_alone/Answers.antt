@@ -22,7 +22,7 @@ put_in-requires-clause-target c =
 
 pub returns-in_err-check_peers : goal.returns-in_err-check_peers
 returns-in_err-check_peers c =
-    let g = beside_of c.self.inside.settings c.self.inside.drawn c.self.inside.backups.items in
+    let g = beside_of c.self.inside.settings c.self.inside.drawn c.self.inside.backups in
     let es = c.self.inside.by_name.entries in
     let a = c.args.source.now in
     let b = c.args.target.now in
@@ -37,7 +37,7 @@ returns-in_err-check_peers c =
 
 pub invariant_of-self : goal.invariant_of-self
 invariant_of-self c =
-    let g = beside_of c.self.inside.settings c.self.inside.drawn c.self.inside.backups.items in
+    let g = beside_of c.self.inside.settings c.self.inside.drawn c.self.inside.backups in
     let es = c.self.inside.by_name.entries in
     let mid = c.take_out-sender.new.names.entries in
     let new = c.put_in.new.names.entries in
@@ -62,7 +62,7 @@ invariant_of-self c =
 
 pub returns : goal.returns
 returns c =
-    let g = beside_of c.self.inside.settings c.self.inside.drawn c.self.inside.backups.items in
+    let g = beside_of c.self.inside.settings c.self.inside.drawn c.self.inside.backups in
     let es = c.self.inside.by_name.entries in
     let mid = c.take_out-sender.new.names.entries in
     let new = c.put_in.new.names.entries in
@@ -94,6 +94,7 @@ returns c =
           tied = ran.tied;
           well = ran.report;
           whole = ran.whole;
+          expected = ran.expected;
         },
         state_left g es mid new a b left.0.1 left.1.1 s'.1 t'.1 left.2 c.put_in.ensures.peers,
       ),

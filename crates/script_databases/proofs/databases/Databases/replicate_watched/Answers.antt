@@ -22,7 +22,7 @@ put_in-requires-clause-target g c =
 
 pub returns-in_err-check_run : goal.returns-in_err-check_run
 returns-in_err-check_run g c =
-    let beside = beside_of c.self.inside.settings c.self.inside.drawn c.self.inside.backups.items in
+    let beside = beside_of c.self.inside.settings c.self.inside.drawn c.self.inside.backups in
     let es = c.self.inside.by_name.entries in
     let a = c.args.source.now in
     let b = c.args.target.now in
@@ -48,7 +48,7 @@ returns-in_err-board g c =
 
 pub invariant_of-self : goal.invariant_of-self
 invariant_of-self g c =
-    let beside = beside_of c.self.inside.settings c.self.inside.drawn c.self.inside.backups.items in
+    let beside = beside_of c.self.inside.settings c.self.inside.drawn c.self.inside.backups in
     let es = c.self.inside.by_name.entries in
     let mid = c.take_out-sender.new.names.entries in
     let new = c.put_in.new.names.entries in
@@ -70,7 +70,7 @@ invariant_of-self g c =
 
 pub returns : goal.returns
 returns g c =
-    let beside = beside_of c.self.inside.settings c.self.inside.drawn c.self.inside.backups.items in
+    let beside = beside_of c.self.inside.settings c.self.inside.drawn c.self.inside.backups in
     let es = c.self.inside.by_name.entries in
     let mid = c.take_out-sender.new.names.entries in
     let new = c.put_in.new.names.entries in
