@@ -7,5 +7,5 @@ pub use trust.Backup.{backs_tied}
 pub use trust.Edit.{edits_tied}
 pub use trust.Load.{loads_tied}
 pub use trust.Replicate.{reports_tied}
-pub use trust.Restore.{restores_tied}
+pub use trust.Restore.{restores_known, restores_tied}
 pub use trust.Sync.{syncs_tied}

@@ -15,7 +15,7 @@ use Rattle.script_engine.specs.Serving.{Told, Answering}
 use Rattle.script_databases.specs.AllTied.{CoversUpTo}
 use Rattle.script_databases.specs.Replications.{ReplicatesAlone, ReplicatesByPool, ReplicatesWatched}
 use Rattle.script_databases.specs.Databases.{Program, State, drawn_one, next_made}
-use Rattle.script_databases.specs.Refusals.{GivesOrMemory, run_stop_of, stop_of}
+use Rattle.script_databases.specs.Refusals.{GivesOrMemory, name_of, run_stop_of, stop_of}
 use Rattle.script_databases.specs.declared.watched.Watched.{Watched}
 use Rattle.script_databases.specs.declared.refusal.Refusal.{Refusal}
 use Rattle.script_databases.specs.declared.refusal.Refusal.TheVariants as why
@@ -25,6 +25,7 @@ use Rattle.command_api.specs.Given.{choice_given}
 use Rattle.command_api.specs.Members.{as_texts, as_uuid, as_whole, name_at, optional, texts_of, if_only}
 use Rattle.command_api.specs.Telling.{database_of, told_of, Refuses}
 use Rattle.command_api.specs.Texts.{ended}
+use Rattle.write_commands.specs.Failing.{Fails}
 use Rattle.write_commands.specs.declared.replicate.Ending.{Ending}
 use Rattle.write_commands.specs.declared.replicate.Ending.TheVariants.{Done, Shown, Stopped}
 use Rattle.write_commands.specs.declared.replicate.Options.{Options}
@@ -235,9 +236,23 @@ CoversIfDone s source target chosen (Done report) = CoversUpTo s source target c
 CoversIfDone s source target chosen (Shown watched) = CoversUpTo s source target chosen watched.report.recorded
 CoversIfDone s source target chosen (Stopped low_water) = Unit {0}
 
--- The guarantee for a `replicate` line: it fails, or prints an ending that satisfies `CoversIfDone`.
+-- With one thread, a session stops below its goal only if the line has `stop_after`.
+abbrev pub StopsIfAsked : Options → Ending → Type 0
+StopsIfAsked options (Stopped low_water) = options.alone ≡ true → (most : ℕ) × (options.stop_after ≡ Some most)
+StopsIfAsked options ending = Unit {0}
+
+-- A possible error of a `replicate` line. A database does not exist, the timestamp or the selection is invalid, or the
+-- replication fails.
+abbrev pub MayFail : ReplicateAsk → Refusal → Type 0
+MayFail ask refusal =
+    (refusal ≡ why.NoDatabase) ⊎ (refusal ≡ why.BadMoment) ⊎ (choice_given ask.doc_ids ≡ Err refusal)
+    ⊎ Fails ask.options.alone ask.options.progress refusal
+
+-- The guarantee for a `replicate` line. The line prints an ending that satisfies `CoversIfDone` and `StopsIfAsked`, or
+-- fails with a possible error.
 abbrev pub IsCovered : State → ReplicateAsk → Told → Type 0
 IsCovered s ask (Ok text) =
     (session : SessionId) × (ending : Ending) × (chosen : Choice) × (text ≡ ending_line session ending)
     × (choice_given ask.doc_ids ≡ Ok chosen) × CoversIfDone s ask.source ask.target chosen ending
-IsCovered s ask (Err name) = Unit {0}
+    × StopsIfAsked ask.options ending
+IsCovered s ask (Err name) = (refusal : Refusal) × (name ≡ name_of refusal) × MayFail ask refusal

@@ -1,8 +1,9 @@
 -- The command `restore`, as specified in docs/PROFILE.md, "Command lines", "Order of checks" and "Answers".
-use Rattle.std.specs.Prelude.{ℕ, List, [], ◌∷◌, ◌++◌, codes, decimal, Result, Ok}
+use Rattle.std.specs.Prelude.{◌≡◌, ℕ, List, [], ◌∷◌, ◌++◌, codes, decimal, Result, Ok, Err}
 use Rattle.serde_json.specs.Data.{Data}
-use Rattle.script_engine.specs.Serving.{Answering}
+use Rattle.script_engine.specs.Serving.{Told, Answering}
 use Rattle.script_databases.specs.Databases.{State, peer_at, backup_at, put_back_answer, put_back_by}
+use Rattle.script_databases.specs.Refusals.{name_of}
 use Rattle.script_databases.specs.declared.databases.PutBack.{PutBack}
 use Rattle.script_databases.specs.declared.refusal.Refusal.{Refusal}
 use Rattle.rev_core.specs.Checks.{◌>>=◌}
@@ -10,6 +11,7 @@ use Rattle.command_api.specs.Checks.{needed}
 use Rattle.command_api.specs.Members.{name_at, if_only}
 use Rattle.command_api.specs.Telling.{Does}
 use Rattle.command_api.specs.Texts.{ended}
+use Rattle.write_commands.specs.Failing.{FailsRestoring}
 use Rattle.write_commands.specs.declared.restore.Restore.{Restore}
 
 -- ---- its parameters
@@ -46,3 +48,10 @@ restore_done s ask = do
 
 abbrev pub Restores : Answering State RestoreAsk
 Restores old ask told new = Does (restore_done old ask) old told new
+
+-- ---- its guarantee: docs/PROFILE.md, "Tied databases"
+
+-- The guarantee for a `restore` line. The database is restored, or the line fails with a possible error.
+abbrev pub IsRestored : Told → Type 0
+IsRestored (Ok text) = Unit {0}
+IsRestored (Err name) = (refusal : Refusal) × (name ≡ name_of refusal) × FailsRestoring refusal

@@ -1,15 +1,16 @@
 -- The command `sync`, as specified in docs/PROFILE.md, "Command lines" and "Answers".
-use Rattle.std.specs.Prelude.{◌≡◌, ℕ, false, List, [], ◌∷◌, ◌++◌, codes, Option, None, unwrap_or, Result, Ok, Err}
+use Rattle.std.specs.Prelude.{◌≡◌, ◌⊎◌, ℕ, false, List, [], ◌∷◌, ◌++◌, codes, Option, None, unwrap_or, Result, Ok, Err}
 use Rattle.serde_json.specs.Data.{Data}
 use Rattle.serde_json.specs.Find.{as_bool}
 use Rattle.script_engine.specs.Serving.{Told, Answering, MayTell}
 use Rattle.script_databases.specs.AllTied.{AllTied}
 use Rattle.script_databases.specs.Databases.{State}
+use Rattle.script_databases.specs.Refusals.{name_of}
 use Rattle.script_databases.specs.declared.refusal.Refusal.{Refusal}
 use Rattle.rev_core.specs.Checks.{◌>>=◌}
 use Rattle.command_api.specs.Checks.{needed}
 use Rattle.command_api.specs.Members.{as_texts, as_uuid, as_whole, name_at, optional, if_only}
-use Rattle.write_commands.specs.Replicate.{ReplicateAsk, ReportsReplication, IsCovered, replicate_asked}
+use Rattle.write_commands.specs.Replicate.{ReplicateAsk, ReportsReplication, IsCovered, MayFail, replicate_asked}
 use Rattle.write_commands.specs.declared.replicate.Options.{Options}
 use Rattle.write_commands.specs.declared.sync.BothWays.{BothWays}
 use Rattle.write_commands.specs.declared.sync.Shared.{Shared}
@@ -90,9 +91,10 @@ Syncs old ask told new =
 -- ---- the guarantee of `sync`, as specified in docs/PROFILE.md, "Tied databases"
 
 -- The guarantee for a `sync` line. Between the two directions of `sync`, all databases are consistent, and each
--- direction has the guarantee of a replication.
+-- direction has the guarantee of a replication. A `sync` line fails only with a possible error of a direction.
 abbrev pub IsMet : State → SyncAsk → Told → Type 0
 IsMet new ask (Ok text) =
     (mid : State) × (first : List ℕ) × (second : List ℕ) × (text ≡ first ++ second) × AllTied mid
     × IsCovered mid ask.there (Ok first) × IsCovered new ask.back (Ok second)
-IsMet new ask (Err name) = Unit {0}
+IsMet new ask (Err name) =
+    (refusal : Refusal) × (name ≡ name_of refusal) × (MayFail ask.there refusal ⊎ MayFail ask.back refusal)
