@@ -162,6 +162,13 @@ def copied(n):
         {"do": "restore", "db": "a", "name": "k3"}]
 
 
+def backups(n):
+    """n backups of one document, each under its own name, of which the last is restored."""
+    names = ["backup-%d" % i for i in range(n)]
+    return [database("a", 1), load("a", "doc", [digest(0)])] + [{"do": "backup", "db": "a", "name": name} for name in names] + [
+        {"do": "restore", "db": "a", "name": names[-1]}]
+
+
 def logged(n):
     """n sessions of one pair, and the log of the source."""
     return pair() + [session("a", "b", i + 1) for i in range(n)] + [
@@ -246,6 +253,15 @@ def branched(n):
     """The output of `show` for one document of n leaves of one root, for `couch_lines trees`."""
     return ['doc "doc" winner 2-%s leaves %d revs %d' % (digest(0), n, n + 1)] + [
         "leaf 2-%s live 2-%s,1-%s" % (digest(i), digest(i), digest("a")) for i in range(n)]
+
+
+def ancestries(n):
+    """The output of `show` for n leaves of a document that has one more: each forks off one chain at another depth. Nothing is
+    drawn, since a drawing has n * n columns."""
+    chain = ["%d-%s" % (g, digest(g)) for g in range(1, n + 1)]
+    forks = [["%d-%s" % (g + 1, digest(g, "fork")), *chain[g - 1::-1]] for g in range(n, 0, -1)]
+    return ['doc "doc" winner %s leaves %d revs %d' % (forks[0][0], n + 1, 2 * n + 1)] + [
+        "leaf %s live %s" % (revs[0], ",".join(revs)) for revs in forks]
 
 
 def read_in(n):

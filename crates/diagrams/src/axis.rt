@@ -1,6 +1,7 @@
 //! Computes the columns of a diagram of a revision tree. A generation in which a row forks or ends has a column of its
 //! own. All generations between two such columns share one column.
 
+use crate::ancestries::Ancestries;
 use crate::document::Leaf;
 use crate::rows::Row;
 use crate::sheet::{digits, short_len};
@@ -15,12 +16,17 @@ pub struct Cell {
     pub width: usize,
 }
 
-/// Computes the columns of a diagram, given its leaves and the rows of the leaves.
-pub fn axis_of(alloc: Global, leaves: &[Leaf], rows: &[Row]) -> Result<Vec<Cell>, AllocError> {
+/// Computes the columns for leaves and their rows.
+pub fn axis_of(
+    alloc: Global,
+    ancestries: &Ancestries,
+    leaves: &[Leaf],
+    rows: &[Row],
+) -> Result<Vec<Cell>, AllocError> {
     let kept = kept_of(alloc, leaves, rows)?;
     let mut cells = cells_of(alloc, kept.as_slice())?;
     for cell in cells.as_mut_slice() {
-        cell.width = width_of(leaves, cell.low, cell.high);
+        cell.width = width_of(ancestries, leaves, cell.low, cell.high);
     }
     Ok(cells)
 }
@@ -44,7 +50,7 @@ fn kept_of(alloc: Global, leaves: &[Leaf], rows: &[Row]) -> Result<Vec<u32>, All
 /// Returns the first generation of a row.
 pub fn start_of(leaf: &Leaf, row: &Row) -> u32 {
     if row.hang == 0 || row.hang == u32::MAX {
-        return leaf.oldest();
+        return leaf.oldest;
     }
     row.hang + 1
 }
@@ -73,14 +79,14 @@ fn cells_of(alloc: Global, kept: &[u32]) -> Result<Vec<Cell>, AllocError> {
 }
 
 /// Returns the number of characters of the widest text in a column.
-fn width_of(leaves: &[Leaf], low: u32, high: u32) -> usize {
+fn width_of(ancestries: &Ancestries, leaves: &[Leaf], low: u32, high: u32) -> usize {
     let mut width = 0;
     for leaf in leaves {
         if low == high {
-            if let Some(rev) = leaf.ancestor(low) {
+            if let Some(rev) = ancestries.ancestor(leaf.parent, low) {
                 width = width.max(short_len(rev));
             }
-        } else if leaf.ancestor(high).is_some() {
+        } else if ancestries.ancestor(leaf.parent, high).is_some() {
             width = width.max(folded_len(folded(low, high)));
         }
     }

@@ -2,21 +2,21 @@
 ghost use Rattle.std.specs.Prelude.{◌≡◌, ◌==◌, [], OnOk, IsPermutation, length, nat_le, string_bytes, vec_len};
 ghost use Rattle.diagrams.specs.Drawing.{Holds, states, with_leaf};
 
+use crate::ancestries::{Ancestries, Point};
 use rev_core::Rev;
 use std::alloc::{AllocError, Global};
+use std::cmp::Ordering;
 
-/// A leaf with its known ancestry.
-///
-/// The order of two leaves is the order in which a diagram draws them. Leaves that share more revisions with the winner
-/// come first. Among leaves that share equally many, the oldest differing ancestors decide. In this order, all leaves
-/// that share a revision are adjacent.
-#[derive(Debug, PartialEq, Eq, PartialOrd, Ord, Drop)]
+/// A leaf of a document.
+#[derive(Debug, Drop)]
 pub struct Leaf {
     /// A constant minus the number of revisions that the leaf shares with the winner, and 0 for the winner.
     pub apart: usize,
-    /// The known ancestors of the leaf, oldest first. Each ancestor's generation is one above the generation of its
-    /// parent, and the leaf's generation is one above that of the last ancestor.
-    pub before: Vec<Rev>,
+    /// The leaf's parent, if it is known. In the leaf's ancestry, each revision's generation is one above that of its
+    /// parent.
+    pub parent: Option<Point>,
+    /// The generation of the oldest known ancestor, or of the leaf if no ancestor is known.
+    pub oldest: u32,
     /// The revision.
     pub rev: Rev,
     /// Whether the leaf is the winner.
@@ -30,33 +30,18 @@ impl Leaf {
     pub fn generation(&self) -> u32 {
         self.rev.generation()
     }
-
-    /// Returns the generation of the oldest known ancestor, or of the leaf if no ancestor is known.
-    pub fn oldest(&self) -> u32 {
-        match self.before.as_slice().first() {
-            Some(rev) => rev.generation(),
-            None => self.rev.generation(),
-        }
-    }
-
-    /// Returns the ancestor of the leaf that has a given generation.
-    pub fn ancestor(&self, generation: u32) -> Option<&Rev> {
-        let oldest = self.oldest();
-        if generation < oldest {
-            return None;
-        }
-        self.before.as_slice().get((generation - oldest) as usize)
-    }
 }
 
-/// Returns the length of the common prefix of two lists.
-pub fn shared(a: &[Rev], b: &[Rev]) -> usize {
-    for i in 0..a.len() {
-        if i >= b.len() || a[i] != b[i] {
-            return i;
-        }
+/// Compares two leaves in the order of drawing. Leaves that share more revisions with the winner come first, and then
+/// the ancestors decide, the oldest first. In this order, all leaves that share a revision are adjacent.
+fn order_of(ancestries: &Ancestries, one: &Leaf, other: &Leaf) -> Ordering {
+    if one.apart != other.apart {
+        return one.apart.cmp(&other.apart);
     }
-    a.len()
+    match ancestries.order(one.parent, other.parent) {
+        Ordering::Equal => one.rev.cmp(&other.rev),
+        order => order,
+    }
 }
 
 /// A document, with the leaves that were read so far.
@@ -68,6 +53,8 @@ pub struct Document {
     pub count: u64,
     /// The leaves that were read, in the order of reading (winner first) or sorted for drawing.
     pub leaves: Vec<Leaf>,
+    /// The known ancestries of the leaves.
+    pub ancestries: Ancestries,
 }
 
 impl Document {
@@ -81,6 +68,7 @@ impl Document {
             id,
             count,
             leaves: Vec::new(alloc),
+            ancestries: Ancestries::new(alloc),
         }
     }
 
@@ -91,19 +79,20 @@ impl Document {
         self.leaves.len() as u64 >= self.count
     }
 
-    /// Adds a leaf. Adds a leaf to the document's leaves that were read. The first leaf that is added is the document's
-    /// winner.
-    pub fn add(&mut self, leaf: Leaf) -> Result<(), AllocError>
+    /// Adds a leaf with its ancestry, which is given with the oldest revision first. The first leaf that is added is
+    /// the winner.
+    pub fn add(&mut self, alloc: Global, leaf: Leaf, before: &[Rev]) -> Result<(), AllocError>
         ensures holds { OnOk result (Holds self.new (string_bytes self.old.id) (with_leaf (states self.old) leaf.rev leaf.live)) }
         ensures count { OnOk result (self.new.count ≡ self.old.count) }
     {
-        let leaf = self.placed(leaf);
+        let parent = self.ancestries.add(alloc, before)?;
+        let leaf = self.placed(leaf, parent);
         self.leaves.push(leaf)?;
         Ok(())
     }
 
-    /// Computes the fields of a leaf that decide its position in the diagram.
-    fn placed(&self, leaf: Leaf) -> Leaf
+    /// Computes the parts of a leaf that decide its position in the drawing.
+    fn placed(&self, leaf: Leaf, parent: Option<Point>) -> Leaf
         ensures rev { result.rev ≡ leaf.rev }
         ensures live { result.live ≡ leaf.live }
         ensures wins { result.wins ≡ (length self.now.leaves.items == 0) }
@@ -113,13 +102,15 @@ impl Document {
             return Leaf {
                 wins: true,
                 apart: 0,
+                parent,
                 ..leaf
             };
         }
-        let together = shared(leaves[0].before.as_slice(), leaf.before.as_slice());
+        let together = self.ancestries.shared(leaves[0].parent, parent);
         Leaf {
             wins: false,
             apart: usize::MAX - together,
+            parent,
             ..leaf
         }
     }
@@ -129,6 +120,8 @@ impl Document {
         ensures leaves { IsPermutation (states self.old) (states self.new) }
         ensures id { self.new.id ≡ self.old.id }
     {
-        self.leaves.sort()
+        let ancestries = &self.ancestries;
+        self.leaves
+            .sort_by(|one, other| order_of(ancestries, one, other))
     }
 }

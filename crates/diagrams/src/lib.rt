@@ -3,6 +3,7 @@
 //! docs/PROFILE.md, "Pictures", defines the input and the pictures.
 #![tactic(auto)]
 
+mod ancestries;
 mod axis;
 mod document;
 mod drawer;

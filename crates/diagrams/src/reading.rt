@@ -33,7 +33,7 @@ pub fn next(
     match told {
         Told::Document { id, count } => Ok((Some(Document::new(alloc, id, count)), None)),
         Told::Leaf { live, revs } => match begun {
-            Some(document) => read_leaf(document, live, revs),
+            Some(document) => read_leaf(alloc, document, live, revs),
             None => Ok((None, None)),
         },
         Told::Conflict { id, revs } => Ok((
@@ -49,16 +49,19 @@ pub fn next(
 
 /// Returns the document whose lines are being read after a `leaf` line, and the item that the line completes.
 fn read_leaf(
+    alloc: Global,
     mut document: Document,
     live: bool,
-    revs: Vec<Rev>,
+    mut revs: Vec<Rev>,
 ) -> Result<(Option<Document>, Option<Whole>), AllocError>
     ensures { IfOk result (λ x. IsNext (Some document) (lines.Leaf live revs) x.0 x.1) }
 {
-    let Some(leaf) = leaf_of(live, revs) else {
+    let Some(leaf) = leaf_of(live, revs.as_slice()) else {
         return Ok((None, None));
     };
-    document.add(leaf)?;
+    revs.as_mut_slice().reverse();
+    let _own = revs.pop();
+    document.add(alloc, leaf, revs.as_slice())?;
     if document.is_whole() {
         Ok((None, Some(Whole::Tree(document))))
     } else {
@@ -67,19 +70,18 @@ fn read_leaf(
 }
 
 /// Builds a leaf from an ancestry, newest first. Returns `None` if the ancestry is empty.
-fn leaf_of(live: bool, mut revs: Vec<Rev>) -> Option<Leaf>
-    ensures some { IfSome result (λ l. (head_of revs.items ≡ Some l.rev) × (l.live ≡ live)) }
-    ensures none { IfNone result (head_of revs.items ≡ None) }
+fn leaf_of(live: bool, revs: &[Rev]) -> Option<Leaf>
+    ensures some { IfSome result (λ l. (head_of revs.now ≡ Some l.rev) × (l.live ≡ live)) }
+    ensures none { IfNone result (head_of revs.now ≡ None) }
 {
     if revs.is_empty() {
         return None;
     }
     let rev = revs[0];
-    revs.as_mut_slice().reverse();
-    let _own = revs.pop();
     Some(Leaf {
         apart: 0,
-        before: revs,
+        parent: None,
+        oldest: revs[revs.len() - 1].generation(),
         rev,
         wins: false,
         live,
@@ -92,19 +94,20 @@ fn conflict_of(alloc: Global, id: String, revs: &[Rev]) -> Result<Document, Allo
 {
     let mut document = Document::new(alloc, id, revs.len() as u64);
     for i in 0..revs.len() {
-        document.add(alone(alloc, revs[i]))?;
+        document.add(alloc, alone(revs[i]), &[])?;
     }
     Ok(document)
 }
 
 /// Builds a live leaf whose ancestors are unknown.
-fn alone(alloc: Global, rev: Rev) -> Leaf
+fn alone(rev: Rev) -> Leaf
     ensures rev { result.rev ≡ rev }
     ensures live { result.live ≡ true }
 {
     Leaf {
         apart: 0,
-        before: Vec::new(alloc),
+        parent: None,
+        oldest: rev.generation(),
         rev,
         wins: false,
         live: true,

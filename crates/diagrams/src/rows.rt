@@ -2,7 +2,8 @@
 
 ghost use Rattle.std.specs.Prelude.{◌≡◌, IfOk, length, vec_len};
 
-use crate::document::{Leaf, shared};
+use crate::ancestries::Ancestries;
+use crate::document::Leaf;
 use std::alloc::{AllocError, Global};
 
 /// The row of a leaf in a drawing.
@@ -36,7 +37,11 @@ impl Row {
 }
 
 /// Computes the rows of sorted leaves.
-pub fn rows_of(alloc: Global, leaves: &[Leaf]) -> Result<Vec<Row>, AllocError>
+pub fn rows_of(
+    alloc: Global,
+    ancestries: &Ancestries,
+    leaves: &[Leaf],
+) -> Result<Vec<Row>, AllocError>
     ensures { IfOk result (λ rows. vec_len rows ≡ length leaves.now) }
 {
     let mut rows = Vec::new(alloc);
@@ -45,31 +50,19 @@ pub fn rows_of(alloc: Global, leaves: &[Leaf]) -> Result<Vec<Row>, AllocError>
         let hang = if i == 0 {
             0
         } else {
-            hang_of(&leaves[i - 1], &leaves[i])
+            ancestries.last_shared(leaves[i - 1].parent, leaves[i].parent)
         };
         let parent = parent_of(&mut branches, hang);
         branches.push(Branch { hang, row: i })?;
         rows.push(Row {
             hang,
             parent,
-            first: leaves[i].oldest(),
+            first: leaves[i].oldest,
             below: Vec::new(alloc),
         })?;
     }
     open_below(alloc, rows.as_mut_slice())?;
     Ok(rows)
-}
-
-/// Returns the generation of the last revision that a leaf shares with the leaf before it, or 0 if they share none.
-fn hang_of(before: &Leaf, leaf: &Leaf) -> u32 {
-    let count = shared(before.before.as_slice(), leaf.before.as_slice());
-    if count == 0 {
-        return 0;
-    }
-    leaf.before
-        .as_slice()
-        .get(count - 1)
-        .map_or(0, |rev| rev.generation())
 }
 
 /// Returns the last row in which a revision of a given generation is drawn. The call drops the rows after the returned

@@ -4,6 +4,7 @@ ghost use Rattle.std.specs.Prelude.{◌≡◌, ◌∷◌, [], None, OnOk, length
 ghost use Rattle.diagrams.specs.declared.form.Form.TheVariants.{Svg};
 ghost use Rattle.diagrams.specs.Ink.{Draws, leaf_sign, signs_of, title};
 
+use crate::ancestries::Ancestries;
 use crate::axis::{Cell, axis_of, folded, start_of};
 use crate::document::{Document, Leaf};
 use crate::form::Form;
@@ -64,10 +65,11 @@ pub fn draw_document(
     ensures { OnOk result (Draws out.old.items out.new.items (signs_of Svg None (string_bytes document.now.id) document.now.leaves.items)) }
 {
     let leaves = document.leaves.as_slice();
-    let rows = rows_of(alloc, leaves)?;
-    let cells = axis_of(alloc, leaves, rows.as_slice())?;
+    let ancestries = &document.ancestries;
+    let rows = rows_of(alloc, ancestries, leaves)?;
+    let cells = axis_of(alloc, ancestries, leaves, rows.as_slice())?;
     draw_head(out, height, document)?;
-    draw_rows(out, cells.as_slice(), leaves, rows.as_slice())?;
+    draw_rows(out, cells.as_slice(), ancestries, leaves, rows.as_slice())?;
     mark(out, Markup::GroupEnd)?;
     Ok(Extent {
         width: x_of(cells.len()).max(width_of(document.id.as_str())),
@@ -90,6 +92,7 @@ fn draw_head(out: &mut Vec<u8>, height: u64, document: &Document) -> Result<(), 
 fn draw_rows(
     out: &mut Vec<u8>,
     cells: &[Cell],
+    ancestries: &Ancestries,
     leaves: &[Leaf],
     rows: &[Row],
 ) -> Result<(), AllocError>
@@ -97,7 +100,7 @@ fn draw_rows(
     ensures { OnOk result (Draws out.old.items out.new.items (map (leaf_sign Svg) leaves.now)) }
 {
     for i in 0..leaves.len() {
-        draw_row(out, cells, &leaves[i], &rows[i], i)?;
+        draw_row(out, cells, ancestries, &leaves[i], &rows[i], i)?;
     }
     Ok(())
 }
@@ -106,13 +109,14 @@ fn draw_rows(
 fn draw_row(
     out: &mut Vec<u8>,
     cells: &[Cell],
+    ancestries: &Ancestries,
     leaf: &Leaf,
     row: &Row,
     place: usize,
 ) -> Result<(), AllocError>
     ensures { OnOk result (Draws out.old.items out.new.items (leaf_sign Svg leaf.now ∷ [])) }
 {
-    draw_cells(out, cells, leaf, row, place)?;
+    draw_cells(out, cells, ancestries, leaf, row, place)?;
     draw_leaf(out, leaf, column_of(cells, leaf), place)
 }
 
@@ -130,6 +134,7 @@ fn column_of(cells: &[Cell], leaf: &Leaf) -> usize {
 fn draw_cells(
     out: &mut Vec<u8>,
     cells: &[Cell],
+    ancestries: &Ancestries,
     leaf: &Leaf,
     row: &Row,
     place: usize,
@@ -137,7 +142,7 @@ fn draw_cells(
     ensures { OnOk result (Draws out.old.items out.new.items []) }
 {
     for i in 0..cells.len() {
-        draw_column(out, &cells[i], leaf, row, i, place)?;
+        draw_column(out, &cells[i], ancestries, leaf, row, i, place)?;
     }
     Ok(())
 }
@@ -147,6 +152,7 @@ fn draw_cells(
 fn draw_column(
     out: &mut Vec<u8>,
     cell: &Cell,
+    ancestries: &Ancestries,
     leaf: &Leaf,
     row: &Row,
     i: usize,
@@ -159,7 +165,7 @@ fn draw_column(
     }
     draw_edge(out, cell.low, row, i, place)?;
     if cell.high < leaf.generation() {
-        return draw_cell(out, cell, leaf, i, place);
+        return draw_cell(out, cell, ancestries, leaf, i, place);
     }
     Ok(())
 }
@@ -214,6 +220,7 @@ fn draw_point(out: &mut Vec<u8>, x: u64, y: u64) -> Result<(), AllocError>
 fn draw_cell(
     out: &mut Vec<u8>,
     cell: &Cell,
+    ancestries: &Ancestries,
     leaf: &Leaf,
     i: usize,
     place: usize,
@@ -225,7 +232,7 @@ fn draw_cell(
     if cell.low < cell.high {
         return draw_fold(out, folded(cell.low, cell.high));
     }
-    match leaf.ancestor(cell.low) {
+    match ancestries.ancestor(leaf.parent, cell.low) {
         Some(rev) => draw_ancestor(out, rev),
         None => mark(out, Markup::NodeNone),
     }

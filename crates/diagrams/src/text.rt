@@ -5,6 +5,7 @@ ghost use Rattle.std.specs.List.{flat_map};
 ghost use Rattle.diagrams.specs.declared.form.Form.TheVariants.{Text};
 ghost use Rattle.diagrams.specs.Ink.{Draws, edit_of, edits_of, leaf_sign, signs_of};
 
+use crate::ancestries::Ancestries;
 use crate::axis::{Cell, axis_of, folded, folded_len, start_of};
 use crate::document::{Document, Leaf};
 use crate::form::Form;
@@ -25,11 +26,12 @@ pub fn draw_document(
         (signs_of Text (option_map (λ s. s.now) db.entry) (string_bytes document.now.id) document.now.leaves.items)) }
 {
     let leaves = document.leaves.as_slice();
-    let rows = rows_of(alloc, leaves)?;
-    let cells = axis_of(alloc, leaves, rows.as_slice())?;
+    let ancestries = &document.ancestries;
+    let rows = rows_of(alloc, ancestries, leaves)?;
+    let cells = axis_of(alloc, ancestries, leaves, rows.as_slice())?;
     title(out, Form::Text, document.id.as_str())?;
     mark(out, Markup::LineEnd)?;
-    draw_rows(out, cells.as_slice(), leaves, rows.as_slice())?;
+    draw_rows(out, cells.as_slice(), ancestries, leaves, rows.as_slice())?;
     draw_edits(out, db, document.id.as_str(), leaves)?;
     mark(out, Markup::LineEnd)
 }
@@ -38,6 +40,7 @@ pub fn draw_document(
 fn draw_rows(
     out: &mut Vec<u8>,
     cells: &[Cell],
+    ancestries: &Ancestries,
     leaves: &[Leaf],
     rows: &[Row],
 ) -> Result<(), AllocError>
@@ -45,7 +48,7 @@ fn draw_rows(
     ensures { OnOk result (Draws out.old.items out.new.items (map (leaf_sign Text) leaves.now)) }
 {
     for i in 0..leaves.len() {
-        draw_row(out, cells, &leaves[i], &rows[i])?;
+        draw_row(out, cells, ancestries, &leaves[i], &rows[i])?;
     }
     Ok(())
 }
@@ -76,21 +79,33 @@ fn draw_edits_of(out: &mut Vec<u8>, db: &str, id: &str, leaves: &[Leaf]) -> Resu
     Ok(())
 }
 
-/// Draws a leaf's row, which is the columns before the leaf's column, followed by the leaf.
-fn draw_row(out: &mut Vec<u8>, cells: &[Cell], leaf: &Leaf, row: &Row) -> Result<(), AllocError>
+/// Draws a row, which has the columns before the leaf's column, and the leaf.
+fn draw_row(
+    out: &mut Vec<u8>,
+    cells: &[Cell],
+    ancestries: &Ancestries,
+    leaf: &Leaf,
+    row: &Row,
+) -> Result<(), AllocError>
     ensures { OnOk result (Draws out.old.items out.new.items (leaf_sign Text leaf.now ∷ [])) }
 {
     mark(out, Markup::Indent)?;
-    draw_cells(out, cells, leaf, row)?;
+    draw_cells(out, cells, ancestries, leaf, row)?;
     draw_leaf(out, leaf)
 }
 
 /// Draws the columns before the leaf's column, and the edge to the leaf.
-fn draw_cells(out: &mut Vec<u8>, cells: &[Cell], leaf: &Leaf, row: &Row) -> Result<(), AllocError>
+fn draw_cells(
+    out: &mut Vec<u8>,
+    cells: &[Cell],
+    ancestries: &Ancestries,
+    leaf: &Leaf,
+    row: &Row,
+) -> Result<(), AllocError>
     ensures { OnOk result (Draws out.old.items out.new.items []) }
 {
     for i in 0..cells.len() {
-        draw_column(out, &cells[i], leaf, row, i == 0)?;
+        draw_column(out, &cells[i], ancestries, leaf, row, i == 0)?;
     }
     Ok(())
 }
@@ -100,6 +115,7 @@ fn draw_cells(out: &mut Vec<u8>, cells: &[Cell], leaf: &Leaf, row: &Row) -> Resu
 fn draw_column(
     out: &mut Vec<u8>,
     cell: &Cell,
+    ancestries: &Ancestries,
     leaf: &Leaf,
     row: &Row,
     first: bool,
@@ -111,7 +127,7 @@ fn draw_column(
     }
     draw_edge(out, cell, leaf, row, first)?;
     if cell.high < leaf.generation() {
-        return draw_cell(out, cell, leaf, row);
+        return draw_cell(out, cell, ancestries, leaf, row);
     }
     Ok(())
 }
@@ -146,7 +162,13 @@ fn edge_of(leaf: &Leaf, row: &Row, low: u32) -> Markup {
 }
 
 /// Draws the contents of a column that is before the leaf's column.
-fn draw_cell(out: &mut Vec<u8>, cell: &Cell, leaf: &Leaf, row: &Row) -> Result<(), AllocError>
+fn draw_cell(
+    out: &mut Vec<u8>,
+    cell: &Cell,
+    ancestries: &Ancestries,
+    leaf: &Leaf,
+    row: &Row,
+) -> Result<(), AllocError>
     ensures { OnOk result (Draws out.old.items out.new.items []) }
 {
     if cell.high < start_of(leaf, row) {
@@ -155,7 +177,7 @@ fn draw_cell(out: &mut Vec<u8>, cell: &Cell, leaf: &Leaf, row: &Row) -> Result<(
     if cell.low < cell.high {
         return draw_fold(out, folded(cell.low, cell.high), cell.width);
     }
-    match leaf.ancestor(cell.low) {
+    match ancestries.ancestor(leaf.parent, cell.low) {
         Some(rev) => draw_ancestor(out, rev, cell.width),
         None => blanks(out, cell.width),
     }

@@ -3,4 +3,4 @@ use Rattle.diagrams.specs.Drawing.{state_of}
 use Rattle.diagrams.proofs.document.Document.sort.Goals as goal
 
 pub returns-clause-leaves : goal.returns-clause-leaves
-returns-clause-leaves c = IsPermutation-map state_of _ _ c.sort.ensures.permutation
+returns-clause-leaves c = IsPermutation-map state_of _ _ c.sort_by.ensures.permutation

@@ -1,0 +1,259 @@
+//! Stores the ancestries of a document's leaves, and each common part of two ancestries once.
+ghost use Rattle.std.specs.Prelude.{◌<◌, length};
+
+use indexmap::IndexMap;
+use rev_core::Rev;
+use std::alloc::{AllocError, Global};
+use std::cmp::Ordering;
+
+/// A revision of a branch, which stands for the ancestry up to that revision.
+#[derive(Clone, Copy, Debug, PartialEq, Eq, Hash)]
+pub struct Point {
+    /// The index of the revision's branch.
+    branch: usize,
+    /// The number of the branch's revisions up to this revision.
+    count: usize,
+}
+
+/// A branch, which is a run of consecutive revisions of an ancestry.
+#[derive(Drop)]
+struct Branch {
+    /// The parent of the branch's first revision, if it is known.
+    from: Option<Point>,
+    /// The revisions of the branch, of which there is at least one, the oldest first.
+    revs: Vec<Rev>,
+}
+
+/// The parent and the first revision of a branch.
+#[derive(PartialEq, Eq, Hash, Drop)]
+struct Start {
+    from: Option<Point>,
+    rev: Rev,
+}
+
+/// A set of ancestries, in which each common part is stored once. The first branch is the ancestry that was added
+/// first.
+#[derive(Drop)]
+pub struct Ancestries {
+    branches: Vec<Branch>,
+    /// The indices of all branches except the first, by the start of the branch.
+    starts: Option<Box<IndexMap<Start, usize>>>,
+}
+
+/// A path from the newest revision of an ancestry to its oldest revision.
+#[derive(Clone, Copy)]
+struct Climb {
+    /// The revision that the path has reached, or `None` after the oldest revision.
+    at: Option<Point>,
+    /// The branch from which the path reached the revision.
+    left: Option<usize>,
+}
+
+impl Climb {
+    /// The number of branches up to that of the reached revision.
+    fn height(&self) -> usize {
+        match self.at {
+            Some(point) => point.branch.saturating_add(1),
+            None => 0,
+        }
+    }
+
+    /// The index of the branch of the reached revision.
+    fn branch(&self) -> usize {
+        match self.at {
+            Some(point) => point.branch,
+            None => 0,
+        }
+    }
+
+    /// The number of the branch's revisions up to the reached revision.
+    fn count(&self) -> usize {
+        match self.at {
+            Some(point) => point.count,
+            None => 0,
+        }
+    }
+}
+
+impl Ancestries {
+    /// Creates an empty set of ancestries.
+    pub fn new(alloc: Global) -> Ancestries {
+        Ancestries {
+            branches: Vec::new(alloc),
+            starts: None,
+        }
+    }
+
+    /// Adds an ancestry, which is given with the oldest revision first. Returns the newest revision of the ancestry, or
+    /// `None` if the ancestry is empty.
+    pub fn add(&mut self, alloc: Global, revs: &[Rev]) -> Result<Option<Point>, AllocError> {
+        let mut at = None;
+        for i in 0..revs.len() {
+            let Some(point) = self.after(at, &revs[i]) else {
+                return self.branch_off(alloc, at, &revs[i..]);
+            };
+            at = Some(point);
+        }
+        Ok(at)
+    }
+
+    /// Returns the point after a point, if a stored ancestry continues with the given revision.
+    fn after(&self, at: Option<Point>, rev: &Rev) -> Option<Point> {
+        let (branch, count) = match at {
+            Some(point) => (point.branch, point.count),
+            None => (0, 0),
+        };
+        if let Some(next) = self.rev_at(branch, count) {
+            if *next == *rev {
+                return Some(Point {
+                    branch,
+                    count: count.saturating_add(1),
+                });
+            }
+        }
+        self.start_at(at, rev)
+    }
+
+    /// Returns the first point of the branch with a given start, if such a branch exists.
+    fn start_at(&self, from: Option<Point>, rev: &Rev) -> Option<Point> {
+        let starts = self.starts.as_ref()?;
+        let branch = starts.get(&Start { from, rev: *rev })?;
+        Some(Point {
+            branch: *branch,
+            count: 1,
+        })
+    }
+
+    /// Adds a branch that is not empty, and returns its newest revision.
+    fn branch_off(
+        &mut self,
+        alloc: Global,
+        from: Option<Point>,
+        revs: &[Rev],
+    ) -> Result<Option<Point>, AllocError>
+        requires { 0 < length revs.now }
+    {
+        let mut kept = Vec::with_capacity(alloc, revs.len())?;
+        kept.extend_from_slice(revs)?;
+        let branch = self.branches.len();
+        if branch > 0 {
+            let mut starts = match self.starts.take() {
+                Some(starts) => starts,
+                None => Box::new(alloc, IndexMap::new(alloc))?,
+            };
+            starts.insert(Start { from, rev: revs[0] }, branch)?;
+            self.starts = Some(starts);
+        }
+        self.branches.push(Branch { from, revs: kept })?;
+        Ok(Some(Point {
+            branch,
+            count: revs.len(),
+        }))
+    }
+
+    /// Returns a revision of a branch, given the number of revisions before it.
+    fn rev_at(&self, branch: usize, count: usize) -> Option<&Rev> {
+        match self.branches.as_slice().get(branch) {
+            Some(branch) => branch.revs.as_slice().get(count),
+            None => None,
+        }
+    }
+
+    /// Returns the ancestor of a generation in the ancestry up to a point.
+    pub fn ancestor(&self, last: Option<Point>, generation: u32) -> Option<&Rev> {
+        let mut next = last;
+        for _ in 0..self.branches.len() {
+            let point = next?;
+            let first = self.rev_at(point.branch, 0)?.generation();
+            if generation >= first {
+                let before = (generation - first) as usize;
+                if before >= point.count {
+                    return None;
+                }
+                return self.rev_at(point.branch, before);
+            }
+            next = self.from(point.branch);
+        }
+        None
+    }
+
+    /// Returns the parent of a branch's first revision.
+    fn from(&self, branch: usize) -> Option<Point> {
+        match self.branches.as_slice().get(branch) {
+            Some(branch) => branch.from,
+            None => None,
+        }
+    }
+
+    /// Returns the number of revisions with which two ancestries begin, if one of the two is that of the first branch.
+    pub fn shared(&self, one: Option<Point>, other: Option<Point>) -> usize {
+        let (one, other) = self.fork(one, other);
+        one.count().min(other.count())
+    }
+
+    /// Returns the generation of the last revision that two ancestries share, or 0 if they share none.
+    pub fn last_shared(&self, one: Option<Point>, other: Option<Point>) -> u32 {
+        let (one, other) = self.fork(one, other);
+        let count = one.count().min(other.count());
+        if count == 0 {
+            return 0;
+        }
+        match self.rev_at(one.branch(), count - 1) {
+            Some(rev) => rev.generation(),
+            None => 0,
+        }
+    }
+
+    /// Compares two ancestries, from their oldest revisions on.
+    pub fn order(&self, one: Option<Point>, other: Option<Point>) -> Ordering {
+        if one == other {
+            return Ordering::Equal;
+        }
+        let (one, other) = self.fork(one, other);
+        let count = one.count().min(other.count());
+        self.next(one, count).cmp(&self.next(other, count))
+    }
+
+    /// Climbs two ancestries to the last branch that both have. Each step leaves the later of two branches, because a
+    /// branch is added after the branch from which it branches off.
+    fn fork(&self, one: Option<Point>, other: Option<Point>) -> (Climb, Climb) {
+        let mut one = Climb {
+            at: one,
+            left: None,
+        };
+        let mut other = Climb {
+            at: other,
+            left: None,
+        };
+        for _ in 0..self.branches.len().saturating_mul(2) {
+            if one.height() == other.height() {
+                break;
+            }
+            if one.height() > other.height() {
+                one = self.climbed(one);
+            } else {
+                other = self.climbed(other);
+            }
+        }
+        (one, other)
+    }
+
+    /// Returns the path after the branch of the reached revision.
+    fn climbed(&self, climb: Climb) -> Climb {
+        match climb.at {
+            Some(point) => Climb {
+                at: self.from(point.branch),
+                left: Some(point.branch),
+            },
+            None => climb,
+        }
+    }
+
+    /// Returns the next revision of an ancestry, after the first `count` revisions of the reached branch.
+    fn next(&self, climb: Climb, count: usize) -> Option<&Rev> {
+        if climb.count() > count {
+            return self.rev_at(climb.branch(), count);
+        }
+        self.rev_at(climb.left?, 0)
+    }
+}
