@@ -5,16 +5,18 @@ use Rattle.script_databases.specs.AllTied.{AllTied}
 use Rattle.script_databases.specs.Databases.{State}
 use Rattle.script_databases.specs.declared.refusal.Refusal.{Refusal}
 use Rattle.commands.specs.Script.{Asks, AnswersAsked}
-use Rattle.commands.specs.words.{Asked, audit, replicate, sync}
+use Rattle.commands.specs.words.{Asked, audit, replicate, restore, sync}
 use Rattle.read_commands.specs.Audit.{IsClean}
 use Rattle.write_commands.specs.Replicate.{IsCovered}
+use Rattle.write_commands.specs.Restore.{IsRestored}
 use Rattle.write_commands.specs.Sync.{IsMet}
 
--- The guarantee for the output of an audit, a replication and a sync.
+-- The guarantee for the output of an audit, a replication, a sync and a restore.
 abbrev pub IsTrusted : Asked → Told → State → Type 0
 IsTrusted (audit ask) told new = IsClean told
 IsTrusted (replicate ask) told new = IsCovered new ask told
 IsTrusted (sync ask) told new = IsMet new ask told
+IsTrusted (restore ask) told new = IsRestored told
 IsTrusted ask told new = Unit {0}
 
 -- The possible results of a script's line, with the guarantees of a script. All databases of a script are consistent
