@@ -6,7 +6,7 @@ use rev_core::Rev;
 use std::alloc::{AllocError, Global};
 use std::cmp::Ordering;
 
-/// A revision of a branch, which stands for the ancestry up to that revision.
+/// A revision of a branch, as the last revision of an ancestry.
 #[derive(Clone, Copy, Debug, PartialEq, Eq, Hash)]
 pub struct Point {
     /// The index of the revision's branch.
@@ -191,7 +191,7 @@ impl Ancestries {
         one.count().min(other.count())
     }
 
-    /// Returns the generation of the last revision that two ancestries share, or 0 if they share none.
+    /// Returns the generation of the last revision that two ancestries share, or 0 if they share no revision.
     pub fn last_shared(&self, one: Option<Point>, other: Option<Point>) -> u32 {
         let (one, other) = self.fork(one, other);
         let count = one.count().min(other.count());
