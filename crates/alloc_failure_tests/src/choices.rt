@@ -55,7 +55,7 @@ fn named(alloc: Global, chosen: &Chosen) -> Option<usize> {
     }
 }
 
-/// Reads the page of a source with a selection.
+/// Reads a page of a source's changes feed, restricted to a selection.
 fn page(alloc: Global, source: &Peer<Rules>, chosen: &Chosen) -> Option<Window> {
     let goal = source.db().update_seq();
     match source.page(alloc, 0, goal, 10, Some(chosen)) {

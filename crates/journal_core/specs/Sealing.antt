@@ -24,8 +24,8 @@ pub record IsSealing (chain seq : List ℕ) (lines : List (List ℕ)) (seal : Se
 abbrev pub Seals : Seal → List ℕ → List ℕ → Seal → Type 0
 Seals old line text new = (text ≡ []) × ((chain seq : List ℕ) (lines : List (List ℕ)) → IsSealing chain seq lines old → IsSealing chain seq (lines ++ line ∷ []) new)
 
--- At the end of a block, the line that ends it is written. To write the last line of a block, all lines must be allowed
--- in a block, and the last one must have a line end.
+-- At the end of a block, the line that ends it is written. If nothing is wrong with the block, no line of it is a sum
+-- line, and its last line has a line end.
 abbrev pub EndsSeal : Seal → List ℕ → List ℕ → Seal → Type 0
 EndsSeal old rest text new = new.wrong ≡ None → (rest ≡ []) × ((chain seq : List ℕ) (lines : List (List ℕ)) → IsSealing chain seq lines old
     → All (λ line. is_sum line ≡ false) lines × (text ≡ sum_line (length lines) (block_hash chain seq (joined lines)) seq ++ codes "\n"))

@@ -35,9 +35,9 @@ impl Board {
 
     /// Returns the sums of all workers' settled counters and read counters, as the seat sees the counters.
     ///
-    /// The settled total is at most the read total, and each total is at least every earlier total that this seat saw.
-    /// The totals that a worker sees include all additions that this worker has made. The call does not block and does
-    /// not allocate. The seat must be one that was created together with this board.
+    /// The settled total is at most the read total. Neither total is less than in any earlier call with this seat. The
+    /// totals that a worker sees include all additions that this worker has made. The call does not block and does not
+    /// allocate. The seat must be one that was created together with this board.
     pub fn read(&self, seat: &mut BoardSeat) -> (u64, u64)
         requires came { CameWith self.now seat.old }
         ensures came { CameWith self.now seat.new }

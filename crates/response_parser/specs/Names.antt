@@ -12,8 +12,8 @@ use Rattle.response_parser.specs.declared.place.Found.TheVariants as found
 
 -- ---- names with quotation marks
 
--- The meaning of a name t if documents are requested. The flag `first` says whether the name t is the first name of its
--- object.
+-- The meaning of a JSON member's name t if documents are extracted from the response. The flag `first` says
+-- whether the name t is the first name of its object.
 abbrev pub document_name : Bool → List ℕ → Name
 document_name first t =
     cond (first && bytes_eq t (codes "\"_id\"")) Plain

@@ -39,7 +39,7 @@ fn at(alloc: Global, db: &Database, id: &DocId, rev: Rev) -> Option<String> {
     }
 }
 
-/// Returns the documents with an id that a session refused, in order, each with its reason.
+/// Returns the ids of the documents that a session refused, in order, each with the reason of the refusal.
 pub(crate) fn refused(
     alloc: Global,
     peer: &Peer<Rules>,

@@ -26,7 +26,7 @@ pub(crate) enum Call<'a> {
     Choose(&'a [&'a str]),
     /// Select a number of documents, numbered from 1, with the first id given twice, as the bench's next selection.
     ChooseMany(u32),
-    /// Copy a selection, and store the copy as the bench's next selection.
+    /// Copy a selection, and store the copy as the next selection of the test's state.
     Copy(usize),
     /// Read whether two selections are equal.
     Equal(usize, usize),

@@ -19,7 +19,7 @@ fn sig(alloc: Global, number: u32) -> Option<Sig> {
     Sig::parse(text.as_bytes()).ok()
 }
 
-/// Returns the signatures of the numbers from 0 on.
+/// Returns `length` revision signatures, namely of the numbers from 0 to `length - 1`.
 fn sigs(alloc: Global, length: u32) -> Option<Vec<Sig>> {
     let mut sigs = Vec::new(alloc);
     for number in 0..length {
