@@ -18,7 +18,8 @@ use std::alloc::{AllocError, Global};
 /// is empty if the database does not have the document.
 ///
 /// If the documents of all rows of a feed are loaded in order into an empty peer with enough sequences left, the peer
-/// accepts all of them. After the last load, the peer has each selected document as the original database has it.
+/// accepts all of them. After the last load, each selected document is the same in the peer and in the original
+/// database.
 pub fn documents_of(alloc: Global, database: &Database, id: &DocId) -> Result<Vec<Doc>, AllocError>
     ensures documents { IfOk result (λ v. v.items ≡ documents_at database.now id.now) }
     ensures documents_load_back { LoadBack database.now }
