@@ -144,7 +144,8 @@ fn with_special<'v, V: JsonValue<'v>>(
     }
 }
 
-/// Returns the given member if it has the given name, or the member of this name that was found before.
+/// Returns the given member if the member has the given name, and otherwise the member of this name that was found
+/// before.
 fn kept<'v, V: JsonValue<'v>>(
     found: Option<&'v V>,
     name: &str,

@@ -1,4 +1,4 @@
-//! Tests a worked example of the progress board, the board's errors, and each public call, without failed allocations.
+//! Tests a worked example of the progress board, the board's errors, and each public call, without failing allocations.
 use progress_board::{Board, BoardFault};
 use std::alloc::Global;
 use std::process::Abort;
