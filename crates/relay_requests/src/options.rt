@@ -1,4 +1,4 @@
-//! The options that the requests of a run depend on.
+//! The options for writing the requests of a run.
 ghost use Rattle.std.specs.Prelude.{◌≡◌, IfOk, string_bytes};
 ghost use Rattle.relay_requests.specs.Logs.{log_path as log_path_of};
 

@@ -237,7 +237,7 @@ fn row_text(alloc: Global, row: LedgerRow) -> Option<String> {
     }
 }
 
-/// Returns the rows of a ledger, each after its document's id.
+/// Returns the rows of a ledger, each row after the id of the row's document.
 fn ledger(alloc: Global, rows: &[Refused]) -> Option<String> {
     let mut all = Some(String::new(alloc));
     for row in rows {
