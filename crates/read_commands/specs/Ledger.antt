@@ -43,7 +43,7 @@ ledger_in d = do
 abbrev pub rev_part : List ℕ → List ℕ → List ℕ → List ℕ
 rev_part word id rev = word ++ codes " " ++ quoted id ++ codes " " ++ rev
 
--- A part of a line of `ledger`: a revision's parent in the target's tree, and the revision's parent in the refused
+-- A part of a line of `ledger`: a revision's parent in the target's tree, and the revision's parent in the ledger's
 -- document.
 abbrev pub parents_part : List ℕ → List ℕ → List ℕ
 parents_part known given = codes " known " ++ known ++ codes " given " ++ given
