@@ -13,7 +13,7 @@ use Rattle.relay_core.specs.Messages.{Text}
 
 pub record HeadView : Type 0 where
   pub status : ℕ
-  -- The length of the body, as the head states it.
+  -- The length of the body that the head states.
   pub size : ℕ
   pub who : Option Side
   pub date : Text

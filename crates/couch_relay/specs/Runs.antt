@@ -33,8 +33,7 @@ abbrev pub BeginsWithResponse : RequestView → List ℕ → List ℕ → Dated 
 BeginsWithResponse q bytes rest d =
     (frame : List ℕ) × (bytes ≡ frame ++ rest) × IsResponse q frame (response_view d.response) (string_bytes d.date)
 
--- The bytes that the reads returned, and the response that the pending bytes and these bytes begin with, if there is a
--- response.
+-- The bytes that the reads returned, and a response, if the pending bytes and the returned bytes begin with a response.
 abbrev pub Receives : RequestView → Option (List ℕ) → Option (List ℕ) → Type 0 → List ℕ → List ℕ → Option Dated → Type 0
 Receives q old new ended before after dated =
     (bytes : List ℕ) × Appends old new bytes
@@ -144,7 +143,7 @@ NoChoice ended input =
     NoFrame ended input
     ⊎ ((frame body rest : List ℕ) × (head : HeadView) × (input ≡ frame ++ rest) × IsFrame frame head body × ¬ IsUtf8 body)
 
--- The bytes that the reads returned, and the selection that the pending bytes and these bytes begin with, if there is a
+-- The bytes that the reads returned, and a selection, if the pending bytes and the returned bytes begin with a
 -- selection.
 abbrev pub ReadsChoice : Option (List ℕ) → Option (List ℕ) → Type 0 → List ℕ → List ℕ → Option Text → Type 0
 ReadsChoice old new ended before after choice =

@@ -52,8 +52,8 @@ pub record Holds (d : Document) (id : List ℕ) (leaves : List State) : Type 0 w
   pub named : string_bytes d.id ≡ id
   pub read : states d ≡ leaves
 
--- The effect of a line of a script's output: the document that is open after the line, if any, and the item of the
--- picture that the line completes, if any.
+-- The effect of a line of a script's output: the open document after the line, and the item of the picture that the
+-- line completes, if any.
 pub data IsNext : Option Document → Told → Option Document → Option Whole → Type 0 where
   -- A line of a script's output that begins a document.
   opened : {old : Option Document} {id : String Global} {count : ℕ} {d : Document} → Holds d (string_bytes id) [] → d.count ≡ count

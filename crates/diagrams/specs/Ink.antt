@@ -228,8 +228,8 @@ pub record Draws (old new : List ℕ) (signs : List Sign) : Type 0 where
 abbrev pub leaf_sign : Form → Leaf → Sign
 leaf_sign form l = leaf form l.rev l.wins l.live
 
--- The command that resolves the conflict of a leaf, if the database is named. Only a live leaf that is not the winner
--- has such a command.
+-- The command that resolves the conflict of a leaf, if the database is named. A leaf has a command only if the leaf is
+-- live and not the winner.
 abbrev pub edit_of : List ℕ → List ℕ → Leaf → List Sign
 edit_of db id l = if not l.wins && l.live then edit db id l.rev ∷ [] else []
 

@@ -15,8 +15,8 @@ pub struct Row {
     pub parent: usize,
     /// The generation of the leaf's oldest known ancestor.
     pub first: u32,
-    /// The generations at which branches continue below the row, in rising order. These branches start in this row or
-    /// in earlier rows.
+    /// The generations at which branches continue below the row, in rising order. The branches below a row start in
+    /// this row or in earlier rows.
     pub below: Vec<u32>,
 }
 

@@ -15,8 +15,8 @@ use std::alloc::AllocError;
 /// A JSON value from which a document is read. The value is a `serde_json` value or a value inside a line.
 ///
 /// Contract clauses describe a JSON value by its data (`seen`). The ghost value `in_order` says whether an object's
-/// members are in byte order of their names. Some types guarantee this order. For other types the caller must guarantee
-/// it.
+/// members are in byte order of their names. Some types guarantee the order of members. For other types the caller must
+/// guarantee the order.
 pub(crate) trait JsonValue<'v>: Sized + 'v {
     /// An iterator over the members of a JSON object.
     type Object;

@@ -16,7 +16,7 @@ use serde_json::{Map, Number, Value};
 use std::alloc::AllocError;
 use std::collections::btree_map;
 
-/// For `serde_json` values it is not known which strings need no escapes.
+/// A `serde_json` value has no record of which strings need no escapes.
 pub(crate) const NONE_KNOWN: PlainTexts = PlainTexts {
     names: false,
     values: false,

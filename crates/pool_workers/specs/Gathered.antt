@@ -38,7 +38,8 @@ module _ {S L : Type 0} where
   Tells e =
       FetchedKnows (view e.windows) (view e.parcels) e.fetched × WrittenKnows (view e.parcels) e.all.amount e.written
 
-  -- A worker halted only because the gate allows it, because a board is full, or because a call of the worker failed.
+  -- A worker halted only because the gate allows the halt, because a board is full, or because a call of the worker
+  -- failed.
   abbrev pub StopsWhere : Type 0 → (Place → Type 0) → Ended S L → Type 0
   StopsWhere may_fill may_stop e =
       IfSome e.read (Allows may_stop) × IfSome e.fetched.stopped (Allows may_stop)

@@ -28,8 +28,9 @@ pub record IsReady {S L : Type 0} (channels : Channels S) (board : Option Board)
     pub all : (o.all.parts ≡ workers) × (o.all.amount ≡ 0)
     pub seats : AreSeats board 0 workers o.seats.items
 
--- What the caller's thread has after the workers have ended. The caller's thread then has the seats. If all workers
--- were started, it also has all parts of both channels and of the ledger, and knows what the workers did.
+-- What the caller's thread has after the workers have ended. After the workers have ended, the caller's thread has the
+-- seats. If all workers were started, the caller's thread has all parts of both channels and of the ledger, and knows
+-- what the workers did.
 pub record HaveEnded {S L : Type 0} (channels : Channels S) (board : Option Board) (may_stop : Place → Type 0)
     (workers : ℕ) (given : List BoardSeat) (ended : Option (Ended S L)) (seats : List BoardSeat) : Type 0 where
   pub window_seat : IfSome ended (λ e. IsSeatAt (sends_on channels.to_fetchers) e.windows)
@@ -41,7 +42,7 @@ pub record HaveEnded {S L : Type 0} (channels : Channels S) (board : Option Boar
   pub shown : IfSome ended (λ e. HaveShown board e.all.amount e.written.stopped given seats)
 
 -- A fetcher and a writer that share a thread have no window or parcel in progress. If the fetcher or the writer was
--- stopped, the gate allows this halt.
+-- stopped, the gate allows the halt.
 pub record StandBy {S L : Type 0} (channels : Channels S) (board : Option Board) (may_stop : Place → Type 0)
     (p : Pair S L) : Type 0 where
   pub window_seat : IsSeatAt (sends_on channels.to_fetchers) p.fetcher.windows

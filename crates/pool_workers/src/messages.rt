@@ -272,8 +272,8 @@ fn leaf_count(rows: &[Row]) -> u128
 /// Grows the heap of this thread by more than a page.
 ///
 /// The C library grows the heap of each thread except the first by one page per system call, and all threads may have
-/// to wait for such a call. Allocating and freeing one large block grows the heap in one step, if the heap keeps the
-/// freed memory (`keep_heaps`).
+/// to wait for the system call. Allocating and freeing one large block grows the heap in one step, if the heap keeps
+/// the freed memory (`keep_heaps`).
 fn grow_heap(alloc: Global) {
     if let Ok(room) = Vec::<u8>::with_capacity(alloc, HEAP_STEP) {
         drop(room);

@@ -53,9 +53,9 @@ pub fn replicate_along<F: WriteFilter>(
 /// Stores a user's document at one peer of a network (`Peer::load`).
 ///
 /// If every two peers are consistent, they stay consistent, even if the call fails. If the document's trees agreed and
-/// had complete histories before the call, they still do after the call under two conditions. First, the stored
-/// document gives no revision a parent or content that differs from a peer's tree. Second, the ancestry of the stored
-/// document is complete, or the peer's tree has the ancestry's oldest revision.
+/// had complete histories before the call, the trees still agree and have complete histories after the call under two
+/// conditions. First, the stored document gives no revision a parent or content that differs from a peer's tree.
+/// Second, the ancestry of the stored document is complete, or the peer's tree has the ancestry's oldest revision.
 pub fn load_at<F: WriteFilter>(
     peers: &mut [Peer<F>],
     place: usize,

@@ -86,8 +86,8 @@ pub data ClosesRun (plan : Plan) (fault : Option PoolFault) (complete : Bool)
 
 -- The end of a run of the pool, with what is known about the workers. At the end of a run, the target has grown from
 -- the given target, and the windows of the run's session are pages of the source. A worker halted only if the gate
--- allows it or a call of the worker failed. If no worker stopped and all parcels were received, the session has read
--- the documents that the fetchers counted.
+-- allows the halt or a call of the worker failed. If no worker stopped and all parcels were received, the session has
+-- read the documents that the fetchers counted.
 pub record EndsRun {F : Type 0} (refuses : F → Document → Bool) (may_fill : Type 0) (may_stop : Place → Type 0)
     (plan : Plan) (source : PeerValue) (given : F × PeerValue) (counts : List ℕ) (source' after : PeerValue)
     (outcome : Result Report PoolFault) : Type 0 where
@@ -167,8 +167,8 @@ pub record RunsOn {F : Type 0} (refuses : F → Document → Bool) (may_fill : T
     (plan : Plan) (source target source' target' : F × PeerValue) (fetched : List ℕ) (outcome : Result Report PoolFault)
     : Type 0 where
   -- Each of the four errors of a plan is returned exactly if its condition is true. A run with a valid plan never
-  -- returns `Hole`. Such a run returns `Halted` only if the gate allows the halt, and `BoardFull` only if `may_fill` is
-  -- true.
+  -- returns `Hole`. A run with a valid plan returns `Halted` only if the gate allows the halt, and `BoardFull` only if
+  -- `may_fill` is true.
   pub early : EarlyOrLate may_fill may_stop (early_answer source.1 target.1 plan) source target source' target' fetched
       outcome
   -- A run changes only the log of its source.

@@ -177,8 +177,8 @@ abbrev pub ending_of_watched : Result Watched PoolFault → Result Ending Refusa
 ending_of_watched (Ok watched) = Ok (Shown watched)
 ending_of_watched (Err fault) = ending_of_run (Err fault)
 
--- The ending of a replication. One thread replicates if the first argument is true. Otherwise the pool replicates, with
--- a board if the second argument is true.
+-- The ending of a replication. One thread replicates if the first argument is true. If the first argument is false, the
+-- pool replicates, with a board if the second argument is true.
 abbrev pub EndsBy : Bool → Bool → State → List ℕ → List ℕ → PeerValue → PeerValue → Plan → Result Ending Refusal → State
     → Type 0
 EndsBy true progress old source target s t plan ending new =

@@ -1,5 +1,5 @@
 //! Compares requests and fetched documents with the reference. A database requests leaves of another database's feed,
-//! and fetches documents for these requests.
+//! and fetches documents for its requests.
 use crate::tests::checks::holds;
 use crate::tests::feeds::{number_of, put};
 use crate::tests::merges::{are, rev};

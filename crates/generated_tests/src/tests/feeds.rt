@@ -46,7 +46,7 @@ pub(crate) fn document(
 }
 
 /// Creates a random document, and merges the document into the reference. Returns the document and the expected result
-/// of putting it.
+/// of the put.
 pub(crate) fn document_by_chance(
     rt: &impl Abort,
     alloc: Global,

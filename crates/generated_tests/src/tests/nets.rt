@@ -78,7 +78,7 @@ fn plans(rt: &impl Abort, alloc: Global, rng: &mut ChaCha8Rng, sessions: &mut u1
     plans
 }
 
-/// Returns hops twice around a ring. Chains of these hops lead from every peer to every other peer.
+/// Returns hops twice around a ring. Chains of hops of the ring lead from every peer to every other peer.
 fn ring(rt: &impl Abort, alloc: Global, rng: &mut ChaCha8Rng, sessions: &mut u128) -> Vec<Hop> {
     let mut hops = Vec::new(alloc);
     for step in 0..2 * PEERS {

@@ -47,9 +47,9 @@ enum Call {
     Replicate(usize, usize),
 }
 
-/// The second source is replicated into a target that has other documents. Then the first source is replicated into the
-/// target, for one selection and then completely. After further documents were loaded into the first source, the first
-/// source is replicated for both selections and then completely.
+/// The second source is replicated into a target that has other documents. After the second source, the first source is
+/// replicated into the target, for one selection and then completely. After further documents were loaded into the
+/// first source, the first source is replicated for both selections and then completely.
 static CALLS: &[Call] = &[
     Call::Grow(OTHER, 10),
     Call::GrowTarget(5),

@@ -82,8 +82,8 @@ const AHEAD: Rows = &[
     ),
 ];
 
-/// After the restore, the source has the documents, local writes and log of the backup. Another document then gets the
-/// sequence that the document d4 had before the restore.
+/// After the restore, the source has the documents, local writes and log of the backup. After the restore, another
+/// document gets the sequence that the document d4 had.
 const PUT_BACK: Rows = &[
     (Call::Restore(SOURCE, FIRST), "restored"),
     (Call::Life(SOURCE), "1"),
@@ -112,7 +112,8 @@ fn other_life_refused(rt: HostRuntime) {
         (Call::PutEntry(SOURCE, REP, S1, 1), "OtherLife { now: 1 }"),
         (Call::SourceLog(SOURCE, REP), "1 at 3;"),
         (Call::Page(SOURCE, 3, 4), "3 to 4: 4 e 1-a;"),
-        // The second session's windows end at 6, and the third session is missing, but the call checks this later.
+        // The second session's windows end at 6, and the third session is missing, but the call checks both conditions
+        // later.
         (Call::Append(TARGET, S2, SECOND), "OtherLife { now: 0 }"),
         (Call::Append(TARGET, S3, SECOND), "NoSuchSession"),
         (

@@ -155,7 +155,7 @@ fn a_refused_descendant_covers(rt: HostRuntime) {
     expect(&rt, rt.alloc(), LISTS);
 }
 
-/// The update sequence one below the maximum. From this sequence, a database can change once.
+/// The update sequence one below the maximum. A database with this update sequence can change once.
 const LAST_BUT_ONE: u64 = 9_007_199_254_740_990;
 
 #[test]
@@ -666,7 +666,7 @@ const RECORDED: Rows = &[
 #[test]
 fn common_session(rt: HostRuntime) {
     const ROWS: Rows = &[
-        // The third session of the target. The source's log has no entry of this session.
+        // The source's log has no entry of the target's third session.
         (
             Call::Begin(TARGET, S3, Beginning { goal: 12, ..TO_ONE }, 10),
             "begun",

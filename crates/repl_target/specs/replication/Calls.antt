@@ -71,8 +71,8 @@ pub record IsPageOf (db : DatabaseValue) (chosen : Choice) (w : WindowValue) : T
   pub within : goal ≤ db.update_seq
   pub is : w ≡ page db since goal limit chosen
 
--- A call that a run of the pool makes on the target, for the run's session. Such a call begins no session and makes no
--- local write. The call's messages come from the source's selected feed.
+-- A call that a run of the pool makes on the target, for the run's session. A run's calls begin no session and make no
+-- local write, and their messages come from the source's selected feed.
 abbrev pub IsFrom : DatabaseValue → Choice → SessionId → Call → Type 0
 IsFrom source chosen run (Append session window) = (session ≡ run) × IsPageOf source chosen window
 IsFrom source chosen run (Settle session parcel) = (session ≡ run) × (parcel ≡ open_revs source parcel.asked)

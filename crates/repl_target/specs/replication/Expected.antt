@@ -12,8 +12,8 @@ abbrev pub StopsShort : PeerValue → Plan → ℕ → Type 0
 StopsShort source plan low_water =
     (stop_after : ℕ) × (plan.stop_after ≡ Some stop_after) × (low_water < source.db.update_seq)
 
--- The errors that a replication by one thread between consistent peers may return, each with its condition. Such a
--- replication returns no other error.
+-- The errors that a replication by one thread between consistent peers may return, each with its condition. Other
+-- errors are impossible.
 abbrev pub IsExpected : PeerValue → PeerValue → Plan → TargetFault → Type 0
 IsExpected source target plan faults.BadBatch = is_batch plan.batch ≡ false
 IsExpected source target plan faults.SamePeer = source.db.uuid ≡ target.db.uuid
