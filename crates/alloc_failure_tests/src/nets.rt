@@ -71,7 +71,7 @@ fn edit(alloc: Global, net: &mut Net<Rules>, place: usize, id: &str) -> Option<(
     Some(())
 }
 
-/// Whether an audit is clean, and retries if an allocation fails.
+/// Audits, and retries if an allocation fails. Returns whether the audit is clean.
 fn is_clean(alloc: Global, net: &Net<Rules>, source: usize, target: usize) -> bool {
     let found = match net.audit(alloc, source, target, None) {
         Ok(found) => Some(found),

@@ -155,8 +155,8 @@ fn are_read(alloc: Global, tree: &Tree) -> bool {
     are_read
 }
 
-/// Returns the numbers of leaves and revisions of a copy of the grown tree, if reading the copy gives the expected
-/// results.
+/// Copies the grown tree, and returns the copy's numbers of leaves and revisions, if reading the copy gives the
+/// expected results.
 fn ended(alloc: Global) -> Option<(usize, usize)> {
     let mut tree = Tree::new(alloc);
     if !grows(alloc, &mut tree) {

@@ -1,5 +1,6 @@
 //! `World::run`. After a failed allocation, the world is in the state after the previous step, or a parcel is partially
-//! settled. After a failure, the test takes the remaining steps, and the result is that of a run without a failure.
+//! settled. After a failure, the test takes the remaining steps, and the result equals the result of a run without a
+//! failure.
 use crate::peers::{body, doc, doc_id};
 use anyhow::{Result, bail};
 use repl_log::Moment;
@@ -211,7 +212,7 @@ fn take(alloc: Global, world: &mut World<Rules>, steps: &[Step]) -> Option<()> {
     world.run(alloc, steps.get(place..)?).ok()
 }
 
-/// Whether an audit is clean, and retries if an allocation fails.
+/// Audits, and retries if an allocation fails. Returns whether the audit is clean.
 fn is_clean(alloc: Global, world: &World<Rules>) -> bool {
     let found = match audit(alloc, world.source(), world.target(), None).ok() {
         Some(found) => Some(found),

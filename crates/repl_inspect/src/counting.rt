@@ -14,7 +14,7 @@ pub(crate) fn plus(count: u64, more: u64) -> u64
     count + more
 }
 
-/// Adds one to a count if a condition holds.
+/// Adds one to a count if a condition is true.
 pub(crate) fn plus_if(count: u64, holds: bool) -> u64
     ensures { result ≡ counted (count + (if holds then 1 else 0)) }
 {

@@ -43,9 +43,9 @@ pub struct SyncRan<F: WriteFilter> {
 /// If the call succeeds, it guarantees what `sync_alone` guarantees. If the peers are consistent (docs/PROFILE.md,
 /// "Tied peers"), each side then has every leaf of each document that both plans select and neither side has refused.
 /// If a document's two trees agreed before the call and had complete histories, both sides then have the same document.
-/// If the peers are consistent in both directions, they stay consistent for every result of the call. Each of the two
-/// peers stays consistent with every third peer with which it was consistent, if the third peer does not have the other
-/// peer's UUID.
+/// If the peers are consistent in both directions, they stay consistent for every result of the call. `a` stays
+/// consistent with third peers that do not have `b`'s UUID, and `b` stays consistent with third peers that do not have
+/// `a`'s UUID.
 ///
 /// The call blocks until both runs end. The contract does not guarantee that the two runs end.
 pub fn sync<F: WriteFilter + Send + Sync, G: Gate + Sync, R: Threads + Wait + Sync>(

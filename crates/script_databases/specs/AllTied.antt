@@ -16,11 +16,11 @@ use Rattle.script_databases.specs.Databases.{State, NamedBackupValue, IsTaken, p
 abbrev pub IsOther : State → ℕ → ℕ → Type 0
 IsOther s own uuid = IsTaken s uuid × (uuid ≡ own → ⊥)
 
--- Each log of a database, whose UUID is `own`, belongs to a replication to another database of the script.
+-- Each log of the database with UUID `own` belongs to a replication into another database of the script.
 abbrev pub LeadToOthers : State → ℕ → List (RepId × List EntryValue) → Type 0
 LeadToOthers s own logs = (l : RepId × List EntryValue) → Among l logs → IsOther s own l.0.target
 
--- Each session of a database, whose UUID is `own`, belongs to a replication from another database of the script.
+-- Each session of the database with UUID `own` belongs to a replication from another database of the script.
 abbrev pub ComeFromOthers : State → ℕ → List SessionValue → Type 0
 ComeFromOthers s own sessions = (x : SessionValue) → Among x sessions → IsOther s own x.rep.source
 

@@ -23,8 +23,7 @@ use std::thread::Threads;
 /// The number of choices for the document that a filter refuses. Some choices are not the number of any document.
 const CHOICES: u32 = 8;
 
-/// The indices of all documents, of the first selection and of the second selection in the list of what a test
-/// replicates.
+/// Indices in the list of what a test replicates: all documents, the first selection, and the second selection.
 const WHOLE: usize = 0;
 
 const FIRST: usize = 1;

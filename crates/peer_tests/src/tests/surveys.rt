@@ -40,7 +40,7 @@ pub(crate) enum Call<'a> {
     Census,
     /// Read the ledger of the session.
     Ledger,
-    /// Read the documents of the leaves of a document of the source.
+    /// Read the documents of all leaves of a source's document.
     Documents(&'a str),
     /// Read the tree of a document of the target.
     Tree(&'a str),
