@@ -151,7 +151,7 @@ share part all = if all == 0 then 400 else (if nat_le 400 (part * 400 / all) the
 abbrev pub ratio : ℕ → ℕ → List ℕ
 ratio part all = (decimal part ++ codes " of ") ++ decimal all
 
--- A bar in a picture, which is 40 characters long, or 400 wide in SVG.
+-- A bar in a picture. The bar is 40 characters long in text, and 400 units wide in SVG.
 abbrev pub bar_ink : Form → ℕ → ℕ → List ℕ
 bar_ink forms.Text part all =
     ((((codes "  [" ++ take (share part all / 10) (codes "########################################"))

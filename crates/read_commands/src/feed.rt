@@ -32,7 +32,7 @@ pub trait RowPrinter {
     // The text that the type prints for a row.
     ghost row_text: { Self → RowValue → List ℕ };
 
-    // Whether counting the given rows gives the given counts.
+    // The given counts are the counts of the given rows.
     ghost counts: { Self → Self.Tally → List RowValue → Type 0 } = { λ _ _ _. Unit {0} };
 
     /// Prints and counts a row of the feed.

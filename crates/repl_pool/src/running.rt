@@ -276,10 +276,11 @@ fn run_with<F: WriteFilter + Send + Sync, G: Gate + Sync, R: Threads + Wait + Sy
 /// Replicates the source's documents into the target with a pool of threads. The caller's thread begins the session at
 /// the common checkpoint of the two logs, and reads the source's feed in windows. The caller's thread stores each
 /// window at the target, and sends the window to one of `plan.workers` fetchers (fewer if there can only be fewer
-/// windows). Fetchers request the missing leaves at the target, count documents at the source, and send parcels to the
-/// same number of writers. The writers read and settle the parcels, and record the session. The target is behind a
-/// lock, and the source is shared. Workers call the gate at each place (stage of a window), and hold no lock during the
-/// call. If the gate never blocks, a fetcher and a writer share one thread and take turns.
+/// windows). Fetchers request the missing leaves at the target, count documents at the source, and send parcels to
+/// writers. A run has equally many fetchers and writers. The writers read and settle the parcels, and record the
+/// session. The target is behind a lock, and the source is shared. Workers call the gate at each place (stage of a
+/// window), and hold no lock during the call. If the gate never blocks, a fetcher and a writer share one thread and
+/// take turns.
 ///
 /// After all workers have ended, the caller's thread concludes the session. If concluding fails, the caller's thread
 /// records the session. The caller's thread then stores the session's entry in the source's log, unless the log has a

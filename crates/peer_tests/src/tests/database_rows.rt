@@ -136,7 +136,8 @@ fn edits_of_each_kind(rt: HostRuntime) {
             Call::Edit(A, "d", FIRST_EDIT, false, r#"{"n":1}"#, 1),
             SECOND_EDIT,
         ),
-        // A deletion, then an edit without a parent, which becomes a child of the deleted winner.
+        // The first edit deletes the document. The second edit names no parent, and its revision becomes a child of the
+        // deleted winner.
         (Call::Edit(A, "d", SECOND_EDIT, true, "{}", 2), GONE),
         (
             Call::Tree(A, "d"),

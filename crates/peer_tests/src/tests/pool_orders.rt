@@ -1,5 +1,5 @@
-//! Runs of the pool whose gate counts its calls, or blocks a worker at a stage of a window until another worker reaches
-//! a later stage.
+//! Runs of the pool with two kinds of gates. The first gate counts its calls. The second gate blocks a worker at a
+//! stage of a window until another worker reaches a later stage.
 use crate::tests::pool_gates::kind_of;
 use crate::tests::pools::{Bench, Call, How, Rows};
 use crate::tests::texts::expect_answer;

@@ -120,7 +120,7 @@ impl Bench {
         }
     }
 
-    /// Stores an entry in the log of the replication from database 1 into another database, if the entry exists.
+    /// Stores an entry in the log of the replication from database 1 to `target`, if the entry exists.
     fn put_into(&mut self, target: u128, entry: Option<Entry>) -> Option<String> {
         match entry {
             Some(entry) => shown(self.alloc, &self.all.put(&from_one(target), entry)),
@@ -128,7 +128,7 @@ impl Bench {
         }
     }
 
-    /// Stores a copy of the log of the replication from database 1 into another database, from a copy of all logs.
+    /// Stores the log of the replication from database 1 to `target` as the next log, from a copy of all logs.
     fn keep_into(&mut self, target: u128) -> Option<String> {
         match copy_into(self.alloc, &self.all, target) {
             Some(log) => self.keep(log),
@@ -136,7 +136,7 @@ impl Bench {
         }
     }
 
-    /// Returns whether there is a log of the replication from database 1 into another database.
+    /// Returns whether a log of the replication from database 1 to `target` exists.
     fn has_into(&self, target: u128) -> Option<String> {
         shown(self.alloc, &self.all.get(&from_one(target)).is_some())
     }
@@ -166,7 +166,7 @@ impl Bench {
     }
 }
 
-/// Copies the log of the replication from database 1 into another database, from a copy of all logs.
+/// Returns the log of the replication from database 1 to `target`, from a copy of all logs.
 fn copy_into(alloc: Global, all: &Logs, target: u128) -> Option<Log> {
     match all.copy(alloc) {
         Ok(all) => all.copy_of(alloc, &from_one(target)).ok(),
@@ -174,7 +174,7 @@ fn copy_into(alloc: Global, all: &Logs, target: u128) -> Option<Log> {
     }
 }
 
-/// Returns the id of the replication of all documents from database 1 into another database.
+/// Returns the id of the replication of all documents from database 1 to `target`.
 fn from_one(target: u128) -> RepId {
     RepId {
         source: 1,
