@@ -22,7 +22,7 @@ IsLateOn may_fill may_stop fault = Unit {0}
 
 -- ---- errors from workers' halts
 
--- A possible error of a worker's call on the target of a run.
+-- The errors with which a worker's call on the target of a run may fail.
 abbrev pub IsStepFault : TargetFault → Type 0
 IsStepFault (refusals.Gap expected) = Unit {0}
 IsStepFault refusals.ForeignParcel = Unit {0}
@@ -33,7 +33,7 @@ IsStepFault (refusals.Uncovered seq id rev) = Unit {0}
 IsStepFault refusals.Memory = Unit {0}
 IsStepFault fault = ⊥
 
--- A possible error of a run in which a worker halted.
+-- The errors that a run may return if a worker halted.
 abbrev pub IsHaltOn : Type 0 → (Place → Type 0) → PoolFault → Type 0
 IsHaltOn may_fill may_stop (faults.Refused fault) = IsStepFault fault
 IsHaltOn may_fill may_stop fault = IsLateOn may_fill may_stop fault
@@ -55,7 +55,7 @@ AllowsOn may_fill may_stop (halts.Refused fault) = IsStepFault fault
 AllowsOn may_fill may_stop halts.BoardFull = may_fill
 AllowsOn may_fill may_stop halt = Unit {0}
 
--- A possible halt of a worker without a board.
+-- The reasons for which a worker may halt if the run has no board.
 abbrev pub Allows : (Place → Type 0) → Halt → Type 0
 Allows may_stop halt = AllowsOn ⊥ may_stop halt
 

@@ -112,9 +112,9 @@ impl<
         }
     }
 
-    /// Splits off passes and a part of the ledger of counts, takes the last seat, and starts a pair with these values
-    /// (`start_pair`). `others` is the number of pairs that were started before. If a thread cannot be created, the
-    /// call returns `None`, and the seat stays in the list of seats.
+    /// Splits off two passes and a part of the ledger, takes the last seat, and starts a pair (`start_pair`). `others`
+    /// is the number of pairs that were started before. If a thread cannot be created, the call returns `None`, and the
+    /// seat stays in the list of seats.
     fn spawn_pair<'s, E>(
         &'e self,
         scope: &Scope<'s, E>,

@@ -18,7 +18,7 @@ use std::alloc::AllocError;
 use std::sync::Wait;
 use std::sync::ledger::Ledger;
 
-/// The maximum number of pages that the reader reads before it stores them at the target.
+/// The maximum number of pages that the reader reads before it stores these pages at the target.
 const MOST_AHEAD: u64 = 8;
 
 /// Pages that were read in order and must be sent, and copies of these pages that must be stored. The value has the end

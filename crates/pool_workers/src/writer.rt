@@ -24,8 +24,8 @@ use rev_tree::SessionId;
 use std::sync::Wait;
 use std::sync::ledger::{Ledger, Share};
 
-/// A writer of the pool. A writer has its pass of the channel of parcels, its share of the ledger, and its seat of the
-/// board if there is one. A writer also has the number of parcels that it settled, and the reason why it stopped.
+/// A writer of the pool. A writer has its pass of the channel of parcels, its share of the ledger, and, if the run has
+/// a board, its seat. A writer also has the number of parcels that it settled, and the reason why it stopped.
 #[derive(Drop)]
 pub struct Writer<S: SourceBrand, L: Ledger> {
     pub parcels: ParcelPass<S>,

@@ -59,7 +59,7 @@ StaysMadeExcept id peers peers' =
     (among : EditValue → Bool) (other : Id) → other ≢ id → AllMadeBy among peers other → AllMadeBy among peers' other
 
 -- If a set of edits made a document before an edit of document `id`, the same set made the document after the edit. If
--- the edited document is the same one, the set must contain the edit.
+-- the edited document is that document, the set must contain the edit.
 abbrev pub StaysMadeByEdit : ℕ → Id → Option RevId → Bool → List ℕ → List PeerValue → List PeerValue → Type 0
 StaysMadeByEdit place id parent deleted body peers peers' =
     (among : EditValue → Bool) (at : Id) → (at ≡ id → IsOneOf among peers place id parent deleted body)

@@ -122,7 +122,7 @@ impl<'v, 'a> Command<&'v Line<'a>> for Replicate<'v, 'a> {
     }
 }
 
-/// Runs a replication, and prints its result. If the line gives no session id, the call generates one after it has
+/// Runs a replication, and prints its result. If the line gives no session id, the call generates an id after it has
 /// found both databases and before it parses the document ids. The call may block, unless the line requests a
 /// replication with one thread.
 #[inline(never)]

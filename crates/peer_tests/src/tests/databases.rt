@@ -208,7 +208,7 @@ fn copied(alloc: Global, db: &Database, life: Option<u64>) -> Option<Database> {
     }
 }
 
-/// Reads a page of the feed, and stores it as the bench's next window.
+/// Reads a page of the feed, and stores the page as the bench's next window.
 fn page(
     alloc: Global,
     db: &Database,

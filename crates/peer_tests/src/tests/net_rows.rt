@@ -59,7 +59,7 @@ fn a_hub_spreads_what_anybody_writes(rt: HostRuntime) {
         (Call::Audit(0, 3), "clean"),
         (Call::Audit(3, 0), "clean"),
         (Call::Audit(1, 2), "clean"),
-        // A peer that is added later gets the documents that other peers replicate to it.
+        // A peer that is added later gets the documents that other peers replicate to this peer.
         (Call::Add(5, None), "4"),
         (Call::Along(&[(2, 4)]), "done"),
         (Call::Tree(4, "d"), "1-b,1-a of 2"),

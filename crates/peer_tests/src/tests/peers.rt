@@ -359,7 +359,7 @@ pub(crate) fn make_at(
     }
 }
 
-/// Reads a page of the feed, and stores it as the bench's next window.
+/// Reads a page of the feed, and stores the page as the bench's next window.
 fn page(
     alloc: Global,
     peer: &Peer<Rules>,

@@ -12,7 +12,7 @@ pub(crate) fn settled_text(alloc: Global, settled: Settled) -> Option<String> {
     format!(in alloc; "written {written} failed {failures}").ok()
 }
 
-/// Returns a report as the program prints it.
+/// Returns a report in the form in which the program prints reports.
 pub(crate) fn report_text(alloc: Global, report: Report) -> Option<String> {
     let all = bounds_text(alloc, report);
     let all = joined(all, read_text(alloc, report));

@@ -182,7 +182,7 @@ abbrev pub first_reading : PeerValue → PeerValue → Plan → Reading
 first_reading source target plan =
     record { since = start_between source target plan.chosen; target = after_begins source target plan }
 
--- The result of a replication by one thread, and the source and target after it.
+-- The result of a replication by one thread, and the source and target after the replication.
 pub data Replicates (refuses : Document → Bool) (source target : PeerValue) (plan : Plan) : Result Report TargetFault
     → PeerValue → PeerValue → Type 0 where
   -- The plan of a replication is not valid for the source and the target.
