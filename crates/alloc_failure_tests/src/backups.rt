@@ -97,8 +97,8 @@ fn go_on(alloc: Global, peer: &mut Peer<Rules>) -> Option<()> {
     put_entry(peer, 3, Moment::new(11).ok()?)
 }
 
-/// Backs up a peer, changes it, and restores it. Returns the observed values of the peer before the backup and after
-/// the restore.
+/// Backs up a peer, changes the peer, and restores the backup. Returns the observed values of the peer before the
+/// backup and after the restore.
 fn put_back(alloc: Global, peer: &mut Peer<Rules>) -> Option<(Seen, Seen)> {
     let Some(()) = fill(alloc, peer) else {
         return None;
@@ -118,7 +118,7 @@ fn put_back(alloc: Global, peer: &mut Peer<Rules>) -> Option<(Seen, Seen)> {
     Some((before, look(alloc, peer)?))
 }
 
-/// Backs up a new peer, changes it, and restores it.
+/// Backs up a new peer, changes the peer, and restores the backup.
 fn of_one(alloc: Global) -> Option<(Seen, Seen)> {
     let mut peer = Peer::new(alloc, 1, Rules { deny: None });
     put_back(alloc, &mut peer)

@@ -17,7 +17,7 @@ fn id(alloc: Global, text: &str) -> Option<DocId> {
     }
 }
 
-/// Returns a list of two ids, in which one id occurs twice.
+/// Returns a list that has two ids, one of them twice.
 fn ids(alloc: Global) -> Option<Vec<DocId>> {
     let mut ids = Vec::new(alloc);
     for text in ["f", "d", "f"] {
@@ -78,7 +78,7 @@ fn is_clean(
     Some(is_nothing(found?))
 }
 
-/// Whether the target covers all selected documents of the source, but not all documents of the source.
+/// Whether the target covers all selected documents of the source, but not all documents.
 fn has_them_alone(
     alloc: Global,
     source: &Peer<Rules>,

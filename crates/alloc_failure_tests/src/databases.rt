@@ -39,7 +39,7 @@ fn doc_id(alloc: Global, text: &str) -> Result<DocId> {
     }
 }
 
-/// Returns the update sequence, the numbers of revisions and leaves of a document, and its winner.
+/// Returns the update sequence, and the numbers of revisions and leaves and the winner of a document.
 fn reading(db: &Database, id: &DocId) -> (u64, usize, usize, Option<Rev>) {
     match db.tree(id) {
         Some(tree) => (
@@ -139,7 +139,7 @@ fn opened(alloc: Global, db: &Database, asked: &Asked) -> Result<Parcel> {
     }
 }
 
-/// Puts three documents, and the first of them twice.
+/// Puts three documents, the first document twice.
 fn put_all(alloc: Global, db: &mut Database) -> Result<()> {
     for text in [
         r#"{"_id":"a","_revisions":{"start":2,"ids":["b","a"]},"n":1}"#,
@@ -205,7 +205,7 @@ fn put_row(alloc: Global, db: &mut Database, docs: &[Doc], row: &Row) -> Result<
     Ok(())
 }
 
-/// Puts the prepared documents of a window into an empty database. Returns its update sequence.
+/// Puts the prepared documents of a window into an empty database. Returns the database's update sequence.
 fn arrived(alloc: Global, window: &Window, parcel: Parcel) -> Result<u64> {
     let mut db = Database::new(alloc, 9);
     let mut parcel = parcel;

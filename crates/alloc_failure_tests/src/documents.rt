@@ -54,7 +54,7 @@ fn body(alloc: Global, members: &Value) -> Result<Body, DocFault> {
     }
 }
 
-/// Returns the revision that an edit without a parent creates.
+/// Returns the revision of an edit without a parent.
 fn revised(alloc: Global, text: &[u8]) -> Result<Rev, RevFault> {
     match new_rev(alloc, None, false, text) {
         Err(RevFault::Memory) => new_rev(alloc, None, false, text),
@@ -110,7 +110,7 @@ fn is_copied(alloc: Global, doc: &Doc) -> bool {
     }
 }
 
-/// Whether writing a copy of the document of a value gives the expected text.
+/// Whether the document of a value, copied and written, has the expected text.
 fn is_read(alloc: Global, value: &Value) -> bool {
     match read(alloc, value) {
         Ok(doc) => is_copied(alloc, &doc),

@@ -31,7 +31,7 @@ fn grows(front: &mut Front) -> bool {
     grows
 }
 
-/// Whether a window could be finished. The call of `finish` needs no retry, because space is reserved before it.
+/// Whether a window could be finished. The call of `finish` needs no retry, because the test has reserved space.
 fn finishes(front: &mut Front, lo: u64) -> bool {
     reserved(front).is_ok() && front.finish(lo, lo.saturating_add(2)).is_ok()
 }

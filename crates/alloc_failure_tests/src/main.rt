@@ -1,5 +1,5 @@
 //! Calls each function that may allocate, and retries if an allocation fails. Every run therefore prints the same
-//! output, whichever allocation fails. The script `.ci/refused-growths` makes each allocation fail in turn.
+//! output, whether or not an allocation fails. The script `.ci/refused-growths` makes each allocation fail in turn.
 #![tactic(auto)]
 
 mod backups;

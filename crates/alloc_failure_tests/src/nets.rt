@@ -1,5 +1,6 @@
 //! Calls on a network. After a failed allocation, no peer was added, no document was written, and audits find no
-//! uncovered leaf. If hops fail, repeating them with other session ids has the same result as hops that do not fail.
+//! uncovered leaf. If hops fail, repeating the hops with other session ids has the result that the hops have without
+//! failures.
 use crate::peers::{body, doc, doc_id};
 use crate::replications::{is_memory, is_nothing, plan};
 use anyhow::{Result, bail};
@@ -70,7 +71,7 @@ fn edit(alloc: Global, net: &mut Net<Rules>, place: usize, id: &str) -> Option<(
     Some(())
 }
 
-/// Whether an audit is clean, and retries if an allocation fails.
+/// Audits, and retries if an allocation fails. Returns whether the audit is clean.
 fn is_clean(alloc: Global, net: &Net<Rules>, source: usize, target: usize) -> bool {
     let found = match net.audit(alloc, source, target, None) {
         Ok(found) => Some(found),
@@ -229,8 +230,8 @@ fn ended(alloc: Global, net: &mut Net<Rules>) -> Option<(u64, bool)> {
     Some((sequences(net)?, clean))
 }
 
-/// Performs the test `ended` with a new network. The function has no live variable but the network, because each
-/// further variable lengthens the proof.
+/// Performs the test `ended` with a new network. The network is the function's only live variable, because each further
+/// variable lengthens the proof.
 fn of_net(alloc: Global) -> Option<(u64, bool)> {
     let mut net = Net::new(alloc);
     ended(alloc, &mut net)

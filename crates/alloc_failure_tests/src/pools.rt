@@ -1,5 +1,5 @@
-//! Calls the pool's `run` with one worker on the caller's thread, and with two fetchers and two writers on threads of
-//! their own. After a failed allocation, the run returns both peers, an audit finds no uncovered leaf, and another run
+//! Calls the pool's `run` with one worker on the caller's thread, and with two fetchers and two writers on separate
+//! threads. After a failed allocation, the run returns both peers, an audit finds no uncovered leaf, and another run
 //! reaches the goal.
 use crate::peers::load;
 use crate::replications::{is_clean, is_memory, plan};
@@ -12,7 +12,7 @@ use std::mem;
 use std::sync::Wait;
 use std::thread::Threads;
 
-/// A gate that claims that it may block a worker, although it never does. Each fetcher and each writer of a run with
+/// A gate that never blocks a worker, but whose `may_block` returns true. Each fetcher and each writer of a run with
 /// this gate is a thread.
 struct Separate;
 
@@ -35,7 +35,7 @@ fn taken(alloc: Global, place: &mut Peer<Rules>) -> Peer<Rules> {
     mem::replace(place, Peer::new(alloc, 0, Rules { deny: None }))
 }
 
-/// Runs a session between two peers, and stores both peers again.
+/// Runs a session between two peers, and stores both peers after the run.
 fn once<G: Gate + Sync, R: Threads + Wait + Sync>(
     rt: &R,
     alloc: Global,

@@ -28,7 +28,7 @@ pub(crate) fn is_memory(fault: TargetFault) -> bool {
     }
 }
 
-/// Whether an audit is clean, and retries if an allocation fails.
+/// Audits, and retries if an allocation fails. Returns whether the audit is clean.
 pub(crate) fn is_clean(alloc: Global, source: &Peer<Rules>, target: &Peer<Rules>) -> bool {
     let found = match audit(alloc, source, target, None).ok() {
         Some(found) => Some(found),

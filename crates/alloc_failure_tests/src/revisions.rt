@@ -97,7 +97,7 @@ fn are_texts(alloc: Global, revs: &[Rev]) -> bool {
     same
 }
 
-/// Whether the copy of an ancestry has the ancestry's revisions, and their texts are as expected.
+/// Whether the copy of an ancestry has the ancestry's revisions, with the expected texts.
 fn is_copied(alloc: Global, ancestry: &Ancestry) -> Option<bool> {
     let Ok(copy) = copied(alloc, ancestry) else {
         return None;

@@ -1,5 +1,5 @@
-//! Questions about two peers. If a query fails because of an allocation and is repeated, it returns the result that it
-//! has without a failure.
+//! Queries about two peers. If an allocation fails, the test repeats the query. The repeated query returns the result
+//! that it has without a failure.
 use crate::peers::{doc_id, load};
 use anyhow::{Result, bail};
 use couch_base::Database;
@@ -46,7 +46,7 @@ fn census(alloc: Global, database: &Database) -> Option<Census> {
     }
 }
 
-/// Adds a tree to the counts, and retries if an allocation fails, because a failed call adds nothing.
+/// Adds a tree to the counts, and retries if an allocation fails. A failed call adds nothing.
 fn counted(alloc: Global, tree: &Tree) -> Option<Census> {
     let mut census = Census::none();
     if census.add(alloc, tree).is_err() {

@@ -82,7 +82,7 @@ fn other(alloc: Global) -> Option<Ancestry> {
     }
 }
 
-/// Returns the ancestry 12-l to 1-l, with which the tree has enough revisions to build an index.
+/// Returns the ancestry 12-l to 1-l. With this ancestry, the tree has enough revisions to build an index.
 fn long(alloc: Global) -> Option<Ancestry> {
     match Sig::parse(b"l") {
         Ok(sig) => of_sigs(alloc, 12, &[sig; 12]),
@@ -90,7 +90,7 @@ fn long(alloc: Global) -> Option<Ancestry> {
     }
 }
 
-/// Merges an optional ancestry. Returns whether the merge's result is as expected, and no failed call changed the tree.
+/// Merges an optional ancestry. Returns whether the merge has the expected result, and no failed call changed the tree.
 fn merges(alloc: Global, tree: &mut Tree, given: Option<&Ancestry>, wanted: Merged) -> bool {
     let Some(given) = given else {
         return false;
@@ -101,7 +101,7 @@ fn merges(alloc: Global, tree: &mut Tree, given: Option<&Ancestry>, wanted: Merg
     }
 }
 
-/// Merges the three ancestries, and then the first ancestry again. Returns whether each result is as expected.
+/// Merges the three ancestries, and then the first ancestry a second time. Returns whether each result is as expected.
 fn grows(alloc: Global, tree: &mut Tree) -> bool {
     let three = revisions::three(alloc).ok();
     merges(alloc, tree, three.as_ref(), Merged::Changed)
@@ -155,8 +155,8 @@ fn are_read(alloc: Global, tree: &Tree) -> bool {
     are_read
 }
 
-/// Returns the numbers of leaves and revisions of a copy of the grown tree, if reading the copy gives the expected
-/// results.
+/// Copies the grown tree, and returns the copy's numbers of leaves and revisions, if reading the copy gives the
+/// expected results.
 fn ended(alloc: Global) -> Option<(usize, usize)> {
     let mut tree = Tree::new(alloc);
     if !grows(alloc, &mut tree) {

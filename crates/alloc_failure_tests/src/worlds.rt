@@ -1,5 +1,6 @@
 //! `World::run`. After a failed allocation, the world is in the state after the previous step, or a parcel is partially
-//! settled. After a failure, the remaining steps lead to the result that all steps have without a failure.
+//! settled. After a failure, the test takes the remaining steps, and the result equals the result of a run without a
+//! failure.
 use crate::peers::{body, doc, doc_id};
 use anyhow::{Result, bail};
 use repl_log::Moment;
@@ -26,9 +27,9 @@ struct Seen {
     sizes: (usize, usize, usize, usize, usize),
 }
 
-/// The values observed before each step, with the index of the first step that remains if the step fails. The values
-/// observed after a partial settling, with the index of the step that remains. The test does not observe the source's
-/// log and backups, because it repeats the steps that store entries and back up.
+/// The observed values before each step, with the index of the first step that remains if the step fails. The table
+/// also has the observed values after a partial settling, with the index of the settling step. The test does not
+/// observe the source's log and backups, because it repeats the steps that store entries and back up.
 static BEFORE: &[(
     u64,
     u64,
@@ -128,7 +129,7 @@ fn step(at: Moment, place: usize) -> Step {
     }
 }
 
-/// Appends the steps that back up the source, change it, and restore it.
+/// Appends the steps that back up the source, change the source, and restore the backup.
 fn restoring(alloc: Global, steps: &mut Vec<Step>) -> Option<()> {
     let Ok(()) = steps.push(Step::Backup) else {
         return None;
@@ -200,7 +201,7 @@ fn left(seen: Seen) -> Option<usize> {
     None
 }
 
-/// Takes all steps of a list. If an allocation fails, the call takes the remaining steps after the failure.
+/// Takes all steps of a list. After a failed allocation, the call continues with the first remaining step.
 fn take(alloc: Global, world: &mut World<Rules>, steps: &[Step]) -> Option<()> {
     if world.run(alloc, steps).is_ok() {
         return Some(());
@@ -211,7 +212,7 @@ fn take(alloc: Global, world: &mut World<Rules>, steps: &[Step]) -> Option<()> {
     world.run(alloc, steps.get(place..)?).ok()
 }
 
-/// Whether an audit is clean, and retries if an allocation fails.
+/// Audits, and retries if an allocation fails. Returns whether the audit is clean.
 fn is_clean(alloc: Global, world: &World<Rules>) -> bool {
     let found = match audit(alloc, world.source(), world.target(), None).ok() {
         Some(found) => Some(found),
@@ -243,7 +244,7 @@ fn ended(alloc: Global, world: &mut World<Rules>) -> Option<(u64, Seen, bool)> {
     Some((entry.recorded, look(world), clean))
 }
 
-/// Performs the test `ended` with a world of two new peers. The function has no live variable but the world, because
+/// Performs the test `ended` with a world of two new peers. The world is the function's only live variable, because
 /// each further variable lengthens the proof.
 fn of_two(alloc: Global) -> Option<(u64, Seen, bool)> {
     let source = Peer::new(alloc, 1, Rules { deny: None });

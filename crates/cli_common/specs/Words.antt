@@ -6,7 +6,7 @@ use Rattle.clap.specs.Simple.{on_top}
 use Rattle.clap.specs.declared.builder.action.ArgAction.TheVariants.{Set, SetTrue}
 use Rattle.clap.specs.declared.parser.matches.ArgMatches.{ArgMatches}
 
--- The command line of a program without arguments, which has an option for its version.
+-- The command line of a program without arguments. The command line has an option for the program's version.
 abbrev pub program_app : List ℕ → App
 program_app name = on_top (λ s. record s { has_version = true }) (new_app name)
 
@@ -18,13 +18,14 @@ flag_option name = record (new_rule name) { long = Some name; action = Some SetT
 abbrev pub hidden_option : List ℕ → Rule
 hidden_option name = record (new_rule name) { action = Some Set }
 
--- Whether an option without a value is set, from the text that `clap` stores for it.
+-- Whether an option without a value is set, given the text that `clap` stores for the option.
 abbrev pub IsFlag : Option (List ℕ) → Bool → Type 0
 IsFlag text flag =
     ((text ≡ None) → flag ≡ false) × ((text ≡ Some (codes "true")) → flag ≡ true)
     × ((text ≡ Some (codes "false")) → flag ≡ false)
 
--- For each argument, the first value and the only value that `clap` returns are the values of the command line.
+-- For each argument, the calls of `clap` for the first value and for the only value return the value that the command
+-- line gives.
 abbrev pub IsFound : App → List (List ℕ) → ArgMatches → Type 0
 IsFound line words m =
     (first_value (found_of m) ≡ λ id. first_of id (matches_of line words))

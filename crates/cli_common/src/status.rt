@@ -13,7 +13,7 @@ use std::{env, io};
 /// The exit status for a usage error.
 pub const BAD_COMMAND_LINE: u8 = 2;
 
-/// Returns the command-line arguments, of which the first is the program's name.
+/// Returns the command-line arguments. The first argument is the program's name.
 ///
 /// # Errors
 ///

@@ -1,4 +1,5 @@
--- The result of a command, and the state after it, as specified in docs/PROFILE.md, "Order of checks" and "Answers".
+-- The result of a command, and the state after the command, as specified in docs/PROFILE.md, "Order of checks" and
+-- "Answers".
 use Rattle.std.specs.Prelude.{◌≡◌, ℕ, Bool, List, [], if◌then◌else◌, Result, Ok, Err}
 use Rattle.repl_peer.specs.peer.Peer.{PeerValue}
 use Rattle.script_engine.specs.Serving.{Told, Answering}
@@ -21,7 +22,7 @@ told_of (Err refusal) = Err (name_of refusal)
 abbrev pub Refuses : Refusal → State → Told → State → Type 0
 Refuses refusal old told new = (told ≡ Err (name_of refusal)) × (new ≡ old)
 
--- The possible results of a line, for a valid or an invalid request. If a line's request is invalid, the line fails and
+-- The results that a line may have, for a valid or an invalid request. If the request is invalid, the line fails and
 -- leaves the state unchanged.
 abbrev pub AnswersIn : {L : Type 0} → Answering State L → Answering State (Result L Refusal)
 AnswersIn answers old (Ok ask) told new = answers old ask told new
@@ -44,7 +45,7 @@ abbrev pub told_hushed : Bool → Told → Told
 told_hushed quiet (Ok text) = Ok (hushed quiet text)
 told_hushed quiet (Err name) = Err name
 
--- A request has one of its possible results, without the output if the program is quiet.
+-- A request has one of the results that it may have. If the program is quiet, the result has no output.
 abbrev pub UnlessQuiet : {L : Type 0} → Answering State L → Answering State L
 UnlessQuiet answers old ask told new =
     (loud : Told) × answers old ask loud new × (told ≡ told_hushed old.program.quiet loud)

@@ -39,7 +39,7 @@ pub trait Command<L>: Sized + Drop {
         ensures { needed (option_map asked result) ≡ asked_in (seen line) };
 
     /// Runs the command, and writes its output into the buffer. Every line may fail with `Memory`. If a line fails with
-    /// `Memory`, its command had its complete effect or no effect.
+    /// `Memory`, the line's command had its complete effect or no effect.
     fn serve<H: Threads + Wait + Sync>(
         &self,
         rt: &H,

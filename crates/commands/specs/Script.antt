@@ -1,4 +1,4 @@
--- The possible results of a line of a script, as specified in docs/PROFILE.md, "Command lines" and "Answers". The
+-- The results that a line of a script may have, as specified in docs/PROFILE.md, "Command lines" and "Answers". The
 -- results of each command are defined in the command's crate, and the module `words` collects these results.
 use Rattle.std.specs.Prelude.{◌≡◌, ◌⊎◌, ℕ, List, Some, Result, Ok, Err}
 use Rattle.std.specs.Str.{IsUtf8}
@@ -19,16 +19,16 @@ IsObject line ms = IsUtf8 line × (read line ≡ Some (object ms))
 abbrev pub IsNoObject : List ℕ → Type 0
 IsNoObject line = (ms : Members) → IsObject line ms → ⊥
 
--- The request of a script's line, or why the line is not a command.
+-- The request of a script's line, or the error if the line is not a command.
 abbrev pub Asks : List ℕ → Result Asked Refusal → Type 0
 Asks line asked =
     ((ms : Members) × IsObject line ms × (asked ≡ asked_in (object ms))) ⊎ (IsNoObject line × (asked ≡ Err why.BadLine))
 
--- The possible results of a parsed line, whose request is valid or not. If a line's request is invalid, the line fails
--- and leaves the state unchanged.
+-- The results that a parsed line may have. If the line's request is invalid, the line fails and leaves the state
+-- unchanged.
 abbrev pub AnswersAsked : Answering State (Result Asked Refusal)
 AnswersAsked old asked told new = AnswersIn WordsAnswer old asked told new
 
--- The possible results of a line of a script.
+-- The results that a line of a script may have.
 abbrev pub LinesAnswer : Answering State (List ℕ)
 LinesAnswer old line told new = (asked : Result Asked Refusal) × Asks line asked × AnswersAsked old asked told new

@@ -11,7 +11,7 @@ use Rattle.write_commands.specs.Replicate.{IsCovered}
 use Rattle.write_commands.specs.Restore.{IsRestored}
 use Rattle.write_commands.specs.Sync.{IsMet}
 
--- The guarantee for the output of an audit, a replication, a sync and a restore.
+-- The guarantees for the output of `audit`, `replicate`, `sync` and `restore` lines.
 abbrev pub IsTrusted : Asked → Told → State → Type 0
 IsTrusted (audit ask) told new = IsClean told
 IsTrusted (replicate ask) told new = IsCovered new ask told
@@ -19,8 +19,8 @@ IsTrusted (sync ask) told new = IsMet new ask told
 IsTrusted (restore ask) told new = IsRestored told
 IsTrusted ask told new = Unit {0}
 
--- The possible results of a script's line, with the guarantees of a script. All databases of a script are consistent
--- with each other before and after a line, and the line's output has its guarantee.
+-- The results that a script's line may have, with the guarantees of a script. All databases of a script are consistent
+-- with each other before and after a line, and the line's output satisfies `IsTrusted`.
 abbrev pub TrustedLines : Answering State (List ℕ)
 TrustedLines old line told new =
     (asked : Result Asked Refusal) × Asks line asked × AnswersAsked old asked told new × AllTied old × AllTied new

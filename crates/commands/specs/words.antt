@@ -92,13 +92,13 @@ asked_by name d =
     else (if bytes_eq name (codes "sync") then asked_as word.Sync d
     else Err why.BadCommand)))))))))))))))
 
--- The request of a JSON object, whose command is named by the member `do`, or the error.
+-- The request of a JSON object, or the error. The member `do` of the object names the command.
 abbrev pub asked_in : Data → Result Asked Refusal
 asked_in d = do
   name ← needed (text_at (codes "do") d)
   asked_by name d
 
--- The possible results of a request, and the states that they leave.
+-- A request may have the given result and lead from the first given state to the second.
 abbrev pub WordsAnswer : Answering State Asked
 WordsAnswer old (load ask) told new = Loads old ask told new
 WordsAnswer old (edit ask) told new = Edits old ask told new

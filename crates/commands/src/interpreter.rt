@@ -141,7 +141,8 @@ pub fn read_object<'a>(
 /// and does not affect the output.
 ///
 /// The call waits for the threads of `replicate` and `sync` lines. The contract does not guarantee that the call
-/// returns. The call does not free the databases, because freeing them takes long and the program ends after this call.
+/// returns. The call does not free the databases, because freeing the databases takes long and the program ends after
+/// this call.
 ///
 /// # Errors
 ///
@@ -173,8 +174,8 @@ where
         × Appends (W.held writer.old) (W.held writer.new) text
         × IsAnswered TrustedLines (no_databases (program_of settings.now)) input clean text state) }
     ensures end { OnOk result (IsAtEnd (R.left reader.new)) }
-    // The clauses `took` and `ended` state this guarantee for the bytes that the reads returned, and say that the last
-    // read found the end of the input.
+    // The clause `took` states the guarantees of `answers` and `trust` for the bytes that the reads returned. The
+    // clause `ended` says that the last read found the end of the input.
     ensures took { IfOk result
         (λ clean. (input : List ℕ) × (text : List ℕ) × (state : State)
         × Appends (R.taken reader.old) (R.taken reader.new) input × Appends (W.held writer.old) (W.held writer.new) text

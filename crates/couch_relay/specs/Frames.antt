@@ -1,5 +1,5 @@
--- A response as bytes, which are a head, a line feed, and the bytes of the body, as specified in docs/PROFILE.md,
--- "Responses to the relay".
+-- A response as bytes: a head, a line feed, and the bytes of the body, as specified in docs/PROFILE.md, "Responses to
+-- the relay".
 use Rattle.std.specs.Prelude.{◌≡◌, ◌==◌, ◌<◌, ◌^◌, ℕ, Bool, false, if◌then◌else◌, List, [], ◌∷◌, ◌++◌, Option, None, Some, codes, length, bytes_eq}
 use Rattle.std.specs.List.{before_first, after_first}
 use Rattle.std.specs.Str.{IsUtf8, trim}
@@ -13,7 +13,7 @@ use Rattle.relay_core.specs.Messages.{Text}
 
 pub record HeadView : Type 0 where
   pub status : ℕ
-  -- The length of a response's body, from the response's head.
+  -- The length of the body that the head states.
   pub size : ℕ
   pub who : Option Side
   pub date : Text

@@ -35,8 +35,8 @@ head_view head = record { status = head.status; size = head.size; who = head.who
 abbrev pub BeginsWithHead : List ℕ → HeadView → List ℕ → Type 0
 BeginsWithHead bytes head rest = (line : List ℕ) × IsLine bytes line rest × IsHead line head
 
--- The bytes that the reads returned, and the head at the beginning of the pending bytes followed by these bytes, if
--- there is one.
+-- The bytes that the reads returned, and the head of a response, if the pending bytes and the returned bytes begin with
+-- a head.
 abbrev pub ReadsHead : Option (List ℕ) → Option (List ℕ) → Type 0 → List ℕ → List ℕ → Option Head → Type 0
 ReadsHead old new ended before after head =
     (bytes : List ℕ) × Appends old new bytes

@@ -70,7 +70,7 @@ pub record AreGiven (text number : Text → Option Text) (o : Options) : Type 0 
   pub salt : o.salt.now ≡ unwrap_or (text (codes "salt")) []
   pub choice : IsFlag (number (codes "choice")) o.choice
 
--- The options have the values that `clap` reads from the arguments, of which the first is the program's name.
+-- The options have the values that `clap` reads from the arguments. The first argument is the program's name.
 abbrev pub Says : List Text → Options → Type 0
 Says words o = AreGiven (λ id. first_of id (matches_of command_line words)) (λ id. one_of id (matches_of command_line words)) o
 

@@ -33,8 +33,7 @@ abbrev pub BeginsWithResponse : RequestView → List ℕ → List ℕ → Dated 
 BeginsWithResponse q bytes rest d =
     (frame : List ℕ) × (bytes ≡ frame ++ rest) × IsResponse q frame (response_view d.response) (string_bytes d.date)
 
--- The bytes that the reads returned, and the response at the beginning of the pending bytes followed by these bytes, if
--- there is one.
+-- The bytes that the reads returned, and a response, if the pending bytes and the returned bytes begin with a response.
 abbrev pub Receives : RequestView → Option (List ℕ) → Option (List ℕ) → Type 0 → List ℕ → List ℕ → Option Dated → Type 0
 Receives q old new ended before after dated =
     (bytes : List ℕ) × Appends old new bytes
@@ -52,13 +51,13 @@ pub record IsNext (o : RequestOptions) (e : Exchange) (earlier : List ℕ → Li
   pub read_is : read ≡ read_before ++ frame
   pub written_is : written ≡ written_before ++ request_text o e.request
 
--- The bytes that were read and written in a list of exchanges, whose last exchange comes first.
+-- The bytes that were read and written in a list of exchanges. The list has the last exchange first.
 abbrev pub Exchanged : RequestOptions → List Exchange → List ℕ → List ℕ → Type 0
 Exchanged o [] read written = (read ≡ []) × (written ≡ [])
 Exchanged o (e ∷ h) read written = IsNext o e (Exchanged o h) read written
 
--- The bytes `read` and `written` are the bytes of a list of exchanges, each of which was allowed. After the last
--- exchange, the next request is allowed, too.
+-- The bytes `read` and `written` are the bytes of a list of exchanges. The request of each exchange, and the request
+-- that follows the list, are allowed.
 pub record IsRun (o : RequestOptions) (read written : List ℕ) (next : RequestView) : Type 0 where
   pub history : List Exchange
   pub exchanged : Exchanged o history read written
@@ -78,8 +77,8 @@ status_after (tell notice) = None
 status_after (done None counts recorded) = Some (if counts.doc_write_failures == 0 then 0 else 1)
 status_after (done (Some fault) counts recorded) = Some 3
 
--- A run of the relay is over with the given status, because of `done`, or because the remaining bytes have no response
--- to the last request.
+-- A run of the relay has ended with the given status. The last request was `done`, or the remaining bytes have no
+-- response to the last request.
 abbrev pub EndsWith : Type 0 → RequestView → List ℕ → ℕ → Type 0
 EndsWith ended next left status =
     (status_after next ≡ Some status) ⊎ ((status_after next ≡ None) × NoFrame ended left × (status ≡ 3))
@@ -144,8 +143,8 @@ NoChoice ended input =
     NoFrame ended input
     ⊎ ((frame body rest : List ℕ) × (head : HeadView) × (input ≡ frame ++ rest) × IsFrame frame head body × ¬ IsUtf8 body)
 
--- The bytes that the reads returned, and the selection at the beginning of the pending bytes followed by these bytes,
--- if there is one.
+-- The bytes that the reads returned, and a selection, if the pending bytes and the returned bytes begin with a
+-- selection.
 abbrev pub ReadsChoice : Option (List ℕ) → Option (List ℕ) → Type 0 → List ℕ → List ℕ → Option Text → Type 0
 ReadsChoice old new ended before after choice =
     (bytes : List ℕ) × Appends old new bytes
@@ -163,9 +162,8 @@ FindsChoice options old new ended before after choice =
     × MatchOption choice ((options.choice ≡ true) × NoChoice ended (before ++ bytes))
     (λ text. TakesChoice options (before ++ bytes) text after)
 
--- A run of the program with the given options, which consists of the requests and their responses, and the exit status.
--- If a run could not read a selection of documents, its output is empty. The statement `ended` says that the input of a
--- run has ended.
+-- A run of the program with the given options: the requests, the responses, and the exit status. If a run could not
+-- read a selection of documents, its output is empty. The statement `ended` says that the input of a run has ended.
 abbrev pub Runs : Options → Type 0 → List ℕ → List ℕ → ℕ → Type 0
 Runs options ended input text status =
     ((choice rest : List ℕ) × (o : RequestOptions) × TakesChoice options input choice rest × AreOptions options choice o
@@ -186,14 +184,14 @@ abbrev pub RunsOptions : Options → Type 0 → List ℕ → List ℕ → Result
 RunsOptions options ended input text (Ok status) = Runs options ended input text status
 RunsOptions options ended input text (Err fault) = RunsUntil options input text
 
--- The input and the output of the program for its arguments, of which the first is the program's name. If the arguments
+-- The input and the output of the program for its arguments. The first argument is the program's name. If the arguments
 -- give no options, the program reads and writes nothing.
 abbrev pub RunsWords : List Text → Type 0 → List ℕ → List ℕ → Ended → Type 0
 RunsWords words ended input text (end.NotRun why) = (input ≡ []) × (text ≡ []) × Refuses words why
 RunsWords words ended input text (end.Ran ran) =
     (options : Options) × Says words options × RunsOptions options ended input text ran
 
--- The statement holds if the program ended with the exit status of a run.
+-- If the program ended with the exit status of a run, the given statement is true.
 abbrev pub IfRan : Ended → Type 0 → Type 0
 IfRan (end.NotRun why) p = Unit {0}
 IfRan (end.Ran (Ok status)) p = p

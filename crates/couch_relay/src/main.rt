@@ -1,4 +1,4 @@
-//! Decides which requests a replication sends to two CouchDB servers, and when it may record a checkpoint.
+//! Decides which requests a replication sends to two CouchDB servers, and when the replication may record a checkpoint.
 //!
 //! The program reads responses on standard input, and writes requests to standard output (docs/PROFILE.md, "Relay").
 #![tactic(auto)]

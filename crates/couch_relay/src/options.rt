@@ -196,11 +196,12 @@ fn command<'a>(alloc: Global) -> Result<Command<'a>, AllocError>
     with_options(alloc, command)
 }
 
-/// Parses the arguments, of which the first is the program's name.
+/// Parses the arguments. The first argument is the program's name.
 ///
 /// # Errors
 ///
-/// The call returns `Words` if `clap` rejects the arguments or they request help, and `Memory` if an allocation fails.
+/// The call returns `Words` if `clap` rejects the arguments or the arguments request help, and `Memory` if an
+/// allocation fails.
 pub(crate) fn matches_of<'a>(
     alloc: Global,
     words: &'a [String],
@@ -215,7 +216,7 @@ pub(crate) fn matches_of<'a>(
     }
 }
 
-/// Returns the value of an argument or option, or an empty string if the command line does not have it.
+/// Returns the value of an argument or option, or an empty string if the argument or option is absent.
 fn text_of<'m, 'a>(matches: &'m ArgMatches<'a>, name: &str) -> &'m str
     ensures { result.now ≡ unwrap_or (first_value (found_of matches.now) name.now) [] }
 {

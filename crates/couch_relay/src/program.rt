@@ -22,7 +22,7 @@ pub(crate) fn run_program<H: AllocGlobal + Env + Input + Print + Eprint>(rt: &H)
     }
 }
 
-/// Returns the exit status of a command line that runs nothing, which is 0 for help and otherwise 3.
+/// Returns the exit status of a command line that starts no run: 0 for help, and otherwise 3.
 fn usage_status(status: u8) -> u8
     ensures { result ≡ usage_status status }
 {

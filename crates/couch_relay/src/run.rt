@@ -21,7 +21,7 @@ use std::str;
 pub(crate) enum Ended {
     /// The arguments give no options, and nothing was read or written.
     NotRun(NoOptions),
-    /// The exit status of a run, or the fault that stopped it.
+    /// The exit status of a run, or the fault that stopped the run.
     Ran(Result<u8, ScriptFault>),
 }
 
@@ -104,7 +104,7 @@ fn settings_of(alloc: Global, options: &Options<'_>) -> Result<Settings, AllocEr
     })
 }
 
-/// Returns the options that the requests of a run depend on.
+/// Returns the options for writing the requests of a run.
 fn request_options(
     alloc: Global,
     options: &Options<'_>,
@@ -145,7 +145,7 @@ fn status_of(request: &Request<'_>) -> Option<u8>
     }
 }
 
-/// Makes requests until the run is over, and returns its exit status. The exit status is 3 if no response to the last
+/// Makes requests until the run is over, and returns the exit status. The exit status is 3 if no response to the last
 /// request can be read.
 ///
 /// # Errors
@@ -185,8 +185,8 @@ fn make_requests<R: ScriptRead, W: ScriptWrite>(
     Err(ScriptFault::Read)
 }
 
-/// Reads the selection of documents from the input if the options say that the input has one. Returns `None` if the
-/// options require a selection that the input lacks.
+/// Reads the selection of documents from the input if the options require a selection. Returns `None` if the input
+/// lacks a required selection.
 fn choice_of<R: ScriptRead>(
     alloc: Global,
     options: &Options<'_>,
@@ -236,7 +236,7 @@ pub(crate) fn run<R: ScriptRead, W: ScriptWrite>(
     make_requests(alloc, &settings, &requests, &mut inbox, reader, writer)
 }
 
-/// Parses the arguments, of which the first is the program's name, and runs a relay with the options that they give.
+/// Parses the arguments, and runs a relay with the given options. The first argument is the program's name.
 pub(crate) fn run_words<R: ScriptRead, W: ScriptWrite>(
     alloc: Global,
     words: &[String],

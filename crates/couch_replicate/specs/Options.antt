@@ -34,7 +34,7 @@ IsNumber (Some text) default n =
     IsNumeral 10 (without_leading_plus text) × (digits_value 10 (without_leading_plus text) < 2 ^ 64)
     × (n ≡ digits_value 10 (without_leading_plus text))
 
--- The settings have the values that the options' texts give, and there is no positional argument.
+-- The settings have the values that the options' texts give, and the command line has no positional argument.
 abbrev pub AreSettings : (List ℕ → Option (List ℕ)) → (List ℕ → Option (List ℕ)) → Settings → Type 0
 AreSettings text number s =
     (text (codes "file") ≡ None) × (option_map string_bytes s.deny ≡ text (codes "deny")) × IsNumber (number (codes "seed")) 0 s.seed
@@ -42,7 +42,7 @@ AreSettings text number s =
     × IsNumber (number (codes "workers")) 4 s.workers × IsNumber (number (codes "batch")) 500 s.batch
     × IsFlag (number (codes "quiet")) s.quiet
 
--- The settings, and the choice of reports on standard error, have the values of the options.
+-- The settings, and the Booleans for explanations and progress on standard error, have the values of the options.
 abbrev pub AreOptions : (List ℕ → Option (List ℕ)) → (List ℕ → Option (List ℕ)) → Options → Type 0
 AreOptions text number o = AreSettings text number o.settings
     × IsFlag (number (codes "explain")) o.explain × IsFlag (number (codes "progress")) o.progress

@@ -104,7 +104,7 @@ impl From<AllocError> for NoSettings {
     }
 }
 
-/// Parses the arguments, of which the first is the program's name.
+/// Parses the arguments. The first argument is the program's name.
 pub fn read_words<'a>(alloc: Global, words: &'a [String]) -> Result<Options, NoSettings>
     ensures ok { IfOk result (λ o. Says (map string_bytes words.entry.now) o) }
     ensures err { IfErr result (λ why. Refuses (map string_bytes words.entry.now) why) }

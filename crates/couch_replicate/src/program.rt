@@ -60,7 +60,7 @@ where
     Ok((ended, reader, writer.into_inner()))
 }
 
-/// Reports how a run ended, unless it succeeded, and returns the exit status.
+/// Reports how a run ended, unless the run succeeded, and returns the exit status.
 fn tell<H: Print + Eprint>(rt: &H, ended: &Ended) -> u8
     ensures { result ≡ ended_status ended.now }
 {

@@ -20,7 +20,7 @@ pub enum Ended {
     Ran(Result<bool, ScriptFault>),
 }
 
-/// Parses the arguments, of which the first is the program's name, and runs the script that the reader returns.
+/// Parses the arguments, and runs the script that the reader returns. The first argument is the program's name.
 ///
 /// The databases are not freed, because the program ends after this call.
 pub fn run_words<'a, H, R: ScriptRead, W: ScriptWrite>(

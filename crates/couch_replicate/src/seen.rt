@@ -2,7 +2,7 @@
 
 use std::str;
 
-/// The progress of a script, as counts of its output.
+/// The progress of a script, as counts of lines, sessions and documents.
 #[derive(Clone, Copy, Drop)]
 pub(crate) struct Seen {
     /// The number of successful `load` and `edit` lines.

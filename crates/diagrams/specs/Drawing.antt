@@ -52,13 +52,13 @@ pub record Holds (d : Document) (id : List ℕ) (leaves : List State) : Type 0 w
   pub named : string_bytes d.id ≡ id
   pub read : states d ≡ leaves
 
--- The effect of a line of a script's output: whether a document is open after the line, and which item of the picture,
--- if any, the line completes.
+-- The effect of a line of a script's output: the open document after the line, and the item of the picture that the
+-- line completes, if any.
 pub data IsNext : Option Document → Told → Option Document → Option Whole → Type 0 where
   -- A line of a script's output that begins a document.
   opened : {old : Option Document} {id : String Global} {count : ℕ} {d : Document} → Holds d (string_bytes id) [] → d.count ≡ count
       → IsNext old (told.Document id count) (Some d) None
-  -- A line of a script's output with a leaf that is not the last one of the open document.
+  -- A line of a script's output with a leaf that is not the last leaf of the open document.
   more : {d e : Document} {live : Bool} {revs : Vec RevId Global} (r : RevId) → head_of revs.items ≡ Some r
       → Holds e (string_bytes d.id) (with_leaf (states d) r live) → e.count ≡ d.count → vec_len e.leaves < e.count
       → IsNext (Some d) (told.Leaf live revs) (Some e) None
@@ -68,7 +68,7 @@ pub data IsNext : Option Document → Told → Option Document → Option Whole 
       → IsNext (Some d) (told.Leaf live revs) None (Some (wholes.Tree e))
   -- A line of a script's output with a leaf, if no document is open.
   loose : {live : Bool} {revs : Vec RevId Global} → IsNext None (told.Leaf live revs) None None
-  -- A line of a script's output with a leaf and an empty list of revisions, which does not occur when lines are parsed.
+  -- A line of a script's output with a leaf and an empty list of revisions. Parsing a line never gives an empty list.
   empty : {old : Option Document} {live : Bool} {revs : Vec RevId Global} → head_of revs.items ≡ None → IsNext old (told.Leaf live revs) None None
   -- A line of a script's output with a document and its live leaves.
   conflict : {old : Option Document} {id : String Global} {revs : Vec RevId Global} {e : Document} → Holds e (string_bytes id) (with_all [] revs.items)
@@ -83,7 +83,8 @@ pub data IsNext : Option Document → Told → Option Document → Option Whole 
 
 -- ---- pictures
 
--- A picture of document d: its id, each leaf once, in any order, and the commands that resolve its conflict.
+-- A picture of document d. The picture has the document's id, each leaf once, in any order, and the commands that
+-- resolve the document's conflict.
 pub record IsPicture (form : Form) (db : Option (List ℕ)) (d : Document) (text : List ℕ) : Type 0 where
   pub leaves : List Leaf
   pub each : IsPermutation (states d) (map state_of leaves)
@@ -106,7 +107,7 @@ pub record Sketch : Type 0 where
 abbrev pub sketch_of : Form → Option (Bor (List ℕ)) → Option Document → Sketch
 sketch_of form db begun = record { form = form; db = option_map (λ (s : Bor (List ℕ)). s.now) db; begun = begun }
 
--- The effect of a line of a script's output: the drawing of the item that it completes, or the empty text.
+-- The effect of a line of a script's output: the drawing of the item that the line completes, or the empty text.
 pub record Takes (old : Sketch) (line : List ℕ) (new : Sketch) (text : List ℕ) : Type 0 where
   pub told : Told
   pub whole : Option Whole
@@ -129,9 +130,9 @@ Pictures old line (Err name) new =
 abbrev pub first_sketch : Form → Option (List ℕ) → Sketch
 first_sketch form db = record { form = form; db = db; begun = None }
 
--- A picture of a script's output, which has a start, the drawings for the output's lines, and an end. The flag `clean`
--- of a picture says whether memory was sufficient for every line. No character of an input text is hidden in the
--- picture, and in SVG no such character is markup.
+-- A picture of a script's output, which has a start, the drawings for the output's lines, and an end. The Boolean
+-- `clean` says whether memory was sufficient for every line. In the picture, no character of an input text is a hidden
+-- character, and in SVG no such character is markup.
 pub record IsPictureOf (form : Form) (db : Option (List ℕ)) (input : List ℕ) (clean : Bool) (picture : List ℕ) : Type 0 where
   pub head : List ℕ
   pub head_drawn : Draws [] head []
@@ -144,7 +145,7 @@ pub record IsPictureOf (form : Form) (db : Option (List ℕ)) (input : List ℕ)
   pub safe : (shows : List ℕ) → IsSafe form (shown form (chars shows))
 
 -- A picture of the reader's remaining bytes is written. The last arguments of `IsPictured` are the reader's remaining
--- bytes, and the bytes that the writer has accepted before and after.
+-- bytes, and the bytes that the writer has accepted before and after the call.
 pub record IsPictured (form : Form) (db : Option (List ℕ)) (clean : Bool) (left held held' : Option (List ℕ)) : Type 0 where
   pub input : List ℕ
   pub gives : Gives left input
@@ -165,7 +166,8 @@ IsDrawnUntil Memory form db input text = BeginsPicture (AnswersFirst Pictures (f
 IsDrawnUntil Cut form db input text = BeginsPicture (AnswersCut Pictures (first_sketch form db) input) text
 
 -- After an error, a prefix of a picture of the reader's remaining bytes is written. The last arguments of
--- `IsPicturedUntil` are the reader's remaining bytes, and the bytes that the writer has accepted before and after.
+-- `IsPicturedUntil` are the reader's remaining bytes, and the bytes that the writer has accepted before and after the
+-- call.
 pub record IsPicturedUntil (fault : ScriptFault) (form : Form) (db : Option (List ℕ)) (left held held' : Option (List ℕ)) : Type 0 where
   pub input : List ℕ
   pub gives : Gives left input

@@ -18,7 +18,7 @@ use Rattle.diagrams.specs.declared.markup.Markup.{Markup}
 use Rattle.diagrams.specs.declared.markup.Markup.TheVariants as own
 use Rattle.diagrams.specs.Shown.{shown}
 
--- The program's own markup in a picture, in UTF-8.
+-- The markup that the program writes into a picture, in UTF-8.
 abbrev pub markup_text : Markup → List ℕ
 markup_text own.Space = codes " "
 markup_text own.LineEnd = codes "\n"
@@ -76,14 +76,14 @@ node_label true false = codes "</text><text x=\"14\" y=\"4\">wins, deleted</text
 node_label false true = codes "</text><text x=\"14\" y=\"4\">live</text></g>\n"
 node_label false false = codes "</text><text x=\"14\" y=\"4\">deleted</text></g>\n"
 
--- An input text as a picture shows it, in UTF-8.
+-- The form in which a picture shows an input text, in UTF-8.
 abbrev pub shown_text : Form → List ℕ → List ℕ
 shown_text form text = encode_utf8_all (shown form (chars text))
 
 pub data Sign : Type 0 where
   -- A piece of a picture that shows a document id.
   title : Form → List ℕ → Sign
-  -- A piece of a picture that shows a leaf, whether it is the winner, and whether it is live.
+  -- A piece of a picture that shows a leaf, whether the leaf is the winner, and whether the leaf is live.
   leaf : Form → RevId → Bool → Bool → Sign
   -- A piece of a picture that shows the command that resolves a leaf's conflict, with the database, the document id and
   -- the revision.
@@ -151,7 +151,7 @@ share part all = if all == 0 then 400 else (if nat_le 400 (part * 400 / all) the
 abbrev pub ratio : ℕ → ℕ → List ℕ
 ratio part all = (decimal part ++ codes " of ") ++ decimal all
 
--- A bar in a picture, which is 40 characters long, or 400 wide in SVG.
+-- A bar in a picture. The bar is 40 characters long in text, and 400 units wide in SVG.
 abbrev pub bar_ink : Form → ℕ → ℕ → List ℕ
 bar_ink forms.Text part all =
     ((((codes "  [" ++ take (share part all / 10) (codes "########################################"))
@@ -161,7 +161,7 @@ bar_ink forms.Svg part all =
     ++ decimal (share part all)) ++ codes "\" height=\"10\" class=\"w\"/><text x=\"432\" y=\"63\">") ++ ratio part all)
     ++ codes "</text>\n"
 
--- The filled part of a bar of 40 characters, and its length.
+-- The length of the filled part of a bar of 40 characters.
 abbrev pub filled : ℕ → ℕ → ℕ
 filled written most = share written most / 10
 
@@ -209,7 +209,7 @@ ink_of (whole r) = rev_text r
 ink_of (short r) = short_text r
 ink_of (sign s) = sign_ink s
 
--- The sign of a piece of a picture, if the piece is a sign, that is, has a meaning.
+-- The sign of a piece of a picture, if the piece is a sign.
 abbrev pub sign_in : Piece → List Sign
 sign_in (mark m) = []
 sign_in (number n) = []
@@ -228,8 +228,8 @@ pub record Draws (old new : List ℕ) (signs : List Sign) : Type 0 where
 abbrev pub leaf_sign : Form → Leaf → Sign
 leaf_sign form l = leaf form l.rev l.wins l.live
 
--- The command that resolves the conflict of a leaf, if the database is named. Only a live leaf that is not the winner
--- has a command that resolves its conflict.
+-- The command that resolves the conflict of a leaf, if the database is named. A leaf has a command only if the leaf is
+-- live and not the winner.
 abbrev pub edit_of : List ℕ → List ℕ → Leaf → List Sign
 edit_of db id l = if not l.wins && l.live then edit db id l.rev ∷ [] else []
 
@@ -248,14 +248,13 @@ signs_of forms.Svg db id leaves = title forms.Svg id ∷ map (leaf_sign forms.Sv
 abbrev pub signs_of_found : Form → Finding → List ℕ → List RevId → List Sign
 signs_of_found form finding id revs = found form finding id ∷ map listed revs
 
--- The signs of a line of numbers in a picture, each number with its column.
+-- The signs of the numbers in a line, each number with its column.
 abbrev pub counts_of : List Column → List ℕ → List Sign
 counts_of (c ∷ cs) (n ∷ ns) = count c n ∷ counts_of cs ns
 counts_of cs ns = []
 
--- The bar of a line of numbers. In a line of `compare`, the bar's filled part is the leaves that the target has. In a
--- line of a session, the bar's filled part is the number of documents written, and its length the number of documents
--- read.
+-- The bar of a line of numbers. In a line of `compare`, the bar shows the number of leaves that the target has, of all
+-- compared leaves. In a line of a session, the bar shows the number of documents written, of the documents read.
 abbrev pub bars_of : Form → Table → List ℕ → List Sign
 bars_of form tables.Compared ns = bar form (get_or ns 1 0 - get_or ns 2 0) (get_or ns 1 0) ∷ []
 bars_of form tables.Info ns = []

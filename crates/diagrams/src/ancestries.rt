@@ -1,4 +1,4 @@
-//! Stores the ancestries of a document's leaves, and each common part of two ancestries once.
+//! Stores the ancestries of a document's leaves. A common part of two ancestries is stored once.
 ghost use Rattle.std.specs.Prelude.{◌<◌, length};
 
 use indexmap::IndexMap;
@@ -20,7 +20,7 @@ pub struct Point {
 struct Branch {
     /// The parent of the branch's first revision, if it is known.
     from: Option<Point>,
-    /// The revisions of the branch, of which there is at least one, the oldest first.
+    /// The revisions of the branch, oldest first. A branch has at least one revision.
     revs: Vec<Rev>,
 }
 
@@ -50,7 +50,7 @@ struct Climb {
 }
 
 impl Climb {
-    /// The number of branches up to that of the reached revision.
+    /// The number of branches up to the branch of the reached revision.
     fn height(&self) -> usize {
         match self.at {
             Some(point) => point.branch.saturating_add(1),
@@ -185,7 +185,8 @@ impl Ancestries {
         }
     }
 
-    /// Returns the number of revisions with which two ancestries begin, if one of the two is that of the first branch.
+    /// Returns the number of revisions that two ancestries share at their oldest end. One of the two ancestries must be
+    /// the ancestry that was added first.
     pub fn shared(&self, one: Option<Point>, other: Option<Point>) -> usize {
         let (one, other) = self.fork(one, other);
         one.count().min(other.count())
@@ -214,8 +215,8 @@ impl Ancestries {
         self.next(one, count).cmp(&self.next(other, count))
     }
 
-    /// Climbs two ancestries to the last branch that both have. Each step leaves the later of two branches, because a
-    /// branch is added after the branch from which it branches off.
+    /// Follows two ancestries to the last branch that both have. Each step leaves the later of the two reached
+    /// branches, because a branch is added after the branch from which it branches off.
     fn fork(&self, one: Option<Point>, other: Option<Point>) -> (Climb, Climb) {
         let mut one = Climb {
             at: one,

@@ -1,5 +1,5 @@
-//! Computes the columns of a diagram of a revision tree. A generation in which a row forks or ends has a column of its
-//! own. All generations between two such columns share one column.
+//! Computes the columns of a diagram of a revision tree. A generation in which a row forks or ends has a separate
+//! column. All generations between two such columns share one column.
 
 use crate::ancestries::Ancestries;
 use crate::document::Leaf;
@@ -32,7 +32,7 @@ pub fn axis_of(
 }
 
 /// Returns the generations at which a row begins, ends or forks, in rising order. Each generation in the list has a
-/// column of its own.
+/// separate column.
 fn kept_of(alloc: Global, leaves: &[Leaf], rows: &[Row]) -> Result<Vec<u32>, AllocError> {
     let mut kept = Vec::new(alloc);
     for (leaf, row) in leaves.iter().zip(rows) {

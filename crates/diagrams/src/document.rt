@@ -10,10 +10,11 @@ use std::cmp::Ordering;
 /// A leaf of a document.
 #[derive(Debug, Drop)]
 pub struct Leaf {
-    /// A constant minus the number of revisions that the leaf shares with the winner, and 0 for the winner.
+    /// For the winner 0. For another leaf, a constant minus the number of revisions that the leaf shares with the
+    /// winner.
     pub apart: usize,
-    /// The leaf's parent, if it is known. In the leaf's ancestry, each revision's generation is one above that of its
-    /// parent.
+    /// The leaf's parent, if the parent is known. In the leaf's ancestry, each revision's generation is one above the
+    /// generation of its parent.
     pub parent: Option<Point>,
     /// The generation of the oldest known ancestor, or of the leaf if no ancestor is known.
     pub oldest: u32,
@@ -21,7 +22,7 @@ pub struct Leaf {
     pub rev: Rev,
     /// Whether the leaf is the winner.
     pub wins: bool,
-    /// Whether it is live.
+    /// Whether the leaf is live.
     pub live: bool,
 }
 
@@ -32,8 +33,9 @@ impl Leaf {
     }
 }
 
-/// Compares two leaves in the order of drawing. Leaves that share more revisions with the winner come first, and then
-/// the ancestors decide, the oldest first. In this order, all leaves that share a revision are adjacent.
+/// Compares two leaves in the order of drawing. Leaves that share more revisions with the winner come first. If two
+/// leaves share equally many, their ancestors are compared, oldest first. In this order, all leaves that share a
+/// revision are adjacent.
 fn order_of(ancestries: &Ancestries, one: &Leaf, other: &Leaf) -> Ordering {
     if one.apart != other.apart {
         return one.apart.cmp(&other.apart);

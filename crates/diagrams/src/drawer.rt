@@ -161,9 +161,9 @@ impl Drawer<'_> {
     }
 }
 
-/// Reads the output of a script, and draws it as text or as one SVG picture (docs/PROFILE.md, "Pictures"). The picture
-/// shows the documents of `show` and `conflicts`, the lines of `compare`, the numbers of `info` and of sessions, and
-/// logs. If the caller names the database, a text picture includes the commands that resolve conflicts.
+/// Reads the output of a script, and draws the output as text or as one SVG picture (docs/PROFILE.md, "Pictures"). The
+/// picture shows the documents of `show` and `conflicts`, the lines of `compare`, the numbers of `info` and of
+/// sessions, and logs. If the caller names the database, a text picture includes the commands that resolve conflicts.
 ///
 /// Returns whether no allocation failed for any line.
 ///

@@ -1,4 +1,4 @@
-//! The labels and shapes that a picture gives to leaves only.
+//! The labels and shapes that only leaves have in a picture.
 ghost use Rattle.std.specs.Prelude.{◌≡◌};
 ghost use Rattle.diagrams.specs.Ink.{label_text, node_label, shape_text};
 

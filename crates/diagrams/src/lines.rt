@@ -66,7 +66,7 @@ fn draw_counts(out: &mut Vec<u8>, columns: &[Column], numbers: &[u64]) -> Result
     Ok(())
 }
 
-/// Draws a progress bar, if lines of this kind have one.
+/// Draws a progress bar, if lines of this kind have a bar.
 fn draw_bar(out: &mut Vec<u8>, form: Form, table: Table, numbers: &[u64]) -> Result<(), AllocError>
     ensures { OnOk result (Draws out.old.items out.new.items (bars_of form table numbers.now)) }
 {
@@ -249,7 +249,7 @@ fn caption(column: Column) -> &'static str
     }
 }
 
-/// Draws a progress bar for a number and the total that it is a part of.
+/// Draws a progress bar for a part of a total.
 fn put_bar(out: &mut Vec<u8>, form: Form, part: u64, whole: u64) -> Result<(), AllocError>
     ensures { OnOk result (Draws out.old.items out.new.items (bar form part whole ∷ [])) }
 {
@@ -287,7 +287,7 @@ fn put_svg_bar(out: &mut Vec<u8>, part: u64, whole: u64) -> Result<(), AllocErro
     out.extend_from_slice(b"</text>\n")
 }
 
-/// Appends the text of two numbers, of which the first is a part of the second.
+/// Appends the text of two numbers, a part and its total.
 fn put_ratio(out: &mut Vec<u8>, part: u64, whole: u64) -> Result<(), AllocError>
     ensures { OnOk result (out.new.items ≡ out.old.items ++ ratio part whole) }
 {

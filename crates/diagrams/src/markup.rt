@@ -13,7 +13,7 @@ pub enum Markup {
     Indent,
     /// The space that a text picture has if there is no edge.
     Blank,
-    /// An edge in a text picture that passes a row vertically.
+    /// A vertical edge in a text picture that passes a row.
     Bar,
     /// An edge in a text picture to the next revision.
     Step,

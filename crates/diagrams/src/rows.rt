@@ -1,4 +1,4 @@
-//! Computes the layout of leaves, in which each leaf has a row that branches off an earlier row.
+//! Computes the layout of leaves. Each leaf has a row, and each row except the first may branch off an earlier row.
 
 ghost use Rattle.std.specs.Prelude.{◌≡◌, IfOk, length, vec_len};
 
@@ -15,8 +15,8 @@ pub struct Row {
     pub parent: usize,
     /// The generation of the leaf's oldest known ancestor.
     pub first: u32,
-    /// The generations at which branches continue below the row, in rising order. These branches start in the row
-    /// itself or in earlier rows.
+    /// The generations at which branches continue below the row, in rising order. The branches below a row start in
+    /// this row or in earlier rows.
     pub below: Vec<u32>,
 }
 
@@ -66,7 +66,7 @@ pub fn rows_of(
 }
 
 /// Returns the last row in which a revision of a given generation is drawn. The call drops the rows after the returned
-/// row, because a later leaf never branches off a dropped row, but off the row of the current leaf.
+/// row, because later leaves never branch off a dropped row.
 fn parent_of(branches: &mut Vec<Branch>, hang: u32) -> usize {
     for _ in 0..branches.len() {
         match branches.last() {

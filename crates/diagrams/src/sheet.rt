@@ -75,7 +75,7 @@ pub fn leaf_row(out: &mut Vec<u8>, rev: &Rev, wins: bool, live: bool) -> Result<
     out.extend_from_slice(label_text(wins, live).as_bytes())
 }
 
-/// Draws the SVG markup of a leaf that follows the leaf's position.
+/// Draws the part of a leaf's SVG markup that follows the leaf's position.
 pub fn leaf_node(out: &mut Vec<u8>, rev: &Rev, wins: bool, live: bool) -> Result<(), AllocError>
     ensures { OnOk result (Draws out.old.items out.new.items (leaf Svg rev.now wins live ∷ [])) }
 {

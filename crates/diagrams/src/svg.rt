@@ -55,7 +55,7 @@ fn y_of(place: usize) -> u64 {
     (place as u64).min(1 << 32) * ROW + TOP
 }
 
-/// Draws a document, whose leaves are sorted, at a given height, and returns the size of the drawing.
+/// Draws a document at a given height, and returns the size of the drawing. The document's leaves must be sorted.
 pub fn draw_document(
     alloc: Global,
     out: &mut Vec<u8>,
@@ -105,7 +105,7 @@ fn draw_rows(
     Ok(())
 }
 
-/// Draws a leaf's row, which is the columns before the leaf's column, followed by the leaf.
+/// Draws a leaf's row: the columns before the leaf's column, and the leaf.
 fn draw_row(
     out: &mut Vec<u8>,
     cells: &[Cell],
@@ -248,7 +248,7 @@ fn draw_fold(out: &mut Vec<u8>, count: u64) -> Result<(), AllocError>
     mark(out, Markup::NodeEnd)
 }
 
-/// Draws the SVG markup of an ancestor that follows the ancestor's position.
+/// Draws the part of an ancestor's SVG markup that follows the ancestor's position.
 fn draw_ancestor(out: &mut Vec<u8>, rev: &Rev) -> Result<(), AllocError>
     ensures { OnOk result (Draws out.old.items out.new.items []) }
 {

@@ -15,7 +15,7 @@ use crate::sheet::{blanks, edit_line, leaf_row, mark, number, short_len, short_r
 use rev_core::Rev;
 use std::alloc::{AllocError, Global};
 
-/// Draws a document, whose leaves are sorted for drawing.
+/// Draws a document. The document's leaves must be sorted for drawing.
 pub fn draw_document(
     alloc: Global,
     out: &mut Vec<u8>,
@@ -79,7 +79,7 @@ fn draw_edits_of(out: &mut Vec<u8>, db: &str, id: &str, leaves: &[Leaf]) -> Resu
     Ok(())
 }
 
-/// Draws a row, which has the columns before the leaf's column, and the leaf.
+/// Draws a leaf's row: the columns before the leaf's column, and the leaf.
 fn draw_row(
     out: &mut Vec<u8>,
     cells: &[Cell],
@@ -132,7 +132,7 @@ fn draw_column(
     Ok(())
 }
 
-/// Draws the edge to a column, unless the column is the first one.
+/// Draws the edge to a column, unless the column is the first column.
 fn draw_edge(
     out: &mut Vec<u8>,
     cell: &Cell,

@@ -9,8 +9,7 @@ use Rattle.doc_json.specs.Members.{has_special, plain_members}
 use Rattle.doc_json.specs.declared.fault.DocFault.{DocFault}
 use Rattle.doc_json.specs.declared.fault.DocFault.TheVariants as faults
 
--- The string that `serde_json` writes for a value without rejected numbers, with the guarantees of the writer of
--- `serde_json`.
+-- The string is what `serde_json` writes for a value without rejected numbers, and has the guarantees of that writer.
 pub record IsWritten (text : List ℕ) (d : Data) : Type 0 where
   pub compact : text ≡ compact_text d
   pub order : IsInOrder text d
@@ -24,7 +23,7 @@ pub record IsBody (text : List ℕ) : Type 0 where
   pub exact : members_have_float members ≡ false
   pub written : IsWritten text (object members)
 
--- The compact form of an object that has only the given object's members whose names do not begin with `_`.
+-- The compact form of the given object without the members whose names begin with `_`.
 abbrev pub body_text : Members → List ℕ
 body_text ms = compact_text (object (plain_members ms))
 

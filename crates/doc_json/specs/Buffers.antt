@@ -1,4 +1,4 @@
--- The previous content of a buffer is kept as its prefix.
+-- The buffer's new content begins with its previous content.
 use Rattle.std.specs.Prelude.{◌≡◌, ℕ, List, ◌++◌}
 
 pub record Keeps (old new : List ℕ) : Type 0 where

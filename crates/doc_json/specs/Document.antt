@@ -21,7 +21,7 @@ coded_doc =
     (λ d. (d.id, (d.ancestry, (d.deleted, d.body))))
     (λ p. record { id = p.0; ancestry = p.1.0; deleted = p.1.1.0; body = p.1.1.1 }) (λ _. refl)
 
--- The invariant of document d: the id, the ancestry and the body of d are valid.
+-- The invariant of a document: its id, its ancestry and its body are valid.
 pub record IsDocument (d : Document) : Type 0 where
   pub id : doc_id_read d.id ≡ Ok d.id
   pub ancestry : IsAncestry d.ancestry

@@ -1,4 +1,4 @@
--- JSON values whose numbers are read back from their text.
+-- JSON values in which reading the text of a number gives the same number.
 use Rattle.std.specs.Prelude.{◌≡◌, Some, ⊤}
 use Rattle.json.specs.Print.{IsNumber}
 use Rattle.serde_json.specs.Data.{Num, Data, null, boolean, number, string, array, object, Items, no_items, item, Members, no_members, member}
@@ -8,7 +8,7 @@ use Rattle.serde_json.specs.Written.{number_text}
 abbrev pub ReadsBack : Num → Type 0
 ReadsBack n = IsNumber (number_text n) × (number_of (number_text n) ≡ Some n)
 
--- Each number in a JSON value is read back from its text, at any depth.
+-- For each number in a JSON value, at any depth, reading the number's text gives the same number.
 abbrev mutual
   pub AllReadBack : Data → Type 0
   AllReadBack null = ⊤

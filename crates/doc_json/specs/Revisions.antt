@@ -22,7 +22,7 @@ abbrev pub rev_member : Option Data → Result (Option RevId) DocFault
 rev_member None = Ok None
 rev_member (Some d) = rev_of_text (as_str d)
 
--- The signature that an optional string represents, if there is a string and it is a signature.
+-- The signature that an optional string represents, or `None` if there is no string or the string is not a signature.
 abbrev pub sig_of : Option (List ℕ) → Option (List ℕ)
 sig_of None = None
 sig_of (Some text) = if is_sig text then Some text else None
@@ -32,8 +32,8 @@ abbrev pub sigs_of : Items → Option (List (List ℕ))
 sigs_of no_items = Some []
 sigs_of (item d ds) = option_and_then (λ sig. option_map (λ sigs. sig ∷ sigs) (sigs_of ds)) (sig_of (as_str d))
 
--- The ancestry that has the generation `start` and the given signatures, or `BadRevisions`. The value `start` must be a
--- generation, and there must be 1 to `start` signatures.
+-- The ancestry that has the generation `start` and the given signatures. The result is `BadRevisions` unless `start` is
+-- a generation and there are 1 to `start` signatures.
 abbrev pub numbered_from : Option ℕ → Option (List (List ℕ)) → Result (List RevId) DocFault
 numbered_from None sigs = Err faults.BadRevisions
 numbered_from (Some start) None = Err faults.BadRevisions
@@ -76,7 +76,7 @@ numbered_beside rev start sigs = numbered_from start sigs >>= matched rev
 abbrev pub revisions_beside : Option RevId → Data → Result (List RevId) DocFault
 revisions_beside rev d = revisions_read d >>= matched rev
 
--- The ancestry of a document, given its member `_revisions`, if there is one, and the value of `_rev`.
+-- The ancestry of a document, given the value of `_rev` and an optional member `_revisions`.
 abbrev pub with_revisions : Option Data → Option RevId → Result (List RevId) DocFault
 with_revisions None rev = alone rev
 with_revisions (Some d) rev = revisions_beside rev d

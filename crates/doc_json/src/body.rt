@@ -137,7 +137,7 @@ where
     Ok(Body::from_text(text))
 }
 
-/// Builds the body from the members of an object whose names have no leading `_`.
+/// Builds the body from an object's members without a leading `_`.
 pub(crate) fn plain_body<'v, V: JsonValue<'v>>(
     alloc: Global,
     members: &'v V::Object,
@@ -152,7 +152,7 @@ pub(crate) fn plain_body<'v, V: JsonValue<'v>>(
     Ok(Body::from_text(text))
 }
 
-/// Serializes the members whose names have no leading `_` into shared bytes.
+/// Serializes an object's members without a leading `_` into shared bytes.
 fn plain_written<'v, V: JsonValue<'v>>(
     alloc: Global,
     members: &'v V::Object,

@@ -16,8 +16,8 @@ use crate::text::push_name;
 use json_values::PlainTexts;
 use std::alloc::{AllocError, Global};
 
-/// The initial capacity of a serialization buffer, in bytes. Most small documents need no larger buffer. A smaller
-/// capacity within 15 bytes of this one would take the same amount of memory from the allocator.
+/// The initial capacity of a serialization buffer, in bytes. Most small documents need no larger buffer. A capacity
+/// that is up to 15 bytes smaller would take the same amount of memory from the allocator.
 const SHORT: usize = 136;
 
 /// Serializes the object of the members without a leading `_`. The buffer of the result has fewer than 32 unused bytes.
@@ -65,7 +65,7 @@ fn trimmed(text: Vec<u8>) -> Vec<u8>
     text
 }
 
-/// Copies a short text to a buffer of exactly its length, if this buffer takes less memory from the allocator and the
+/// Copies a short text to a buffer of the text's length, if this buffer takes less memory from the allocator and the
 /// allocation succeeds.
 fn fitted(alloc: Global, text: Vec<u8>) -> Vec<u8>
     ensures { result.items ≡ text.items }

@@ -178,7 +178,7 @@ impl Hash for DocId {
     }
 }
 
-/// Checks whether a string is a document id, and returns the error if it is not.
+/// Checks whether a string is a document id. If the string is not a document id, the call returns the error.
 pub(crate) fn check_id(text: &str) -> Result<(), DocFault>
     ensures ok { OnOk result (doc_id_read text.now ≡ Ok text.now) }
     ensures err { IfErr result (λ e. doc_id_read text.now ≡ Err e) }

@@ -15,7 +15,8 @@ use std::alloc::AllocError;
 /// A JSON value from which a document is read. The value is a `serde_json` value or a value inside a line.
 ///
 /// Contract clauses describe a JSON value by its data (`seen`). The ghost value `in_order` says whether an object's
-/// members are in byte order of their names. Some types guarantee this order, and other types leave it to the caller.
+/// members are in byte order of their names. Some types guarantee the order of members. For other types the caller must
+/// guarantee the order.
 pub(crate) trait JsonValue<'v>: Sized + 'v {
     /// An iterator over the members of a JSON object.
     type Object;
@@ -56,7 +57,7 @@ pub(crate) trait JsonValue<'v>: Sized + 'v {
         ensures members { option_map (λ o. members_seen o.now) result ≡ as_object (seen self.now) }
         ensures order { IfSome result (λ o. in_order self.now → members_in_order o.now) };
 
-    /// Returns the member with a name, if the value is an object that has it.
+    /// Returns the member with a name, if the value is an object that has this member.
     fn get(&'v self, name: &str) -> Option<&'v Self>
         ensures { option_map (λ v. seen v.now) result ≡ get name.now (seen self.now) };
 

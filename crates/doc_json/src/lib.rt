@@ -1,4 +1,4 @@
-//! Reads CouchDB documents from JSON values, and writes them as JSON.
+//! Reads CouchDB documents from JSON values, and writes documents as JSON.
 //!
 //! The rules are in docs/PROFILE.md, "Document ids", "Documents", "What `read_doc` accepts" and "What `write_doc`
 //! writes".

@@ -16,7 +16,7 @@ use serde_json::{Map, Number, Value};
 use std::alloc::AllocError;
 use std::collections::btree_map;
 
-/// A `serde_json` value does not say which of its strings need escapes.
+/// A `serde_json` value has no record of which strings need no escapes.
 pub(crate) const NONE_KNOWN: PlainTexts = PlainTexts {
     names: false,
     values: false,
@@ -80,7 +80,7 @@ impl<'v> JsonValue<'v> for Value {
         has_fraction(self)
     }
 
-    // The call says of no string of a `serde_json` value that it needs no escapes.
+    // The call does not assume that any string of a `serde_json` value needs no escapes.
     fn push(&'v self, _plain: PlainTexts, out: &mut Vec<u8>) -> Result<(), AllocError> {
         push_value(self, out)
     }

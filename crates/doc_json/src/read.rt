@@ -30,7 +30,7 @@ use std::alloc::Global;
 /// - `NoId`: the member `_id` is missing, not a string, or empty.
 /// - `ReservedId`: the member `_id` begins with `_` and is not the id of a design document.
 /// - `Attachments`: there is a member `_attachments`.
-/// - `SpecialMember`: another member that begins with `_` is unknown, or `_deleted` is not a Boolean.
+/// - `SpecialMember`: a member that begins with `_` is unknown, or `_deleted` is not a Boolean.
 /// - `NoRev`: the member `_rev` is not a revision id, or both `_rev` and `_revisions` are missing.
 /// - `BadRevisions`: the member `_revisions` is not an ancestry.
 /// - `RevMismatch`: the member `_rev` is not the newest revision of `_revisions`.

@@ -243,7 +243,7 @@ pub(crate) fn is_revision(rev: Rev, generation: u64, sig: Sig) -> bool
     u64::from(rev.generation()) == generation && same_sig
 }
 
-/// Returns a JSON value as a signature, if the value is a string that is a signature.
+/// Returns the signature in a JSON value, if the value is a string that is a signature.
 fn sig_of<'v, V: JsonValue<'v>>(value: &'v V) -> Option<Sig>
     ensures { result ≡ sig_of (as_str (V.seen value.now)) }
 {

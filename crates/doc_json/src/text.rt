@@ -44,7 +44,7 @@ pub(crate) fn push_name(
     Ok(())
 }
 
-/// Appends a string in quotation marks. The call is fastest if the string needs no escapes.
+/// Appends a string in quotation marks. Strings without escapes take a fast path.
 ///
 /// If an allocation fails, the call may have appended a part of the string, but the buffer keeps its previous content.
 pub fn push_text(out: &mut Vec<u8>, text: &str) -> Result<(), AllocError>

@@ -1,4 +1,4 @@
-//! A theorem: Proves that `doc_json` does not reject an envelope because of the members that the envelope wraps.
+//! Proves that `doc_json` does not reject an envelope because of the members that the envelope wraps.
 #![tactic(auto)]
 
 mod read;

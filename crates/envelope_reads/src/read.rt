@@ -10,8 +10,8 @@ use doc_json::{Doc, DocFault, read_line_doc};
 use json_values::{LinePart, ReadFault, ValueReader};
 use std::alloc::Global;
 
-/// Wraps a document, and reads the envelope in the way `couch_replicate` reads the document of a `load` line. Returns
-/// `None` if the document cannot be wrapped, or the JSON reader rejects the envelope.
+/// Wraps a document, and reads the envelope as `couch_replicate` reads the document of a `load` line. Returns `None` if
+/// the document cannot be wrapped, or the JSON reader rejects the envelope.
 ///
 /// # Errors
 ///

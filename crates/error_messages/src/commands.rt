@@ -142,7 +142,7 @@ static WORDS: &[(&str, &[Member])] = &[
     ),
 ];
 
-/// The reason why an object is not a command. If an object has several faults, the value is the fault that the search
+/// The reason why an object is not a command. If an object has several faults, the search returns the fault that it
 /// finds first.
 #[derive(Drop)]
 pub(crate) enum CommandFault<'v> {
@@ -150,7 +150,7 @@ pub(crate) enum CommandFault<'v> {
     NoWord,
     /// The command is unknown.
     UnknownWord(&'v str),
-    /// The command has no member with the name of the object's member.
+    /// The object has a member with a name that is not a member of the command. The variant has that name.
     UnknownMember(&'v str),
     /// A required member is missing.
     Missing(&'static str),

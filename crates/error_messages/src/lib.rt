@@ -1,7 +1,7 @@
 //! Explains why a line failed: which command, member or document is wrong, and what the error name means.
 //!
 //! docs/PROFILE.md lists the error names ("Names of refusals") and the members of commands ("Command lines"). An
-//! explanation is made from the line and the error name alone, without the databases.
+//! explanation depends only on the line and the error name, not on the databases.
 #![tactic(auto)]
 
 mod commands;

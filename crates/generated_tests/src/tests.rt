@@ -1,7 +1,7 @@
 //! Randomized tests of databases, peers, worlds, networks, revision trees and fronts. Each test compares the results of
 //! calls with the results of an independent reference, which was written from the definitions.
 
-// Assertions of all modules.
+// Assertions that all modules use.
 mod checks;
 
 // Trees, and their reference.
@@ -25,7 +25,7 @@ mod choices;
 // Comparisons of two databases.
 mod surveys;
 
-// Tests that compare replicated pairs of peers with a plain model of these peers.
+// Tests that compare replicated pairs of peers with a plain model of peers.
 mod pairs;
 mod plain_sides;
 
@@ -38,6 +38,6 @@ mod nets;
 // Comparisons of a peer with its plain model.
 mod sides;
 
-// Tests that compare worlds with a plain model of these worlds.
+// Tests that compare worlds with a plain model of worlds.
 mod plain_worlds;
 mod worlds;

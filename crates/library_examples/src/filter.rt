@@ -1,5 +1,5 @@
-//! An example of a custom write filter. An office and a phone, which refuses large documents, replicate in both
-//! directions.
+//! An example of a custom write filter. An office and a phone replicate in both directions, and the phone refuses large
+//! documents.
 use anyhow::{Result, bail};
 use doc_json::{Doc, DocId, read_body, write_doc};
 use repl_log::Moment;

@@ -11,10 +11,10 @@ use serde_json::Value;
 use std::alloc::Global;
 use std::str::from_utf8;
 
-/// The peers of the network, of which the first is the hub.
+/// The peers of the network. The first peer is the hub.
 const NAMES: [&str; 4] = ["hub", "ann", "ben", "cleo"];
 
-/// Twice, the laptops write documents and synchronize. At the end, the call audits every pair of peers.
+/// Lets the laptops write documents and synchronize twice. At the end, the call audits every pair of peers.
 pub fn run(rt: &HostRuntime) -> Result<()> {
     let mut net = Net::new(rt.alloc());
     for uuid in 1..5u64 {
@@ -84,7 +84,7 @@ fn plans(alloc: Global, first: u128) -> Result<Vec<Plan>> {
     Ok(plans)
 }
 
-/// Prints, for each peer, the winner of the document `milk` and its number of leaves.
+/// Prints, for each peer, the winner and the number of leaves of the document `milk`.
 fn tell(rt: &HostRuntime, net: &Net<Rules>) -> Result<()> {
     let id = DocId::parse(rt.alloc(), "milk")?;
     for (place, name) in NAMES.iter().enumerate() {
@@ -96,7 +96,7 @@ fn tell(rt: &HostRuntime, net: &Net<Rules>) -> Result<()> {
     Ok(())
 }
 
-/// Returns the body of a document's winner, and the number of its leaves.
+/// Returns the body of a document's winner, and the document's number of leaves.
 fn winner(alloc: Global, peer: &Peer<Rules>, id: &DocId) -> Result<(String, usize)> {
     let Some(tree) = peer.db().tree(id) else {
         return Ok((String::new(alloc), 0));

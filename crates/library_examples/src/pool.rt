@@ -23,7 +23,7 @@ use std::thread::{Threads, yield_now};
 /// The number of orders.
 const ORDERS: u64 = 1_000;
 
-/// The number of fetcher threads, which is also the number of writer threads.
+/// The number of fetcher threads, and the number of writer threads.
 const WORKERS: usize = 4;
 
 /// The maximum number of times the viewer reads the board.

@@ -46,7 +46,7 @@ mod crossings;
 mod net_rows;
 mod nets;
 
-// Questions about two peers.
+// Queries about two peers.
 mod survey_rows;
 mod surveys;
 

@@ -16,11 +16,11 @@ WorksAt b s = CameWith b s × (s.works ≡ true)
 abbrev pub HasNothing : BoardSeat → Type 0
 HasNothing s = (s.read ≡ 0) × (s.settled ≡ 0) × (seen_read s ≡ 0) × (seen_settled s ≡ 0)
 
--- Seats s and t are of the same worker of board b, and t's counters are not lower than those of s.
+-- Seats s and t belong to the same worker of board b, and t's counters are not lower than the counters of s.
 abbrev pub IsRisen : Board → BoardSeat → BoardSeat → Type 0
 IsRisen b s t = WorksAt b t × (t.number ≡ s.number) × (s.read ≤ t.read) × (s.settled ≤ t.settled)
 
--- The seats `now` are those of the list `given`, in the same order, and no counter has fallen.
+-- The list `now` has the seats of the list `given`, in the same order, and no counter has fallen.
 abbrev pub AreRisen : Board → List BoardSeat → List BoardSeat → Type 0
 AreRisen b [] [] = Unit {0}
 AreRisen b (s ∷ given) (t ∷ now) = IsRisen b s t × AreRisen b given now
@@ -39,18 +39,18 @@ HaveRisenBy n given now = (read_on now ≡ read_on given + n) × (settled_on now
 
 -- ---- an optional board
 
--- A read counter of the board may become full, so there must be a board.
+-- A run may return `BoardFull` only if it has a board.
 abbrev pub MayFill : Option Board → Type 0
 MayFill None = ⊥
 MayFill (Some b) = Unit {0}
 
--- If there is a board, all seats are the board's worker seats, and without a board there are no seats.
+-- If there is a board, all seats are the board's worker seats. Without a board there are no seats.
 abbrev pub AreSeated : Option Board → List BoardSeat → Type 0
 AreSeated None seats = seats ≡ []
 AreSeated (Some b) seats = All (WorksAt b) seats
 
--- If there is a board, all seats are the board's worker seats, and with `out` further seats there is at least one for
--- each worker. If a run has no board, it has no seats.
+-- If there is a board, all seats are the board's worker seats, and these seats plus `out` further seats are at least
+-- one seat per worker. If a run has no board, it has no seats.
 abbrev pub AreSeats : Option Board → ℕ → ℕ → List BoardSeat → Type 0
 AreSeats None out workers seats = seats ≡ []
 AreSeats (Some b) out workers seats = (workers ≤ length seats + out) × All (WorksAt b) seats
@@ -99,7 +99,7 @@ HasSettled (Some b) a z (Some s) (Some t) =
 HasSettled (Some b) a z s t = ⊥
 
 -- If there is a board, the seat's settled counter has grown by the difference between a and z. If no writer was
--- stopped, the seat's read counter has grown by the difference between a and z, too.
+-- stopped, the seat's read counter has grown by the same difference.
 abbrev pub HasWritten : Option Board → ℕ → ℕ → Option Halt → Option BoardSeat → Option BoardSeat → Type 0
 HasWritten None a z stopped s t = t ≡ s
 HasWritten (Some b) a z stopped (Some s) (Some t) =

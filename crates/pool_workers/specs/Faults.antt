@@ -8,8 +8,8 @@ use Rattle.pool_workers.specs.declared.fault.Halt.TheVariants as halts
 use Rattle.pool_workers.specs.declared.fault.PoolFault.{PoolFault}
 use Rattle.pool_workers.specs.declared.fault.PoolFault.TheVariants as faults
 
--- A possible error of a run whose plan was valid. The error of a valid run is `Halted` only if the gate allows the
--- halt, `BoardFull` only if a board can be full, and never `Hole`.
+-- The errors that a run with a valid plan may return. The error is `Halted` only if the gate allows the halt, and
+-- `BoardFull` only if a board can be full. The error is never `Hole`.
 abbrev pub IsLateOn : Type 0 → (Place → Type 0) → PoolFault → Type 0
 IsLateOn may_fill may_stop faults.NoWorkers = ⊥
 IsLateOn may_fill may_stop faults.TooManyWorkers = ⊥
@@ -22,7 +22,7 @@ IsLateOn may_fill may_stop fault = Unit {0}
 
 -- ---- errors from workers' halts
 
--- A possible error of a worker's call on the target of a run.
+-- The errors with which a worker's call on the target of a run may fail.
 abbrev pub IsStepFault : TargetFault → Type 0
 IsStepFault (refusals.Gap expected) = Unit {0}
 IsStepFault refusals.ForeignParcel = Unit {0}
@@ -33,7 +33,7 @@ IsStepFault (refusals.Uncovered seq id rev) = Unit {0}
 IsStepFault refusals.Memory = Unit {0}
 IsStepFault fault = ⊥
 
--- A possible error of a run in which a worker halted.
+-- The errors that a run may return if a worker halted.
 abbrev pub IsHaltOn : Type 0 → (Place → Type 0) → PoolFault → Type 0
 IsHaltOn may_fill may_stop (faults.Refused fault) = IsStepFault fault
 IsHaltOn may_fill may_stop fault = IsLateOn may_fill may_stop fault
@@ -47,19 +47,19 @@ fault_of halts.BoardFull = faults.BoardFull
 fault_of halts.Memory = faults.Memory
 fault_of halts.Lost = faults.Memory
 
--- A possible halt of a worker. A worker's halt must be allowed by the gate, come from a board that can be full, or be
--- the error of a worker's call.
+-- The reasons for which a worker may halt: the gate allows the halt, a board that can be full is full, or a call of the
+-- worker failed.
 abbrev pub AllowsOn : Type 0 → (Place → Type 0) → Halt → Type 0
 AllowsOn may_fill may_stop (halts.Stopped place) = may_stop place
 AllowsOn may_fill may_stop (halts.Refused fault) = IsStepFault fault
 AllowsOn may_fill may_stop halts.BoardFull = may_fill
 AllowsOn may_fill may_stop halt = Unit {0}
 
--- A possible halt of a worker without a board.
+-- The reasons for which a worker may halt if the run has no board.
 abbrev pub Allows : (Place → Type 0) → Halt → Type 0
 Allows may_stop halt = AllowsOn ⊥ may_stop halt
 
--- A halt is `CountFull` or `BoardFull` only if the given condition for it holds.
+-- A halt is `CountFull` only if the first condition is true, and `BoardFull` only if the second condition is true.
 abbrev pub SaysFull : Type 0 → Type 0 → Halt → Type 0
 SaysFull count board halts.CountFull = count
 SaysFull count board halts.BoardFull = board
@@ -69,7 +69,7 @@ SaysFull count board halt = Unit {0}
 abbrev pub SaysNoFull : Halt → Type 0
 SaysNoFull halt = SaysFull ⊥ ⊥ halt
 
--- The error of a run is that of one of the halts a, b and c.
+-- The error of a run is the error of one of the halts a, b and c.
 abbrev pub IsOneFault : Option Halt → Option Halt → Option Halt → PoolFault → Type 0
 IsOneFault a b c fault =
     (halt : Halt) × (fault ≡ fault_of halt) × ((a ≡ Some halt) ⊎ ((b ≡ Some halt) ⊎ (c ≡ Some halt)))

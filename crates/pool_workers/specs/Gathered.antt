@@ -12,14 +12,14 @@ use Rattle.pool_workers.specs.declared.gather.WrittenAll.{WrittenAll}
 use Rattle.pool_workers.specs.declared.parcels.ParcelView.{ParcelView}
 use Rattle.pool_workers.specs.declared.windows.WindowView.{WindowView}
 
--- What is known of the fetchers after they have ended. If no fetcher was stopped, the fetchers' counts are those of the
--- parcels sent, and the parcels sent are for the windows taken.
+-- What is known of the fetchers after they have ended. If no fetcher was stopped, the fetchers' counts are the counts
+-- of the sent parcels, and the sent parcels are for the taken windows.
 abbrev pub FetchedKnows : WindowView → ParcelView → FetchedAll → Type 0
 FetchedKnows w p t =
     t.stopped ≡ None → (sum t.counts.items ≡ amounts p.sent) × (t.sent ≡ length p.sent) × (w.taken ≡ names p.sent)
 
--- What is known of the writers after they have ended. If no writer was stopped, the writers' counts are those of the
--- parcels received.
+-- What is known of the writers after they have ended. If no writer was stopped, the writers' counts are the counts of
+-- the received parcels.
 abbrev pub WrittenKnows : ParcelView → ℕ → WrittenAll → Type 0
 WrittenKnows p amount t = t.stopped ≡ None → (amount ≡ amounts p.got) × (t.got ≡ length p.got)
 
@@ -33,12 +33,13 @@ module _ {S L : Type 0} where
   abbrev pub IsWhole : ℕ → Ended S L → Type 0
   IsWhole workers e = ((view e.windows).parts ≡ 1024) × ((view e.parcels).parts ≡ 1024) × (e.all.parts ≡ workers)
 
-  -- If no worker was stopped, the counts are those of the parcels sent and received.
+  -- If no worker was stopped, the counts are the counts of the sent and the received parcels.
   abbrev pub Tells : Ended S L → Type 0
   Tells e =
       FetchedKnows (view e.windows) (view e.parcels) e.fetched × WrittenKnows (view e.parcels) e.all.amount e.written
 
-  -- Each halt of a worker is allowed by the gate, or is a full board, or an error of the worker's call.
+  -- A worker halted only because the gate allows the halt, because a board is full, or because a call of the worker
+  -- failed.
   abbrev pub StopsWhere : Type 0 → (Place → Type 0) → Ended S L → Type 0
   StopsWhere may_fill may_stop e =
       IfSome e.read (Allows may_stop) × IfSome e.fetched.stopped (Allows may_stop)

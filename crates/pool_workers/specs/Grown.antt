@@ -15,20 +15,21 @@ use Rattle.pool_workers.specs.Paging.{KeepsPages}
 abbrev pub IsAnswerOf : DatabaseValue → ParcelValue → Type 0
 IsAnswerOf source p = p ≡ open_revs source p.asked
 
--- The target has the run's session, which is of the source's life, and whose goal is the source's update sequence.
+-- The target has the run's session. The run's session has the source's life, and its goal is the source's update
+-- sequence.
 abbrev pub HasRun : DatabaseValue → SessionId → List SessionValue → Type 0
 HasRun source run sessions =
     (s : SessionValue) × (session_in sessions run ≡ Some s) × (s.life ≡ source.life) × (s.goal ≡ source.update_seq)
 
 module _ {F : Type 0} (refuses : F → Document → Bool) where
-  -- The filter is the given one, and the peer has grown from the given one by calls of a run whose messages come from
-  -- the source.
+  -- The filter is the given filter, and the peer has grown from the given peer by a run's calls with messages of the
+  -- source.
   abbrev pub GrownPeer : DatabaseValue → Choice → SessionId → F × PeerValue → F × PeerValue → Type 0
   GrownPeer source chosen run given now = (now.0 ≡ given.0) × IsGrown (refuses given.0) source chosen run given.1 now.1
 
-  -- The target while a run is in progress. During a run, the target has grown from the given peer by calls of the run.
-  -- During a run, the run's session is stored at the target, the session has read `total` documents, its windows are
-  -- pages of the source, and the plan allows `more` windows.
+  -- The target while a run is in progress. During a run, the target has grown from the given peer by calls of the run,
+  -- and has the run's session. The session has read `total` documents, the session's windows are pages of the source,
+  -- and the plan allows `more` windows.
   abbrev pub TargetKeeps : DatabaseValue → Plan → Option ((F × PeerValue) × SessionId) → SessionId → ℕ → Option ℕ
       → F × PeerValue → Type 0
   TargetKeeps source plan given session total more now =

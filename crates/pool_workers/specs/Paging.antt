@@ -1,4 +1,4 @@
--- The windows of a run of the pool, while it runs, as specified in docs/PROFILE.md, "Goal and windows" and "The pool".
+-- The windows of a run of the pool during the run, as specified in docs/PROFILE.md, "Goal and windows" and "The pool".
 use Rattle.std.specs.Prelude.{◌≡◌, ℕ, ◌+◌, ◌<◌, Bool, true, List, [], length, Option, Some, None}
 use Rattle.rev_tree.specs.declared.origin.SessionId.{SessionId}
 use Rattle.couch_base.specs.Lists.{Among}
@@ -19,14 +19,14 @@ AllowsMore None n more = more ≡ None
 AllowsMore (Some stop_after) n None = ⊥
 AllowsMore (Some stop_after) n (Some more) = n + more ≡ stop_after
 
--- The number `less` of allowed windows is one less than `more`, if there is a limit.
+-- If the number of windows is limited, `less` is one less than `more`.
 abbrev pub IsOneLess : Option ℕ → Option ℕ → Type 0
 IsOneLess None less = less ≡ None
 IsOneLess (Some more) None = ⊥
 IsOneLess (Some more) (Some less) = more ≡ less + 1
 
--- Each window of a list is the page of the source's selected feed at its lower bound, and the plan allows `more`
--- further windows.
+-- Each window of a list is the page of the source's selected feed that begins at the window's lower bound. The plan
+-- allows `more` further windows.
 abbrev pub HasPages : DatabaseValue → Plan → Option ℕ → List WindowValue → Type 0
 HasPages source plan more windows =
     ((w : WindowValue) → Among w windows → IsNext source plan w) × AllowsMore plan.stop_after (length windows) more

@@ -16,7 +16,7 @@ IdleIsEmpty views =
     (port : ℕ) (v : ParcelView) → get_elem? views port ≡ some v → v.parts ≡ 0 → (v.sent ≡ []) × (v.got ≡ [])
 
 module _ {S : Type 0} where
-  -- The parcels among a channel's messages, each by its number and its number of documents.
+  -- The parcels in a list of messages, each as a pair of the parcel's number and its number of documents.
   abbrev pub parcels : List (ParcelMessage S) → List (ℕ × ℕ)
   parcels [] = []
   parcels (Parcel number parcel ∷ xs) = (number, length parcel.docs) ∷ parcels xs
@@ -28,8 +28,8 @@ module _ {S : Type 0} where
   abbrev pub has_got : ParcelView → ParcelMessage S → ParcelView
   has_got v x = parcel_view v.parts v.sent (v.got ++ parcels (x ∷ []))
 
-  -- The parcels that were sent are those received and those queued. Each number of a parcel occurs, with its number of
-  -- documents, as often among the sent parcels as among the received and queued ones.
+  -- The sent parcels are the received and the queued parcels. Each pair of a parcel's number and its number of
+  -- documents occurs equally often among the sent parcels and among the received and queued parcels.
   abbrev pub Balanced : List (ParcelMessage S) → List ParcelView → Type 0
   Balanced items views =
       (total (λ (v : ParcelView). v.parts) views ≡ 1024)

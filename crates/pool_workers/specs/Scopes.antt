@@ -18,8 +18,8 @@ use Rattle.pool_workers.specs.Windows.{window_view}
 use Rattle.pool_workers.specs.Workers.{FetcherKnows, WriterKnows}
 
 -- What the caller's thread has before it starts the workers. Before a run, the caller's thread has capacity for each
--- fetcher's count, all parts of both unused channels, and all parts of the ledger, which is at 0. Before a run with a
--- board, the caller's thread has a seat for each writer.
+-- fetcher's count, all parts of both unused channels, and all parts of the ledger. The ledger's total is 0. Before a
+-- run with a board, the caller's thread has a seat for each writer.
 pub record IsReady {S L : Type 0} (channels : Channels S) (board : Option Board) (workers : ℕ) (o : Owned S L) : Type 0
   where
     pub counts : (o.counts.items ≡ []) × (workers ≤ vec_capacity o.counts)
@@ -28,8 +28,9 @@ pub record IsReady {S L : Type 0} (channels : Channels S) (board : Option Board)
     pub all : (o.all.parts ≡ workers) × (o.all.amount ≡ 0)
     pub seats : AreSeats board 0 workers o.seats.items
 
--- What the caller's thread has after the workers have ended: the seats. If all workers were started, the caller's
--- thread also has all parts of both channels and of the ledger, and knows what the workers did.
+-- What the caller's thread has after the workers have ended. After the workers have ended, the caller's thread has the
+-- seats. If all workers were started, the caller's thread has all parts of both channels and of the ledger, and knows
+-- what the workers did.
 pub record HaveEnded {S L : Type 0} (channels : Channels S) (board : Option Board) (may_stop : Place → Type 0)
     (workers : ℕ) (given : List BoardSeat) (ended : Option (Ended S L)) (seats : List BoardSeat) : Type 0 where
   pub window_seat : IfSome ended (λ e. IsSeatAt (sends_on channels.to_fetchers) e.windows)
@@ -40,8 +41,8 @@ pub record HaveEnded {S L : Type 0} (channels : Channels S) (board : Option Boar
   pub back : AreBack board given seats
   pub shown : IfSome ended (λ e. HaveShown board e.all.amount e.written.stopped given seats)
 
--- A fetcher and a writer that share a thread have no window or parcel in progress, and if one of the two was stopped,
--- the gate allows it.
+-- A fetcher and a writer that share a thread have no window or parcel in progress. If the fetcher or the writer was
+-- stopped, the gate allows the halt.
 pub record StandBy {S L : Type 0} (channels : Channels S) (board : Option Board) (may_stop : Place → Type 0)
     (p : Pair S L) : Type 0 where
   pub window_seat : IsSeatAt (sends_on channels.to_fetchers) p.fetcher.windows

@@ -18,7 +18,7 @@ KeepsRole views =
     → (v.reads ≡ 0 → v.count ≡ 0) × (v.parts ≡ 0 → (v.taken ≡ []) × (v.reads ≡ 0))
 
 module _ {S : Type 0} where
-  -- The numbers of the windows among a channel's messages.
+  -- The numbers of the windows in a list of messages.
   abbrev pub numbers : List (WindowMessage S) → List ℕ
   numbers [] = []
   numbers (Window number page ∷ xs) = number ∷ numbers xs
@@ -30,7 +30,7 @@ module _ {S : Type 0} where
   abbrev pub has_taken : WindowView → WindowMessage S → WindowView
   has_taken v x = window_view v.parts v.reads v.count (v.taken ++ numbers (x ∷ []))
 
-  -- The windows that are queued or taken have the numbers below the page reader's count, each once.
+  -- The queued and the taken windows have exactly the numbers below the page reader's count, each once.
   abbrev pub Numbered : List (WindowMessage S) → List WindowView → Type 0
   Numbered items views =
       (total (λ (v : WindowView). v.parts) views ≡ 1024)

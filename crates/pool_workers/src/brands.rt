@@ -1,8 +1,8 @@
 //! Brands are type parameters whose ghost members state facts about the source and the target of a run. One call
-//! chooses them.
+//! chooses the brands.
 //!
-//! Contracts know only the invariant of the type of a value that a lock protects or a channel carries. The invariant of
-//! a type may refer to a brand's ghost members.
+//! About a value that a lock protects or a channel carries, a contract knows only the invariant of the value's type.
+//! The invariant of a type may refer to a brand's ghost members.
 use std::marker::Brand;
 
 /// The brand for the source's database, and for the plan by which the run reads this database.

@@ -98,7 +98,7 @@ impl<
     }
 
     /// Starts a writer, if `others` writers already run. If a thread cannot be created, the call sends an end message
-    /// to each writer, receives one end message itself, and returns the seat as an error.
+    /// to each writer, receives one end message, and returns the seat as an error.
     pub fn start_writer<'s, E>(
         &'e self,
         scope: &Scope<'s, E>,

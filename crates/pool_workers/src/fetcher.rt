@@ -32,7 +32,7 @@ pub struct Fetcher<S: SourceBrand> {
     pub stopped: Option<Halt>,
 }
 
-/// Asks the gate. Returns an error if the gate returns `Stop`.
+/// Calls the gate. Returns an error if the gate returns `Stop`.
 pub fn pass<G: Gate, R: Wait>(rt: &R, gate: &G, place: Place) -> Result<(), Halt>
     ensures place { IfErr result (λ halt. halt ≡ Halt.Stopped place) }
     ensures allowed { IfErr result (Allows (G.may_stop gate.now)) }
@@ -44,7 +44,7 @@ pub fn pass<G: Gate, R: Wait>(rt: &R, gate: &G, place: Place) -> Result<(), Halt
     }
 }
 
-/// Sends a parcel. Returns whether the fetcher could send the message.
+/// Sends a parcel. Returns whether sending succeeded.
 fn put<S: SourceBrand, R: Wait>(
     rt: &R,
     parcels: &ParcelSender<S>,
@@ -108,7 +108,8 @@ impl<S: SourceBrand> Fetcher<S> {
         }
     }
 
-    /// Counts a parcel and sends it. Returns `CountFull` only if a count of the fetcher would exceed its maximum.
+    /// Counts a parcel and sends the parcel. Returns `CountFull` only if a count of the fetcher would exceed its
+    /// maximum.
     fn send<G: Gate, R: Wait>(
         &mut self,
         rt: &R,
@@ -240,7 +241,8 @@ impl<F: WriteFilter, S: SourceBrand, T: TargetBrand<F>, L: Ledger, G: Gate, R: W
         }
     }
 
-    /// Receives windows until the end of the windows, fetches each window, and sends its parcel. Then sends the end.
+    /// Receives windows until the end of the windows, fetches each window, and sends the window's parcel. After the
+    /// last window, the call sends the end of the parcels.
     pub fn fetch_all(&self, windows: WindowPass<S>, parcels: ParcelPass<S>) -> Fetcher<S>
         requires source { S.source ≡ self.now.source.now.1.db }
         requires windows { IsSeatAt (receives_on self.now.channels.now.from_reader) windows

@@ -28,7 +28,7 @@ pub enum Turn {
 }
 
 /// Decides whether a worker continues at a place. Workers call the gate without a lock, possibly from several threads.
-/// May block.
+/// The gate may block.
 pub trait Gate {
     ghost use Rattle.pool_workers.specs.Gates.{Stops};
 
@@ -40,7 +40,7 @@ pub trait Gate {
         ensures { Stops result (may_stop self.now place) };
 
     /// Whether the gate may block a worker until another worker has reached a place. If the gate never blocks a worker,
-    /// one thread may do the work of several workers in turn.
+    /// one thread may alternate between the work of two workers.
     fn may_block(&self) -> bool {
         true
     }

@@ -40,7 +40,7 @@ impl<F: WriteFilter, T: TargetBrand<F>> GivenTarget<F, T> {
     }
 
     /// Returns the request for the leaves of a page that the target lacks. If the given target had no documents, the
-    /// request has all leaves of the rows. Needs no lock.
+    /// request has all leaves of the rows, and no lock is needed.
     pub fn diff<S: SourceBrand>(
         &self,
         alloc: Global,

@@ -1,5 +1,5 @@
 //! Messages that come from the source. The invariants of the message types say that a message comes from the source, so
-//! this fact is known in every thread.
+//! proofs about every thread can use this fact.
 ghost use Rattle.std.specs.Prelude.{◌≡◌, ◌<◌, [], true, length, IfOk};
 ghost use Rattle.std.specs.List.{sum_by};
 ghost use Rattle.couch_base.specs.Database.{DatabaseValue};
@@ -70,7 +70,7 @@ impl<S: SourceBrand> Paged<S> {
         self.ready.window()
     }
 
-    /// Builds the shorter form that a target keeps when the window is done (`ReadyWindow::prepare`).
+    /// Builds the shorter form of a window that a target keeps after the window is done (`ReadyWindow::prepare`).
     pub fn prepare(&mut self, alloc: Global)
         ensures { self.new ≡ self.old }
     {
@@ -137,8 +137,8 @@ impl<S: SourceBrand> Found<S> {
         })
     }
 
-    /// Does the same as `count` for a request for all leaves of a page. The source has one document for each leaf, so
-    /// the call needs no lookup in the source.
+    /// Counts the source's documents for a request for all leaves of a page. The source has one document for each leaf,
+    /// so the call needs no lookup in the source.
     pub fn whole<F: WriteFilter>(source: &Peer<F>, asked: Asked, page: Paged<S>) -> Found<S>
         requires source { S.source ≡ source.now.1.db }
         requires whole { (db : DatabaseValue) × (db.docs ≡ []) × (asked ≡ revs_diff db page) }
@@ -271,9 +271,9 @@ fn leaf_count(rows: &[Row]) -> u128
 
 /// Grows the heap of this thread by more than a page.
 ///
-/// The C library grows the heap of each thread except the first by one page per system call, for which all threads may
-/// wait. Allocating and freeing one large block grows the heap in one step, if the heap keeps the freed memory
-/// (`keep_heaps`).
+/// The C library grows the heap of each thread except the first by one page per system call, and all threads may have
+/// to wait for the system call. Allocating and freeing one large block grows the heap in one step, if the heap keeps
+/// the freed memory (`keep_heaps`).
 fn grow_heap(alloc: Global) {
     if let Ok(room) = Vec::<u8>::with_capacity(alloc, HEAP_STEP) {
         drop(room);

@@ -1,4 +1,4 @@
-//! Pairs are threads that each work as a fetcher and as a writer in turn.
+//! Pairs are threads that each alternate between the work of a fetcher and of a writer.
 //!
 //! If the gate never blocks a worker, half as many threads do the work of both groups, because each thread fetches
 //! windows and settles parcels.
@@ -60,7 +60,7 @@ impl<
     R: Wait + Sync,
 > Context<'e, F, S, T, L, G, R> {
     /// Starts a pair, if `others` pairs already run. If a thread cannot be created, the call sends an end message to
-    /// each pair, receives one end message itself, and returns the seat as an error.
+    /// each pair, receives one end message, and returns the seat as an error.
     fn start_pair<'s, E>(
         &'e self,
         scope: &Scope<'s, E>,
@@ -112,9 +112,9 @@ impl<
         }
     }
 
-    /// Splits off passes and a part of the ledger of counts, takes the last seat, and starts a pair with these values
-    /// (`start_pair`). `others` is the number of pairs that were started before. If a thread cannot be created, the
-    /// call returns `None` and puts the seat back into the list of seats.
+    /// Splits off two passes and a part of the ledger, takes the last seat, and starts a pair (`start_pair`). `others`
+    /// is the number of pairs that were started before. If a thread cannot be created, the call returns `None`, and the
+    /// seat stays in the list of seats.
     fn spawn_pair<'s, E>(
         &'e self,
         scope: &Scope<'s, E>,

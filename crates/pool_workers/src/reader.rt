@@ -18,11 +18,11 @@ use std::alloc::AllocError;
 use std::sync::Wait;
 use std::sync::ledger::Ledger;
 
-/// The maximum number of pages that the reader reads before it stores them at the target.
+/// The maximum number of pages that the reader reads before it stores these pages at the target.
 const MOST_AHEAD: u64 = 8;
 
-/// Pages that were read in order and must be sent, and their copies, which must be stored. If reading failed, the value
-/// also has the reason, and in every case the end of the last page.
+/// Pages that were read in order and must be sent, and copies of these pages that must be stored. The value has the end
+/// of the last page and, if reading failed, the reason.
 #[derive(Drop)]
 struct Ahead<S: SourceBrand> {
     pages: Vec<Paged<S>>,
@@ -31,7 +31,7 @@ struct Ahead<S: SourceBrand> {
     stopped: Option<Halt>,
 }
 
-/// Sends the window with the given number. Returns whether the call could send the window.
+/// Sends the window with the given number. Returns whether sending succeeded.
 fn send_window<S: SourceBrand, R: Wait>(
     rt: &R,
     channels: &Channels<S>,
@@ -108,7 +108,7 @@ impl<F: WriteFilter, S: SourceBrand, T: TargetBrand<F>, L: Ledger, G, R: Wait> C
         (stored, None)
     }
 
-    /// Reads the page above a sequence, and prepares a copy of it for storing.
+    /// Reads the page above a sequence, and prepares a copy of the page for storing.
     fn read_page(&self, since: u64) -> Result<(Paged<S>, Paged<S>), AllocError>
         requires source { S.source ≡ self.now.source.now.1.db }
         requires plan { S.plan ≡ self.now.plan.now }
@@ -145,7 +145,8 @@ impl<F: WriteFilter, S: SourceBrand, T: TargetBrand<F>, L: Ledger, G, R: Wait> C
         Ok(())
     }
 
-    /// Reads at most `most` pages above a sequence in order, and at most the number of pages that the plan allows.
+    /// Reads pages above a sequence in order, at most `most` pages and at most the number of pages that the plan
+    /// allows.
     fn read_ahead(&self, since: u64, number: u64, most: u64) -> Ahead<S>
         requires source { S.source ≡ self.now.source.now.1.db }
         requires plan { S.plan ≡ self.now.plan.now }
@@ -181,7 +182,7 @@ impl<F: WriteFilter, S: SourceBrand, T: TargetBrand<F>, L: Ledger, G, R: Wait> C
         ahead
     }
 
-    /// Reads at most `most` pages above a sequence, stores them while it holds the target's lock once, and sends them.
+    /// Reads at most `most` pages above a sequence, stores all pages under one lock of the target, and sends the pages.
     /// The call sends the stored pages even if storing a later page fails. Returns the end of the last page, and the
     /// number of the next window.
     pub fn read_some(
@@ -225,8 +226,8 @@ impl<F: WriteFilter, S: SourceBrand, T: TargetBrand<F>, L: Ledger, G, R: Wait> C
         }
     }
 
-    /// Reads windows from a start until no further window is due, stores each window at the target, and sends it. The
-    /// call first reads one window at a time, then two, and later up to eight at a time.
+    /// Reads windows from a start until no further window is due, stores each window at the target, and sends each
+    /// window. The call reads one window first, then two, then four, and then eight windows at a time.
     pub fn read_windows(&self, start: u64, windows: &mut WindowPass<S>) -> Option<Halt>
         requires source { S.source ≡ self.now.source.now.1.db }
         requires plan { S.plan ≡ self.now.plan.now }

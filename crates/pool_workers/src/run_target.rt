@@ -27,7 +27,7 @@ use std::sync::ledger::{Book, Ledger, Share};
 /// counts the documents that the run's session has read. If the plan limits the number of windows, `more` is the number
 /// of windows that the run may still store. Each method of `RunTarget` is the call of the same name on the target, for
 /// the run's session. The method `append` also checks that the plan allows another window. The method `settle_counted`
-/// does the same as `settle`, and adds the number of settled documents to a worker's share of the ledger.
+/// settles a parcel, and adds the number of settled documents to a worker's share of the ledger.
 #[derive(Drop)]
 pub struct RunTarget<F: WriteFilter, S: SourceBrand, T: TargetBrand<F>, L: Ledger> {
     target: Peer<F>,
@@ -73,8 +73,8 @@ pub fn taken_of(answer: &Result<Settled, TargetFault>, documents: u64) -> u64
 }
 
 impl<F: WriteFilter, S: SourceBrand, T: TargetBrand<F>, L: Ledger> RunTarget<F, S, T, L> {
-    /// Wraps the given target, whose session has read nothing yet, together with the number of windows that the plan
-    /// allows.
+    /// Wraps the given target and the number of windows that the plan allows. The target's session must not have read a
+    /// document.
     pub fn open(
         target: Peer<F>,
         session: SessionId,

@@ -30,7 +30,7 @@ pub fn show_read(
     }
 }
 
-/// Shows documents as settled that the board already shows as read.
+/// Shows documents as settled. The board must already show the same documents as read.
 pub fn show_settled(board: Option<&Board>, seat: &mut Option<BoardSeat>, documents: u64)
     requires seat { IsSeated (option_copied board) seat.old }
     requires room { HasRoom (option_copied board) documents seat.old }
@@ -45,7 +45,7 @@ pub fn show_settled(board: Option<&Board>, seat: &mut Option<BoardSeat>, documen
     let _ = board.add_settled(seat, documents);
 }
 
-/// Puts a seat of the board back into the list of seats, if the seat exists.
+/// Appends a seat of the board to the list of seats, if the seat exists.
 pub fn give_back(seats: &mut Vec<BoardSeat>, seat: Option<BoardSeat>)
     requires { vec_len seats.old + length (option_to_list seat) ≤ vec_capacity seats.old }
     ensures items { seats.new.items ≡ seats.old.items ++ option_to_list seat }

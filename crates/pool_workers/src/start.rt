@@ -110,9 +110,9 @@ impl<
         started
     }
 
-    /// Splits off a pass and a part of the ledger of counts, takes the last seat, and starts a writer with these values
-    /// (`start_writer`). `others` is the number of writers that were started before. If a thread cannot be created, the
-    /// call returns `None` and puts the seat back into the list of seats.
+    /// Splits off a pass and a part of the ledger, takes the last seat, and starts a writer (`start_writer`). `others`
+    /// is the number of writers that were started before. If a thread cannot be created, the call returns `None`, and
+    /// the seat stays in the list of seats.
     fn spawn_writer<'s, E>(
         &'e self,
         scope: &Scope<'s, E>,

@@ -37,7 +37,7 @@ pub struct Owned<S: SourceBrand, L: Ledger> {
 }
 
 /// The values that the caller's thread owns after all workers have ended. The values are the complete passes of both
-/// channels, the complete share of the ledger, the reason why reading ended early, and both groups' results.
+/// channels, the complete share of the ledger, the reason if reading ended early, and the results of both groups.
 #[derive(Drop)]
 pub struct Ended<S: SourceBrand, L: Ledger> {
     pub windows: WindowPass<S>,
@@ -57,8 +57,8 @@ impl<
     G: Gate + Sync,
     R: Threads + Wait + Sync,
 > Context<'e, F, S, T, L, G, R> {
-    /// Starts the fetchers, reads the windows, and joins the fetchers. Returns the reason why reading the windows ended
-    /// early, and the fetchers' results. If a thread cannot be created, the call returns `None`, reads no window, and
+    /// Starts the fetchers, reads the windows, and joins the fetchers. Returns the fetchers' results, and the reason if
+    /// reading the windows ended early. If a thread cannot be created, the call returns `None`, reads no window, and
     /// sends the writers the end of the parcels.
     fn fetch_in_scope<'s, E>(
         &'e self,

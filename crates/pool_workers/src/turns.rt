@@ -1,4 +1,4 @@
-//! Runs a fetcher and a writer on one thread in turn. A single pair runs on the thread that reads the windows.
+//! Runs a fetcher and a writer alternately on one thread. A single pair runs on the thread that reads the windows.
 //!
 //! One fetcher and one writer on two threads would still settle one document at a time, and would move data between the
 //! processors' caches. No thread is started for a single pair. The caller's thread takes each window through both
@@ -30,7 +30,7 @@ use repl_target::{WriteFilter, has_left};
 use std::sync::Wait;
 use std::sync::ledger::{Ledger, Share};
 
-/// A fetcher and a writer that run on one thread in turn.
+/// A fetcher and a writer that run alternately on one thread.
 #[derive(Drop)]
 pub struct Pair<S: SourceBrand, L: Ledger> {
     pub fetcher: Fetcher<S>,
@@ -125,7 +125,7 @@ impl<F: WriteFilter, S: SourceBrand, T: TargetBrand<F>, L: Ledger, G: Gate, R: W
         more
     }
 
-    /// Processes windows until the end of the windows, each window in one turn.
+    /// Processes one window after another until the end of the windows.
     pub fn take_turns(&self, pair: Pair<S, L>) -> Pair<S, L>
         requires source { S.source ≡ self.now.source.now.1.db }
         requires stand { StandBy self.now.channels.now (option_copied self.now.board) (G.may_stop self.now.gate.now)

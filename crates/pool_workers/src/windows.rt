@@ -25,8 +25,8 @@ pub struct WindowView {
     pub taken: LinkedList<u64>,
 }
 
-/// The rule that the channel of windows always satisfies. Each number below the page reader's count of sent windows is
-/// the number of exactly one queued or taken window.
+/// The rule that the channel of windows always satisfies. For each number below the page reader's count of sent
+/// windows, exactly one queued or taken window has this number.
 pub struct InTurn;
 
 impl<S: SourceBrand> Protocol<WindowMessage<S>, WindowView> for InTurn {

@@ -24,8 +24,8 @@ use rev_tree::SessionId;
 use std::sync::Wait;
 use std::sync::ledger::{Ledger, Share};
 
-/// A writer of the pool. A writer has its pass of the channel of parcels, its share of the ledger, and its seat of the
-/// board if there is one. A writer also has the number of parcels that it settled, and the reason why it stopped.
+/// A writer of the pool. A writer has its pass of the channel of parcels, its share of the ledger, and, if the run has
+/// a board, its seat. A writer also has the number of parcels that it settled, and the reason why it stopped.
 #[derive(Drop)]
 pub struct Writer<S: SourceBrand, L: Ledger> {
     pub parcels: ParcelPass<S>,
@@ -103,8 +103,9 @@ impl<F: WriteFilter, S: SourceBrand, T: TargetBrand<F>, L: Ledger, G: Gate, R: W
         }
     }
 
-    /// Settles a parcel and records the low water at the target. The writer stops if the gate stops it or a call fails.
-    /// The board shows the documents as read before they are settled, and as settled before the gate is called.
+    /// Settles a parcel and records the low water at the target. The writer stops if the gate stops the writer or a
+    /// call fails. The board shows the documents as read before they are settled, and as settled before the gate is
+    /// called.
     fn settle_and_record(
         &self,
         share: &mut Share<L>,
@@ -126,7 +127,7 @@ impl<F: WriteFilter, S: SourceBrand, T: TargetBrand<F>, L: Ledger, G: Gate, R: W
         show_read(self.board, seat, documents)?;
         self.settle_and_show(share, seat, fetched, &mut spent)?;
         pass(self.rt, self.gate, Place::Settled(number))?;
-        // After settling, the writer can usually take the lock again at once, because another waiting writer takes a
+        // After settling, the writer usually gets the lock without waiting, because another waiting writer takes a
         // while to wake up.
         let recorded = self.record()?;
         drop(spent);
@@ -144,8 +145,8 @@ impl<F: WriteFilter, S: SourceBrand, T: TargetBrand<F>, L: Ledger, G: Gate, R: W
         }
     }
 
-    /// Reads a parcel at the source, and prepares its documents before the lock is taken if several writers settle. The
-    /// call then settles the parcel, and records the low water (`settle_and_record`).
+    /// Reads a parcel at the source. If several writers settle, the call prepares the parcel's documents before it
+    /// takes the lock. The call then settles the parcel, and records the low water (`settle_and_record`).
     fn read_and_settle(
         &self,
         share: &mut Share<L>,

@@ -21,8 +21,8 @@ use Rattle.read_commands.specs.declared.audit.Audit.{Audit}
 
 -- ---- its parameters
 
--- The parameters of `audit`, which checks that the target covers what the common checkpoint claims, for a selection of
--- documents.
+-- The parameters of `audit`. For a selection of documents, the command checks that the target covers what the common
+-- checkpoint claims.
 pub record AuditAsk : Type 0 where
   pub source : List ℕ
   pub target : List ℕ
@@ -63,7 +63,7 @@ audit_told s ask = do
   chosen ← choice_given ask.doc_ids
   Ok (audit_text (audit_answer source target chosen))
 
--- If the two peers of an `audit` line are consistent, the audit finds no leaf that is not covered.
+-- If the two peers of an `audit` line are consistent, the audit finds no uncovered leaf.
 abbrev pub FindsNone : State → AuditAsk → Type 0
 FindsNone s ask =
     (p q : PeerValue) (chosen : Choice) → peer_at s ask.source ≡ Some p → peer_at s ask.target ≡ Some q

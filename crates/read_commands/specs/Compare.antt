@@ -26,8 +26,7 @@ use Rattle.read_commands.specs.declared.compare.CompareRest.{CompareRest}
 
 -- ---- its parameters
 
--- The parameters of `compare`, which prints what a target lacks of the complete feed of a source, for a selection of
--- documents.
+-- The parameters of `compare`. The command prints what a target lacks of a source's feed, for a selection of documents.
 pub record CompareAsk : Type 0 where
   pub source : List ℕ
   pub target : List ℕ
@@ -50,7 +49,7 @@ compare_in d = do
 
 -- ---- its output
 
--- The line of `compare` for the revision to which the target gives another parent, if there is such a revision.
+-- The line of `compare` for the revision that has another parent at the target, if there is such a revision.
 abbrev pub contradicts_line : List ℕ → Option Contradiction → List ℕ
 contradicts_line id None = []
 contradicts_line id (Some c) = revs_line (codes "contradicts") id (c.child ∷ [])
@@ -63,11 +62,11 @@ comparison_lines id c =
 abbrev pub compared_lines : DatabaseValue → DatabaseValue → RowValue → List ℕ
 compared_lines source target r = comparison_lines r.id (compared_at source target r.id)
 
--- The numbers of compared documents and leaves, as `compare` prints them.
+-- The part of the output of `compare` with the numbers of compared documents and leaves.
 abbrev pub compared_part : Total → List ℕ
 compared_part t = codes "compared " ++ decimal t.documents ++ codes " documents " ++ decimal t.leaves ++ codes " leaves"
 
--- The numbers of differences, as `compare` prints them.
+-- The part of the output of `compare` with the numbers of differences.
 abbrev pub found_part : Total → List ℕ
 found_part t =
     codes " missing " ++ decimal t.missing ++ codes " contradicting " ++ decimal t.contradicting ++ codes " differing "

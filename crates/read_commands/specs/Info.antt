@@ -32,7 +32,7 @@ info_in d = do
 
 -- ---- its output
 
--- The name, UUID, update sequence and life of a database, as `info` prints them.
+-- The part of the output of `info` with the name, UUID, update sequence and life of a database.
 abbrev pub identity_part : List ℕ → DatabaseValue → List ℕ
 identity_part name db =
     codes "info " ++ name ++ codes " uuid " ++ id_digits db.uuid ++ codes " seq " ++ decimal db.update_seq ++ codes " life " ++ decimal db.life

@@ -21,8 +21,8 @@ use Rattle.read_commands.specs.declared.ledger.Ledger.{Ledger}
 
 -- ---- its parameters
 
--- The parameters of `ledger`, which prints the documents that a target refused in a session, which is given by the
--- number of the session's UUID.
+-- The parameters of `ledger`, which prints the documents that a target refused in a session. The session id is a UUID
+-- as a number.
 pub record LedgerAsk : Type 0 where
   pub target : List ℕ
   pub session : ℕ
@@ -43,15 +43,16 @@ ledger_in d = do
 abbrev pub rev_part : List ℕ → List ℕ → List ℕ → List ℕ
 rev_part word id rev = word ++ codes " " ++ quoted id ++ codes " " ++ rev
 
--- A part of a line of `ledger`: the parent of a revision that the target knows, and the parent that the document gives.
+-- A part of a line of `ledger`: a revision's parent in the target's tree, and the revision's parent in the ledger's
+-- document.
 abbrev pub parents_part : List ℕ → List ℕ → List ℕ
 parents_part known given = codes " known " ++ known ++ codes " given " ++ given
 
--- The line of `ledger` for a document that the write filter refused, with its newest revision.
+-- The line of `ledger` for a document that the write filter refused, with the document's newest revision.
 abbrev pub denied_line : List ℕ → List ℕ → List ℕ
 denied_line id rev = ended (rev_part (codes "denied") id rev)
 
--- The line of `ledger` for a document that gives a revision a different parent.
+-- The line of `ledger` for a document in which a revision has another parent than in the target's tree.
 abbrev pub contradicted_line : List ℕ → List ℕ → List ℕ → List ℕ → List ℕ
 contradicted_line id rev known given =
     ended (rev_part (codes "contradicted") id rev ++ parents_part known given)

@@ -59,7 +59,7 @@ log_in d = do
 
 -- ---- its result
 
--- The log of a replication on one side, the source's or the target's.
+-- The log of a replication at its source or its target.
 abbrev pub log_held : Side → PeerValue → PeerValue → Choice → List EntryValue
 log_held Source source target chosen = source_log source (rep_between source target chosen)
 log_held Target source target chosen = target_log target (rep_between source target chosen)

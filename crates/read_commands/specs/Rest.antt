@@ -22,7 +22,7 @@ FitsRest s (Compare r) = FitsCompare s r.value
 FitsRest s (Conflicts r) = FitsConflicts s r.value
 FitsRest s (Docs r) = Unit {0}
 
--- The result of a line whose output was not started yet.
+-- The result of a line whose output has not started.
 abbrev pub told_from : State → Result Rest Refusal → Told
 told_from s (Ok rest) = Ok (rest_left s rest)
 told_from s (Err refusal) = Err (name_of refusal)

@@ -43,7 +43,7 @@ head_line id tree =
     ended (codes "doc " ++ quoted id ++ codes " winner " ++ text_of_any (first_of (leaves tree)) ++ codes " leaves "
     ++ decimal (length (leaves tree)) ++ codes " revs " ++ decimal (finmap.len tree.origins))
 
--- The line of `show` for a leaf, with whether the leaf is deleted, and its known ancestry.
+-- The line of `show` for a leaf. The line says whether the leaf is deleted, and has the leaf's known ancestry.
 abbrev pub leaf_text : RevId → Bool → List RevId → List ℕ
 leaf_text leaf deleted ancestry =
     ended (codes "leaf " ++ rev_text leaf ++ (if deleted then codes " deleted " else codes " live ") ++ texts_of_revs ancestry)

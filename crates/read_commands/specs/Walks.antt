@@ -19,7 +19,7 @@ abbrev pub left_in : Option PeerValue → (PeerValue → List ℕ) → List ℕ
 left_in None text = []
 left_in (Some l) text = text l
 
--- A property of a database, which is true if the database does not exist.
+-- The database does not exist, or has the given property.
 abbrev pub holds_in : Option PeerValue → (PeerValue → Type 0) → Type 0
 holds_in None holds = Unit {0}
 holds_in (Some l) holds = holds l

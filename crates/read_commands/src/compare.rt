@@ -77,7 +77,7 @@ impl<'v, 'a> StreamingCommand<&'v Line<'a>> for Compare<'v, 'a> {
 /// The maximum number of feed rows that one read returns.
 const PAGE: u64 = 100;
 
-/// The part of the output of `compare` that is still to be printed, and the totals of the documents compared before.
+/// The part of the output of `compare` that is still to be printed, and the totals of the documents that were compared.
 #[derive(Drop)]
 pub struct CompareRest {
     pub source: String,

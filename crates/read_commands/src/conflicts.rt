@@ -64,7 +64,7 @@ impl<'v, 'a> StreamingCommand<&'v Line<'a>> for Conflicts<'v> {
 /// The maximum number of feed rows that one read returns.
 const PAGE: u64 = 100;
 
-/// The part of the output of `conflicts` that is still to be printed, and the counts of the documents read before.
+/// The part of the output of `conflicts` that is still to be printed, and the counts of the documents that were read.
 #[derive(Drop)]
 pub struct ConflictsRest {
     pub db: String,
@@ -73,8 +73,8 @@ pub struct ConflictsRest {
 }
 
 impl ConflictsRest {
-    /// Appends documents in conflict until the piece of output is full. After the last document, the call appends their
-    /// number. Returns whether more of the command's output is left.
+    /// Appends documents in conflict until the piece of output is full. After the last document, the call appends the
+    /// number of documents in conflict. Returns whether more of the command's output is left.
     pub fn more(
         &mut self,
         alloc: Global,
@@ -115,7 +115,7 @@ fn push_counts(answer: &mut Vec<u8>, census: &Census) -> Result<(), AllocError>
     answer.extend_from_slice(b" documents\n")
 }
 
-/// Prints the documents of rows that are in conflict, with their live leaves, and counts all documents of the rows.
+/// Prints each row's document, with its live leaves, if the document is in conflict. Counts all documents of the rows.
 #[derive(Drop)]
 struct ConflictRows<'a> {
     database: &'a Database,

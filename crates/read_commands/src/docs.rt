@@ -67,8 +67,7 @@ impl<'v, 'a> StreamingCommand<&'v Line<'a>> for Docs<'v, 'a> {
     }
 }
 
-/// The maximum number of feed rows that one read returns. The maximum number of rows is small because documents can be
-/// large.
+/// The maximum number of feed rows that one read returns, which is small because documents can be large.
 const PAGE: u64 = 16;
 
 /// The part of the output of `docs` that is still to be printed.

@@ -15,7 +15,7 @@ const PIECE: usize = 65_536;
 /// A position in a changes feed.
 #[derive(Drop)]
 pub struct Walk {
-    /// The sequence after which the rows of the feed are not printed yet.
+    /// The sequence up to which the rows of the feed are printed.
     pub since: u64,
     /// The selected documents. If there is no selection, the feed has all documents.
     pub chosen: Option<Chosen>,
@@ -32,10 +32,10 @@ pub trait RowPrinter {
     // The text that the type prints for a row.
     ghost row_text: { Self → RowValue → List ℕ };
 
-    // Whether counting the given rows gives the given counts.
+    // The given counts are the counts of the given rows.
     ghost counts: { Self → Self.Tally → List RowValue → Type 0 } = { λ _ _ _. Unit {0} };
 
-    /// Prints a row of the feed, and counts it.
+    /// Prints and counts a row of the feed.
     fn push_row(
         &self,
         alloc: Global,

@@ -110,7 +110,7 @@ fn push_denied(answer: &mut Vec<u8>, id: &str, rev: Rev) -> Result<(), AllocErro
     answer.extend_from_slice(b"\n")
 }
 
-/// Prints a document that contradicts the tree, because it gives a revision another parent.
+/// Prints a document that contradicts the tree, because a revision has another parent in the tree.
 fn push_contradicted(
     answer: &mut Vec<u8>,
     id: &str,

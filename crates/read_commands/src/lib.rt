@@ -1,7 +1,8 @@
 //! The read-only commands, with their parameters and output (docs/PROFILE.md, "Command lines" and "Answers").
 //!
-//! Each command has a source file of its own. `feed` prints a database's feed row by row. A command whose output is
-//! produced in pieces implements `StreamingCommand` (`streaming_command`), and `rest` produces its remaining pieces.
+//! Each command has a separate source file. `feed` prints a database's feed row by row. A command whose output is
+//! produced in pieces implements `StreamingCommand` (`streaming_command`), and `rest` produces the remaining pieces of
+//! the output.
 #![tactic(auto)]
 
 mod audit;

@@ -1,4 +1,4 @@
--- The entries of a log's history that are kept, as values of contracts.
+-- The kept entries of a log's history, as the values that contracts use.
 use Rattle.std.specs.Prelude.{List, map}
 use Rattle.relay_requests.specs.declared.logs.Recorded.{Recorded}
 use Rattle.relay_requests.specs.Logs as logs

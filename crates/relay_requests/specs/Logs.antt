@@ -8,7 +8,7 @@ use Rattle.json.specs.Print.{print}
 use Rattle.relay_core.specs.declared.messages.Counts.{Counts}
 use Rattle.relay_core.specs.Messages.{Text, EntryView, LogView, CheckpointView}
 
--- The path of both replication logs, from the MD5 of six texts with line feeds between them.
+-- The path of both replication logs, which has the MD5 of six texts with line feeds between them.
 abbrev pub log_path : Text → Text → Text → Text → Text → Text → Text
 log_path source target filter query choice salt =
     codes "/_local/sandermauve-" ++ encode_lower (md5 (source ++ 10 ∷ (target ++ 10 ∷ (filter ++ 10 ∷ (query ++ 10 ∷ (choice ++ 10 ∷ salt))))))
@@ -21,7 +21,7 @@ counts_tokens c =
     ∷ key (codes "docs_written") ∷ number (decimal c.docs_written)
     ∷ key (codes "doc_write_failures") ∷ number (decimal c.doc_write_failures) ∷ []
 
--- The members of a log that have a session, a sequence, and the version of the log's format.
+-- The members of a log for a session, a sequence, and the version of the log's format.
 abbrev pub position_tokens : Text → Text → List Token
 position_tokens session seq =
     key (codes "session_id") ∷ string session ∷ key (codes "source_last_seq") ∷ string seq
@@ -51,13 +51,13 @@ is_of_session session r = bytes_eq r.0 session
 abbrev pub is_recorded : Text → Text → Recorded → Bool
 is_recorded session seq r = bytes_eq r.0 session && bytes_eq r.1 seq
 
--- Whether an entry of a log's history is kept, given the entries that are kept before it. A history keeps at most 50
+-- Whether an entry of a log's history is kept, given the kept entries before this entry. A history keeps at most 50
 -- entries, and at most two entries of a session. Entries of one session that are kept have different sequences.
 abbrev pub may_keep : List Recorded → EntryView → Bool
 may_keep kept e =
     nat_lt (length kept) 50 && nat_lt (count_by (is_of_session e.session) kept) 2 && not (list_any (is_recorded e.session e.seq) kept)
 
--- The entries of a log's history that are kept, newest first, if the entries in `kept` are kept before these entries.
+-- The entries of a log's history that are kept, newest first, after the kept entries in `kept`.
 abbrev pub thinned : List Recorded → List EntryView → List EntryView
 thinned kept [] = []
 thinned kept (e ∷ es) = if may_keep kept e then e ∷ thinned (kept ++ recorded_of e ∷ []) es else thinned kept es
@@ -73,7 +73,7 @@ abbrev pub rev_tokens : Option Text → List Token
 rev_tokens None = []
 rev_tokens (Some rev) = key (codes "_rev") ∷ string rev ∷ []
 
--- The text of a log before the first entry of its history.
+-- The text of a log before the first entry of the log's history.
 abbrev pub head_tokens : Option Text → Text → Text → List Token
 head_tokens rev session seq =
     begin_object ∷ (rev_tokens rev ++ position_tokens session seq ++ key (codes "history") ∷ begin_array ∷ [])

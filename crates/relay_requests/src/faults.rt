@@ -7,7 +7,7 @@ use crate::words::{expected_text, operation_text, quoted, side_text};
 use relay_core::{Fault, Unaccounted};
 use std::alloc::{AllocError, Global};
 
-/// Returns the name of a fault, as the relay prints it.
+/// Returns the name that the relay prints for a fault.
 pub(crate) fn fault_name(fault: &Fault) -> &'static str
     ensures { result.now ≡ fault_name (fault_view fault.now) }
 {
@@ -25,7 +25,7 @@ pub(crate) fn fault_name(fault: &Fault) -> &'static str
     }
 }
 
-/// Returns the description of a `_bulk_docs` row's error. If there is no row, the description says this.
+/// Returns the description of a `_bulk_docs` row's error, or a text that says that there is no row.
 fn row_error_text(alloc: Global, error: &Option<(String, String)>) -> Result<String, AllocError>
     ensures { IfOk result (λ s. string_bytes s
         ≡ row_error_text (option_map (λ e. (string_bytes e.0, string_bytes e.1)) error.now)) }

@@ -91,7 +91,7 @@ pub(crate) fn put_position(
     Ok(())
 }
 
-/// Writes the start of a log, which ends before the first entry of the log's history.
+/// Writes a log up to the first entry of the log's history.
 fn put_head(
     writer: &mut Writer,
     rev: &Option<String>,
@@ -200,7 +200,7 @@ fn put_if_kept<'a>(
     Ok(())
 }
 
-/// Writes those older entries that the log keeps, each after a comma.
+/// Writes the older entries that the log keeps, each after a comma.
 fn put_older(
     alloc: Global,
     out: &mut Vec<u8>,

@@ -13,7 +13,7 @@ use json::Writer;
 use relay_core::{Counts, Fault, Notice, RefusedLeaf};
 use std::alloc::{AllocError, Global};
 
-/// Returns the kind of a notice, as the relay prints it.
+/// Returns the name that the relay prints for the kind of a notice.
 pub(crate) fn notice_kind(notice: &Notice) -> &'static str
     ensures { result.now ≡ notice_kind (notice_view notice.now) }
 {

@@ -1,11 +1,11 @@
-//! The options that the requests of a run depend on.
+//! The options for writing the requests of a run.
 ghost use Rattle.std.specs.Prelude.{◌≡◌, IfOk, string_bytes};
 ghost use Rattle.relay_requests.specs.Logs.{log_path as log_path_of};
 
 use md5::{Digest, Md5};
 use std::alloc::{AllocError, Global};
 
-/// The options that the requests of a run depend on. An empty string means that the option is absent.
+/// The options for writing the requests of a run. An empty string means that the option is absent.
 #[derive(Drop)]
 pub struct RequestOptions {
     /// The path of both replication logs.

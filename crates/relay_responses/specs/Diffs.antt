@@ -19,7 +19,7 @@ abbrev pub doc_of : Text → List Text → DocView
 doc_of id revs = (id, revs)
 
 -- The document that a member of a `_revs_diff` response names. The name of the member is the document's id, and the
--- list `missing` in its value has the leaves.
+-- list `missing` in the member's value has the leaves.
 abbrev pub missing_at : Text × Json → Option DocView
 missing_at m = option_map (doc_of m.0) (option_and_then (each_item as_str) (items_at (codes "missing") m.1))
 

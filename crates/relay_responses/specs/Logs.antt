@@ -28,7 +28,7 @@ row_errors_in j = option_map (some_items row_error_in) (as_array j)
 abbrev pub entry_of : Json → Text × Text → EntryView
 entry_of j p = record { session = p.0; seq = p.1; json = print (json_tokens j) }
 
--- The entry of a log's history in a JSON value that has a session and a sequence.
+-- The entry of a log's history in a JSON value, if the value has a session and a sequence.
 abbrev pub entry_in : Json → Option EntryView
 entry_in j = option_map (entry_of j) (both (text_at (codes "session_id") j) (sequence_at (codes "recorded_seq") j))
 

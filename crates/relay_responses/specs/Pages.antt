@@ -18,7 +18,7 @@ plain s = if list_all is_plain_byte s then Some s else None
 abbrev pub rev_in : Json → Option Text
 rev_in j = option_and_then plain (text_at (codes "rev") j)
 
--- The leaves of a page's row, or `None` if the row has no leaf.
+-- The given leaves of a page's row, or `None` if the row has no leaf.
 abbrev pub some_leaf : List Text → Option (List Text)
 some_leaf [] = None
 some_leaf (r ∷ rs) = Some (r ∷ rs)
@@ -32,17 +32,17 @@ rows_in j = option_and_then (each_item row_in) (items_at (codes "results") j)
 
 -- ---- rows of one document
 
--- The known leaves of a document, followed by the leaves of the list `more` that are new, in the order of this list.
+-- The known leaves of a document, followed by the new leaves of the list `more`, in the order of `more`.
 abbrev pub add_revs : List Text → List Text → List Text
 add_revs revs [] = revs
 add_revs revs (r ∷ rs) = add_revs (if list_any (bytes_eq r) revs then revs else revs ++ r ∷ []) rs
 
--- The documents after the leaves of a row are added to the document with the row's id.
+-- The given documents, with the leaves of a row added to the document with the row's id.
 abbrev pub add_row : List DocView → DocView → List DocView
 add_row [] row = (row.0, add_revs [] row.1) ∷ []
 add_row (d ∷ ds) row = if bytes_eq row.0 d.0 then (d.0, add_revs d.1 row.1) ∷ ds else d ∷ add_row ds row
 
--- The documents of all rows of a page, each document once, with the leaves of all rows of the document, each leaf once.
+-- The documents of a page's rows. Each document occurs once, and has the leaves of all its rows, each leaf once.
 abbrev pub merged : List DocView → List DocView
 merged rows = fold add_row [] rows
 

@@ -1,4 +1,5 @@
--- The contents of a JSON response. If a JSON object has a name twice, the last member with this name counts.
+-- The contents of a JSON response. If a JSON object has several members with the same name, the last of these members
+-- counts.
 use Rattle.std.specs.Prelude.{if◌then◌else◌, List, [], ◌∷◌, ◌++◌, Option, None, Some, option_and_then}
 use Rattle.std.specs.Option.{option_map_or}
 use Rattle.std.specs.List.{list_all}
@@ -12,11 +13,11 @@ use Rattle.relay_core.specs.Messages.{Text}
 abbrev pub json_in : Text → Option Json
 json_in body = if is_utf8 body then document body else None
 
--- The value of a JSON object's member, if it is a string.
+-- The value of a JSON object's member, if the value is a string.
 abbrev pub text_at : Text → Json → Option Text
 text_at name j = option_and_then as_str (get name j)
 
--- The items of a JSON object's member, if it is a list.
+-- The items of a JSON object's member, if the member's value is a list.
 abbrev pub items_at : Text → Json → Option Items
 items_at name j = option_and_then as_array (get name j)
 
@@ -55,7 +56,7 @@ abbrev pub each_item : {A : Type 0} → (Json → Option A) → Items → Option
 each_item reads no_items = Some []
 each_item reads (item j js) = with_first (reads j) (each_item reads js)
 
--- The results for those items of a list that can be read.
+-- The results for the items of a list that can be read.
 abbrev pub some_items : {A : Type 0} → (Json → Option A) → Items → List A
 some_items reads no_items = []
 some_items reads (item j js) = option_map_or (λ x. x ∷ some_items reads js) (reads j) (some_items reads js)

@@ -157,7 +157,7 @@ fn side_or(who: Option<Side>, side: Side) -> Side
     }
 }
 
-/// Returns the parsed response to a request, whose body is interpreted by the kind of the request.
+/// Returns the parsed response to a request. The call interprets the response's body by the kind of the request.
 pub fn read_response(
     alloc: Global,
     scratch: &mut Scratch,

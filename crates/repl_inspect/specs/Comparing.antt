@@ -12,10 +12,9 @@ use Rattle.rev_tree.specs.Content.{ContentValue}
 use Rattle.rev_tree.specs.Tree.{TreeValue, leaves, ancestors, missing, first_contradiction}
 use Rattle.rev_tree.specs.declared.fault.Contradiction.{Contradiction}
 
--- The comparison of a document at a source and a target. A comparison has the number of the source's leaves, and the
--- leaves that the target's tree lacks. A comparison also has the first revision of the missing leaves' ancestries to
--- which the target gives another parent. Finally, a comparison has the leaves whose contents are known on both sides
--- and differ.
+-- The comparison of a source's document with the target's document. A comparison has the number of the source's leaves,
+-- and the leaves that the target's tree lacks. A comparison has the first revision in the missing leaves' ancestries
+-- that has another parent at the target. A comparison has the leaves whose contents are known on both sides and differ.
 pub record ComparisonValue : Type 0 where
   pub leaves : ℕ
   pub missing : List RevId

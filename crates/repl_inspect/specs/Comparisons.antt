@@ -8,6 +8,6 @@ use Rattle.repl_inspect.specs.Comparing.{ComparisonValue, compared}
 abbrev pub compared_at : DatabaseValue → DatabaseValue → Id → ComparisonValue
 compared_at source target id = compared (tree_of source.docs id) (tree_of target.docs id)
 
--- The comparisons of the documents of the given rows of the source's feed.
+-- The comparisons of the documents in the given feed rows of the source.
 abbrev pub comparisons : DatabaseValue → DatabaseValue → List RowValue → List ComparisonValue
 comparisons source target rows = map (λ r. compared_at source target r.id) rows

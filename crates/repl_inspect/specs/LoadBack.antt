@@ -27,7 +27,7 @@ AllTaken p [] = Unit {0}
 AllTaken p (d ∷ ds) = IsOk (put_answer p.db d) × AllTaken (after_load p d) ds
 
 -- An empty peer with enough sequences accepts the documents of all selected leaves. After the load, each selected
--- document has the same revisions, parents, contents of leaves and winner at the peer as in the database.
+-- document has the same revisions, parents, contents of leaves and winner at the peer and in the database.
 abbrev pub LoadBack : DatabaseValue → Type 0
 LoadBack db =
     (chosen : Choice) (p : PeerValue) → IsEmpty p → p.db.update_seq + length (all_documents chosen db) ≤ most

@@ -61,9 +61,9 @@ impl Comparison {
         self.missing.as_slice()
     }
 
-    /// Returns the first revision that has another parent at the target, among the ancestries of the missing leaves.
-    /// The call searches the missing leaves in order, and each leaf's ancestry from the newest revision on. The target
-    /// would refuse the leaf that has this revision in its ancestry.
+    /// Returns the first revision in the missing leaves' ancestries that has another parent at the target. The call
+    /// searches the missing leaves in order, and each leaf's ancestry from the newest revision on. The target would
+    /// refuse the leaf that has this revision in its ancestry.
     pub fn contradiction(&self) -> Option<Contradiction>
         ensures { result ≡ self.now.contradiction }
     {
@@ -98,8 +98,8 @@ pub(crate) fn compare_trees(
     })
 }
 
-/// Returns the first revision in the ancestries of leaves whose parent differs in the target's tree. The given leaves
-/// are leaves of the source's document.
+/// Returns the first revision in the given leaves' ancestries that has another parent in the target's tree. The given
+/// leaves are leaves of the source's document.
 fn first_under(
     alloc: Global,
     source: &Tree,

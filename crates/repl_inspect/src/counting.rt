@@ -4,7 +4,7 @@ ghost use Rattle.repl_inspect.specs.Counting.{counted};
 
 use couch_base::MOST_SEQUENCE;
 
-/// Adds two counts. The sum is capped at 9,007,199,254,740,991, as all counts of documents and revisions are.
+/// Adds two counts. The sum is capped at 9,007,199,254,740,991.
 pub(crate) fn plus(count: u64, more: u64) -> u64
     ensures { result ≡ counted (count + more) }
 {
@@ -14,7 +14,7 @@ pub(crate) fn plus(count: u64, more: u64) -> u64
     count + more
 }
 
-/// Adds one to a count if a condition holds.
+/// Adds one to a count if a condition is true.
 pub(crate) fn plus_if(count: u64, holds: bool) -> u64
     ensures { result ≡ counted (count + (if holds then 1 else 0)) }
 {

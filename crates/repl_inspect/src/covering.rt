@@ -1,4 +1,4 @@
-//! Compares the complete feed of a source with a target. The contract states what the result says about covered leaves.
+//! Compares the complete feed of a source with a target. The contract says which leaves the target covers.
 ghost use Rattle.std.specs.Prelude.{◌≡◌, IfOk};
 ghost use Rattle.std.specs.Option.{option_copied};
 ghost use Rattle.couch_base.specs.Feed.{chosen_feed};
@@ -13,8 +13,8 @@ use doc_json::Chosen;
 use repl_target::{Peer, WriteFilter};
 use std::alloc::{AllocError, Global};
 
-/// Returns the total of the differences between a source's complete feed, or its feed of selected documents, and a
-/// target. The call ignores logs, and reads the source's feed in pages.
+/// Returns the total of the differences between a source's complete or selected feed and a target. The call ignores
+/// logs, and reads the source's feed in pages.
 ///
 /// If no leaf is missing, the target covers the complete feed. If the target covers the complete feed, each missing
 /// leaf is in a ledger of the target. If the target covers the complete feed and all ledgers are empty, no leaf is

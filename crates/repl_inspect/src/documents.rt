@@ -17,8 +17,9 @@ use std::alloc::{AllocError, Global};
 /// Returns the leaves of a document, winner first, each as a document with its known ancestry and its content. The list
 /// is empty if the database does not have the document.
 ///
-/// If the documents of all rows of a feed are loaded in order into an empty peer with enough sequences left, the peer
-/// accepts all of them. After the last load, the peer has each selected document as the original database has it.
+/// If the documents of all rows of a feed are loaded in order into an empty peer with enough sequences, the peer
+/// accepts every document. After the last load, each selected document is the same in the peer and in the original
+/// database.
 pub fn documents_of(alloc: Global, database: &Database, id: &DocId) -> Result<Vec<Doc>, AllocError>
     ensures documents { IfOk result (λ v. v.items ≡ documents_at database.now id.now) }
     ensures documents_load_back { LoadBack database.now }

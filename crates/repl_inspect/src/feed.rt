@@ -17,8 +17,8 @@ use std::alloc::{AllocError, Global};
 /// The number of feed rows in one page that the call reads.
 const PAGE: u64 = 1000;
 
-/// Compares the trees that a source and a target have of a document. The comparison ignores sessions and logs. If one
-/// side lacks the document, the comparison treats this side's tree as empty.
+/// Compares the source's tree of a document with the target's tree of the document. The comparison ignores sessions and
+/// logs. If one side lacks the document, the comparison treats this side's tree as empty.
 pub fn compare(
     alloc: Global,
     source: &Database,

@@ -14,7 +14,7 @@ pub enum LedgerRow {
     Contradicted { rev: Rev, known: Rev, given: Rev },
 }
 
-/// Returns the reason for a row of a ledger, with the revision that caused it.
+/// Returns the reason of a ledger row, with the revision that caused the refusal.
 pub fn ledger_row(refused: &Refused) -> LedgerRow
     ensures { Says refused.now result }
 {

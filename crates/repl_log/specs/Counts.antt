@@ -6,7 +6,8 @@ use Rattle.repl_log.specs.declared.counts.Counts.{Counts}
 abbrev pub no_counts : Counts
 no_counts = record { checked = 0; found = 0; read = 0; written = 0; failures = 0 }
 
--- The number of documents that a session has read is the number of those written plus the number of those refused.
+-- The number of documents that a session has read is the number of written documents plus the number of refused
+-- documents.
 abbrev pub AddUp : Counts → Type 0
 AddUp c = c.read ≡ c.written + c.failures
 

@@ -30,8 +30,8 @@ recorded_of log s = option_map (λ e. e.recorded) (entry_for log s)
 abbrev pub replaced : List EntryValue → EntryValue → List EntryValue
 replaced log e = map (λ x. if is_of e.session x then e else x) log
 
--- The log after a put of entry e. A put makes the entry of a new session the first, and replaces the entry of a known
--- session in place.
+-- The log after a put of entry e. A put makes the entry of a new session the first entry, and replaces the entry of a
+-- known session.
 abbrev pub with_entry : List EntryValue → EntryValue → List EntryValue
 with_entry log e = if holds log e.session then replaced log e else e ∷ log
 
@@ -45,7 +45,7 @@ put_beside e (Some stored) = if nat_lt e.recorded stored.recorded then Err (faul
 abbrev pub put_answer : List EntryValue → EntryValue → Result (Unit {0}) LogFault
 put_answer log e = put_beside e (entry_for log e.session)
 
--- The new log has entry e for the session of e, and the old entries for all other sessions.
+-- The new log has entry e for the session of e, and the old entry for each other session.
 abbrev pub ChangesOnly : List EntryValue → List EntryValue → EntryValue → Type 0
 ChangesOnly old new e = (s : SessionId) → entry_for new s ≡ (if is_of s e then Some e else entry_for old s)
 
@@ -59,8 +59,8 @@ shared source target = find (λ t. holds source t.session) target
 abbrev pub lesser_of : EntryValue → EntryValue → SessionId × ℕ
 lesser_of t s = (t.session, min s.recorded t.recorded)
 
--- The session of the target's entry t with the lesser of the session's two recorded sequences, if the source's log has
--- the session.
+-- If the source's log has the session of the target's entry t: the session, and the lesser of the session's two
+-- recorded sequences.
 abbrev pub checkpoint_at : List EntryValue → EntryValue → Option (SessionId × ℕ)
 checkpoint_at source t = option_map (lesser_of t) (entry_for source t.session)
 

@@ -57,7 +57,7 @@ entry_for-replaced log e s held =
       | false ↦ λ other. entry_for-replaced_other log e s other
     ] refl
 
--- The log after a put of entry e has e as the entry of e's session, and the old entries of all other sessions.
+-- After a put, the log has entry e for the session of e, and the old entry for each other session.
 pub ChangesOnly-with_entry : (log : List EntryValue) (e : EntryValue) → ChangesOnly log (with_entry log e) e
 ChangesOnly-with_entry log e s =
     elim (holds log e.session) as (λ b. holds log e.session ≡ b → entry_for (cond b (replaced log e) (e ∷ log)) s ≡ cond (is_of s e) (Some e) (entry_for log s)) [
@@ -156,7 +156,7 @@ checkpoint_at-held source t =
       | None ↦ refl
     ] ∙ is_some-entry_for source t.session
 
--- Two logs have a common checkpoint exactly if a session is in both logs.
+-- Two logs have a common checkpoint exactly if some session is in both logs.
 pub is_some-common : (source target : List EntryValue) → is_some (common source target) ≡ list_any (λ t. holds source t.session) target
 is_some-common source [] = refl
 is_some-common source (t ∷ target) =

@@ -11,6 +11,6 @@ at_session s k = s.0 == k.0
 abbrev pub newest_first : {X V : Type 0} → (X → V) → List (SessionId × X) → List V
 newest_first value es = reverse (map (λ e. value e.1) es)
 
--- Each value of a table is stored under the value's own session.
+-- Each value of a table is stored under the session of the value.
 abbrev pub IsKeyed : {X : Type 0} → (X → SessionId) → List (SessionId × X) → Type 0
 IsKeyed session es = AllByRecursion (λ e. session e.1 ≡ e.0) es

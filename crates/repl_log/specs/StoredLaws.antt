@@ -34,7 +34,7 @@ absent-lookup : {X : Type 0} (s : SessionId) (es : List (SessionId × X)) → Al
 absent-lookup s [] none = refl
 absent-lookup s (e ∷ es) none = ap (λ b. cond b (Some e.1) (lookup (at_session s) es)) none.0 ∙ absent-lookup s es none.1
 
--- Inserting a value for a session that the table has already replaces the session's value.
+-- If a table has a session, inserting a value for the session replaces the session's value.
 pub insert_entry-present : {X : Type 0} (s : SessionId) (es : List (SessionId × X)) (x y : X) → lookup (at_session s) es ≡ Some y → insert_entry at_session es s x ≡ set_value (at_session s) es x
 insert_entry-present s [] x y is = cc is
 insert_entry-present s (e ∷ es) x y is =
@@ -43,8 +43,8 @@ insert_entry-present s (e ∷ es) x y is =
       | false ↦ λ rest. ap (λ l. e ∷ l) (insert_entry-present s es x y rest)
     ] is
 
--- Theorems about stored values, given a function from stored values to values of contracts, and a function from values
--- of contracts to sessions.
+-- Theorems about stored values. The parameter `value` maps stored values to values of contracts, and `session` maps
+-- values of contracts to sessions.
 module _ {X V : Type 0} (value : X → V) (session : V → SessionId) where
   abbrev named : SessionId → V → Bool
   named s v = (session v).0 == s.0
@@ -130,7 +130,7 @@ module _ {X V : Type 0} (value : X → V) (session : V → SessionId) where
   put_over-set s x [] keyed once = refl
   put_over-set s x (e ∷ es) keyed once = put_step s x e es keyed once.0 (put_over-set s x es keyed.1 once.1) (at_session s e.0) refl
 
-  -- A write for a session that the table has already replaces the session's value.
+  -- If a table has a session, a write for the session replaces the session's value.
   pub newest_first-set : (s : SessionId) (x : X) (es : List (SessionId × X)) → IsKeyed own es → EachSessionOnce es → newest_first value (set_value (at_session s) es x) ≡ map (put_over s x) (newest_first value es)
   newest_first-set s x es keyed once = ap reverse (put_over-set s x es keyed once) ∙ sym (map-reverse (put_over s x) (map (λ e. value e.1) es))
 

@@ -13,7 +13,7 @@ place_from (suc left) n f x = if nat_lt x (f (n + 1)) then n else place_from lef
 unfoldable pub year_of : ℕ → ℕ
 year_of day = 1970 + place_from 8029 0 days_of_years day
 
--- The number of days in a day's year that are before the day.
+-- The number of days between 1 January of a day's year and the day.
 unfoldable pub day_of_year : ℕ → ℕ
 day_of_year day = day - days_of_years (year_of day - 1970)
 
@@ -25,7 +25,7 @@ month_of day = 1 + place_from 11 0 (days_of_months (year_of day)) (day_of_year d
 unfoldable pub day_of_month : ℕ → ℕ
 day_of_month day = 1 + (day_of_year day - days_of_months (year_of day) (month_of day - 1))
 
--- The parts of the date and time of a timestamp in seconds since 1970.
+-- The date and time of a timestamp in seconds since 1970, as separate numbers.
 unfoldable pub parts_of : ℕ → Parts
 parts_of seconds =
     let day = seconds / 86400 in

@@ -6,7 +6,7 @@ ghost use Rattle.repl_log.specs.declared.fault.LogFault.TheVariants.{Memory};
 use std::alloc::{AllocError, AllocFailed};
 use thiserror::Error;
 
-/// The reason why a call rejected a timestamp, an entry or a log, or the failure of an allocation.
+/// The reason why a call failed: an invalid timestamp, entry or log, or a failed allocation.
 #[derive(Clone, Copy, Debug, PartialEq, Eq, Error)]
 pub enum LogFault {
     /// The timestamp is after the year 9999.

@@ -89,7 +89,7 @@ impl Log {
         }
     }
 
-    /// Stores an entry as `put` does, even if the stored entry has a greater recorded sequence.
+    /// Stores an entry as `put` does, but also if the stored entry has a greater recorded sequence.
     ///
     /// An error changes nothing.
     pub fn set(&mut self, entry: Entry) -> Result<(), AllocError>
@@ -118,7 +118,7 @@ impl Log {
         self.entries.len()
     }
 
-    /// Returns the entry at an index, if there is one. The index of the newest session's entry is 0.
+    /// Returns the entry at an index, if it exists. The index of the newest session's entry is 0.
     pub fn get(&self, place: usize) -> Option<Entry>
         ensures { option_map value_of result ≡ slice_get self.now place }
     {

@@ -21,7 +21,7 @@ abbrev pub AllPlansChoose : List Plan → Id → Type 0
 AllPlansChoose [] id = Unit {0}
 AllPlansChoose (plan ∷ plans) id = (is_chosen plan.chosen id ≡ true) × AllPlansChoose plans id
 
--- After synchronization by a hub, a document is the same in all peers.
+-- After synchronization by a hub, a document is the same at all peers.
 pub record Shared (peers' : List PeerValue) (id : Id) : Type 0 where
   pub same : IsSameEverywhere peers' id
   pub agree : AllAgree peers' id

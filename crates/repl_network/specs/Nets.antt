@@ -32,8 +32,8 @@ filters_of peers = map (λ p. p.0) peers
 abbrev pub IsAt : List PeerValue → ℕ → PeerValue → Type 0
 IsAt peers n p = slice_get peers n ≡ Some p
 
--- No two places of a network have the same UUID, and every two peers are consistent in both directions, for every
--- selection.
+-- For every selection, every two peers of a network are consistent in both directions. No two peers of a network have
+-- the same UUID.
 pub record AreTied (peers : List PeerValue) : Type 0 where
   pub apart : (m n : ℕ) (p q : PeerValue) → IsAt peers m p → IsAt peers n q → p.db.uuid ≡ q.db.uuid → m ≡ n
   pub tied : (m n : ℕ) (p q : PeerValue) → IsAt peers m p → IsAt peers n q → m ≢ n → (c : Choice) → IsTiedPair p q c
@@ -60,12 +60,12 @@ pub record IsNet (peers : List PeerValue) : Type 0 where
 
 -- ---- a document in all peers of a network
 
--- No two peers' trees of a document give a revision two parents or two contents.
+-- In the trees of all peers, a revision of the document never has two different parents or two different contents.
 abbrev pub AllAgree : List PeerValue → Id → Type 0
 AllAgree peers id =
     (m n : ℕ) (p q : PeerValue) → IsAt peers m p → IsAt peers n q → Agree (tree_of p.db.docs id) (tree_of q.db.docs id)
 
--- The trees of a document have complete histories in all peers.
+-- At every peer, the tree of the document has complete histories.
 abbrev pub AllWhole : List PeerValue → Id → Type 0
 AllWhole peers id = (n : ℕ) (p : PeerValue) → IsAt peers n p → IsWhole (tree_of p.db.docs id)
 
@@ -85,8 +85,8 @@ abbrev pub AllChoose : List Hop → Id → Type 0
 AllChoose [] id = Unit {0}
 AllChoose (h ∷ hops) id = (is_chosen h.plan.chosen id ≡ true) × AllChoose hops id
 
--- A chain of hops leads from one place to another: some of the listed hops in order, each from the place to which the
--- previous hop leads.
+-- A chain of hops leads from one place to another. A chain consists of some of the listed hops, in order. Each hop of a
+-- chain begins at the place at which the previous hop ends.
 abbrev pub Leads : List Hop → ℕ → ℕ → Type 0
 Leads [] from to = from ≡ to
 Leads (h ∷ hops) from to = Leads hops from to ⊎ (from ≡ h.from) × Leads hops h.to to
@@ -100,8 +100,8 @@ LeadsEverywhere hops count = (m n : ℕ) → m < count → n < count → Leads h
 -- The effect of consecutive hops on a document that each plan selects and no peer has refused. The peers of the network
 -- must be consistent, and the document's trees must have agreed and had complete histories. If a chain of hops leads
 -- from one place to another, the second peer has all revisions of the document that the first peer had. If a chain of
--- hops leads from every place to every other place, the document is the same in all peers. Each revision was at a peer
--- before the hops, and the document's trees again agree and have complete histories.
+-- hops leads from every place to every other place, the document is the same in all peers. After the hops, each
+-- revision of the document's trees was at some peer before the hops, and the trees agree and have complete histories.
 pub record Spreads (peers : List PeerValue) (hops : List Hop) (peers' : List PeerValue) (id : Id) : Type 0 where
   pub along : (m n : ℕ) (p q : PeerValue) → IsAt peers m p → IsAt peers' n q → Leads hops m n
       → (r : RevId) → has (tree_of p.db.docs id) r ≡ true → has (tree_of q.db.docs id) r ≡ true
@@ -122,7 +122,7 @@ Spread peers hops peers' =
 abbrev pub tree_alone : Document → TreeValue
 tree_alone d = merged no_revisions d.ancestry (content_of d.deleted d.body) (Local 0)
 
--- Document d gives no revision a parent or a content that differs from what a peer of the network has.
+-- Document d gives no revision a parent or a content that differs from a peer's tree.
 abbrev pub FitsIn : List PeerValue → Document → Type 0
 FitsIn peers d = (n : ℕ) (p : PeerValue) → IsAt peers n p → Agree (tree_of p.db.docs d.id) (tree_alone d)
 
@@ -134,7 +134,7 @@ IsRooted db d =
 abbrev pub IsRootedAt : List PeerValue → ℕ → Document → Type 0
 IsRootedAt peers place d = (p : PeerValue) → IsAt peers place p → IsRooted p.db d
 
--- The document that an edit stores gives no revision a parent or a content that differs from what a peer has. An edit
+-- The document that an edit stores gives no revision a parent or a content that differs from a peer's tree. Every edit
 -- satisfies `EditFits` if no two different edits have the same MD5.
 abbrev pub EditFits : List PeerValue → ℕ → Id → Option RevId → Bool → List ℕ → Type 0
 EditFits peers place id parent deleted body =

@@ -19,8 +19,8 @@ use Rattle.repl_network.specs.Hubs.{gathers, spreads}
 
 -- ---- replications
 
--- The effect of a hop between two existing places, which is a replication by the hop's plan on one thread. A hop leaves
--- all other peers unchanged.
+-- The effect of a hop between two existing places. A hop is a replication on one thread, by the hop's plan. A hop
+-- leaves peers at other places unchanged.
 pub record IsHop {F : Type 0} (refuses : F → Document → Bool) (peers : List (F × PeerValue)) (hop : Hop)
     (result : Result Report TargetFault) (peers' : List (F × PeerValue)) : Type 0 where
   pub source : F × PeerValue

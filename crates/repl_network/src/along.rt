@@ -25,9 +25,9 @@ use std::alloc::Global;
 ///
 /// If every two peers are consistent (docs/PROFILE.md, "Nets"), they stay consistent, even if the call fails. Suppose
 /// that the call succeeds, each plan selects a document, no peer has refused this document, and the document's trees
-/// agreed and had complete histories. If chains of hops also lead from every peer to every other peer, all peers have
-/// the same document with the same winner after the call. After the call, the trees of the document at all peers still
-/// agree and have complete histories.
+/// agreed and had complete histories. After the call, the trees of the document at all peers still agree and have
+/// complete histories. If chains of hops lead from every peer to every other peer, all peers then have the same
+/// document with the same winner.
 pub fn replicate_along<F: WriteFilter>(
     alloc: Global,
     peers: &mut [Peer<F>],
@@ -53,9 +53,9 @@ pub fn replicate_along<F: WriteFilter>(
 /// Stores a user's document at one peer of a network (`Peer::load`).
 ///
 /// If every two peers are consistent, they stay consistent, even if the call fails. If the document's trees agreed and
-/// had complete histories, they still do after the call under two conditions. The first condition is that the stored
-/// document gives no revision a parent or content that differs from a peer's. The second condition is that the ancestry
-/// of the stored document is complete, or its oldest revision is in the peer's tree.
+/// had complete histories before the call, the trees still agree and have complete histories after the call under two
+/// conditions. First, the stored document gives no revision a parent or content that differs from a peer's tree.
+/// Second, the ancestry of the stored document is complete, or the peer's tree has the ancestry's oldest revision.
 pub fn load_at<F: WriteFilter>(
     peers: &mut [Peer<F>],
     place: usize,
@@ -114,7 +114,7 @@ pub fn edit_at<F: WriteFilter>(
     }
 }
 
-/// The function has no effect at run time, but gives proofs the invariant of each peer's database.
+/// Has no effect at run time, but gives proofs the invariant of each peer's database.
 fn hold_laws<F: WriteFilter>(peers: &[Peer<F>])
     ensures { AllLawful (peers_of peers.now) }
 {

@@ -16,7 +16,7 @@ pub enum NetFault {
     /// The peer at the given index already has the UUID of the new peer.
     #[error("the peer at place {0} has this UUID")]
     SameUuid(usize),
-    /// The hop at the given index failed, and the hops before it succeeded.
+    /// The hop at the given index failed, and the earlier hops succeeded.
     #[error("hop {0}: {1}")]
     Hop(usize, TargetFault),
     /// The number of plans for a direction differs from the number of peers without the hub.

@@ -1,5 +1,4 @@
-//! Replication through a hub, which replicates every peer into the first peer, and then the first peer into every other
-//! peer.
+//! Replication through a hub, the first peer of a network.
 ghost use Rattle.std.specs.Prelude.{◌≡◌, ◌+◌, ◌++◌, length, IfOk, OnOk};
 ghost use Rattle.repl_network.specs.Nets.{peers_of, filters_of, AreTied, IsNet};
 ghost use Rattle.repl_network.specs.Made.{StaysMade};
@@ -13,12 +12,12 @@ use repl_target::{Peer, Plan, WriteFilter};
 use std::alloc::{AllocError, Global};
 
 /// Replicates every peer of a network into the hub, which is the first peer, and then the hub into every other peer.
-/// One thread performs all replications, which are two for each peer other than the hub. For each direction, the caller
-/// gives a plan for each peer other than the hub, in order.
+/// One thread performs all replications, two for each peer other than the hub. For each direction, the caller gives a
+/// plan for each peer other than the hub, in order.
 ///
 /// If every two peers are consistent, they stay consistent, even if the call fails. Suppose that all plans select a
-/// document, no peer has refused this document, and its trees agreed and had complete histories. If the call succeeds,
-/// all peers then have the same document, and its trees still agree and have complete histories.
+/// document, no peer has refused this document, and the document's trees agreed and had complete histories. If the call
+/// succeeds, all peers then have the same document, and the document's trees still agree and have complete histories.
 ///
 /// # Errors
 ///

@@ -13,8 +13,8 @@ use rev_core::Rev;
 use std::alloc::{AllocError, Global};
 use std::marker::Model;
 
-/// A network is a list of peers. Each peer was empty when it was added, and has since then written and replicated
-/// documents only within the network.
+/// A network is a list of peers. Each peer was empty when it was added, and has since then replicated documents only
+/// within the network.
 ///
 /// Every two peers of a network are consistent in both directions (docs/PROFILE.md, "Nets"). The calls of a network
 /// therefore need no assumption about consistency, and an audit between two peers never finds an uncovered leaf.

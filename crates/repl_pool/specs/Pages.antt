@@ -6,7 +6,7 @@ use Rattle.repl_peer.specs.peer.Peer.{PeerValue, SessionValue, session_in}
 use Rattle.repl_target.specs.declared.replication.Plan.{Plan}
 use Rattle.repl_target.specs.replication.Replication.{start_between, next_window}
 
--- Each window of a list is the next one of the source's feed for the plan, from sequence `since` on.
+-- The windows of a list are the plan's consecutive windows of the source's feed, from sequence `since`.
 abbrev pub ArePages : DatabaseValue → Plan → ℕ → List WindowValue → Type 0
 ArePages source plan since [] = Unit {0}
 ArePages source plan since (w ∷ windows) =
@@ -17,8 +17,8 @@ abbrev pub AreAllowed : Option ℕ → ℕ → Type 0
 AreAllowed None n = Unit {0}
 AreAllowed (Some stop_after) n = n ≤ stop_after
 
--- The windows of the run's session are consecutive pages of the source's selected feed, from the common checkpoint on.
--- The windows of the run's session have the plan's size, and are no more than the plan allows.
+-- The windows of the run's session are consecutive pages of the source's selected feed, starting at the common
+-- checkpoint. The windows have the plan's size, and there are at most as many windows as the plan allows.
 pub record IsPaged (source target target' : PeerValue) (plan : Plan) : Type 0 where
   pub session : SessionValue
   pub held : session_in target'.sessions plan.session ≡ Some session

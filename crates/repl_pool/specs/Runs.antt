@@ -55,14 +55,14 @@ pub data IsRecorded (plan : Plan) (fault : Option PoolFault) (complete : Bool) (
   refused : {why : TargetFault} → fault ≡ None → complete ≡ true → conclude_answer before plan.session ≡ Err why
       → after ≡ closed before plan → IsRecorded plan fault complete before after (faults.Refused why)
 
--- The outcome of a run after its last step. A run's success becomes `Memory` if the allocation for the entry at the
--- source fails, and any other outcome stays.
+-- The outcome of a run after its last step. If the allocation for the entry at the source fails, success becomes
+-- `Memory`. Any other outcome stays.
 abbrev pub UnlessMemory : Result Report PoolFault → Result Report PoolFault → Type 0
 UnlessMemory (Ok report) result = (result ≡ Ok report) ⊎ (result ≡ Err faults.Memory)
 UnlessMemory (Err why) result = result ≡ Err why
 
--- The entry of the target's session is stored at the source, or ignored if it is older, or the allocation for it fails.
--- If a run succeeded, the allocation for the entry at the source did not fail.
+-- The source stores the entry of the target's session, unless the entry is older than the stored entry or the
+-- allocation for the entry fails. If a run succeeded, the allocation for the entry at the source did not fail.
 pub record PutsEntry (source target source' : PeerValue) (plan : Plan) (outcome : Result Report PoolFault) : Type 0
   where
     pub entry : EntryValue
@@ -84,10 +84,10 @@ pub data ClosesRun (plan : Plan) (fault : Option PoolFault) (complete : Bool)
       → PutsEntry source after source' plan (Err why)
       → ClosesRun plan fault complete source before source' after (Err why)
 
--- The end of a run of the pool, with what is known about its workers. At the end of a run, the target has grown from
--- the given one, and the windows of its session are pages of the source. Each halt of a worker is allowed by the gate
--- or is the error of a worker's call. If no worker stopped and all parcels were received, the session has read the
--- documents that the fetchers counted.
+-- The end of a run of the pool, with what is known about the workers. At the end of a run, the target has grown from
+-- the given target, and the windows of the run's session are pages of the source. A worker halted only if the gate
+-- allows the halt or a call of the worker failed. If no worker stopped and all parcels were received, the session has
+-- read the documents that the fetchers counted.
 pub record EndsRun {F : Type 0} (refuses : F → Document → Bool) (may_fill : Type 0) (may_stop : Place → Type 0)
     (plan : Plan) (source : PeerValue) (given : F × PeerValue) (counts : List ℕ) (source' after : PeerValue)
     (outcome : Result Report PoolFault) : Type 0 where
@@ -139,25 +139,25 @@ pub record IsBegun (source target source' target' : PeerValue) (plan : Plan) (ou
     pub put : PutsEntry source target' source' plan outcome
     pub unfinished : IfErr outcome (TellsLowWater target' plan.session)
 
--- The effect of a run by whether its session has begun. If a run's session has not begun, both peers are unchanged,
--- otherwise the session's entry is stored at the source.
+-- The effect of a run. If the run's session has not begun, both peers are unchanged. If the session has begun, its
+-- entry is stored at the source.
 abbrev pub LeavesOrPuts : {F : Type 0} → Plan → F × PeerValue → F × PeerValue → F × PeerValue → F × PeerValue
     → Result Report PoolFault → Type 0
 LeavesOrPuts plan source target source' target' outcome =
     (source' ≡ source) × (target' ≡ target) × IsUnbegun source.1 target.1 plan outcome
     ⊎ IsBegun source.1 target.1 source'.1 target'.1 plan outcome
 
--- The guarantees of a successful run. The report of a successful run is that of the plan's session, which began at the
--- common checkpoint and has recorded its goal. After a successful run, the target covers the source's selected feed
--- above the start. If the target was empty and refused no document, each selected document is as it is at the source.
--- After a successful run, the fetchers' counts add up to the documents read.
+-- The guarantees of a successful run. The report of a successful run is the report of the plan's session, which began
+-- at the common checkpoint and has recorded its goal. After a successful run, the target covers the source's selected
+-- feed above the start. If the target was empty and refused no document, each selected document is the same on both
+-- sides. After a successful run, the fetchers' counts add up to the documents read.
 pub record EndsWell (source target target' : PeerValue) (plan : Plan) (n : ℕ) (report : Report) : Type 0 where
   pub reported : IsReported source target target' plan report
   pub covered : CoversFrom source target' plan.chosen (start_between source target plan.chosen)
   pub copied : IsEmpty target → report.counts.failures ≡ 0 → SameDocuments plan.chosen source.db target'.db
   pub sum : n ≡ report.counts.read
 
--- The filter is the given one, and the peer is unchanged, or the plan's session has begun and the peer has grown since.
+-- The filter is unchanged. The peer is unchanged, or the plan's session has begun and the peer has grown since then.
 abbrev pub LeftPeer : {F : Type 0} → (F → Document → Bool) → PeerValue → F × PeerValue → Plan → F × PeerValue → Type 0
 LeftPeer refuses source given plan now = (now.0 ≡ given.0) × IsLeft (refuses given.0) source given.1 plan now.1
 
@@ -166,8 +166,9 @@ LeftPeer refuses source given plan now = (now.0 ≡ given.0) × IsLeft (refuses 
 pub record RunsOn {F : Type 0} (refuses : F → Document → Bool) (may_fill : Type 0) (may_stop : Place → Type 0)
     (plan : Plan) (source target source' target' : F × PeerValue) (fetched : List ℕ) (outcome : Result Report PoolFault)
     : Type 0 where
-  -- Each of the four errors of a plan is returned exactly if its condition holds. For a valid plan, the error of a run
-  -- is a halt only if the gate allows it, a full board only if possible, and never a hole.
+  -- Each of the four errors of a plan is returned exactly if its condition is true. A run with a valid plan never
+  -- returns `Hole`. A run with a valid plan returns `Halted` only if the gate allows the halt, and `BoardFull` only if
+  -- `may_fill` is true.
   pub early : EarlyOrLate may_fill may_stop (early_answer source.1 target.1 plan) source target source' target' fetched
       outcome
   -- A run changes only the log of its source.
@@ -176,19 +177,17 @@ pub record RunsOn {F : Type 0} (refuses : F → Document → Bool) (may_fill : T
   -- The target of a run is unchanged, or the session has begun and the target has grown by calls with messages of the
   -- source.
   pub grown : LeftPeer refuses source.1 target plan target'
-  -- A run's target keeps everything it had, and consistent peers stay consistent, with each backup of the source, for
-  -- every selection.
+  -- A run's target loses nothing. For every selection and all backups of the source, consistent peers stay consistent.
   pub later : IsLaterPeer target.1 target'.1
   pub tied : (chosen : Choice) (backups : List BackupValue) → IsTiedWith backups source.1 target.1 chosen
       → IsTiedWith backups source'.1 target'.1 chosen
-  -- A third peer stays tied to the source and to the target of a run. In two of four cases, a third peer must have a
-  -- UUID of its own to stay tied.
+  -- A third peer stays tied to the source and to the target of a run, under the conditions of `KeepsOthersTied`.
   pub others : KeepsOthersTied source.1 target.1 source'.1 target'.1
   -- An audit of the peers that a run returns is clean if the peers were consistent before the run.
   pub audited : (chosen : Choice) → IsTiedPair source.1 target.1 chosen
       → audit_answer source'.1 target'.1 chosen ≡ None
-  -- If a run's session has not begun, both peers are unchanged and the error says why. If a run's session has begun, it
-  -- has read pages of the source, and its entry is stored at the source.
+  -- If a run's session has not begun, both peers are unchanged and the error gives the reason. If a run's session has
+  -- begun, its windows are pages of the source, and its entry is stored at the source.
   pub put : LeavesOrPuts plan source target source' target' outcome
   -- If the peers of a run were consistent, the error of the run is one that `IsExpectedRun` lists.
   pub expected : IfErr outcome

@@ -11,7 +11,7 @@ use Rattle.pool_workers.specs.declared.fault.PoolFault.{PoolFault}
 use Rattle.repl_pool.specs.declared.both_ways.SyncFault.{SyncFault}
 use Rattle.repl_pool.specs.declared.both_ways.SyncFault.TheVariants as faults
 
--- The result of a run from a to b and then one from b to a, which happens only if the first run succeeded.
+-- The result of a run from a to b and a second run from b to a. The second run happens only if the first run succeeded.
 pub data SyncRuns {F : Type 0} (refuses : F → Document → Bool) (may_stop : Place → Type 0) (there back : Plan)
     (a b : F × PeerValue) : F × PeerValue → F × PeerValue → Result Synced SyncFault → Type 0 where
   refused_there : {why : PoolFault} {a' b' : F × PeerValue} {fetched : List ℕ}

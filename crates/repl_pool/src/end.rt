@@ -23,9 +23,8 @@ fn record<F: WriteFilter>(target: &mut Peer<F>, plan: &Plan) -> PoolFault
     }
 }
 
-/// Concludes the session at the target if no step failed or was stopped and all sent parcels were received. If a step
-/// failed or was stopped, a sent parcel was not received, or concluding fails, the call records the session's low
-/// water.
+/// Concludes the session at the target if no step failed or was stopped, and all sent parcels were received. If the
+/// session is not concluded, the call records the session's low water.
 fn close_target<F: WriteFilter>(
     target: &mut Peer<F>,
     plan: &Plan,

@@ -63,7 +63,7 @@ struct Begun<F: WriteFilter> {
 }
 
 /// Returns the number of workers in each group. The number of workers in a group is the plan's number, but at most the
-/// possible number of windows, and 1 if no window is due.
+/// possible number of windows. If no window is due, a group has 1 worker.
 fn crew_of(plan: &Plan, start: u64, goal: u64) -> u64
     requires workers { 0 < plan.now.workers }
     requires batch { is_batch plan.now.batch ≡ true }
@@ -276,10 +276,11 @@ fn run_with<F: WriteFilter + Send + Sync, G: Gate + Sync, R: Threads + Wait + Sy
 /// Replicates the source's documents into the target with a pool of threads. The caller's thread begins the session at
 /// the common checkpoint of the two logs, and reads the source's feed in windows. The caller's thread stores each
 /// window at the target, and sends the window to one of `plan.workers` fetchers (fewer if there can only be fewer
-/// windows). Fetchers request the missing leaves at the target, count documents at the source, and send parcels to the
-/// same number of writers. The writers read and settle the parcels, and record the session. The target is behind a
-/// lock, and the source is shared. Workers call the gate at each place (stage of a window), and hold no lock during the
-/// call. If the gate says that it never blocks, a fetcher and a writer share one thread in turn.
+/// windows). Fetchers request the missing leaves at the target, count documents at the source, and send parcels to
+/// writers. A run has equally many fetchers and writers. The writers read and settle the parcels, and record the
+/// session. The target is behind a lock, and the source is shared. Workers call the gate at each place (stage of a
+/// window), and hold no lock during the call. If the gate never blocks, a fetcher and a writer share one thread and
+/// take turns.
 ///
 /// After all workers have ended, the caller's thread concludes the session. If concluding fails, the caller's thread
 /// records the session. The caller's thread then stores the session's entry in the source's log, unless the log has a
@@ -292,19 +293,21 @@ fn run_with<F: WriteFilter + Send + Sync, G: Gate + Sync, R: Threads + Wait + Sy
 /// sum of all fetchers' numbers of documents is the report's number of read documents. If the run succeeds, the target
 /// was empty, and no document was refused, each selected document has the source's revisions, parents and contents of
 /// leaves. If the peers were consistent (docs/PROFILE.md, "Tied peers"), each leaf of the source's complete selected
-/// feed is covered, also below the start.
+/// feed is covered, including leaves below the start.
 ///
-/// For every result, the run changes nothing of the source but its log. The returned target is the given target,
-/// perhaps after the session began and received messages of the source. The target keeps all its documents, sessions
-/// and logs, and consistent peers stay consistent. A third peer that was consistent with one of the two peers stays
-/// consistent with that peer. In two of the four cases of third peers, the third peer needs a UUID of its own
-/// (`KeepsOthersTied`). If the peers were consistent, an audit after the run finds no uncovered leaf.
+/// For every result, the run changes only the log of the source. The returned target is the given target, or the given
+/// target after the session began and received messages of the source. The target keeps all its documents, sessions and
+/// logs, and consistent peers stay consistent. A third peer that was consistent with one of the two peers stays
+/// consistent with that peer. Another source of the target must not have the source's UUID, and another target of the
+/// source must not have the target's UUID (`KeepsOthersTied`). If the peers were consistent, an audit after the run
+/// finds no uncovered leaf.
 ///
 /// The call blocks until the run ends. The contract does not guarantee that a run ends.
 ///
 /// # Errors
 ///
-/// - `NoWorkers`, `TooManyWorkers`, `BadBatch`, `SamePeer`: as `check_run`, in this order, with both peers unchanged.
+/// - `NoWorkers`, `TooManyWorkers`, `BadBatch`, `SamePeer`: the errors of `check_run`, in this order. Both peers stay
+///   unchanged.
 /// - `Refused`: a step failed. If no worker failed or stopped, and all windows that the plan allows are settled but end
 ///   below the goal, the error is `Refused` of `Unfinished`.
 /// - `Halted`: the gate returned `Stop` at this place.
@@ -331,7 +334,7 @@ pub fn run<F: WriteFilter + Send + Sync, G: Gate + Sync, R: Threads + Wait + Syn
     run_with(rt, alloc, source, target, plan, gate, unseen)
 }
 
-/// Does the same as `run`, with a board on which viewers may read the progress meanwhile (`Board::read`). Each writer
+/// Makes a `run` with a board. Viewers may read the progress on the board during the run (`Board::read`). Each writer
 /// has the seat of a worker of the board. Before a writer settles a parcel, it adds the parcel's documents to its read
 /// counter. After settling, and before the gate is called at `Settled`, the writer adds the settled documents to its
 /// settled counter. Updating and reading the board takes no lock.

@@ -29,7 +29,7 @@ hole_between source target rep = hole_at source target rep.chosen (checkpoint_be
 abbrev pub audit_answer : PeerValue → PeerValue → Choice → Option Leaf
 audit_answer source target chosen = hole_between source target (rep_between source target chosen)
 
--- The leaf that an audit reports, if it reports one.
+-- The leaf that the result of an audit names, or `None` if the result is `Clean`.
 abbrev pub hole_of : Audit → Option Leaf
 hole_of Clean = None
 hole_of (Hole seq id rev) = Some (record { seq = seq; id = id; rev = rev })
@@ -46,7 +46,7 @@ CoversFeedOf chosen db target n =
 abbrev pub CoversFeed : PeerValue → PeerValue → Choice → ℕ → Type 0
 CoversFeed source target chosen n = CoversFeedOf chosen source.db target n
 
--- The target covers each leaf of the source's selected feed up to the common checkpoint, if there is one.
+-- If a common checkpoint exists, the target covers each leaf of the source's selected feed up to the checkpoint.
 abbrev pub IsAudited : PeerValue → PeerValue → Choice → Type 0
 IsAudited source target chosen =
     (s : SessionId) (n : ℕ) → checkpoint_between source target (rep_between source target chosen) ≡ Some (s, n)

@@ -1,2 +1,2 @@
--- Definition of tied windows, messages and peers.
+-- Definitions of tied windows, messages and peers.
 pub mod Ties

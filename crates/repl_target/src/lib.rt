@@ -1,7 +1,7 @@
 //! Replication of one peer into another by one thread, and audits.
 //!
-//! The rules are in docs/PROFILE.md, "Goal and windows", "Common checkpoint" and "Audit". This crate re-exports
-//! everything public of `repl_peer`.
+//! The rules are in docs/PROFILE.md, "Goal and windows", "Common checkpoint" and "Audit". This crate re-exports all
+//! public items of `repl_peer`.
 #![tactic(auto)]
 
 mod auditing;

@@ -32,7 +32,7 @@ pub const MOST_ROWS: u64 = 10_000;
 pub struct Plan {
     /// The id of the new session.
     pub session: SessionId,
-    /// The number of fetchers, which is also the number of writers. The call `replicate_alone` ignores this number.
+    /// The number of fetchers, and the number of writers. The call `replicate_alone` ignores this number.
     pub workers: u64,
     /// The maximum number of rows of a window: 1 to 10,000.
     pub batch: u64,
@@ -74,9 +74,9 @@ impl Plan {
 ///
 /// Consistent peers (docs/PROFILE.md, "Tied peers") stay consistent for every selection and every result, so an audit
 /// after the call finds no uncovered leaf. If the peers are consistent and the call succeeds, each leaf of the source's
-/// complete selected feed is covered, also below the start. A third peer that was consistent with one of the two peers
-/// stays consistent with that peer, as a source and as a target. In two of the four cases of third peers, the third
-/// peer needs a UUID of its own (`KeepsOthersTied`).
+/// complete selected feed is covered, including leaves below the start. A third peer that was consistent with one of
+/// the two peers stays consistent with that peer, as a source and as a target. Another source of the target must not
+/// have the source's UUID, and another target of the source must not have the target's UUID (`KeepsOthersTied`).
 ///
 /// # Errors
 ///
@@ -84,9 +84,10 @@ impl Plan {
 ///
 /// - `BadBatch`: the batch is not 1 to 10,000.
 /// - `SamePeer`: the two databases have the same UUID.
-/// - The error of a step of the replication. The steps before the failed step, and the failed step itself, keep their
-///   effects.
-/// - `Unfinished`: the plan's `stop_after` windows were read, and they end below the goal. Both sides are recorded.
+/// - The error of a step of the replication. The effects of the steps before the failed step, and of the failed step,
+///   stay.
+/// - `Unfinished`: the plan's `stop_after` windows were read, and they end below the goal. Both sides have recorded the
+///   session.
 ///
 /// If the source's log has a newer entry of the session, the call stores no entry and returns no error.
 pub fn replicate_alone<F: WriteFilter, G: WriteFilter>(
@@ -151,7 +152,7 @@ fn carry_all<F: WriteFilter, G: WriteFilter>(
     close(source, target, plan)
 }
 
-/// Checks whether a plan is valid for two peers, as `check_plan` does for their databases.
+/// Checks whether a plan is valid for two peers (`check_plan`).
 pub fn check_peers<F: WriteFilter, G: WriteFilter>(
     source: &Peer<F>,
     target: &Peer<G>,
@@ -221,7 +222,7 @@ pub fn begin_plan<F: WriteFilter, G: WriteFilter>(
     Ok(start)
 }
 
-/// Reads windows from a start until no further window is due, and settles each window before it reads the next one.
+/// Reads windows from a start until no further window is due, and settles each window before it reads the next window.
 fn read_windows<F: WriteFilter, G: WriteFilter>(
     alloc: Global,
     source: &Peer<F>,

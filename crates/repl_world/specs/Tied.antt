@@ -54,18 +54,18 @@ pub record Tied (w : WorldValue) : Type 0 where
   pub parcels : (p : ℕ × ParcelValue) → Among p w.bag.parcels → OwnParcel w p.0 p.1
   pub logs : (g : ℕ × List EntryValue) → Among g w.bag.logs → g.0 ≡ w.source.db.life
       → AreTiedEntries w.source.db w.target (rep_of w) g.1
-  -- Each log entry in the bag was the entry of a session of the target.
+  -- Each log entry in the bag comes from a session of the target.
   pub entries : (e : EntryValue) → Among e w.bag.entries → IsSentEntry w.target e
 
--- The target has no session of the replication, and the source no log entry of the replication. The two peers may have
--- sessions and log entries of other selections.
+-- The target has no session of the replication, and the source has no log entry of the replication. The two peers may
+-- have sessions and log entries of other selections.
 pub record HoldNone (source target : PeerValue) (chosen : Choice) : Type 0 where
   pub sessions : (s : SessionValue) → Among s target.sessions → s.rep ≡ rep_between source target chosen → ⊥
   pub log : source_log source (rep_between source target chosen) ≡ []
 
 -- ---- guarantees of tied worlds
 
--- Settling a parcel of the bag never returns `Uncovered`, if the session has the parcel's own window and this window is
+-- Settling a parcel of the bag never returns `Uncovered` if the session has the parcel's window, and this window is
 -- from the source's life.
 abbrev pub NeverUncovered : (Document → Bool) → WorldValue → Type 0
 NeverUncovered refuses w =
@@ -77,7 +77,7 @@ NeverUncovered refuses w =
 
 -- The guarantees of a consistent world. In a consistent world, the target covers the source's feed up to the sequences
 -- that both logs claim, and up to the common checkpoint. An audit in a consistent world finds no leaf that is not
--- covered. Settling a parcel for its own window never returns `Uncovered` in a consistent world.
+-- covered. In a consistent world, settling a parcel for the parcel's window never returns `Uncovered`.
 pub record IsTrustworthy (refuses : Document → Bool) (w : WorldValue) : Type 0 where
   pub tied : Tied w
   pub honest : LogsAreHonest w.source w.target w.chosen

@@ -2,11 +2,11 @@
 --
 -- A replication exchanges messages: pages of the source's feed, requests for what the target lacks, parcels of
 -- documents, and log entries. Messages between two databases may be late, repeated, reordered or lost. A world has two
--- peers, and every message that was ever sent and not lost. A step is one call on a peer, with any message of the bag.
--- A message stays in the bag when a step uses it, so further steps can use the message again, in any order. A world
--- also has backups of the source. If a backup of the source is restored, the source's database begins a new life. A
--- crash loses all messages, but the peers and the backups stay. A statement that holds after every list of steps holds
--- for every exchange between the two databases, even if other clients write to them meanwhile.
+-- peers, and every message that was sent and not lost. A step is one call on a peer, with any message of the bag. A
+-- message stays in the bag when a step uses it, so later steps can use the message in any order. A world has backups of
+-- the source. If a backup is restored, the source's database begins a new life. A crash loses all messages, but the
+-- peers and the backups stay. A statement that is true after every list of steps is true for every exchange between the
+-- two databases, even if other clients write to the databases during the exchange.
 use Rattle.std.specs.Prelude.{◌≡◌, ◌⊎◌, ℕ, ◌==◌, ◌≤◌, List, [], ◌∷◌, ◌++◌, Bool, if◌then◌else◌, Option, Some, None, IfSome, Result, Ok, Err, take, slice_get}
 use Rattle.rev_tree.specs.declared.origin.SessionId.{SessionId}
 use Rattle.doc_json.specs.Document.{Document}
@@ -53,7 +53,7 @@ new_world source target chosen = record {
   backups = [];
 }
 
--- The result of creating a world, `SamePeer` if source and target have the same UUID.
+-- The result of creating a world, which is `SamePeer` if source and target have the same UUID.
 abbrev pub new_answer : {F : Type 0} → F × PeerValue → F × PeerValue → Choice → Result ((F × F) × WorldValue) WorldFault
 new_answer source target chosen =
     if source.1.db.uuid == target.1.db.uuid then Err SamePeer
@@ -85,8 +85,8 @@ abbrev pub settles : (Document → Bool) → WorldValue → SessionId → Option
 settles refuses w session None = w
 settles refuses w session (Some p) = record w { target = after_settle refuses w.target session p.1 }
 
--- The world after settling ran out of memory after n documents, or after all documents that can be settled if their
--- number is less than n.
+-- The world after settling ran out of memory after n documents. If fewer than n documents can be settled, all of these
+-- documents are settled.
 abbrev pub stops : (Document → Bool) → WorldValue → SessionId → ℕ → Option (ℕ × ParcelValue) → WorldValue
 stops refuses w session n None = w
 stops refuses w session n (Some p) = record w { target = after_some refuses w.target session p.1 n }
@@ -121,7 +121,7 @@ log_of_source w = (w.source.db.life, source_log w.source (rep_of w))
 abbrev pub reads_log : WorldValue → WorldValue
 reads_log w = record w { bag = with_log w.bag (log_of_source w) }
 
--- The common checkpoint of a log that was read and the target's log.
+-- The common checkpoint of a log in the bag and the target's log.
 abbrev pub agreed : WorldValue → List EntryValue → Option (SessionId × ℕ)
 agreed w log = common log (target_log w.target (rep_of w))
 
@@ -184,8 +184,8 @@ abbrev pub CutShort : (Document → Bool) → WorldValue → Step → WorldValue
 CutShort refuses w (Settle session parcel) now = IsStopped refuses w session (slice_get w.bag.parcels parcel) now
 CutShort refuses w step now = now ≡ w
 
--- The effect of a run that ran out of memory in one of its steps. If a run runs out of memory, the steps before the
--- current step are done, and the current step may be done partly.
+-- The effect of a run that ran out of memory in one of its steps. The earlier steps have their complete effects, and
+-- the step in which memory ran out may have a part of its effect.
 abbrev pub StoppedIn : (Document → Bool) → WorldValue → List Step → WorldValue → Type 0
 StoppedIn refuses w steps now =
     (k : ℕ) × (step : Step) × (slice_get steps k ≡ Some step) × CutShort refuses (run refuses w (take k steps)) step now

@@ -57,7 +57,7 @@ impl<F: WriteFilter + Drop> World<F> {
     /// documents if there is no selection.
     ///
     /// Returns `SamePeer` if the two databases have the same UUID. The new world is consistent if the target has no
-    /// session of the world's replication and the source has no entry of it.
+    /// session, and the source has no log entry, of the world's replication.
     pub fn new(
         alloc: Global,
         source: Peer<F>,
@@ -136,8 +136,8 @@ impl<F: WriteFilter> World<F> {
     /// message bag changes nothing. If an allocation fails in a step, the step changes nothing, except that a settling
     /// step may have settled a part of its parcel (`Stopped`).
     ///
-    /// If the world was consistent, it stays consistent, and the target covers all of the source's current feed that
-    /// both logs claim.
+    /// If the world was consistent, it stays consistent. The target of a consistent world covers the source's current
+    /// feed up to the sequences that both logs claim.
     pub fn run(&mut self, alloc: Global, steps: &[Step]) -> Result<(), AllocError>
         ensures filters { self.new.0 ≡ self.old.0 }
         ensures ok { OnOk result (self.new.1 ≡ run (F.refuses self.old.0.1) self.old.1 steps.now) }

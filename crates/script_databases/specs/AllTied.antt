@@ -1,4 +1,4 @@
--- Databases that are all tied to each other, for every selection, as specified in docs/PROFILE.md, "Tied databases".
+-- Databases that are tied to each other for every selection, as specified in docs/PROFILE.md, "Tied databases".
 use Rattle.std.specs.Prelude.{◌≡◌, ℕ, List, Some}
 use Rattle.doc_json.specs.Chosen.{Choice}
 use Rattle.couch_base.specs.Lists.{Among}
@@ -12,27 +12,28 @@ use Rattle.script_databases.specs.Databases.{State, NamedBackupValue, IsTaken, p
 
 -- ---- known databases
 
--- A database of script state s has the UUID `uuid`, which is not the UUID `own`.
+-- A database of script state s has the UUID `uuid`, and `uuid` is not `own`.
 abbrev pub IsOther : State → ℕ → ℕ → Type 0
 IsOther s own uuid = IsTaken s uuid × (uuid ≡ own → ⊥)
 
--- Each log of a database, whose UUID is `own`, belongs to a replication to another database of the script.
+-- Each log of the database with UUID `own` belongs to a replication into another database of the script.
 abbrev pub LeadToOthers : State → ℕ → List (RepId × List EntryValue) → Type 0
 LeadToOthers s own logs = (l : RepId × List EntryValue) → Among l logs → IsOther s own l.0.target
 
--- Each session of a database, whose UUID is `own`, belongs to a replication from another database of the script.
+-- Each session of the database with UUID `own` belongs to a replication from another database of the script.
 abbrev pub ComeFromOthers : State → ℕ → List SessionValue → Type 0
 ComeFromOthers s own sessions = (x : SessionValue) → Among x sessions → IsOther s own x.rep.source
 
--- Backup k is of the database under whose name it is stored, and its logs are of replications to other databases.
+-- Backup k is a backup of the database under whose name it is stored. All logs of the backup belong to replications
+-- into other databases.
 pub record IsCopyOfOne (s : State) (k : NamedBackupValue) : Type 0 where
   pub peer : PeerValue
   pub there : peer_at s k.db ≡ Some peer
   pub uuid : k.backup.db.uuid ≡ peer.db.uuid
   pub logs : LeadToOthers s peer.db.uuid k.backup.outgoing
 
--- No two databases have the same UUID, each backup is of the database under whose name it is stored, and each log and
--- session belongs to another database.
+-- No two databases have the same UUID. Each backup is a backup of the database under whose name it is stored. Each log
+-- and session belongs to a replication with another database.
 pub record IsKnown (s : State) : Type 0 where
   pub apart : (n m : List ℕ) (p q : PeerValue) → peer_at s n ≡ Some p → peer_at s m ≡ Some q → p.db.uuid ≡ q.db.uuid
       → n ≡ m
@@ -47,13 +48,13 @@ abbrev pub AreCopiesOf : State → List ℕ → List BackupValue → Type 0
 AreCopiesOf s n backups =
     (b : BackupValue) → Among b backups → (k : NamedBackupValue) × Among k s.backups × (k.db ≡ n) × (k.backup ≡ b)
 
--- Each database, with its backups, is consistent as a source with each database as a target, for every selection.
+-- For every selection, each database and its backups, as a source, are consistent with each database as a target.
 pub record AllTied (s : State) : Type 0 where
   pub known : IsKnown s
   pub tied : (n m : List ℕ) (p q : PeerValue) → peer_at s n ≡ Some p → peer_at s m ≡ Some q → (chosen : Choice)
       → (backups : List BackupValue) → AreCopiesOf s n backups → IsTiedWith backups p q chosen
 
--- The database `target` covers the selected feed of the database `source` up to the source's update sequence, which is
+-- The update sequence of the database `source` is n, and the database `target` covers the source's selected feed up to
 -- n.
 abbrev pub CoversUpTo : State → List ℕ → List ℕ → Choice → ℕ → Type 0
 CoversUpTo s source target chosen n =

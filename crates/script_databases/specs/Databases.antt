@@ -30,7 +30,7 @@ abbrev pub text_cmp : List ℕ → List ℕ → Ordering
 text_cmp = slice_cmp nat_cmp
 
 -- The program's settings: the id prefix that targets refuse, the seed of generated ids, and the defaults of
--- replications. A further setting of the program says whether successful loads and edits print no text.
+-- replications. The last setting says whether successful loads and edits print nothing.
 pub record Program : Type 0 where
   pub deny : Option (List ℕ)
   pub seed : ℕ
@@ -39,7 +39,7 @@ pub record Program : Type 0 where
   pub batch : ℕ
   pub quiet : Bool
 
--- A backup, with the name of its database and its own name.
+-- A backup, with the name of the backed-up database and the name of the backup.
 pub record NamedBackupValue : Type 0 where
   pub db : List ℕ
   pub name : List ℕ
@@ -52,7 +52,7 @@ coded_named_backup =
     (λ p. record { db = p.0; name = p.1.0; backup = p.1.1 }) (λ _. refl)
 
 -- The state of a script: the settings, the number of generated ids, the backups, and the peers by name. No line of a
--- script changes the settings, and the number of generated ids is modulo the length of the random stream.
+-- script changes the settings. The number of generated ids is counted modulo the length of the random stream.
 pub record State : Type 0 where
   pub program : Program
   pub drawn : ℕ
@@ -102,7 +102,7 @@ with_peer s name p = record s { peers = finmap.insert s.peers name p }
 abbrev pub IsTaken : State → ℕ → Type 0
 IsTaken s uuid = (name : List ℕ) × (p : PeerValue) × (peer_at s name ≡ Some p) × (p.db.uuid ≡ uuid)
 
--- The state after the peer of a name is changed by f, or the unchanged state if there is no such peer.
+-- The state after f changed the peer of a name, or the unchanged state if no peer has the name.
 abbrev pub with_changed : State → List ℕ → (PeerValue → PeerValue) → Option PeerValue → State
 with_changed s name f None = s
 with_changed s name f (Some p) = with_peer s name (f p)

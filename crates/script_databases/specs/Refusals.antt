@@ -15,7 +15,7 @@ use Rattle.repl_peer.specs.declared.fault.TargetFault.TheVariants as target
 use Rattle.script_databases.specs.declared.refusal.Refusal.{Refusal}
 use Rattle.script_databases.specs.declared.refusal.Refusal.TheVariants as why
 
--- A result is the expected one, or the error `Memory`.
+-- A result is the expected result, or the error `Memory`.
 abbrev pub GivesOrMemory : {A : Type 0} → Result A Refusal → Result A Refusal → Type 0
 GivesOrMemory (Ok x) expected = expected ≡ Ok x
 GivesOrMemory (Err e) expected = (expected ≡ Err e) ⊎ (e ≡ why.Memory)

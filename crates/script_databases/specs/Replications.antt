@@ -32,13 +32,14 @@ with_both old source target s t = with_peer (with_peer old source s) target t
 
 -- ---- by one thread
 
--- What holds after a replication by one thread, as specified in docs/PROFILE.md, "Replication by one thread" and "Tied
+-- The guarantees of a replication by one thread, as specified in docs/PROFILE.md, "Replication by one thread" and "Tied
 -- peers".
 --
--- A replication by one thread changes of the source only its log, and the target is a later one. Peers that were tied
--- are still tied after a replication, with all backups of the source, for every selection. If a replication succeeded,
--- the report is that of its session. If a replication succeeded and the two peers were tied before, the target covers
--- the source's selected feed. If a replication between tied peers failed, the error is one that `IsExpected` lists.
+-- A replication by one thread changes only the log of the source, and the target's new state is a later state. For
+-- every selection and all backups of the source, peers that were tied before a replication are tied after the
+-- replication. If a replication succeeded, the report is the report of its session. If a replication succeeded and the
+-- two peers were tied before, the target covers the source's selected feed. If a replication between tied peers failed,
+-- the error is one that `IsExpected` lists.
 pub record KeepsTied (s t : PeerValue) (plan : Plan) (result : Result Report TargetFault) (s' t' : PeerValue) : Type 0
   where
     pub log : s' ≡ record s { outgoing = s'.outgoing }
@@ -49,7 +50,7 @@ pub record KeepsTied (s t : PeerValue) (plan : Plan) (result : Result Report Tar
     pub whole : OnOk result (IsTiedPair s t plan.chosen → CoversFeed s t' plan.chosen s.db.update_seq)
     pub expected : IfErr result (λ why. IsTiedPair s t plan.chosen → IsExpected s t plan why)
 
--- The possible results of a replication by one thread, including errors, and the state after it. If a replication's
+-- The results that a replication by one thread may have, including errors, and the state after the replication. If
 -- source and target are the same database, every plan is rejected.
 abbrev pub ReplicatesAlone : State → List ℕ → List ℕ → PeerValue → PeerValue → Plan → Result Report TargetFault → State
     → Type 0
@@ -59,11 +60,11 @@ ReplicatesAlone old source target s t plan result new =
 
 -- ---- by the pool
 
--- No worker of a run may be stopped, at any place.
+-- The gate may not stop a worker at any place of a run.
 abbrev pub Nowhere : Place → Type 0
 Nowhere place = ⊥
 
--- The possible results of a pool run, including errors, and the state after it.
+-- The results that a pool run may have, including errors, and the state after the run.
 abbrev pub ReplicatesByPool : State → List ℕ → List ℕ → PeerValue → PeerValue → Plan → Result Report PoolFault → State
     → Type 0
 ReplicatesByPool old source target s t plan result new =
@@ -79,8 +80,8 @@ abbrev pub unwatched : Result Watched PoolFault → Result Report PoolFault
 unwatched (Ok watched) = Ok watched.report
 unwatched (Err why) = Err why
 
--- The possible results of a run with a progress board. On the board of a run, at most as many documents are settled as
--- read. If the board for a valid plan could not be allocated, the result is `Memory` and the state is unchanged.
+-- The results that a run with a progress board may have. The board's settled count is at most its read count. If the
+-- board for a valid plan could not be allocated, the result is `Memory` and the state is unchanged.
 abbrev pub ReplicatesWatched : State → List ℕ → List ℕ → PeerValue → PeerValue → Plan → Result Watched PoolFault
     → State → Type 0
 ReplicatesWatched old source target s t plan result new =

@@ -33,7 +33,7 @@ abbrev pub state_of : Beside → Entries → State
 state_of beside entries =
     record { program = beside.program; drawn = beside.drawn; backups = beside.backups; peers = peers_of entries }
 
--- The id prefix that a filter refuses, if it has one.
+-- The id prefix that a filter refuses, if the filter has a prefix.
 abbrev pub deny_of : Rules → Option (List ℕ)
 deny_of rules = option_map string_bytes rules.deny
 
@@ -46,7 +46,7 @@ abbrev pub AllDeny : Option (List ℕ) → Entries → Type 0
 AllDeny deny entries =
     (name : List ℕ) (denied : Option (List ℕ)) → finmap.get (denied_of entries) name ≡ Some denied → denied ≡ deny
 
--- The table of databases after a change of the peers of two names, and of no other peers.
+-- The table of databases after the peers of two names have changed. No other peers have changed.
 abbrev pub IsEmptied : Entries → List ℕ → List ℕ → Entries → Type 0
 IsEmptied old source target new =
     (p : Rules × PeerValue) × (q : Rules × PeerValue)

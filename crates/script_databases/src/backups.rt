@@ -28,7 +28,7 @@ impl BackupName {
     }
 }
 
-/// Backups by key, the oldest first.
+/// Backups by key, oldest first.
 #[derive(Drop)]
 pub struct Backups {
     by_name: IndexMap<BackupName, Backup>,

@@ -83,7 +83,7 @@ impl Databases {
     ghost use Rattle.script_databases.specs.Refusals.{GivesOrMemory};
     ghost use Rattle.script_databases.specs.Replications.{ReplicatesAlone, ReplicatesBetween, ReplicatesByPool, ReplicatesWatched};
 
-    /// Creates an empty set of databases, with a copy of the settings. It is trivially consistent.
+    /// Creates an empty set of databases, with a copy of the settings. The empty set is consistent.
     pub fn new(alloc: Global, settings: &Settings) -> Result<Databases, AllocError>
         ensures none { IfOk result (λ databases. databases ≡ no_databases (program_of settings.now)) }
         ensures tied { IfOk result (λ databases. AllTied databases) }
@@ -223,9 +223,8 @@ impl Databases {
     ///
     /// # Errors
     ///
-    /// The call returns the first of these errors whose condition holds, which are `NoDatabase` if the name is unknown,
-    /// `BackupExists` if the database has a backup of this name, and `IsTarget` if the database has been a replication
-    /// target.
+    /// The call checks in this order for `NoDatabase` (the name is unknown), `BackupExists` (the database has a backup
+    /// of this name), and `IsTarget` (the database has been a replication target).
     pub fn back_up(&mut self, alloc: Global, db: &str, name: &str) -> Result<u64, Refusal>
         ensures answer { GivesOrMemory result (backed_told (backed_answer self.old db.now name.now)) }
         ensures ok { OnOk result (self.new ≡ backed_at self.old db.now name.now) }
@@ -253,9 +252,8 @@ impl Databases {
     ///
     /// # Errors
     ///
-    /// The call returns the first of these errors whose condition holds, which are `NoDatabase` if the name is unknown,
-    /// `NoBackup` if the database has no backup of this name, `IsTarget` if the database has been a replication target,
-    /// and `LifeFull` if the database has no unused life.
+    /// Checked in this order: `NoDatabase` (the name is unknown), `NoBackup` (the database has no such backup),
+    /// `IsTarget` (the database has been a replication target), and `LifeFull` (no life is left).
     pub fn put_back(&mut self, db: &str, name: &str) -> Result<PutBack, Refusal>
         ensures answer { GivesOrMemory result
             (put_back_answer (peer_at self.old db.now) (backup_at self.old db.now name.now)) }
@@ -311,8 +309,8 @@ impl Databases {
         outcome
     }
 
-    /// Does the same as `replicate`, with a new progress board. The call reads the board through its only viewer after
-    /// the run has ended.
+    /// Replicates as `replicate` does, with a new progress board. The call reads the board through the board's only
+    /// viewer after the run has ended.
     ///
     /// # Errors
     ///

@@ -9,8 +9,8 @@ use uuid::Uuid;
 /// The number of ids before the stream of random numbers repeats.
 const IDS: u128 = 1 << 66;
 
-/// A generator of ids: The random generator is ChaCha with 8 rounds, and an id takes four 32-bit words. The key is the
-/// seed as 8 bytes, least significant first, and 24 zeros.
+/// A generator of ids. The random generator is ChaCha with 8 rounds, and an id takes four 32-bit words. The generator's
+/// key is the seed as 8 bytes, least significant first, and 24 zeros.
 #[derive(Drop)]
 pub struct MadeIds {
     pub seed: u64,

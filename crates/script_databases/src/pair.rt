@@ -1,4 +1,4 @@
-//! Looks up two peers, takes them out of the table, and stores them again.
+//! Functions that look up two peers, take the peers out of the table, and store the peers after a run.
 ghost use Rattle.std.specs.Prelude.{◌≡◌, ◌≢◌, true, Some};
 ghost use Rattle.std.specs.FinMap.{contains_key, get, insert};
 ghost use Rattle.script_databases.specs.Stored.{deny_of, denied_of, peers_of, IsEmptied};
@@ -29,7 +29,7 @@ pub fn find_both<'a>(
     (sender, receiver)
 }
 
-/// Takes two peers out of the table. Empty peers replace them.
+/// Takes two peers out of the table, and replaces the two peers by empty peers.
 pub fn take_out(
     names: &mut Names,
     alloc: Global,

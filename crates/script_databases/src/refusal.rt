@@ -12,7 +12,7 @@ use rev_core::RevFault;
 use std::alloc::{AllocError, AllocFailed};
 
 /// The reason why a line failed (docs/PROFILE.md, "Order of checks"). The method `name` returns the printed name of the
-/// error. Some variants are not expected for any line, and exist so that each error of a call has a name.
+/// error. No line is expected to fail with some of the variants, which exist so that each error of a call has a name.
 #[derive(Clone, Copy, Debug, PartialEq, Eq)]
 pub enum Refusal {
     /// A window is already done. No line is expected to fail with this error.
@@ -41,7 +41,7 @@ pub enum Refusal {
     BackupExists,
     /// A counter of the progress board would exceed its maximum.
     BoardFull,
-    /// An edit's parent is not a leaf, or it is missing and the document has a live leaf.
+    /// An edit's parent is not a leaf, or an edit names no parent and the document has a live leaf.
     Conflict,
     /// A given revision has a different parent in the document's tree.
     Contradiction,
@@ -57,7 +57,7 @@ pub enum Refusal {
     ForeignParcel,
     /// A number is not a 64-bit integer.
     Fraction,
-    /// A window does not follow the previous one. No line is expected to fail with this error.
+    /// A window does not follow the previous window. No line is expected to fail with this error.
     Gap,
     /// An edit's parent has the maximum generation.
     GenerationFull,
@@ -119,7 +119,7 @@ pub enum Refusal {
     SessionExists,
     /// A special member is unknown, or `_deleted` is not a Boolean.
     SpecialMember,
-    /// A session starts above what its base session has recorded. No line is expected to fail with this error.
+    /// A session starts above the recorded sequence of its base session. No line is expected to fail with this error.
     StartAboveBase,
     /// Only part of a window was settled, because no memory or no update sequence was left.
     Stopped,

@@ -4,7 +4,7 @@ ghost use Rattle.script_databases.specs.Stored.{program_of};
 
 use std::alloc::{AllocError, Global};
 
-/// The settings that the program's options set.
+/// The settings that the program's options give.
 #[derive(Drop)]
 pub struct Settings {
     /// The id prefix of the documents that a target refuses.

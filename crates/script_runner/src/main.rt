@@ -1,8 +1,8 @@
 //! Runs a script of commands from standard input with the default settings, and prints the results.
 //!
-//! The program uses the interpreter of `couch_replicate`, so its results are the same, but it has no options. The
-//! program builds faster than `couch_replicate`, because it does not use a library for command lines. docs/PROFILE.md,
-//! "Command lines" and "Answers", defines a script.
+//! The program has no options. The program uses the interpreter of `couch_replicate`, so both programs print the same
+//! results. The program builds faster than `couch_replicate`, because it does not use a library for command lines.
+//! docs/PROFILE.md, "Command lines" and "Answers", defines a script.
 #![tactic(auto)]
 
 ghost use Rattle.std.specs.Prelude.{◌≡◌, ℕ, List, Some, IfOk};

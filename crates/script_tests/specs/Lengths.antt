@@ -1,4 +1,4 @@
--- A test server, whose output for a line is the length of the previous line.
+-- A test server. Its output for a line is the length of the previous line.
 use Rattle.std.specs.Prelude.{◌≡◌, ◌<◌, ◌≤◌, ◌⊎◌, ◌++◌, ℕ, List, length, codes, decimal, Ok, Err}
 use Rattle.script_engine.specs.Serving.{Told}
 

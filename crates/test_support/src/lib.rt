@@ -1,4 +1,4 @@
-//! Helpers that several test crates share, which format results, parse revisions, and create a minimal log entry.
+//! Helpers that several test crates share. The helpers format results, parse revisions, and create a minimal log entry.
 //!
 //! This crate has no contracts, because tests compare its results with strings written by hand.
 #![tactic(auto)]

@@ -3,8 +3,8 @@
 //! allocations. The tests are in a separate crate, because a crate that contains tests is proved twice. Revision trees
 //! and documents are tested by scripts of the program, and in other crates.
 //!
-//! Each kind of call is a variant of an enum, so the prover handles each kind of call once. The tables are statics,
-//! whose rows the prover does not process.
+//! Each kind of call is a variant of an enum, so the prover handles each kind of call once. The tables are statics, and
+//! the prover does not process the rows of a static.
 
 // Revisions.
 mod revisions;

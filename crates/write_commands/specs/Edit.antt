@@ -20,7 +20,8 @@ use Rattle.write_commands.specs.declared.edit.Edit.{Edit}
 
 -- ---- its parameters
 
--- The parameters of `edit`, which edits a document, with an optional parent, and with a body that may be any value.
+-- The parameters of `edit`: a database name, a document id, an optional parent, whether the edit deletes, and a body of
+-- any type.
 pub record EditAsk : Type 0 where
   pub db : List ℕ
   pub id : List ℕ
@@ -56,7 +57,8 @@ edited_line db id e =
 
 -- ---- its result
 
--- The result of `edit`, and the state after it. An `edit` line's id is parsed first, then the parent, then the body.
+-- The result of `edit`, and the state after the edit. The id of an `edit` line is parsed first, then the parent, then
+-- the body.
 abbrev pub edit_done : State → EditAsk → Result (List ℕ × State) Refusal
 edit_done s ask = do
   l ← database_of s ask.db

@@ -4,7 +4,7 @@ use Rattle.std.specs.Prelude.{◌≡◌, Bool, true, false}
 use Rattle.script_databases.specs.declared.refusal.Refusal.{Refusal}
 use Rattle.script_databases.specs.declared.refusal.Refusal.TheVariants as why
 
--- A possible error of a replication by one thread.
+-- The errors with which a replication by one thread may fail.
 abbrev pub FailsAlone : Refusal → Type 0
 FailsAlone why.BadBatch = Unit {0}
 FailsAlone why.SamePeer = Unit {0}
@@ -14,7 +14,7 @@ FailsAlone why.Stopped = Unit {0}
 FailsAlone why.Memory = Unit {0}
 FailsAlone refusal = ⊥
 
--- A possible error of a replication by the pool. The argument `progress` says whether the run has a board.
+-- The errors with which a replication by the pool may fail. The argument `progress` says whether the run has a board.
 abbrev pub FailsInPool : Bool → Refusal → Type 0
 FailsInPool progress why.NoWorkers = Unit {0}
 FailsInPool progress why.TooManyWorkers = Unit {0}
@@ -25,12 +25,13 @@ FailsInPool progress why.AlreadyDone = Unit {0}
 FailsInPool progress why.Uncovered = Unit {0}
 FailsInPool progress refusal = FailsAlone refusal
 
--- A possible error of a replication, by one thread if the first argument is true, and otherwise by the pool.
+-- The errors with which a replication may fail. If the first argument is true, one thread replicates, otherwise the
+-- pool replicates.
 abbrev pub Fails : Bool → Bool → Refusal → Type 0
 Fails true progress refusal = FailsAlone refusal
 Fails false progress refusal = FailsInPool progress refusal
 
--- A possible error of a restore.
+-- The errors with which a restore may fail.
 abbrev pub FailsRestoring : Refusal → Type 0
 FailsRestoring why.NoDatabase = Unit {0}
 FailsRestoring why.NoBackup = Unit {0}

@@ -25,8 +25,8 @@ use Rattle.write_commands.specs.declared.load.Load.{Load}
 
 -- ---- its parameters
 
--- The parameters of `load`, which loads a document, or creates a database if there is no document, optionally with a
--- given UUID.
+-- The parameters of `load`: a database name, an optional UUID, and an optional document. Without a document, `load`
+-- creates a database.
 pub record LoadAsk : Type 0 where
   pub db : List ℕ
   pub uuid : Option ℕ
@@ -51,7 +51,7 @@ made_line db = ended (codes "made " ++ db)
 abbrev pub there_line : List ℕ → List ℕ
 there_line db = ended (codes "there " ++ db)
 
--- A document's id, and its newest revision as given, in the output of `load`.
+-- The part of the output of `load` that has a document's id and its newest revision.
 abbrev pub document_part : Document → List ℕ
 document_part doc = quoted doc.id ++ codes " " ++ text_of_any (head_of doc.ancestry)
 
@@ -67,18 +67,18 @@ put_line db doc Same = same_line db doc
 
 -- ---- its result
 
--- The result of putting a document into a database, and the state after it.
+-- The result of putting a document into a database, and the state after the put.
 abbrev pub put_into : State → List ℕ → PeerValue → Document → Result (List ℕ × State) Refusal
 put_into s db l doc = do
   put ← told_as base_refusal (put_answer l.db doc)
   Ok (put_line db doc put, with_peer s db (after_load l doc))
 
--- The result of `load` for an existing database, and the state after it.
+-- The result of `load` for an existing database, and the state after the load.
 abbrev pub load_there : State → List ℕ → PeerValue → Option Document → Result (List ℕ × State) Refusal
 load_there s db l None = Ok (there_line db, s)
 load_there s db l (Some doc) = put_into s db l doc
 
--- The result of `load` for a new database with the given UUID, and the state after it.
+-- The result of `load` for a new database with the given UUID, and the state after the load.
 abbrev pub load_new : State → List ℕ → ℕ → Option Document → Result (List ℕ × State) Refusal
 load_new s db uuid None = Ok (made_line db, with_peer s db (new_peer uuid))
 load_new s db uuid (Some doc) = put_into s db (new_peer uuid) doc
@@ -89,14 +89,14 @@ LoadsUntaken old db uuid doc told new =
     IsTaken old uuid × Refuses why.UuidTaken old told new
     ⊎ (IsTaken old uuid → ⊥) × Does (doc >>= load_new old db uuid) old told new
 
--- The result of `load` for a new database with a generated UUID. Before a `load` line draws an id, its document is
--- parsed. If the document of a `load` line is valid, the id is drawn, even if an allocation fails after that.
+-- The result of `load` for a new database with a generated UUID. The document of a `load` line is parsed before the
+-- line draws an id. If the document is valid, the id is drawn, even if an allocation fails later.
 abbrev pub LoadsMade : State → List ℕ → Result (Option Document) Refusal → Told → State → Type 0
 LoadsMade old db (Ok doc) told new =
     LoadsUntaken (drawn_one old) db (next_made old) (Ok doc) told new ⊎ Refuses why.Memory (drawn_one old) told new
 LoadsMade old db (Err refusal) told new = Refuses refusal old told new
 
--- The result of `load`, by whether the database exists, and whether a UUID is given.
+-- The result of `load`, which depends on whether the database exists and whether a UUID is given.
 abbrev pub LoadsAt : State → List ℕ → Option PeerValue → Option ℕ → Result (Option Document) Refusal → Told → State
     → Type 0
 LoadsAt old db (Some l) (Some uuid) doc told new = Refuses why.DatabaseExists old told new

@@ -48,8 +48,8 @@ replicate_asked ask = record {
   options = ask.options;
 }
 
--- The optional parameters of a `replicate` line, which are `None` if absent, except that `alone` and `progress` are
--- false if absent.
+-- The optional parameters of a `replicate` line. An absent parameter is `None`, but `alone` and `progress` are false if
+-- absent.
 abbrev pub options_in : Data → Result Options Refusal
 options_in d = do
   session ← needed (optional as_uuid (codes "session") d)
@@ -94,7 +94,7 @@ abbrev pub session_part : Report → List ℕ
 session_part r =
     codes "session " ++ id_digits r.session.0 ++ codes " from " ++ decimal r.start ++ codes " to " ++ decimal r.recorded
 
--- The number of checked leaves, and of missing leaves among the checked ones, in the output of `replicate`.
+-- The number of checked leaves, and the number of checked leaves that the target lacked, in the output of `replicate`.
 abbrev pub checked_part : Report → List ℕ
 checked_part r = codes " checked " ++ decimal r.counts.checked ++ codes " found " ++ decimal r.counts.found
 
@@ -126,11 +126,11 @@ ending_line session (Stopped low_water) = stopped_line session low_water
 abbrev pub last_second : ℕ
 last_second = 253402300799
 
--- The timestamp of a `replicate` line, or the program's if the line has none.
+-- The timestamp of a `replicate` line, or the program's timestamp if the line gives no timestamp.
 abbrev pub moment_of : Program → Options → ℕ
 moment_of program options = unwrap_or options.at program.at
 
--- The session id that a `replicate` line gives, or the next generated one.
+-- The session id that a `replicate` line gives, or the next generated id.
 abbrev pub session_of : State → Options → ℕ
 session_of s options = unwrap_or options.session (next_made s)
 
@@ -177,8 +177,8 @@ abbrev pub ending_of_watched : Result Watched PoolFault → Result Ending Refusa
 ending_of_watched (Ok watched) = Ok (Shown watched)
 ending_of_watched (Err fault) = ending_of_run (Err fault)
 
--- The ending of a replication: by one thread if the line says so, otherwise by the pool, with a board if the line
--- requests progress.
+-- The ending of a replication. One thread replicates if the first argument is true. If the first argument is false, the
+-- pool replicates, with a board if the second argument is true.
 abbrev pub EndsBy : Bool → Bool → State → List ℕ → List ℕ → PeerValue → PeerValue → Plan → Result Ending Refusal → State
     → Type 0
 EndsBy true progress old source target s t plan ending new =
@@ -207,8 +207,8 @@ ReplicatesChosen old ask both (Ok chosen) told new =
     × (told ≡ told_of (replicated_text (plan_of old ask.options chosen).session ending))
 ReplicatesChosen old ask both (Err refusal) told new = Refuses refusal (with_session old ask.options) told new
 
--- The result of `replicate` for two existing databases. The session id of a `replicate` line is drawn before the
--- selection is built, and building the selection may run out of memory.
+-- The result of `replicate` for two existing databases. A generated session id is drawn before the selection is built,
+-- and building the selection may run out of memory.
 abbrev pub ReplicatesBoth : State → ReplicateAsk → PeerValue × PeerValue → Told → State → Type 0
 ReplicatesBoth old ask both told new =
     (chosen : Result Choice Refusal) × GivesOrMemory chosen (choice_given ask.doc_ids)
@@ -229,8 +229,8 @@ ReportsReplication old ask told new = ReplicatesFound old ask (both_of old ask) 
 
 -- ---- the guarantee of `replicate`, as specified in docs/PROFILE.md, "Tied databases"
 
--- The guarantee of a session that was not stopped and printed the recorded sequence n. The recorded sequence n is the
--- source's update sequence, and the target covers each leaf of the source's selected feed.
+-- The guarantee of a session that reached its goal and recorded sequence n. Sequence n is the source's update sequence,
+-- and the target covers each leaf of the source's selected feed.
 abbrev pub CoversIfDone : State → List ℕ → List ℕ → Choice → Ending → Type 0
 CoversIfDone s source target chosen (Done report) = CoversUpTo s source target chosen report.recorded
 CoversIfDone s source target chosen (Shown watched) = CoversUpTo s source target chosen watched.report.recorded
@@ -241,15 +241,15 @@ abbrev pub StopsIfAsked : Options → Ending → Type 0
 StopsIfAsked options (Stopped low_water) = options.alone ≡ true → (most : ℕ) × (options.stop_after ≡ Some most)
 StopsIfAsked options ending = Unit {0}
 
--- A possible error of a `replicate` line. A database does not exist, the timestamp or the selection is invalid, or the
--- replication fails.
+-- The errors with which a `replicate` line may fail. A database does not exist, the timestamp or the selection is
+-- invalid, or the replication fails.
 abbrev pub MayFail : ReplicateAsk → Refusal → Type 0
 MayFail ask refusal =
     (refusal ≡ why.NoDatabase) ⊎ (refusal ≡ why.BadMoment) ⊎ (choice_given ask.doc_ids ≡ Err refusal)
     ⊎ Fails ask.options.alone ask.options.progress refusal
 
--- The guarantee for a `replicate` line. The line prints an ending that satisfies `CoversIfDone` and `StopsIfAsked`, or
--- fails with a possible error.
+-- The guarantee for a `replicate` line. The output of the line reports an ending that satisfies `CoversIfDone` and
+-- `StopsIfAsked`, or the line fails with an error that `MayFail` lists.
 abbrev pub IsCovered : State → ReplicateAsk → Told → Type 0
 IsCovered s ask (Ok text) =
     (session : SessionId) × (ending : Ending) × (chosen : Choice) × (text ≡ ending_line session ending)

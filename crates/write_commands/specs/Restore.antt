@@ -16,7 +16,7 @@ use Rattle.write_commands.specs.declared.restore.Restore.{Restore}
 
 -- ---- its parameters
 
--- The parameters of `restore`, which replaces a database by its backup of a name.
+-- The parameters of `restore`, which replaces a database by the database's backup of a given name.
 pub record RestoreAsk : Type 0 where
   pub db : List ℕ
   pub name : List ℕ
@@ -51,7 +51,8 @@ Restores old ask told new = Does (restore_done old ask) old told new
 
 -- ---- its guarantee: docs/PROFILE.md, "Tied databases"
 
--- The guarantee for a `restore` line. The database is restored, or the line fails with a possible error.
+-- The guarantee for a `restore` line. The database is restored, or the line fails with an error that `FailsRestoring`
+-- lists.
 abbrev pub IsRestored : Told → Type 0
 IsRestored (Ok text) = Unit {0}
 IsRestored (Err name) = (refusal : Refusal) × (name ≡ name_of refusal) × FailsRestoring refusal

@@ -17,7 +17,7 @@ use Rattle.write_commands.specs.declared.sync.Shared.{Shared}
 
 -- ---- its parameters
 
--- The parameters of `sync`: those of a replication in each direction.
+-- The parameters of `sync`, which replicates in each direction.
 pub record SyncAsk : Type 0 where
   pub there : ReplicateAsk
   pub back : ReplicateAsk
@@ -25,8 +25,8 @@ pub record SyncAsk : Type 0 where
 abbrev pub sync_asked : BothWays → SyncAsk
 sync_asked ask = record { there = replicate_asked ask.there; back = replicate_asked ask.back }
 
--- The parameters that both directions of a `sync` line have, which are `None` if absent, except that `alone` is false
--- if absent.
+-- The parameters that both directions of a `sync` line have. An absent parameter is `None`, but `alone` is false if
+-- absent.
 abbrev pub shared_in : Data → Result Shared Refusal
 shared_in d = do
   workers ← needed (optional as_whole (codes "workers") d)
@@ -35,7 +35,7 @@ shared_in d = do
   alone ← needed (optional as_bool (codes "alone") d)
   Ok (record { workers = workers; batch = batch; at = at; alone = unwrap_or alone false })
 
--- The parameters of one direction of `sync`, which its plan does not stop, and which prints no progress.
+-- The parameters of one direction of `sync`. A direction has no limit on its number of windows, and prints no progress.
 abbrev pub way_options : Shared → Option ℕ → Options
 way_options shared session = record {
   session = session;
@@ -47,7 +47,7 @@ way_options shared session = record {
   progress = false;
 }
 
--- The parameters of one direction of `sync` as those of a `replicate` line.
+-- The parameters of one direction of `sync`, as parameters of a `replicate` line.
 abbrev pub way : List ℕ → List ℕ → Option (List (List ℕ)) → Options → ReplicateAsk
 way source target doc_ids options = record { source = source; target = target; doc_ids = doc_ids; options = options }
 
@@ -76,14 +76,14 @@ abbrev pub both_told : List ℕ → Told → Told
 both_told text (Ok more) = Ok (text ++ more)
 both_told text (Err name) = Err name
 
--- The result of `sync` after that of the forward direction. The reverse direction of `sync` follows, unless the forward
+-- The result of `sync`, given the result of the forward direction. The reverse direction follows, unless the forward
 -- direction failed.
 abbrev pub SyncsBack : State → SyncAsk → Told → Told → State → Type 0
 SyncsBack mid ask (Ok text) told new =
     (second : Told) × MayTell ReportsReplication mid ask.back second new × (told ≡ both_told text second)
 SyncsBack mid ask (Err name) told new = (told ≡ Err name) × (new ≡ mid)
 
--- The possible results of `sync`, which are those of two `replicate` lines in order.
+-- The results that `sync` may have: the results of two `replicate` lines in order.
 abbrev pub Syncs : Answering State SyncAsk
 Syncs old ask told new =
     (first : Told) × (mid : State) × MayTell ReportsReplication old ask.there first mid × SyncsBack mid ask first told new
@@ -91,7 +91,8 @@ Syncs old ask told new =
 -- ---- the guarantee of `sync`, as specified in docs/PROFILE.md, "Tied databases"
 
 -- The guarantee for a `sync` line. Between the two directions of `sync`, all databases are consistent, and each
--- direction has the guarantee of a replication. A `sync` line fails only with a possible error of a direction.
+-- direction has the guarantee of a replication. A `sync` line fails only with an error with which one of its directions
+-- may fail.
 abbrev pub IsMet : State → SyncAsk → Told → Type 0
 IsMet new ask (Ok text) =
     (mid : State) × (first : List ℕ) × (second : List ℕ) × (text ≡ first ++ second) × AllTied mid

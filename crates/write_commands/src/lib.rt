@@ -1,5 +1,5 @@
 //! The commands that change databases, with their parameters, effects and output (docs/PROFILE.md, "Command lines" and
-//! "Answers"). Each command has a source file of its own.
+//! "Answers"). Each command has a separate source file.
 #![tactic(auto)]
 
 mod backup;

@@ -231,7 +231,7 @@ fn make_empty(
     Ok(())
 }
 
-/// Creates a database and stores a document in it.
+/// Creates a database and stores a document in the new database.
 fn make_with(
     alloc: Global,
     databases: &mut Databases,

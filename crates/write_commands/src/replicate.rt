@@ -34,15 +34,15 @@ pub struct Replicate<'v, 'a> {
     pub options: Options,
 }
 
-/// The parameters of a replication other than its databases and selection. Absent ones are `None`; The parameters
-/// `alone` and `progress` are false if the line does not give them.
+/// The parameters of a replication other than its databases and selection. An absent parameter is `None`, but `alone`
+/// and `progress` are false if absent.
 #[derive(Clone, Copy, Debug, PartialEq, Eq)]
 pub struct Options {
     /// The id of the new session, which is a UUID as a number.
     pub session: Option<u128>,
     /// Whether the replication uses only one thread.
     pub alone: bool,
-    /// The number of fetchers, which is also the number of writers.
+    /// The number of fetchers, and the number of writers.
     pub workers: Option<u64>,
     /// The maximum number of rows of a window.
     pub batch: Option<u64>,
@@ -122,7 +122,7 @@ impl<'v, 'a> Command<&'v Line<'a>> for Replicate<'v, 'a> {
     }
 }
 
-/// Runs a replication, and prints its result. If the line gives no session id, the call generates one after it has
+/// Runs a replication, and prints its result. If the line gives no session id, the call generates an id after it has
 /// found both databases and before it parses the document ids. The call may block, unless the line requests a
 /// replication with one thread.
 #[inline(never)]
@@ -215,8 +215,8 @@ fn plan_asked(
     })
 }
 
-/// Replicates the source database of a line into the target database, both of which exist. The call uses one thread if
-/// the line says so, and otherwise the pool, with a progress board if the line requests it.
+/// Replicates the source database of a line into the target database. Both databases exist. The call uses one thread if
+/// `alone` is true, and otherwise the pool, with a progress board if `progress` is true.
 fn run_plan<H: Threads + Wait + Sync>(
     rt: &H,
     alloc: Global,

@@ -25,7 +25,7 @@ pub struct BothWays<'v, 'a> {
 /// The parameters that apply to both directions of a `sync`.
 #[derive(Clone, Copy, Debug, PartialEq, Eq)]
 pub struct Shared {
-    /// The number of fetchers, which is also the number of writers.
+    /// The number of fetchers, and the number of writers.
     pub workers: Option<u64>,
     /// The maximum number of rows of a window.
     pub batch: Option<u64>,

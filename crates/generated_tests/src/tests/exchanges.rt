@@ -1,5 +1,5 @@
-//! Compares one database's requests for another database's feed, and the documents fetched for these requests, with the
-//! reference.
+//! Compares requests and fetched documents with the reference. A database requests leaves of another database's feed,
+//! and fetches documents for its requests.
 use crate::tests::checks::holds;
 use crate::tests::feeds::{number_of, put};
 use crate::tests::merges::{are, rev};
@@ -119,8 +119,8 @@ fn is_leaf(
     );
 }
 
-/// Asserts that the documents from an index on are the leaves of a tree that are or descend from given revisions.
-/// Returns the index after the compared documents.
+/// Asserts that the documents from an index on are those leaves of a tree that are given revisions or descend from
+/// given revisions. Returns the index after the compared documents.
 fn brings_leaves(
     rt: &impl Abort,
     alloc: Global,
@@ -164,7 +164,7 @@ fn loses(
     at
 }
 
-/// Asserts that a parcel has the documents that the trees have for a request. Returns the parcel's number of documents.
+/// Asserts that a parcel has, for a request, the documents in the trees. Returns the parcel's number of documents.
 fn brings(
     rt: &impl Abort,
     alloc: Global,
@@ -189,8 +189,8 @@ fn brings(
     docs
 }
 
-/// Asserts that a side returns the documents that its trees have for a request. Returns the number of
-/// returned documents.
+/// Asserts that a side returns, for a request, the documents in the side's trees. Returns the number of returned
+/// documents.
 fn answers(rt: &impl Abort, alloc: Global, side: &Side, asked: &Asked) -> usize {
     let parcel = side.db.open_revs(alloc, asked).expect(rt, "memory");
     brings(rt, alloc, &side.plain, asked, &parcel)
@@ -219,7 +219,7 @@ fn exchange(
     target.grow(rt, alloc, rng, 10);
     let asked = asked(rt, alloc, source, target);
     asks(rt, alloc, &source.plain, &target.plain, &asked);
-    // The source may have changed before the fetch, and another database may lack the requested revisions.
+    // The source may change before the fetch, and another database may lack the requested revisions.
     source.grow(rt, alloc, rng, 10);
     let docs = answers(rt, alloc, source, &asked);
     let _others = answers(rt, alloc, target, &asked);

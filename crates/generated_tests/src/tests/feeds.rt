@@ -46,7 +46,7 @@ pub(crate) fn document(
 }
 
 /// Creates a random document, and merges the document into the reference. Returns the document and the expected result
-/// of its put.
+/// of the put.
 pub(crate) fn document_by_chance(
     rt: &impl Abort,
     alloc: Global,
@@ -93,7 +93,7 @@ fn row_has(rt: &impl Abort, alloc: Global, row: &Row, number: usize, tree: &Refe
     holds(rt, same && are(rt, row.leaves(), &leaves), "a row");
 }
 
-/// Asserts that a row has the reference's next document above a sequence. Returns its sequence.
+/// Asserts that a row has the reference's next document above a sequence. Returns the row's sequence.
 fn row_is(
     rt: &impl Abort,
     alloc: Global,

@@ -28,7 +28,7 @@ fn plain_answer(rt: &impl Abort, answer: Result<Merged, TreeFault>) -> PlainAnsw
     }
 }
 
-/// Asserts that a revision has the content that the plain form has for it.
+/// Asserts that a revision has the same content in the tree and in the plain form.
 fn agree_on_content(rt: &impl Abort, tree: &Tree, plain: &PlainTree, one: Rev) {
     match (tree.content(one), plain.content(one)) {
         (Some(content), Some((deleted, byte))) => {
@@ -49,7 +49,7 @@ fn are_same(rt: &impl Abort, answer: Result<Revs, AllocError>, wanted: &[Rev]) {
     holds(rt, revs.as_slice() == wanted, "revisions");
 }
 
-/// Asserts that a revision has the ancestry that the plain form has for it.
+/// Asserts that a revision has the same ancestry in the tree and in the plain form.
 fn agree_on_walk(rt: &impl Abort, alloc: Global, tree: &Tree, plain: &PlainTree, one: Rev) {
     match tree.ancestry(alloc, one) {
         Ok(walk) => is_walk(rt, alloc, plain, one, walk.revs()),
@@ -67,8 +67,8 @@ fn is_walk(rt: &impl Abort, alloc: Global, plain: &PlainTree, one: Rev, walk: &[
     );
 }
 
-/// Whether a tree agrees with the plain form about whether it has a revision, whether the revision is a leaf, and its
-/// origin.
+/// Whether a tree and the plain form agree about whether a revision exists, whether the revision is a leaf, and the
+/// revision's origin.
 fn has_as(tree: &Tree, plain: &PlainTree, one: Rev) -> bool {
     let origin = plain.origin(one);
     let stands = tree.has(one) == origin.is_some();
@@ -109,7 +109,7 @@ fn agree_on_missing(rt: &impl Abort, alloc: Global, tree: &Tree, plain: &PlainTr
     are_same(rt, tree.missing(alloc, asked), &missing);
 }
 
-/// Asserts that both representations of a tree agree, also about the given revisions.
+/// Asserts that both representations of a tree agree about the tree and about the given revisions.
 fn agree(rt: &impl Abort, alloc: Global, tree: &Tree, plain: &PlainTree, asked: &[Rev]) {
     let leaves = plain.leaves(alloc).expect(rt, "memory");
     agree_on_leaves(rt, alloc, tree, &leaves);
@@ -176,7 +176,8 @@ fn merge_and_read(
 }
 
 /// Performs fifty merges from one seed in both representations. After each merge, the call reads the merged and other
-/// revisions, after half of the merges from a copy of the tree. After the last merge, the call reads every revision.
+/// revisions. After half of the merges, the call reads from a copy of the tree. After the last merge, the call reads
+/// every revision.
 fn merges_alike(rt: &impl Abort, alloc: Global, seed: u64, tree: &mut Tree) {
     let mut rng = ChaCha8Rng::seed_from_u64(seed);
     let mut plain = PlainTree::new(alloc);

@@ -68,12 +68,12 @@ fn finish_one(rt: &impl Abort, front: &mut Front, lo: u64, is_done: bool) {
     );
 }
 
-/// Whether a front has the low water and the runs that a list of Booleans gives.
+/// Whether a front has the low water and the runs that a list of Booleans determines.
 fn is_marked(front: &Front, start: u64, marks: &[bool; WINDOWS]) -> bool {
     front.low_water() == low_water(start, marks) && front.range_count() == range_count(marks)
 }
 
-/// Tries forty times to finish a random window. The first try to finish a window succeeds, and later tries fail.
+/// Tries forty times to finish a random window. For each window, the first try succeeds, and later tries fail.
 fn finishes(rt: &impl Abort, front: &mut Front, seed: u64) {
     let mut rng = ChaCha8Rng::seed_from_u64(seed);
     let start = seed % 7;

@@ -1,4 +1,5 @@
-//! Performs random merges, and compares each merge's result, and all read calls after it, with the reference.
+//! Performs random merges. After each merge, the test compares the merge's result and all read calls with the
+//! reference.
 ghost use Rattle.std.specs.Prelude.{◌≤◌};
 
 use crate::tests::checks::holds;
@@ -75,7 +76,7 @@ pub(crate) fn ancestry(rt: &impl Abort, alloc: Global, places: &[usize]) -> Ance
     Ancestry::from_parts(alloc, start as u32, &sigs).expect(rt, "an ancestry")
 }
 
-/// Asserts that a revision has the content that the reference has for it.
+/// Asserts that a revision has the same content in the tree and in the reference.
 fn agree_on_content(rt: &impl Abort, tree: &Tree, reference: &Reference, one: Rev, place: usize) {
     match (tree.content(one), reference.content(place)) {
         (Some(content), Some((deleted, body))) => {
@@ -96,7 +97,7 @@ fn assert_are(rt: &impl Abort, answer: Result<Revs, AllocError>, places: &[usize
     holds(rt, are(rt, revs.as_slice(), places), "revisions");
 }
 
-/// Asserts that a revision has the ancestry that the reference has for it.
+/// Asserts that a revision has the same ancestry in the tree and in the reference.
 fn agree_on_walk(
     rt: &impl Abort,
     alloc: Global,
@@ -121,8 +122,8 @@ fn is_walk(rt: &impl Abort, alloc: Global, reference: &Reference, place: usize, 
     );
 }
 
-/// Whether a tree agrees with the reference about whether it has a revision, whether the revision is a leaf, and its
-/// origin.
+/// Whether a tree and the reference agree about whether a revision exists, whether the revision is a leaf, and the
+/// revision's origin.
 fn has_as(tree: &Tree, reference: &Reference, one: Rev, place: usize) -> bool {
     let stands = tree.has(one) == reference.has(place);
     let is_leaf = tree.is_leaf(one) == reference.is_leaf(place);
@@ -196,8 +197,8 @@ fn agree_on_above(
     assert_are(rt, tree.leaves_above(alloc, &revs), &above);
 }
 
-/// Asserts that a tree and the reference have the same leaves above random revisions, and lack the same ones of these
-/// revisions.
+/// Asserts that a tree and the reference have the same leaves above random revisions, and that both lack the same
+/// random revisions.
 fn agree_on_asked(
     rt: &impl Abort,
     alloc: Global,
@@ -257,7 +258,7 @@ pub(crate) fn content(rt: &impl Abort, alloc: Global, deleted: bool, byte: u8) -
     Content::new(deleted, body)
 }
 
-/// Merges into both. Returns whether the merge failed.
+/// Merges into the tree and into the reference. Returns whether the merge failed.
 fn merge(
     rt: &impl Abort,
     alloc: Global,

@@ -1,6 +1,6 @@
 //! Networks of randomly diverging peers. After a replication through a hub, or twice around a ring, all peers have the
-//! same documents. A second round changes nothing, and audits find no uncovered leaf. After random hops, each peer that
-//! a chain of hops reaches has all leaves of the chain's first peer.
+//! same documents. A repetition of the replication changes nothing, and audits find no uncovered leaf. After random
+//! hops, each peer that a chain of hops reaches has all leaves of the chain's first peer.
 use crate::tests::checks::holds;
 use crate::tests::feeds::id;
 use crate::tests::merges::below;
@@ -78,7 +78,7 @@ fn plans(rt: &impl Abort, alloc: Global, rng: &mut ChaCha8Rng, sessions: &mut u1
     plans
 }
 
-/// Returns hops twice around a ring, by which chains lead from every peer to every other peer.
+/// Returns hops twice around a ring. Chains of hops of the ring lead from every peer to every other peer.
 fn ring(rt: &impl Abort, alloc: Global, rng: &mut ChaCha8Rng, sessions: &mut u128) -> Vec<Hop> {
     let mut hops = Vec::new(alloc);
     for step in 0..2 * PEERS {
@@ -122,7 +122,8 @@ fn reached(hops: &[Hop]) -> [u32; PEERS] {
     reached
 }
 
-/// Returns the leaves of all documents at all peers, each with the index of its peer and the number of its document.
+/// Returns the leaves of all documents at all peers, each leaf with the index of its peer and the number of its
+/// document.
 fn leaves_of(rt: &impl Abort, alloc: Global, net: &Net<Rules>) -> Vec<(usize, usize, Rev)> {
     let mut all = Vec::new(alloc);
     for place in 0..PEERS {
@@ -200,7 +201,7 @@ fn net(rt: &impl Abort, alloc: Global) -> Net<Rules> {
     net
 }
 
-/// Several times, edits the peers' documents at random, and replicates twice through a hub or along a ring.
+/// Repeatedly edits the peers' documents at random, and replicates twice through a hub or along a ring.
 fn of_seed(rt: &impl Abort, alloc: Global, seed: u64) {
     let mut rng = ChaCha8Rng::seed_from_u64(seed);
     let mut sessions = 0;
@@ -231,8 +232,8 @@ fn of_seed(rt: &impl Abort, alloc: Global, seed: u64) {
     }
 }
 
-/// Several times, edits the peers' documents at random, and replicates along random hops. Returns how often chains led
-/// from every peer to every other peer.
+/// Repeatedly edits the peers' documents at random, and replicates along random hops. Returns how often chains led from
+/// every peer to every other peer.
 fn by_chance(rt: &impl Abort, alloc: Global, seed: u64) -> usize {
     let mut rng = ChaCha8Rng::seed_from_u64(seed);
     let mut sessions = 0;

@@ -1,6 +1,6 @@
-//! Replications of random pairs, by one thread and by the pool, of all documents and of two random selections. Each
-//! replication is compared with the plain model. The test compares both sides' trees and coverage, the report, and the
-//! session's ledger.
+//! Replications between random pairs of peers, by one thread and by the pool, of all documents and of two random
+//! selections. Each replication is compared with the plain model. The test compares both sides' trees and coverage, the
+//! report, and the session's ledger.
 use crate::tests::checks::holds;
 use crate::tests::choices::{chosen, some};
 use crate::tests::feeds::{document_by_chance, is_answer};
@@ -20,10 +20,10 @@ use std::process::Abort;
 use std::sync::Wait;
 use std::thread::Threads;
 
-/// The number of choices for the document that a filter refuses. Some choices are not the number of a document.
+/// The number of choices for the document that a filter refuses. Some choices are not the number of any document.
 const CHOICES: u32 = 8;
 
-/// The indices in the list of what a test replicates (all documents, the first selection, the second selection).
+/// Indices in the list of what a test replicates: all documents, the first selection, and the second selection.
 const WHOLE: usize = 0;
 
 const FIRST: usize = 1;
@@ -42,13 +42,13 @@ enum Call {
     GrowTarget(usize),
     /// Load a number of random documents into a source.
     Grow(usize, usize),
-    /// Replicate all documents of a source, or those of a selection, into the target.
+    /// Replicate all documents or the selected documents of a source into the target.
     Replicate(usize, usize),
 }
 
-/// The second source is replicated into a target that has documents of its own. After the second source, the first
-/// source is replicated into the target, for one selection and then completely. After further documents were loaded
-/// into the first source, it is replicated for both selections and then completely.
+/// The second source is replicated into a target that has other documents. After the second source, the first source is
+/// replicated into the target, for one selection and then completely. After further documents were loaded into the
+/// first source, the first source is replicated for both selections and then completely.
 static CALLS: &[Call] = &[
     Call::Grow(OTHER, 10),
     Call::GrowTarget(5),
@@ -210,12 +210,12 @@ fn plan(
     }
 }
 
-/// Moves a peer out of its variable, because a run of the pool takes its peers by value.
+/// Moves a peer out of its variable, because a run of the pool takes both peers by value.
 fn taken(alloc: Global, place: &mut Peer<Rules>) -> Peer<Rules> {
     mem::replace(place, Peer::new(alloc, 0, Rules { deny: None }))
 }
 
-/// Stores both peers of a run again, and returns the report of the run.
+/// Stores both peers after a run, and returns the report of the run.
 fn taken_back(
     ran: Ran<Rules>,
     source: &mut Peer<Rules>,
@@ -273,7 +273,7 @@ fn replicate<R: Abort + Threads + Wait + Sync>(
     source.carried[how.choice % 3] = source.plain.update_seq;
 }
 
-/// Replicates the plain models, and asserts that they agree with the report and the session's ledger.
+/// Replicates the plain models, and asserts that the models agree with the report and the session's ledger.
 fn compare(
     rt: &impl Abort,
     alloc: Global,

@@ -1,5 +1,4 @@
-//! The plain form of a tree: the ancestries as they were given, and two lists with the contents and origins of
-//! revisions.
+//! The plain form of a tree: the given ancestries, and two lists with the contents and origins of revisions.
 //!
 //! The plain form is slow and simple. Each call of the plain form scans the lists without an index, and uses the first
 //! entry that it finds.
@@ -65,7 +64,7 @@ impl PlainTree {
         None
     }
 
-    /// Whether a revision is a leaf, which means in the tree and not a parent.
+    /// Whether a revision is in the tree and has no child.
     pub(crate) fn is_leaf(&self, rev: Rev) -> bool {
         for ancestry in &self.ancestries {
             if ancestry.contains(rev) && ancestry.head() != rev {
@@ -97,7 +96,7 @@ impl PlainTree {
         Ok(leaves)
     }
 
-    /// Returns a revision and its ancestors, of which there are fewer than the revision's generation.
+    /// Returns a revision and its ancestors. The number of ancestors is less than the revision's generation.
     pub(crate) fn ancestry(&self, alloc: Global, rev: Rev) -> Result<Vec<Rev>, AllocError> {
         let mut walk = Vec::new(alloc);
         let mut at = Some(rev);
@@ -152,7 +151,7 @@ impl PlainTree {
         None
     }
 
-    /// Whether the tree has the revisions and edges of an ancestry, and a content of its head.
+    /// Whether the tree has the revisions and edges of an ancestry, and a content of the ancestry's head.
     fn is_same(&self, ancestry: &Ancestry) -> bool {
         let revs = ancestry.revs();
         revs.iter().all(|rev| self.origin(*rev).is_some())
@@ -161,7 +160,7 @@ impl PlainTree {
             && self.content(ancestry.head()).is_some()
     }
 
-    /// Merges an ancestry into the tree, with the content of its head and the origin of new revisions.
+    /// Merges an ancestry into the tree, given the content of the ancestry's head and the origin of new revisions.
     pub(crate) fn merge(
         &mut self,
         alloc: Global,

@@ -1,4 +1,4 @@
-//! A database and the revisions that its sessions refused, as plain data in which trees are bit masks.
+//! Plain data for a database and for the revisions that the database's sessions refused. Trees are bit masks.
 use crate::tests::reference::{Answer, PLACES, Reference, mask_of};
 use std::alloc::Global;
 use std::process::Abort;
@@ -105,7 +105,7 @@ impl PlainSide {
         Some(row)
     }
 
-    /// Returns the revisions of a document that are in its tree or were refused.
+    /// Returns the revisions of a document that are in the document's tree or were refused.
     pub(crate) fn covered(&self, number: usize) -> u32 {
         self.tree(number).revisions() | self.refused[number % IDS]
     }
@@ -141,8 +141,8 @@ impl Carried {
     }
 }
 
-/// Replicates the selected documents of a source's feed above a sequence into a target, which refuses the document with
-/// a number.
+/// Replicates the selected documents of a source's feed above a sequence into a target. The target refuses the document
+/// with a given number.
 pub(crate) fn carry(
     rt: &impl Abort,
     alloc: Global,
@@ -189,8 +189,8 @@ fn carry_document(
     }
 }
 
-/// Merges a leaf of a source's tree, with its ancestry, into the target, or refuses the leaf and returns its ledger
-/// row.
+/// Merges a leaf of a source's tree, with the leaf's ancestry, into the target, or refuses the leaf and returns its
+/// ledger row.
 pub(crate) fn take_leaf(
     rt: &impl Abort,
     alloc: Global,

@@ -66,16 +66,16 @@ struct Copied {
     log: SourceLog,
 }
 
-/// Counts of how often a list of steps reached each situation that a restore creates.
+/// Counts how often a list of steps reached each situation that a restore creates.
 #[derive(Clone, Copy, Debug)]
 pub(crate) struct Met {
     /// The number of restores while windows, entries or logs were in transit.
     pub(crate) restores: u64,
     /// The number of sessions that began in a life of the source that had ended.
     pub(crate) begins: u64,
-    /// The number of windows from another life than the session that should store the window.
+    /// The number of windows whose life differs from the life of the session that should store the window.
     pub(crate) windows: u64,
-    /// The number of entries from another life than the source.
+    /// The number of entries whose life differs from the source's life.
     pub(crate) entries: u64,
 }
 
@@ -255,8 +255,8 @@ impl Sessions {
         0
     }
 
-    /// If the session is valid, begins it at the common checkpoint of a source's log and the target's sessions, in the
-    /// log's life.
+    /// Begins a session at the common checkpoint of a source's log and the target's sessions, in the log's life, if the
+    /// session is valid.
     fn begin(&mut self, rt: &impl Abort, session: u128, log: &SourceLog, goal: u64, time: u64) {
         let start = self.agreed(&log.entries);
         if start <= goal && self.get(session).is_none() {
@@ -275,7 +275,7 @@ impl Sessions {
         }
     }
 
-    /// Stores a window, if it is from the session's life and is the session's next window.
+    /// Stores a window, if the window is from the session's life and is the session's next window.
     fn append(&mut self, rt: &impl Abort, session: u128, rows: Rows) {
         let Some(held) = self.get(session) else {
             return;
@@ -290,8 +290,8 @@ impl Sessions {
         }
     }
 
-    /// Returns the index of the stored window of a request, if this window is not done and has a row for each requested
-    /// document.
+    /// Returns the index of the stored window for a request, if this window is not done and has a row for each
+    /// requested document.
     fn window_for(&self, session: u128, asked: &Rows) -> Option<usize> {
         self.windows.iter().position(|window| {
             window.session == session
@@ -320,14 +320,15 @@ impl Sessions {
         covers(side, &self.windows.get(window).expect(rt, "a window").rows)
     }
 
-    /// Marks the window at an index as done, and adds its leaves to the session's counts.
+    /// Marks the window at an index as done, and returns the number of its leaves.
     fn finish(&mut self, rt: &impl Abort, window: usize) -> u64 {
         let stored = self.windows.get_mut(window).expect(rt, "a window");
         stored.is_done = true;
         count(&stored.rows.leaves)
     }
 
-    /// Marks the window at an index as done, and adds its leaves and the requested revisions to the session's counts.
+    /// Marks the window at an index as done, and adds the window's leaves and the requested revisions to the session's
+    /// counts.
     fn mark(&mut self, rt: &impl Abort, session: u128, window: usize, asked: &Rows) {
         let checked = self.finish(rt, window);
         let place = self.place(session).unwrap_or(0);
@@ -336,8 +337,8 @@ impl Sessions {
         held.done.found = held.done.found.saturating_add(count(&asked.leaves));
     }
 
-    /// Records a session. If `concludes` is true, the session is recorded only if it has reached its goal. Returns its
-    /// log entry.
+    /// Records a session. If `concludes` is true, the session is recorded only if it has reached its goal. Returns the
+    /// session's log entry.
     fn record(&mut self, session: u128, concludes: bool, time: u64) -> Option<Done> {
         let low = self.low_water(self.get(session)?);
         let place = self.place(session)?;
@@ -375,7 +376,7 @@ fn settle(
     }
 }
 
-/// Settles the leaves of a document that are or descend from requested revisions.
+/// Settles the leaves of a document that are requested revisions or descend from requested revisions.
 fn settle_document(
     rt: &impl Abort,
     alloc: Global,
@@ -527,7 +528,7 @@ impl PlainWorld {
 
     // ---- steps
 
-    /// Edits the document `EDITED` by adding a child of its only leaf, or the first revision of a new document.
+    /// Edits the document `EDITED`, which adds a child of the document's only leaf, or the document's first revision.
     pub(crate) fn edit(&mut self, at_source: bool, parent: Option<usize>) {
         let side = self.side(at_source);
         let leaves = side.tree(EDITED).leaf_mask();
@@ -566,7 +567,7 @@ impl PlainWorld {
         }
     }
 
-    /// Reads a page of the source, if the source has one for the given bounds.
+    /// Reads a page of the source, if the source has a page for the given bounds.
     pub(crate) fn page(&mut self, rt: &impl Abort, since: u64, goal: u64, limit: u64) {
         if limit != 0 && since < goal && goal <= self.source.update_seq {
             let life = self.log.life;
@@ -620,8 +621,8 @@ impl PlainWorld {
         }
     }
 
-    /// Stores an entry in the source's log, if it is from the source's life and no entry of its session has a greater
-    /// recorded sequence.
+    /// Stores an entry in the source's log, if the entry is from the source's life and no entry of its session has a
+    /// greater recorded sequence.
     pub(crate) fn put_entry(&mut self, rt: &impl Abort, entry: usize) {
         if let Some(entry) = self.entries.get(entry) {
             if entry.life == self.log.life {

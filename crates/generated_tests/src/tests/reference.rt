@@ -1,8 +1,8 @@
 //! A tree as a mask of eighteen bits, one for each revision of generation 1 to 6 with signature a, b or c.
 //!
-//! The revision at index `p` has generation `p / 3 + 1` and signature `p % 3`, so indices are ordered as revisions are.
-//! The reference is written from docs/PROFILE.md, "Merging" and "Leaves and the winner", with masks for sets and `|`
-//! for the union.
+//! The revision at index `p` has generation `p / 3 + 1` and signature `p % 3`, so indices and revisions have the same
+//! order. The reference is written from docs/PROFILE.md, "Merging" and "Leaves and the winner", with masks for sets and
+//! `|` for the union.
 
 use std::alloc::{AllocError, Global};
 use std::process::Abort;
@@ -109,7 +109,7 @@ impl Reference {
         None
     }
 
-    /// Merges an ancestry, newest first, and a content of its head into the tree.
+    /// Merges an ancestry, newest first, and a content of the ancestry's head into the tree.
     pub(crate) fn merge(&mut self, revs: &[usize], content: (bool, u8), origin: u64) -> Answer {
         if let Some(answer) = self.contradiction(revs) {
             return answer;
@@ -157,7 +157,7 @@ impl Reference {
         self.revisions & !parents
     }
 
-    /// Whether a revision is a leaf, which means in the tree and not a parent.
+    /// Whether a revision is in the tree and has no child.
     pub(crate) fn is_leaf(&self, place: usize) -> bool {
         self.leaf_mask() & bit(place) != 0
     }

@@ -1,4 +1,4 @@
-//! Compares a peer with its plain model in trees, coverage, and refusals.
+//! Compares the trees, the coverage and the refusals of a peer with the peer's plain model.
 use crate::tests::exchanges::place_of;
 use crate::tests::feeds::{id, number_of};
 use crate::tests::merges::{are, rev};
@@ -48,7 +48,7 @@ fn agrees_on(
     same && covers
 }
 
-/// Whether a tree has the revisions of a plain tree, and the plain tree's leaves with their ancestries and contents.
+/// Whether a tree and a plain tree have the same revisions, and the same leaves, ancestries of leaves and contents.
 fn is_tree(rt: &impl Abort, alloc: Global, tree: &Tree, wanted: &Reference) -> bool {
     let places = wanted.leaves(alloc).expect(rt, "memory");
     let leaves = tree.leaves(alloc).expect(rt, "memory");
@@ -67,7 +67,7 @@ fn is_leaf(rt: &impl Abort, alloc: Global, tree: &Tree, wanted: &Reference, plac
     has_content(tree, one, wanted.content(place)) && are(rt, walk.revs(), &places)
 }
 
-/// Whether a revision has a content with the plain content's deleted flag and the body `{}`.
+/// Whether a revision's content has the deleted flag of the plain model's content, and the body `{}`.
 fn has_content(tree: &Tree, one: Rev, wanted: Option<(bool, u8)>) -> bool {
     match (tree.content(one), wanted) {
         (Some(content), Some((deleted, _))) => {

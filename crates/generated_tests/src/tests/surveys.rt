@@ -15,7 +15,7 @@ use rev_tree::Origin;
 use std::alloc::Global;
 use std::process::Abort;
 
-/// Returns the index of the first revision in the leaves' ancestries that has another parent in another tree.
+/// Returns the index of the first revision in the leaves' ancestries that has another parent in the target's tree.
 fn contradicts(
     rt: &impl Abort,
     alloc: Global,
@@ -32,7 +32,7 @@ fn contradicts(
     None
 }
 
-/// Returns the indices of the leaves whose content differs in another tree.
+/// Returns the indices of the leaves whose content differs in the target's tree.
 fn differ(
     rt: &impl Abort,
     alloc: Global,
@@ -144,7 +144,7 @@ fn in_conflict(rt: &impl Abort, alloc: Global, side: &Side) -> u64 {
     wanted.conflicts
 }
 
-/// Puts, for each leaf of a document, the leaf's document into a database.
+/// Puts the documents of all leaves of a document into a database.
 fn give(rt: &impl Abort, alloc: Global, source: &Database, id: &DocId, target: &mut Database) {
     for doc in &documents_of(alloc, source, id).expect(rt, "memory") {
         holds(rt, target.put(doc, Origin::Local(0)).is_ok(), "a put");
@@ -177,8 +177,8 @@ fn comes_back(rt: &impl Abort, alloc: Global, side: &Side, again: &mut Database)
     has_leaves(rt, alloc, again, &side.plain);
 }
 
-/// Asserts all calls of `repl_inspect` against the reference. Returns the numbers of contradicting documents, of
-/// differing leaves, and of documents in conflict.
+/// Asserts that all calls of `repl_inspect` agree with the reference. Returns the numbers of contradicting documents,
+/// of differing leaves, and of documents in conflict.
 fn survey(rt: &impl Abort, alloc: Global, source: &Side, target: &Side) -> [u64; 3] {
     let total = compares(rt, alloc, source, target);
     let conflicts = in_conflict(rt, alloc, source);

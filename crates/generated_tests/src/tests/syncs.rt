@@ -42,7 +42,7 @@ pub(crate) fn leaf(
     leaves.get(place).copied()
 }
 
-/// Creates a document, or changes or deletes a leaf of it.
+/// Creates a document, or changes or deletes a leaf of the document.
 fn edit_one(
     rt: &impl Abort,
     alloc: Global,
@@ -130,7 +130,7 @@ pub(crate) fn assert_same(rt: &impl Abort, alloc: Global, a: &Peer<Rules>, b: &P
     }
 }
 
-/// Asserts that two peers have the same documents, except that the second one has never accepted d0.
+/// Asserts that two peers have the same documents, except that the second peer has never accepted d0.
 fn assert_same_but_d0(rt: &impl Abort, alloc: Global, a: &Peer<Rules>, b: &Peer<Rules>) {
     for number in 1..IDS {
         let same = is_same(rt, alloc, a, b, &id(rt, alloc, number));
@@ -177,7 +177,7 @@ fn meet<R: Abort + Threads + Wait + Sync>(
     (a, b, outcome.expect(rt, "nothing refused"))
 }
 
-/// Several times, edits two peers' documents at random, and replicates twice in both directions.
+/// Repeatedly edits two peers' documents at random, and replicates twice in both directions.
 fn of_seed<R: Abort + Threads + Wait + Sync>(rt: &R, alloc: Global, seed: u64, workers: u64) {
     let mut rng = ChaCha8Rng::seed_from_u64(seed);
     let mut sessions = 0;
@@ -216,7 +216,7 @@ fn refusing(rt: &impl Abort, alloc: Global) -> Peer<Rules> {
     Peer::new(alloc, 2, Rules { deny: Some(deny) })
 }
 
-/// Tests two peers, of which the second refuses d0. After each round, both peers have the same documents except d0.
+/// Tests two peers. The second peer refuses d0. After each round, both peers have the same documents except d0.
 fn beside_refusals<R: Abort + Threads + Wait + Sync>(
     rt: &R,
     alloc: Global,

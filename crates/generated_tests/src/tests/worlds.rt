@@ -1,4 +1,5 @@
-//! Compares the peers, the logs and the message bag of a world with its plain model, after random lists of steps.
+//! Compares the peers, the logs and the message bag of a world with the world's plain model, after random lists of
+//! steps.
 use crate::tests::checks::holds;
 use crate::tests::choices::{all_or_some, chosen};
 use crate::tests::feeds::{body, document_by_chance, id};
@@ -25,8 +26,7 @@ const STEPS: usize = 80;
 /// The number of steps at the start of a list that each load a document.
 const LOADS: usize = 4;
 
-/// Generates random steps. A generator of steps. The model takes each generated step, and the generator adds the step
-/// to its list.
+/// A generator of random steps. The model takes each generated step, and the generator adds the step to its list.
 #[derive(Drop)]
 struct Dealer {
     alloc: Global,
@@ -57,7 +57,7 @@ impl Dealer {
         }
     }
 
-    /// Chooses a document that the target refuses, or none, and the documents that are replicated.
+    /// Chooses the document that the target refuses, if any, and the documents that are replicated.
     fn pick(&mut self) {
         let number = below(&mut self.rng, 8);
         if number < EDITED {
@@ -164,7 +164,7 @@ impl Dealer {
         }
     }
 
-    /// Generates the reading of a page, usually the next one of a session.
+    /// Generates the reading of a page, usually the next page of a session.
     fn page(&mut self, rt: &impl Abort) -> Step {
         let since = if below(&mut self.rng, 4) == 0 {
             below(&mut self.rng, 5) as u64
@@ -458,7 +458,7 @@ fn peer(alloc: Global, uuid: u128, deny: Option<String>) -> Peer<Rules> {
     Peer::new(alloc, uuid, Rules { deny })
 }
 
-/// Creates a world of two peers without documents, whose replication is of selected documents or of all.
+/// Creates a world of two peers without documents. The world replicates selected documents or all documents.
 fn world(
     rt: &impl Abort,
     alloc: Global,

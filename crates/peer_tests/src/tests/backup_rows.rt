@@ -1,5 +1,5 @@
-//! Test rows for backups, in which a source is restored, and calls receive data from other lives of the source. No
-//! allocation fails in the test rows.
+//! Test rows for backups. A source is restored, and calls receive data from other lives of the source. No allocation
+//! fails in the test rows.
 use crate::tests::peers::{Call, Lists, Rep, Rows, expect};
 use rev_tree::SessionId;
 
@@ -82,8 +82,8 @@ const AHEAD: Rows = &[
     ),
 ];
 
-/// After the source is restored, its documents, local writes and log are those of the backup. After the restore,
-/// another document gets the sequence that the document d4 had before the restore.
+/// After the restore, the source has the documents, local writes and log of the backup. After the restore, another
+/// document gets the sequence that the document d4 had.
 const PUT_BACK: Rows = &[
     (Call::Restore(SOURCE, FIRST), "restored"),
     (Call::Life(SOURCE), "1"),
@@ -108,12 +108,12 @@ fn other_life_refused(rt: HostRuntime) {
             Call::PutEntryOf(SOURCE, REP, TARGET, S2),
             "OtherLife { now: 1 }",
         ),
-        // The condition of the error `Older` also holds, but the call checks that condition later.
+        // The condition of the error `Older` is true, but the call checks that condition later.
         (Call::PutEntry(SOURCE, REP, S1, 1), "OtherLife { now: 1 }"),
         (Call::SourceLog(SOURCE, REP), "1 at 3;"),
         (Call::Page(SOURCE, 3, 4), "3 to 4: 4 e 1-a;"),
-        // The call would also find that the second session's windows end at 6 and that the third session is missing,
-        // but it checks this later.
+        // The second session's windows end at 6, and the third session is missing, but the call checks both conditions
+        // later.
         (Call::Append(TARGET, S2, SECOND), "OtherLife { now: 0 }"),
         (Call::Append(TARGET, S3, SECOND), "NoSuchSession"),
         (
@@ -135,7 +135,7 @@ fn other_life_refused(rt: HostRuntime) {
 fn copies_are_refused_by_name(rt: HostRuntime) {
     const ROWS: Rows = &[
         (Call::Backup(TARGET), "IsTarget"),
-        // The condition of the error `ForeignBackup` also holds, but the call checks that condition later.
+        // The condition of the error `ForeignBackup` is true, but the call checks that condition later.
         (Call::Restore(TARGET, FIRST), "IsTarget"),
         (Call::Peer(3, None), "made"),
         (Call::Restore(OTHER, FIRST), "ForeignBackup"),
@@ -162,7 +162,7 @@ fn a_life_is_above_both(rt: HostRuntime) {
         (Call::Numbers(SOURCE), "1 at 4"),
         (Call::Tree(SOURCE, "e"), "1-a of 1"),
         (Call::Backup(SOURCE), "1 at 4"),
-        // Another peer with the same UUID, in life 0, is restored from the backup, and keeps its own filter.
+        // Another peer with the same UUID, in life 0, is restored from the backup, and keeps its filter.
         (Call::Peer(1, Some("d")), "made"),
         (Call::Restore(OTHER, THIRD), "restored"),
         (Call::Life(OTHER), "4"),
@@ -172,7 +172,8 @@ fn a_life_is_above_both(rt: HostRuntime) {
             Call::Verdict(OTHER, r#"{"_id":"d1","_rev":"1-a"}"#),
             "Refuse",
         ),
-        // A session begins at the common checkpoint of both logs, whichever lives of the source the logs are from.
+        // A session begins at the common checkpoint of both logs, even if the logs are from different lives of the
+        // source.
         (Call::BeginPlan(S4, 10), "3"),
     ];
     static LISTS: Lists = &[COPIED, AHEAD, PUT_BACK, ROWS];

@@ -19,7 +19,7 @@ pub(crate) fn back_up(
     }
 }
 
-/// Stores a backup, and returns the UUID and the update sequence of its database.
+/// Stores a backup, and returns the UUID and the update sequence of the backed-up database.
 fn keep(alloc: Global, backups: &mut Vec<Backup>, backup: Backup) -> Option<String> {
     let text = numbers_text(alloc, backup.db());
     let Ok(()) = backups.push(backup) else {

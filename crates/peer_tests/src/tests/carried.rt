@@ -1,4 +1,4 @@
-//! Reads the leaves of a peer's document, and the documents that the peer refused.
+//! Functions that read the leaves of a peer's document, and the documents that the peer refused.
 use crate::tests::texts::{doc_text, joined};
 use couch_base::Database;
 use doc_json::DocId;
@@ -39,7 +39,7 @@ fn at(alloc: Global, db: &Database, id: &DocId, rev: Rev) -> Option<String> {
     }
 }
 
-/// Returns the ids of the documents that a session refused, in order, each with the reason of the refusal.
+/// Returns the ids of the documents that a session refused, in order, each id with the reason.
 pub(crate) fn refused(
     alloc: Global,
     peer: &Peer<Rules>,
@@ -63,7 +63,7 @@ fn refused_of(alloc: Global, rows: &[Refused], id: &str) -> Option<String> {
     all
 }
 
-/// Returns the text of a ledger's document and of its reason.
+/// Returns the text of a document in a ledger, with the reason.
 fn refused_text(alloc: Global, row: &Refused) -> Option<String> {
     joined(doc_text(alloc, row.doc()), shown(alloc, &row.reason()))
 }

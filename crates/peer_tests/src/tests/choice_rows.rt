@@ -37,7 +37,7 @@ fn choices_made(rt: HostRuntime) {
         (Call::Has(Some(3), "é"), "true"),
         (Call::Has(None, "d3"), "true"),
         (Call::Choose(&[]), "NoneChosen"),
-        // A selection counts an id that is given twice only once.
+        // A selection counts an id only once, even if the id is given twice.
         (Call::ChooseMany(999), "999"),
         (Call::ChooseMany(1_000), "1000"),
         (Call::Has(Some(6), "1000"), "true"),
@@ -121,8 +121,8 @@ fn pages_under_a_choice(rt: HostRuntime) {
     expect(&rt, rt.alloc(), LISTS);
 }
 
-/// In the rows `chosen_copied`, the first replication copies two selected documents, the second all documents, and the
-/// third the selected two again.
+/// The rows `chosen_copied` have three replications. The first replication copies two selected documents, the second
+/// copies all documents, and the third has the selection of the first.
 const COPIED: Rows = &[
     (Call::Choose(&["d4", "d2", "d2"]), "2 d2 d4"),
     (Call::Choose(&["d2", "d4"]), "2 d2 d4"),

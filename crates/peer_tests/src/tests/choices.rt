@@ -1,4 +1,4 @@
-//! Selections, two peers that are replicated with selections, and calls on selections and peers.
+//! Selections, two peers between which selected documents are replicated, and calls on selections and peers.
 use crate::tests::peers::{agreed, found_text, load, source_log, target_log};
 use crate::tests::plans::plan;
 use crate::tests::records::{fault_text, report_text};
@@ -78,7 +78,7 @@ impl Bench {
         }
     }
 
-    /// Performs the calls in order, and asserts that each returns its expected result.
+    /// Performs the calls in order, and asserts that each call returns its expected result.
     fn run(&mut self, rt: &impl Abort, calls: &[(Call, &str)]) {
         for (i, (call, wanted)) in calls.iter().enumerate() {
             expect_answer(rt, i, self.answer(call), wanted);

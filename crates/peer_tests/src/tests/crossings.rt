@@ -1,4 +1,4 @@
-//! Moves parcels and backups into a thread and back.
+//! Tests that move parcels and backups into a thread and back.
 use crate::tests::backups::restore;
 use crate::tests::carried::leaves;
 use crate::tests::peers::load;

@@ -50,7 +50,7 @@ static BOTH: Rows = &[
     ),
 ];
 
-/// Calls that read the complete feed of `BOTH`, and the request of an empty database B for the feed's leaves.
+/// Calls that read the complete feed of `BOTH`, and the request of the empty database B for the feed's leaves.
 static BOTH_ASKED: Rows = &[
     (Call::Page(A, 0, 2, 10), "0 to 2: 2 d 2-b,2-a;"),
     (Call::Diff(B, FIRST), "0 to 2: d 2-b,2-a;"),
@@ -95,7 +95,7 @@ fn puts_as_given(rt: HostRuntime) {
     // A longer ancestry adds a missing ancestor, and storing the ancestor's first content is a change.
     const LONGER: &str = r#"{"_id":"d","_revisions":{"start":3,"ids":["c","b","a"]}}"#;
     const ANCESTOR: &str = r#"{"_id":"d","_rev":"2-b","n":1}"#;
-    // The first content stays.
+    // The first content of a revision stays.
     const AGAIN: &str = r#"{"_id":"d","_rev":"2-b","n":2}"#;
     const OTHER: &str = r#"{"_id":"d","_revisions":{"start":4,"ids":["d","c","x"]}}"#;
     static ROWS: Rows = &[
@@ -111,7 +111,8 @@ fn puts_as_given(rt: HostRuntime) {
         (Call::Tree(A, "e"), "no document"),
         (Call::Document(A, "d", "2-b"), r#" d 2-b,1-a live {"n":1};"#),
         (Call::Document(A, "d", "3-c"), " d 3-c,2-b,1-a live {};"),
-        // Reads of an ancestor that is known only by its id, and of a revision and a document that do not exist.
+        // Calls that read an ancestor of which only the id is known, a revision that does not exist, and a document
+        // that does not exist.
         (Call::Document(A, "d", "1-a"), "no content"),
         (Call::Document(A, "d", "2-x"), "no content"),
         (Call::Document(A, "e", "2-b"), "no content"),
@@ -135,7 +136,8 @@ fn edits_of_each_kind(rt: HostRuntime) {
             Call::Edit(A, "d", FIRST_EDIT, false, r#"{"n":1}"#, 1),
             SECOND_EDIT,
         ),
-        // A deletion, then an edit without a parent, which becomes a child of the deleted winner.
+        // The first edit deletes the document. The second edit names no parent, and its revision becomes a child of the
+        // deleted winner.
         (Call::Edit(A, "d", SECOND_EDIT, true, "{}", 2), GONE),
         (
             Call::Tree(A, "d"),
@@ -178,7 +180,7 @@ fn edits_refused_by_name(rt: HostRuntime) {
     static ROWS: Rows = &[
         (Call::Edit(A, "d", "1-a", false, "{}", 0), "NoSuchDocument"),
         (Call::Put(A, TWO), "Changed { seq: 1 }"),
-        // The first edit names a parent that is not a leaf, and the second edit a parent that is not in the tree. The
+        // The first edit names a parent that is not a leaf. The second edit names a parent that is not in the tree. The
         // third edit names no parent, although the document has a live leaf.
         (Call::Edit(A, "d", "1-a", false, "{}", 0), "Conflict"),
         (Call::Edit(A, "d", "2-x", false, "{}", 0), "Conflict"),
@@ -339,7 +341,8 @@ fn pages_of_few_documents_with_high_sequences(rt: HostRuntime) {
 fn copies_of_a_database(rt: HostRuntime) {
     /// The greatest life.
     const LAST: u64 = 9_007_199_254_740_991;
-    // The second database is a copy of the first in the same life, and the third database is a copy in another life.
+    // The second database is a copy of the first database in the same life, and the third database is a copy of the
+    // first database in another life.
     const SAME: usize = 1;
     const OTHER: usize = 2;
     const LATEST: usize = 3;
@@ -357,7 +360,8 @@ fn copies_of_a_database(rt: HostRuntime) {
         (Call::WindowLife(0), "0"),
         (Call::WindowLife(1), "9"),
         (Call::Document(OTHER, "c", "1-d"), " c 1-d live {};"),
-        // A document that is written into one copy is in no other copy, and the written copy stays in its life.
+        // A document that is written into one copy does not appear in other copies, and the life of the written copy
+        // stays the same.
         (
             Call::Put(OTHER, r#"{"_id":"a","_rev":"1-b"}"#),
             "Changed { seq: 6 }",

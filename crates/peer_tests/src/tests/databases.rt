@@ -35,12 +35,12 @@ pub(crate) enum Call<'a> {
     Node(usize, &'a str, &'a str),
     /// Read the document at a revision.
     Document(usize, &'a str, &'a str),
-    /// Read a page of at most a given number of rows, above a sequence and up to a goal, and store it as the next
+    /// Read a page of at most a given number of rows, above a sequence and up to a goal, and store the page as the next
     /// window.
     Page(usize, u64, u64, u64),
-    /// Compute the request for the leaves of a window that a database lacks, and store it as the next request.
+    /// Compute the request for the leaves of a window that a database lacks, and store the request as the next request.
     Diff(usize, usize),
-    /// Fetch the documents for a request from a database, and store them as the next parcel.
+    /// Fetch the documents for a request from a database, and store the documents as the next parcel.
     Fetch(usize, usize),
 }
 
@@ -90,7 +90,7 @@ impl Bench {
         }
     }
 
-    /// Performs the calls in order, and asserts that each returns its expected result.
+    /// Performs the calls in order, and asserts that each call returns its expected result.
     pub(crate) fn run(&mut self, rt: &impl Abort, calls: &[(Call, &str)]) {
         for (i, (call, wanted)) in calls.iter().enumerate() {
             expect_answer(rt, i, self.answer(call), wanted);
@@ -208,7 +208,7 @@ fn copied(alloc: Global, db: &Database, life: Option<u64>) -> Option<Database> {
     }
 }
 
-/// Reads a page of the feed, and stores it as the bench's next window.
+/// Reads a page of the feed, and stores the page as the bench's next window.
 fn page(
     alloc: Global,
     db: &Database,

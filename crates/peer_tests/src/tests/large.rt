@@ -1,5 +1,5 @@
-//! Calls on peers with large values. Large values are tested because the contracts allow a call to return `Memory` even
-//! if no allocation fails.
+//! Calls on peers with large values. The contracts allow a call to return `Memory` even if no allocation fails, so
+//! tests must check that calls with large values succeed.
 use crate::tests::databases::{edit_text, put_text};
 use crate::tests::plans::plan;
 use crate::tests::records::{fault_text, report_text};
@@ -19,7 +19,7 @@ fn sig(alloc: Global, number: u32) -> Option<Sig> {
     Sig::parse(text.as_bytes()).ok()
 }
 
-/// Returns `length` revision signatures, namely of the numbers from 0 to `length - 1`.
+/// Returns `length` revision signatures: the digits of the numbers from 0 to `length - 1`.
 fn sigs(alloc: Global, length: u32) -> Option<Vec<Sig>> {
     let mut sigs = Vec::new(alloc);
     for number in 0..length {
@@ -108,8 +108,8 @@ pub(crate) fn edit_large(alloc: Global, peer: &mut Peer<Rules>, letters: usize) 
     edit_text(alloc, peer.edit(&id, None, false, &body))
 }
 
-/// Reads the size of the tree of d: the winner, the numbers of leaves and revisions, the length of the winner's
-/// ancestry, and the length of its body.
+/// Reads the size of the tree of d: the winner, the numbers of leaves and revisions, and the lengths of the winner's
+/// ancestry and body.
 pub(crate) fn sizes(alloc: Global, peer: &Peer<Rules>) -> Option<String> {
     let Ok(id) = DocId::parse(alloc, "d") else {
         return None;

@@ -1,5 +1,5 @@
-//! The rows of networks. Test rows for networks. Documents spread through a hub, a chain of hops is broken, a document
-//! is refused, a history is incomplete, and each error occurs.
+//! Test rows for networks. Documents spread through a hub, a chain of hops is broken, a document is refused, a history
+//! is incomplete, and each error occurs.
 use crate::tests::nets::{Call, Lists, Rows, expect, of_slice};
 
 /// Four peers.
@@ -59,7 +59,7 @@ fn a_hub_spreads_what_anybody_writes(rt: HostRuntime) {
         (Call::Audit(0, 3), "clean"),
         (Call::Audit(3, 0), "clean"),
         (Call::Audit(1, 2), "clean"),
-        // A peer that is added later gets the documents that other peers replicate to it.
+        // A peer that is added later gets the documents that other peers replicate to this peer.
         (Call::Add(5, None), "4"),
         (Call::Along(&[(2, 4)]), "done"),
         (Call::Tree(4, "d"), "1-b,1-a of 2"),
@@ -75,7 +75,7 @@ fn a_broken_chain_brings_nothing_to_its_end(rt: HostRuntime) {
             Call::Load(0, r#"{"_id":"d","_rev":"1-a"}"#),
             "Changed { seq: 1 }",
         ),
-        // Of the chain from peer 0 to peer 2, the second hop is replicated before the first hop.
+        // The second hop of the chain from peer 0 to peer 2 is replicated before the first hop.
         (Call::Along(&[(1, 2), (0, 1), (3, 2)]), "done"),
         (Call::Tree(1, "d"), "1-a of 1"),
         (Call::Tree(2, "d"), "no document"),
@@ -110,7 +110,7 @@ fn a_refused_document_stays_away_and_others_go_on(rt: HostRuntime) {
         (Call::Tree(2, "x1"), "no document"),
         (Call::Tree(0, "d"), "1-a of 1"),
         (Call::Tree(2, "d"), "1-a of 1"),
-        // The next replication through the hub refuses the document again.
+        // The next replication through the hub refuses the document a second time.
         (Call::Edit(2, "d", "1-a", r#"{"v":1}"#), SECOND),
         (Call::Edit(1, "x1", "1-a", r#"{"v":1}"#), SECOND),
         (Call::Hub(2, 2), "done"),
@@ -161,7 +161,7 @@ fn a_history_that_is_cut_off_stays_so(rt: HostRuntime) {
 #[test]
 fn trees_that_disagree_do_so_still(rt: HostRuntime) {
     const ROWS: Rows = &[
-        // Two peers give one revision different parents.
+        // A revision has different parents at two peers.
         (
             Call::Load(0, r#"{"_id":"d","_revisions":{"start":2,"ids":["c","x"]}}"#),
             "Changed { seq: 1 }",
@@ -170,7 +170,7 @@ fn trees_that_disagree_do_so_still(rt: HostRuntime) {
             Call::Load(1, r#"{"_id":"d","_revisions":{"start":2,"ids":["c","y"]}}"#),
             "Changed { seq: 1 }",
         ),
-        // Two peers give one revision different contents.
+        // A revision has different contents at two peers.
         (
             Call::Load(0, r#"{"_id":"e","_rev":"1-a","v":1}"#),
             "Changed { seq: 2 }",

@@ -17,7 +17,7 @@ use test_support::{rev_text, shown};
 /// The indices of a hop's source and target peer.
 type Places = (usize, usize);
 
-/// A call on a network, whose peers are named by index. Each replication in a test has the next session number.
+/// A call on a network. Peers are named by index. Each replication in a test has the next session number.
 #[derive(Clone, Copy)]
 pub(crate) enum Call<'a> {
     /// Add a peer with a UUID and the prefix that its filter refuses.
@@ -137,7 +137,7 @@ impl Bench {
         Some(plan)
     }
 
-    /// Creates this many plans.
+    /// Creates `count` plans.
     fn plans(&mut self, count: usize) -> Option<Vec<Plan>> {
         let mut plans = Vec::new(self.alloc);
         for _ in 0..count {
@@ -273,7 +273,7 @@ fn two_plans(session: u128) -> Option<[Plan; 2]> {
     Some([one, other])
 }
 
-/// Replicates the second peer into the third, and then replicates all peers through the first.
+/// Replicates the second peer into the third peer, and then replicates all peers through the first peer.
 fn replicate(alloc: Global, peers: &mut [Peer<Rules>]) -> Option<()> {
     let Some(first) = plan(SessionId(1), 500, 0) else {
         return None;

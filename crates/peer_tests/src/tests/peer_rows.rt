@@ -135,7 +135,7 @@ fn a_refused_descendant_covers(rt: HostRuntime) {
         (Call::Covered(TARGET, "d", "1-a"), "true"),
         (Call::Record(TARGET, S1, 11), "1"),
     ];
-    // The target's tree does not have the refused document, so a later session requests and refuses it again.
+    // The target's tree does not have the refused document, so a later session also requests and refuses the document.
     const LAST: Rows = &[
         (
             Call::Diff(TARGET, SECOND),
@@ -155,7 +155,7 @@ fn a_refused_descendant_covers(rt: HostRuntime) {
     expect(&rt, rt.alloc(), LISTS);
 }
 
-/// The update sequence below the maximum by one, after which a database can change once.
+/// The update sequence one below the maximum. A database with this update sequence can change once.
 const LAST_BUT_ONE: u64 = 9_007_199_254_740_990;
 
 #[test]
@@ -316,8 +316,8 @@ fn a_session_from_beginning_to_end(rt: HostRuntime) {
             Call::Entry(TARGET, S1),
             "session 1 from 0 to 3 checked 3 found 3 read 3 written 1 failed 2, 10 to 20",
         ),
-        // The origin of an arrival is the session and the row's sequence, and the origin of a local write is its
-        // number.
+        // The origin of an arrival is the session and the row's sequence. The origin of a local write is the number of
+        // the write.
         (
             Call::Node(TARGET, "x1", "1-a"),
             "no parent, Feed(SessionId(1), 1), live {}",
@@ -495,7 +495,7 @@ fn a_session_that_is_not_there_is_refused(rt: HostRuntime) {
 fn a_foreign_document_is_refused(rt: HostRuntime) {
     const E: &str = r#"{"_id":"e","_rev":"1-a"}"#;
     const ROWS: Rows = &[
-        // The other source's window has the bounds of the stored window, and the other source's document has no row in
+        // The other source's window has the bounds of the stored window, but the other source's document has no row in
         // the stored window.
         (Call::Load(OTHER, E), "Changed { seq: 1 }"),
         (Call::Page(OTHER, 0, 1), "0 to 1: 1 e 1-a;"),
@@ -549,8 +549,8 @@ fn the_leaves_of_a_done_window_are_let_go(rt: HostRuntime) {
     expect(&rt, rt.alloc(), LISTS);
 }
 
-// A parcel of a hostile source has a document that has no row in the window. The parcel was fetched before another
-// client wrote.
+// A parcel of a hostile source has a document without a row in the window. The parcel was fetched before another client
+// wrote.
 #[test]
 fn a_parcel_of_another_leaf_leaves_its_window_uncovered(rt: HostRuntime) {
     const ROWS: Rows = &[
@@ -666,7 +666,7 @@ const RECORDED: Rows = &[
 #[test]
 fn common_session(rt: HostRuntime) {
     const ROWS: Rows = &[
-        // The third session of the target, of which the source's log has no entry.
+        // The source's log has no entry of the target's third session.
         (
             Call::Begin(TARGET, S3, Beginning { goal: 12, ..TO_ONE }, 10),
             "begun",
@@ -699,8 +699,8 @@ fn common_session(rt: HostRuntime) {
         (Call::Common(SOURCE, TARGET, REP), "2 at 4"),
         (Call::PutEntry(SOURCE, REP, S2, 3), "Older { stored: 4 }"),
         (Call::SourceLog(SOURCE, REP), "2 at 4;1 at 9;"),
-        // A new entry of a session replaces the log's entry of that session, even if both entries recorded the same
-        // sequence.
+        // A new entry of a session replaces the log's entry of that session, even if both entries have the same
+        // recorded sequence.
         (Call::PutEntry(SOURCE, REP, S1, 9), "put"),
         (Call::PutEntry(SOURCE, REP, S1, 10), "put"),
         (Call::SourceLog(SOURCE, REP), "2 at 4;1 at 10;"),

@@ -37,7 +37,7 @@ impl Rep {
     }
 }
 
-/// The parameters of a session, which are its replication, base, start and goal.
+/// The parameters of a session: its replication, base, start and goal.
 #[derive(Clone, Copy)]
 pub(crate) struct Beginning {
     pub(crate) rep: Rep,
@@ -69,11 +69,11 @@ pub(crate) enum Call<'a> {
     Verdict(usize, &'a str),
     /// Read whether a revision of a document is covered.
     Covered(usize, &'a str, &'a str),
-    /// Read a page of at most 500 rows, above a sequence and up to a goal, and store it as the next window.
+    /// Read a page of at most 500 rows, above a sequence and up to a goal, and store the page as the next window.
     Page(usize, u64, u64),
-    /// Compute the request for the leaves of a window that a peer lacks, and store it as the next request.
+    /// Compute the request for the leaves of a window that a peer lacks, and store the request as the next request.
     Diff(usize, usize),
-    /// Fetch the documents for a request from a peer, and store them as the next parcel.
+    /// Fetch the documents for a request from a peer, and store the documents as the next parcel.
     Fetch(usize, usize),
     /// Begin a session with a timestamp.
     Begin(usize, SessionId, Beginning, u64),
@@ -87,19 +87,19 @@ pub(crate) enum Call<'a> {
     Conclude(usize, SessionId, u64),
     /// Read the entry of a session.
     Entry(usize, SessionId),
-    /// Read the windows of a session, and whether each still has its complete rows.
+    /// Read the windows of a session, and whether each window still has its complete rows.
     Windows(usize, SessionId),
-    /// Read the log of a replication into a peer.
+    /// Read the log at a peer of a replication of which the peer is the target.
     TargetLog(usize, Rep),
-    /// Read the log of a replication from a peer.
+    /// Read the log at a peer of a replication of which the peer is the source.
     SourceLog(usize, Rep),
-    /// Create the entry of a session that recorded up to a sequence, and store it in the log of a replication from a
-    /// peer.
+    /// Create the entry of a session that recorded up to a sequence, and store the entry in a source's log of a
+    /// replication.
     PutEntry(usize, Rep, SessionId, u64),
-    /// Store the target's entry of a session in the log of a replication from a peer.
+    /// Store the target's entry of a session in the source's log of a replication.
     PutEntryOf(usize, Rep, usize, SessionId),
-    /// Back up a peer, and store the backup as the bench's next backup. The result of a backup is the UUID and the
-    /// update sequence of its database.
+    /// Back up a peer, and store the backup as the bench's next backup. The result of the call is the UUID and the
+    /// update sequence of the backed-up database.
     Backup(usize),
     /// Restore a peer from a backup.
     Restore(usize, usize),
@@ -109,14 +109,14 @@ pub(crate) enum Call<'a> {
     Audit(usize, usize),
     /// Check a plan between two peers, with a given maximum number of rows of a window.
     CheckPlan(usize, usize, u64),
-    /// Begin the session of a plan at the second peer, with the first peer as its source, at a timestamp.
+    /// Begin the session of a plan at the second peer, the target, from the first peer, the source, with a timestamp.
     BeginPlan(SessionId, u64),
-    /// Read the entry of a session of the second peer, and store it in the first peer's log.
+    /// Read the entry of a session of the second peer, and store the entry in the first peer's log.
     RecordAtSource(SessionId),
     /// Read the first leaf above a sequence of the first peer, the source, that the second peer, the target, does not
     /// cover.
     HoleAbove(usize, usize, u64),
-    /// Replicate the first peer into the second, given the session id and the maximum number of rows of a window.
+    /// Replicate the first peer into the second peer, given the session id and the maximum number of rows of a window.
     Replicate(SessionId, u64),
     /// Load d with a given number of revisions in its ancestry.
     LoadLong(usize, u32),
@@ -133,7 +133,7 @@ pub(crate) type Rows = &'static [(Call<'static>, &'static str)];
 
 /// Lists of calls that are performed in order.
 ///
-/// A test has all its lists in one static, because the prover processes each list that a test names separately.
+/// A test has all its lists in one static, because the prover separately processes each list that a test names.
 pub(crate) type Lists = &'static [Rows];
 
 /// Peers, their backups, and the values that were read and fetched from them.
@@ -156,7 +156,7 @@ impl Bench {
         }
     }
 
-    /// Performs the calls in order, and asserts that each returns its expected result.
+    /// Performs the calls in order, and asserts that each call returns its expected result.
     fn run(&mut self, rt: &impl Abort, calls: &[(Call, &str)]) {
         for (i, (call, wanted)) in calls.iter().enumerate() {
             expect_answer(rt, i, self.answer(call), wanted);
@@ -313,7 +313,7 @@ fn compare(
     }
 }
 
-/// Performs a call on two peers, of which the first is the source and the second is the target.
+/// Performs a call on the first two peers, the source and the target.
 fn of_first_two(alloc: Global, peers: &mut Vec<Peer<Rules>>, call: &Call) -> Option<String> {
     let Some((source, others)) = peers.split_first_mut() else {
         return None;
@@ -359,7 +359,7 @@ pub(crate) fn make_at(
     }
 }
 
-/// Reads a page of the feed, and stores it as the bench's next window.
+/// Reads a page of the feed, and stores the page as the bench's next window.
 fn page(
     alloc: Global,
     peer: &Peer<Rules>,
@@ -474,7 +474,7 @@ pub(crate) fn agreed(
     common_text(alloc, &outgoing, &incoming)
 }
 
-/// Reads the log of a replication into a peer.
+/// Reads the log at a peer of a replication of which the peer is the target.
 pub(crate) fn target_log(alloc: Global, peer: &Peer<Rules>, rep: &RepId) -> Option<String> {
     let Ok(log) = peer.target_log(alloc, rep) else {
         return None;
@@ -482,7 +482,7 @@ pub(crate) fn target_log(alloc: Global, peer: &Peer<Rules>, rep: &RepId) -> Opti
     log_text(alloc, &log)
 }
 
-/// Reads the log of a replication from a peer.
+/// Reads the log at a peer of a replication of which the peer is the source.
 pub(crate) fn source_log(alloc: Global, peer: &Peer<Rules>, rep: &RepId) -> Option<String> {
     let Ok(log) = peer.source_log(alloc, rep) else {
         return None;

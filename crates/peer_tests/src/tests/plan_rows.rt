@@ -1,4 +1,4 @@
-//! Test rows for plans, in which errors occur, a session begins, its entry is stored at the source, and a scan looks
+//! Test rows for plans. Errors occur, a session begins, the session's entry is stored at the source, and a scan looks
 //! for uncovered leaves.
 use crate::tests::peers::{Call, Lists, Rep, Rows, expect};
 use rev_tree::SessionId;

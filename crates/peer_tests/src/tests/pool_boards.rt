@@ -1,4 +1,4 @@
-//! Runs of the pool that show their progress on a board, which viewers read meanwhile.
+//! Runs of the pool that show their progress on a board. Viewers read the board during a run.
 ghost use Rattle.std.specs.Prelude.{◌≡◌, ◌≤◌, IfSome, IfOk, vec_len};
 ghost use Rattle.std.specs.List.{All};
 ghost use Rattle.progress_board.specs.Seats.{AreNew, CameWith};
@@ -29,7 +29,7 @@ const TWO_ROWS: How = How {
     stop_after: None,
 };
 
-/// The maximum number of times one thread polls for another.
+/// The maximum number of times a thread polls a flag of another thread.
 const TURNS: u32 = 1_000_000;
 
 /// Calls that create an empty target, and a source with two documents of one revision each.
@@ -55,7 +55,7 @@ const WELL_FORTY: &str =
 /// The seats of four viewers.
 type Viewers = (BoardSeat, BoardSeat, BoardSeat, BoardSeat);
 
-/// Polls a flag at most `TURNS` times until the flag is true, and returns whether it became true.
+/// Polls a flag at most `TURNS` times until the flag is true, and returns whether the flag became true.
 fn wait_for(told: &AtomicBool) -> bool {
     for _ in 0..TURNS {
         if told.load(Ordering::SeqCst) {
@@ -287,7 +287,7 @@ fn progress_shown(rt: HostRuntime) {
     assert_eq!(rt; board.read(&mut viewer), (2, 2));
 }
 
-// A board that is updated only at the end of a run would show nothing during the block.
+// A board that is updated only at the end of a run would show nothing while the writer is blocked.
 #[test]
 fn progress_seen_beside_a_held_writer(rt: HostRuntime) {
     let Some((board, seats, viewer)) = board_for(rt.alloc(), 2) else {

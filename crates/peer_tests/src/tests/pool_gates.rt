@@ -107,8 +107,8 @@ impl Gate for HoldsFetched {
 struct StopsOnce {
     kind: u64,
     window: u64,
-    /// Whether the gate claims that it may block a worker, although it never does. If the gate claims that it may
-    /// block, each worker is a thread of its own, even if there are few workers.
+    /// The result of `Gate::may_block`, although the gate never blocks a worker. If `may_block` returns true, each
+    /// worker is a separate thread, even if there are few workers.
     may_block: bool,
     stopped: AtomicBool,
 }
@@ -208,7 +208,7 @@ fn windows_done_out_of_order(rt: HostRuntime) {
     assert_eq!(rt; gate.at_first.load(Ordering::SeqCst), 4);
 }
 
-// If the run copied the count of fetched documents from the report, the count would be 0.
+// If a run copied the count of fetched documents from the report, the count would be 0 in this test.
 #[test]
 fn fetched_is_counted_where_a_run_stops(rt: HostRuntime) {
     const HALTED: &str = "Halted(Fetched(0)), fetched 2";
@@ -229,7 +229,7 @@ fn fetched_is_counted_where_a_run_stops(rt: HostRuntime) {
     }
 }
 
-/// For each stage, the beginning of the result that a stop at this stage has.
+/// For each stage, the beginning of the result of a run that stops at this stage.
 static STOPPED: [&str; 5] = [
     "Halted(Took(",
     "Halted(Asked(",
@@ -264,7 +264,7 @@ pub(crate) fn expect_stop<G: Gate + Sync, R: Abort + Threads + Wait + Sync>(
     bench.run(rt, CLEAN);
 }
 
-/// Asserts that a further run begins at the common checkpoint and ends at the goal, and that both logs record this.
+/// Asserts that a further run begins at the common checkpoint and ends at the goal, and that both logs record the goal.
 pub(crate) fn go_on<R: Abort + Threads + Wait + Sync>(rt: &R, alloc: Global, bench: &mut Bench) {
     let from = bench
         .answer(rt, &Call::Common(A, B, REP))
@@ -277,8 +277,8 @@ pub(crate) fn go_on<R: Abort + Threads + Wait + Sync>(rt: &R, alloc: Global, ben
     bench.run(rt, AT_GOAL);
 }
 
-/// Performs a run with a given number of workers that stops, and a further run that completes the copy. A parameter
-/// says whether the gate claims that it may block workers.
+/// Performs a run with a given number of workers that stops, and a further run that completes the copy. A parameter is
+/// the result of `Gate::may_block`.
 fn stop_and_go_on<R: Abort + Threads + Wait + Sync>(
     rt: &R,
     alloc: Global,
@@ -317,7 +317,7 @@ static FULL: Rows = &[
 ];
 
 // Both channels together hold eight windows. A writer that ended after an error would satisfy its contract, but the
-// fetchers would wait for it for ever.
+// fetchers would wait for the writer for ever.
 #[test]
 fn more_windows_than_channels_hold(rt: HostRuntime) {
     const ONE_BY_ONE: How = How {

@@ -1,5 +1,5 @@
-//! Runs of the pool whose gate counts its calls, or blocks a worker at a stage of a window until another worker reaches
-//! a later stage.
+//! Runs of the pool with two kinds of gates. The first gate counts its calls. The second gate blocks a worker at a
+//! stage of a window until another worker reaches a later stage.
 use crate::tests::pool_gates::kind_of;
 use crate::tests::pools::{Bench, Call, How, Rows};
 use crate::tests::texts::expect_answer;
@@ -31,8 +31,8 @@ const fn in_windows_of(batch: u64) -> How {
 struct Counts {
     places: Vec<AtomicU64>,
     strays: AtomicU64,
-    /// Whether the gate claims that it may block a worker, although it never does. If the gate claims that it may
-    /// block, each worker is a thread of its own, even if there are few workers.
+    /// The result of `Gate::may_block`, although the gate never blocks a worker. If `may_block` returns true, each
+    /// worker is a separate thread, even if there are few workers.
     may_block: bool,
 }
 
@@ -82,8 +82,8 @@ impl Gate for Counts {
     }
 }
 
-/// Asserts that a run calls its gate exactly once at each stage of a window, in order. The parameters give the number
-/// of workers, and whether the gate claims that it may block workers.
+/// Asserts that a run calls its gate exactly once at each stage of a window, in order. The parameters are the number of
+/// workers, and the result of `Gate::may_block`.
 fn expect_in_order<R: Abort + Threads + Wait + Sync>(
     rt: &R,
     alloc: Global,
@@ -135,7 +135,8 @@ pub(crate) fn bit_of(spot: Spot) -> u64 {
 /// The maximum number of times a blocked worker polls.
 const TURNS: u32 = 1_000_000;
 
-/// A gate that blocks the workers that a table names, each until a worker has reached the spot in the table.
+/// A gate that blocks workers at the spots in a table. Each worker is blocked until another worker has reached the
+/// second spot of the table's row.
 #[derive(Drop)]
 struct Orders {
     holds: Holds,
@@ -227,8 +228,8 @@ fn no_lock_is_held_at_any_place(rt: HostRuntime) {
         ((SETTLED, 0), (ASKED, 1)),
         // The first window is recorded while a fetcher is at `Asked`.
         ((ASKED, 1), (RECORDED, 0)),
-        // The second window is settled while a fetcher is at `Took`, because its writer is blocked until the fetcher
-        // has come.
+        // The second window is settled while a fetcher is at `Took`, because the writer is blocked until the fetcher
+        // has reached `Took`.
         ((RECORDED, 0), (TOOK, 2)),
         ((TOOK, 2), (SETTLED, 1)),
         // The second window is recorded while a fetcher is at `Fetched`.
@@ -240,7 +241,7 @@ fn no_lock_is_held_at_any_place(rt: HostRuntime) {
     run_held(&rt, rt.alloc(), HOLDS);
 }
 
-// No worker waits for another worker whose work it does not need.
+// A worker does not wait for a worker whose work it does not need.
 #[test]
 fn fetching_goes_on_beside_a_held_writer(rt: HostRuntime) {
     static HOLDS: Holds = &[((SETTLED, 0), (FETCHED, 2))];

@@ -29,7 +29,7 @@ pub(crate) static CHOOSY_PEERS: Rows = &[
 ];
 
 /// Calls that store six documents, which have ten leaves in total. In feed order, the first window has the documents b
-/// and x2, the second a and c, and the third x1 and d.
+/// and x2, the second window has a and c, and the third window has x1 and d.
 pub(crate) static DOCUMENTS: Rows = &[
     (
         Call::Load(A, r#"{"_id":"a","_rev":"1-a","v":1}"#),
@@ -122,8 +122,8 @@ pub(crate) static CARRIED: Rows = &[
     (Call::Leaves(B, "x2"), LEAVES_X2),
 ];
 
-/// The effect of the first session at a target that refuses two documents, for each order in which its windows may be
-/// done.
+/// The effect of the first session at a target that refuses two documents. The effect is the same for each order in
+/// which the session's windows may be done.
 pub(crate) static SIFTED: Rows = &[
     (
         Call::Entry(B, S1),

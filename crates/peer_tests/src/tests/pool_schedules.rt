@@ -19,7 +19,7 @@ const A: usize = 0;
 
 const B: usize = 1;
 
-/// A run in windows of two rows, so in three windows.
+/// A run in windows of two rows. The run has three windows.
 const TWO_ROWS: How = How {
     session: SessionId(1),
     workers: None,
@@ -40,7 +40,7 @@ const FETCHED: u64 = 0b001_0000_1000_0100;
 
 const RECORDED: u64 = 0b100_0010_0001_0000;
 
-/// The number of naps after which the gate releases a worker although an expected worker has not called the gate yet.
+/// The number of naps after which the gate releases a worker, even if an expected worker has not called the gate.
 const SURE_NAPS: u32 = 20_000;
 
 /// The maximum number of times a worker checks whether its turn has come.
@@ -93,8 +93,8 @@ struct Turns {
 }
 
 impl Turns {
-    /// Returns the number of workers that will certainly call the gate again, and the number of workers that may call
-    /// it again.
+    /// Returns two numbers of workers: the workers that will call the gate in any case, and the workers that may call
+    /// the gate.
     ///
     /// A fetcher has a window until it has passed the place `Fetched`, and a writer has a parcel until it has passed
     /// `Recorded`. The fetcher that finds no further window sends the end message to a writer, perhaps before the other
@@ -115,7 +115,7 @@ impl Turns {
         (may, may)
     }
 
-    /// Chooses one of the blocked workers after all expected workers have come. Returns whether it did.
+    /// Chooses one of the blocked workers after all expected workers have come. Returns whether a worker was chosen.
     fn choose(&mut self) -> bool {
         let held = bits(self.held);
         if held == 0 {
@@ -167,7 +167,7 @@ impl Turns {
 struct Drawn {
     stop_at: u64,
     turns: Mutex<Turns>,
-    /// A counter that wakes blocked workers whenever a worker is chosen.
+    /// A counter that wakes blocked workers when a worker is chosen.
     bell: AtomicU64,
     ran_out: AtomicBool,
 }
@@ -216,7 +216,7 @@ impl Drawn {
         }
     }
 
-    /// Blocks a worker at its place until its turn comes.
+    /// Blocks a worker at its place until the gate releases the worker.
     fn hold<R: Wait>(&self, rt: &R, here: u64) {
         for _ in 0..LOOKS {
             let rung = self.bell.load(Ordering::SeqCst);
@@ -250,7 +250,7 @@ impl Gate for Drawn {
     }
 }
 
-/// Performs a run in the order of a seed into a target that refuses three leaves. Returns the order.
+/// Performs a run into a target that refuses three leaves, in the order that a seed determines. Returns the order.
 fn run_drawn<R: Abort + Threads + Wait + Sync>(rt: &R, alloc: Global, seed: u64) -> u64 {
     const WELL: &str =
         "session 1 from 0 to 11 checked 10 found 10 read 10 written 7 failed 3, fetched 10";
@@ -283,7 +283,7 @@ fn different(sorted: &[u64]) -> u64 {
 const SEEDS: u64 = 250;
 
 /// Performs runs in the orders of `SEEDS` seeds. More than half of the orders must be different.
-// The target's own sequences depend on the order of the run. All other values that the test reads after a run are the
+// Only the target's sequences depend on the order of the run. All other values that the test reads after a run are the
 // same for every order.
 fn run_orders<R: Abort + Threads + Wait + Sync>(rt: &R, alloc: Global, first: u64) {
     let mut orders = Vec::new(alloc);

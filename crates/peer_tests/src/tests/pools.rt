@@ -24,13 +24,13 @@ use test_support::shown;
 #[derive(Clone, Copy)]
 pub(crate) struct How {
     pub(crate) session: SessionId,
-    /// The number of workers, or `None` for the bench's own number.
+    /// The number of workers, or `None` for the bench's number of workers.
     pub(crate) workers: Option<u64>,
     pub(crate) batch: u64,
     pub(crate) stop_after: Option<u64>,
 }
 
-/// A call on peers, each of which is named by its index.
+/// A call on peers. Each peer is named by its index.
 #[derive(Clone, Copy)]
 pub(crate) enum Call<'a> {
     /// Create the next peer, given its UUID and the prefix of the document ids that its filter refuses.
@@ -41,7 +41,7 @@ pub(crate) enum Call<'a> {
     Fill(usize, u64),
     /// Load a document.
     Load(usize, &'a str),
-    /// Replicate one peer into another by the pool.
+    /// Replicate one peer into another peer by the pool.
     Run(usize, usize, How),
     /// Read the tree of a document.
     Tree(usize, &'a str),
@@ -51,9 +51,9 @@ pub(crate) enum Call<'a> {
     Leaves(usize, &'a str),
     /// Read the refused leaves of a document from a session's ledger, with the reasons.
     Refused(usize, SessionId, &'a str),
-    /// Read the log of a replication from a peer.
+    /// Read the log at a peer of a replication of which the peer is the source.
     SourceLog(usize, Rep),
-    /// Read the log of a replication into a peer.
+    /// Read the log at a peer of a replication of which the peer is the target.
     TargetLog(usize, Rep),
     /// Compare the logs of a replication at its source and its target.
     Common(usize, usize, Rep),
@@ -89,7 +89,7 @@ impl Bench {
         self.fetchers
     }
 
-    /// Performs the calls in order, and asserts that each returns its expected result.
+    /// Performs the calls in order, and asserts that each call returns its expected result.
     pub(crate) fn run<R: Abort + Threads + Wait + Sync>(&mut self, rt: &R, calls: &[(Call, &str)]) {
         for (i, (call, wanted)) in calls.iter().enumerate() {
             expect_answer(rt, i, self.answer(rt, call), wanted);
@@ -155,7 +155,7 @@ impl Bench {
         mem::replace(self.peers.get_mut(at).expect(rt, "a peer"), empty)
     }
 
-    /// Puts a peer back.
+    /// Stores a peer in the bench after a run.
     fn give(&mut self, rt: &impl Abort, at: usize, peer: Peer<Rules>) {
         *self.peers.get_mut(at).expect(rt, "a place") = peer;
     }
@@ -202,7 +202,7 @@ impl Bench {
         self.take_back(rt, 0, 1, ran)
     }
 
-    /// Stores both peers of a run again, and returns how the run ended.
+    /// Stores both peers after a run, and returns how the run ended.
     fn take_back(
         &mut self,
         rt: &impl Abort,

@@ -12,20 +12,20 @@ pub(crate) fn settled_text(alloc: Global, settled: Settled) -> Option<String> {
     format!(in alloc; "written {written} failed {failures}").ok()
 }
 
-/// Returns a report as the program prints it.
+/// Returns a report in the form in which the program prints reports.
 pub(crate) fn report_text(alloc: Global, report: Report) -> Option<String> {
     let all = bounds_text(alloc, report);
     let all = joined(all, read_text(alloc, report));
     joined(all, written_text(alloc, report))
 }
 
-/// Returns the session id of a report, and the sequences that bound the session.
+/// Returns the session id, the start and the recorded sequence of a report.
 fn bounds_text(alloc: Global, report: Report) -> Option<String> {
     let (session, start) = (report.session.0, report.start);
     format!(in alloc; "session {session} from {start} to {}", report.recorded).ok()
 }
 
-/// Returns the counts of reading in a report.
+/// Returns a report's counts of checked leaves, missing leaves and read documents.
 fn read_text(alloc: Global, report: Report) -> Option<String> {
     let (checked, found) = (report.counts.checked, report.counts.found);
     format!(in alloc;
@@ -35,7 +35,7 @@ fn read_text(alloc: Global, report: Report) -> Option<String> {
     .ok()
 }
 
-/// Returns the counts of writing in a report.
+/// Returns a report's counts of written and refused documents.
 fn written_text(alloc: Global, report: Report) -> Option<String> {
     let (written, failures) = (report.counts.written, report.counts.failures);
     format!(in alloc; " written {written} failed {failures}").ok()

@@ -1,5 +1,5 @@
-//! Test rows for the calls of `repl_inspect`, which compare leaves, and read conflicts, ledgers and counts, also for a
-//! document of 1,000 leaves.
+//! Test rows for the calls of `repl_inspect`. The calls compare leaves, and read conflicts, ledgers and counts. One
+//! document has 1,000 leaves.
 use crate::tests::surveys::{Call, Rows, expect};
 
 #[test]
@@ -22,7 +22,8 @@ fn what_a_target_misses(rt: HostRuntime) {
         (Call::Compare("e"), "1 missing 1-a differing"),
         // Neither peer has the document f.
         (Call::Compare("f"), "0 missing differing"),
-        // The target's revision 2-b has another parent than the source's, and its revision 2-c has another body.
+        // The revision 2-b has different parents at the source and the target, and the revision 2-c has different
+        // bodies.
         (
             Call::Target(r#"{"_id":"d","_revisions":{"start":2,"ids":["b","x"]}}"#),
             "Changed { seq: 1 }",
@@ -64,7 +65,7 @@ fn a_gap_is_neither_missing_nor_other(rt: HostRuntime) {
             Call::Source(r#"{"_id":"d","_revisions":{"start":3,"ids":["c","b","a"]}}"#),
             "Changed { seq: 1 }",
         ),
-        // The target knows only the source's leaf, without its parent, and a child of this leaf.
+        // The target knows the source's leaf, without the leaf's parent, and a child of this leaf.
         (
             Call::Target(r#"{"_id":"d","_revisions":{"start":4,"ids":["d","c"]}}"#),
             "Changed { seq: 1 }",

@@ -40,7 +40,7 @@ pub(crate) enum Call<'a> {
     Census,
     /// Read the ledger of the session.
     Ledger,
-    /// Read the documents of the leaves of a document of the source.
+    /// Read the documents of all leaves of a source's document.
     Documents(&'a str),
     /// Read the tree of a document of the target.
     Tree(&'a str),
@@ -237,7 +237,7 @@ fn row_text(alloc: Global, row: LedgerRow) -> Option<String> {
     }
 }
 
-/// Returns the rows of a ledger, each after its document's id.
+/// Returns the rows of a ledger, each row after the id of the row's document.
 fn ledger(alloc: Global, rows: &[Refused]) -> Option<String> {
     let mut all = Some(String::new(alloc));
     for row in rows {

@@ -35,8 +35,8 @@ pub(crate) fn body(alloc: Global, text: &str) -> Option<Body> {
     read_body(alloc, &value).ok()
 }
 
-/// Concatenates two strings, or returns `None` if one is missing. Callers that join many strings check for a missing
-/// string only at the end.
+/// Concatenates two strings, or returns `None` if a string is missing. Callers that join many strings check for a
+/// missing string only at the end.
 pub(crate) fn joined(all: Option<String>, text: Option<String>) -> Option<String> {
     let (Some(mut all), Some(text)) = (all, text) else {
         return None;
@@ -74,7 +74,7 @@ fn row_text(alloc: Global, row: &Row) -> Option<String> {
     format!(in alloc; " {} {} {leaves};", row.seq(), row.id().text()).ok()
 }
 
-/// Returns the bounds of stored windows, and whether each still has its complete rows.
+/// Returns the bounds of stored windows, and whether each window still has its complete rows.
 pub(crate) fn stored_text(alloc: Global, windows: &[StoredWindow]) -> Option<String> {
     let mut all = Some(String::new(alloc));
     for window in windows {
@@ -83,7 +83,7 @@ pub(crate) fn stored_text(alloc: Global, windows: &[StoredWindow]) -> Option<Str
     all
 }
 
-/// Returns the bounds of a stored window, and whether it still has its complete rows.
+/// Returns the bounds of a stored window, and whether the window still has its complete rows.
 fn one_stored_text(alloc: Global, window: &StoredWindow) -> Option<String> {
     let (life, lo, hi) = (window.life(), window.lo(), window.hi());
     match window.rows() {

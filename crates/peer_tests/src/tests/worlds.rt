@@ -1,4 +1,4 @@
-//! Takes steps, which are given by name, in a world, and reads their effects.
+//! Takes steps that are given by name in a world, and reads the effects of the steps.
 use crate::tests::databases::tree;
 use crate::tests::peers::{agreed, entry, source_log, target_log};
 use crate::tests::texts::{body, doc, expect_answer};
@@ -43,7 +43,7 @@ pub(crate) enum Act<'a> {
     Crash,
 }
 
-/// A question about a world. Sides are numbered: 1 for the source, 2 for the target.
+/// A question about a world. Side 1 is the source, and side 2 is the target.
 #[derive(Clone, Copy)]
 pub(crate) enum Question<'a> {
     /// The common checkpoint of the two logs.
@@ -188,7 +188,7 @@ fn audit_text(alloc: Global, world: &World<Rules>) -> Option<String> {
     }
 }
 
-/// Returns the peer of a world that is the source or the target.
+/// Returns the source or the target of a world, given the number of the side.
 fn side(world: &World<Rules>, number: u128) -> &Peer<Rules> {
     if number == 1 {
         world.source()
@@ -222,7 +222,7 @@ fn answer(alloc: Global, world: &World<Rules>, question: Question) -> Option<Str
     }
 }
 
-/// Takes steps in a world, and asserts the results of its questions.
+/// Takes steps in a world, and asserts the results of questions about the world.
 fn tell(rt: &impl Abort, alloc: Global, world: &mut World<Rules>, lists: &[Acts], told: Told) {
     for acts in lists {
         if take(alloc, world, acts).is_none() {
@@ -245,7 +245,7 @@ fn world(rt: &impl Abort, alloc: Global) -> World<Rules> {
     World::new(alloc, source, target, None).expect(rt, "two peers")
 }
 
-/// Takes lists of steps in a world of two empty peers, and asserts the results of its questions.
+/// Takes lists of steps in a world of two empty peers, and asserts the results of questions about the world.
 pub(crate) fn expect(rt: &impl Abort, alloc: Global, lists: &[Acts], told: Told) {
     let mut world = world(rt, alloc);
     tell(rt, alloc, &mut world, lists, told);

@@ -28,13 +28,13 @@ settled_of refuses p parcel (Ok at) = settled_before refuses at.1 (settling_of p
 abbrev pub most_settled : (Document → Bool) → PeerValue → SessionId → ParcelValue → ℕ
 most_settled refuses p session parcel = settled_of refuses p parcel (settle_check p session parcel)
 
--- The target after settling ran out of memory after n documents, or after all that can be settled if these are fewer
--- than n.
+-- The target after settling ran out of memory after n documents. If fewer than n documents can be settled, all of these
+-- documents are settled.
 abbrev pub after_some : (Document → Bool) → PeerValue → SessionId → ParcelValue → ℕ → PeerValue
 after_some refuses p session parcel n =
     after_stop refuses p session parcel (min n (most_settled refuses p session parcel))
 
--- A call on a target. The call `Stop` on a target is a settling that ran out of memory after a number of documents.
+-- A call on a target. The call `Stop` is a settling that ran out of memory after a number of documents.
 pub data Call : Type 0 where
   Load : (doc : Document) → Call
   Edit : (id : Id) (parent : Option RevId) (deleted : Bool) (body : List ℕ) → Call
@@ -71,8 +71,8 @@ pub record IsPageOf (db : DatabaseValue) (chosen : Choice) (w : WindowValue) : T
   pub within : goal ≤ db.update_seq
   pub is : w ≡ page db since goal limit chosen
 
--- A call of a run of the pool, for the run's session. A call of a run begins no session and makes no local write, and
--- its messages come from the source, for the selection.
+-- A call that a run of the pool makes on the target, for the run's session. A run's calls begin no session and make no
+-- local write, and their messages come from the source's selected feed.
 abbrev pub IsFrom : DatabaseValue → Choice → SessionId → Call → Type 0
 IsFrom source chosen run (Append session window) = (session ≡ run) × IsPageOf source chosen window
 IsFrom source chosen run (Settle session parcel) = (session ≡ run) × (parcel ≡ open_revs source parcel.asked)
@@ -98,7 +98,7 @@ IsLeft refuses source given plan now =
     ⊎ (begins_answer source given plan ≡ Ok tt)
     × IsGrown refuses source.db plan.chosen plan.session (after_begins source given plan) now
 
--- Each window of a session that satisfies Q satisfies P.
+-- If a session satisfies Q, each window of the session satisfies P.
 abbrev pub EachStored : (SessionId → RepId → Type 0) → (WindowValue → Type 0) → List SessionValue → Type 0
 EachStored Q P sessions =
     (s : SessionValue) → Among s sessions → Q s.id s.rep → (w : WindowValue) → Among w s.windows → P w

@@ -7,13 +7,13 @@ use Rattle.repl_peer.specs.declared.fault.TargetFault.TheVariants as faults
 use Rattle.repl_target.specs.replication.Replication.{is_batch}
 use Rattle.repl_target.specs.declared.replication.Plan.{Plan}
 
--- The plan limits the number of windows, and the windows of the replication end below its goal.
+-- The plan limits the number of windows, and the replication's windows end below the goal.
 abbrev pub StopsShort : PeerValue → Plan → ℕ → Type 0
 StopsShort source plan low_water =
     (stop_after : ℕ) × (plan.stop_after ≡ Some stop_after) × (low_water < source.db.update_seq)
 
--- A possible error of a replication by one thread between consistent peers, with its condition. Every other error is
--- impossible.
+-- The errors that a replication by one thread between consistent peers may return, each with its condition. Other
+-- errors are impossible.
 abbrev pub IsExpected : PeerValue → PeerValue → Plan → TargetFault → Type 0
 IsExpected source target plan faults.BadBatch = is_batch plan.batch ≡ false
 IsExpected source target plan faults.SamePeer = source.db.uuid ≡ target.db.uuid

@@ -14,19 +14,19 @@ use Rattle.repl_target.specs.declared.replication.Plan.{Plan}
 use Rattle.repl_target.specs.ties.Ties.{IsTiedWith, IsSentEntry, KeepsOthersTied}
 use Rattle.repl_target.specs.replication.Calls.{IsLeft}
 
--- Each tree of database `now` has grown from the tree in database `old` by data of database `other`.
+-- Each tree of database `now` has grown from the same document's tree in database `old` by data of database `other`.
 abbrev pub HasGrownBy : DatabaseValue → DatabaseValue → DatabaseValue → Type 0
 HasGrownBy old other now = (id : Id) → IsGrownBy (tree_of old.docs id) (tree_of other.docs id) (tree_of now.docs id)
 
--- The source after a replication is unchanged, or an entry of a session of the target was stored in its log.
+-- After a replication, the source is unchanged, or its log has an entry of a session of the target.
 abbrev pub IsPut : PeerValue → PeerValue → Choice → PeerValue → Type 0
 IsPut source target chosen source' =
     (source' ≡ source)
     ⊎ (e : EntryValue) × IsSentEntry target e × (source' ≡ after_put_entry source (rep_between source target chosen) e)
 
--- The effect of a replication on both peers. Of a replication's source only the log may have changed. A replication's
--- target is unchanged or has grown by calls of the plan's session. After a replication, source and target stay tied to
--- each other and to third peers.
+-- The effect of a replication on both peers. At the source of a replication, only the log may have changed. A
+-- replication's target is unchanged or has grown by calls of the plan's session. After a replication, source and target
+-- stay tied to each other and to third peers.
 pub record Leaves (refuses : Document → Bool) (source target : PeerValue) (plan : Plan) (source' target' : PeerValue)
     : Type 0 where
   pub log : source' ≡ record source { outgoing = source'.outgoing }

@@ -78,7 +78,7 @@ after_begins source target plan = after_begin target plan.session (beginning_bet
 
 -- ---- windows
 
--- A replication between two windows: the sequence up to which the source's feed was read, and the target.
+-- The state of a replication between two windows: the sequence up to which the source's feed was read, and the target.
 pub record Reading : Type 0 where
   pub since : ℕ
   pub target : PeerValue
@@ -87,7 +87,7 @@ pub record Reading : Type 0 where
 abbrev pub next_window : DatabaseValue → Plan → ℕ → WindowValue
 next_window source plan since = page source since source.update_seq plan.batch plan.chosen
 
--- The parcel of window w for target p: the documents of w's leaves that p does not have, as the source has them.
+-- The parcel of window w for target p. The parcel has the source's documents for the leaves of w that p lacks.
 abbrev pub parcel_for : DatabaseValue → PeerValue → WindowValue → ParcelValue
 parcel_for source p w = open_revs source (revs_diff p.db w)
 
@@ -126,14 +126,14 @@ has_left (Some stop_after) n = nat_lt n stop_after
 abbrev pub is_due : DatabaseValue → Plan → ℕ → ℕ → Bool
 is_due source plan n since = nat_lt since source.update_seq && has_left plan.stop_after n
 
--- Exactly n windows are read in order, and each is stored and settled before the next is read.
+-- Exactly n windows are read in order, and each window is stored and settled before the next window is read.
 abbrev pub Reads : (Document → Bool) → DatabaseValue → Plan → ℕ → Reading → Reading → Type 0
 Reads refuses source plan zero from to = to ≡ from
 Reads refuses source plan (suc n) from to =
     (before : Reading) × Reads refuses source plan n from before × (is_due source plan n before.since ≡ true)
     × Carries refuses source plan before to
 
--- The windows of a replication are read until no other window must be read.
+-- The windows of a replication are read until no further window must be read.
 abbrev pub ReadsAll : (Document → Bool) → DatabaseValue → Plan → Reading → PeerValue → Type 0
 ReadsAll refuses source plan from target' =
     (n : ℕ) × (now : Reading) × Reads refuses source plan n from now × (is_due source plan n now.since ≡ false)
@@ -147,7 +147,7 @@ ReadsUntil refuses source plan from why target' =
 
 -- ---- the end
 
--- The target after the session is concluded, or recorded if it cannot be concluded.
+-- The target after the session was concluded, or after the session was recorded because it cannot be concluded.
 abbrev pub closed_as : PeerValue → Plan → Result Report TargetFault → PeerValue
 closed_as p plan (Ok report) = after_conclude p plan.session plan.at
 closed_as p plan (Err fault) = after_record (after_conclude p plan.session plan.at) plan.session plan.at
@@ -155,14 +155,13 @@ closed_as p plan (Err fault) = after_record (after_conclude p plan.session plan.
 abbrev pub closed : PeerValue → Plan → PeerValue
 closed p plan = closed_as p plan (conclude_answer p plan.session)
 
--- The source after an entry was put into the log of a replication. If the entry is older or the allocation for it
--- fails, the source is unchanged.
+-- The source after an entry was put into the log of a replication. If the entry is older than the stored entry, or an
+-- allocation fails, the source is unchanged.
 abbrev pub PutsOver : PeerValue → RepId → EntryValue → Result (Unit {0}) AllocError → PeerValue → Type 0
 PutsOver source rep entry (Ok done) source' = source' ≡ after_put_entry source rep entry
 PutsOver source rep entry (Err refused) source' = source' ≡ source
 
--- The result of recording at both sides, which is the result of concluding, or `Memory` if the allocation at the source
--- fails.
+-- The result of recording at both sides: the result of concluding, or `Memory` if the allocation at the source fails.
 abbrev pub told_by : Result Report TargetFault → Result (Unit {0}) AllocError → Result Report TargetFault
 told_by concluded (Ok done) = concluded
 told_by concluded (Err refused) = Err faults.Memory
@@ -183,7 +182,7 @@ abbrev pub first_reading : PeerValue → PeerValue → Plan → Reading
 first_reading source target plan =
     record { since = start_between source target plan.chosen; target = after_begins source target plan }
 
--- The result of a replication by one thread, and the source and target after it.
+-- The result of a replication by one thread, and the source and target after the replication.
 pub data Replicates (refuses : Document → Bool) (source target : PeerValue) (plan : Plan) : Result Report TargetFault
     → PeerValue → PeerValue → Type 0 where
   -- The plan of a replication is not valid for the source and the target.
@@ -214,7 +213,7 @@ CoversFrom source target chosen n =
     → covers target row.id leaf ≡ true
 
 -- The report describes the plan's session at the target. The session of a successful replication began at the common
--- checkpoint, is of the source's life, and has recorded the source's update sequence, its goal.
+-- checkpoint and has the source's life. The session has recorded its goal, the source's update sequence.
 pub record IsReported (source target target' : PeerValue) (plan : Plan) (report : Report) : Type 0 where
   pub session : SessionValue
   pub held : session_in target'.sessions plan.session ≡ Some session

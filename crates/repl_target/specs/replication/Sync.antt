@@ -18,7 +18,7 @@ use Rattle.repl_peer.specs.declared.fault.TargetFault.{TargetFault}
 use Rattle.repl_target.specs.declared.replication.Plan.{Plan}
 
 -- The result of replicating from a to b and then from b to a, and the two peers afterwards. The replication from b to a
--- runs only if the one from a to b succeeded.
+-- runs only if the replication from a to b succeeded.
 pub data Syncs (refuses_a refuses_b : Document → Bool) (a b : PeerValue) (there back : Plan) : Result Synced
     SyncFault → PeerValue → PeerValue → Type 0 where
   refused_there : {why : TargetFault} {a' b' : PeerValue} → Replicates refuses_b a b there (Err why) a' b'
@@ -49,13 +49,14 @@ pub record Meets (a b a' b' : DatabaseValue) (id : Id) : Type 0 where
   pub back : KnowsLeaves a' b' id
   pub same : Agree (tree_of a.docs id) (tree_of b.docs id) → IsWhole (tree_of a.docs id) → IsWhole (tree_of b.docs id)
       → SameDocument a' b' id
-  -- After both replications, the trees agree and have complete histories if they did so before.
+  -- If the trees agreed and had complete histories before both replications, the trees agree and have complete
+  -- histories afterwards.
   pub agree : Agree (tree_of a.docs id) (tree_of b.docs id) → Agree (tree_of a'.docs id) (tree_of b'.docs id)
   pub whole : IsWhole (tree_of a.docs id) → IsWhole (tree_of b.docs id)
       → IsWhole (tree_of a'.docs id) × IsWhole (tree_of b'.docs id)
 
--- If the peers were tied in both directions, both replications leave a document's trees as `Meets` says. For `Meets`,
--- the document must be selected by both plans, and neither side may have refused it.
+-- If the peers were tied in both directions, a document that both plans select and neither side has refused satisfies
+-- `Meets` after both replications.
 abbrev pub MeetBoth : PeerValue → PeerValue → PeerValue → PeerValue → Plan → Plan → Type 0
 MeetBoth a b a' b' there back =
     IsTiedPair a b there.chosen → IsTiedPair b a back.chosen → (id : Id) → HasRefusedNone a' id → HasRefusedNone b' id

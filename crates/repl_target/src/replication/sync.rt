@@ -33,17 +33,19 @@ pub enum SyncFault {
     Back(TargetFault),
 }
 
-/// Replicates in both directions, on one thread: first `a` into `b`, then, if that succeeded, `b` into `a`. Each
-/// direction is a `replicate_alone` with a plan of its own.
+/// Replicates in both directions, on one thread. The first direction is `a` into `b`. If the first direction succeeds,
+/// the second follows, `b` into `a`. Each direction is a `replicate_alone` with a separate plan.
 ///
 /// Suppose that the peers are consistent in both directions (docs/PROFILE.md, "Tied peers"), and that the call
-/// succeeds. After the call, each side has every leaf that the other side has of a document that both plans select and
-/// neither side has refused. If the document's two trees agreed before the call and had complete histories, both sides
-/// have the same revisions, parents, contents of leaves and winner. Two trees agree if no revision has two parents or
-/// two contents. After the call, the document's two trees still agree and have complete histories.
+/// succeeds. Consider a document that both plans select and neither side has refused. After the call, each side has the
+/// other side's leaves of the document. If the document's two trees agreed before the call and had complete histories,
+/// both sides have the same revisions, parents, contents of leaves and winner. Two trees agree if no revision has
+/// different parents or contents in the two trees. After the call, the document's two trees still agree and have
+/// complete histories.
 ///
-/// If the peers are consistent in both directions, they stay so for every result of the call. Each of the two peers
-/// also stays consistent with every third peer that it was consistent with, if the third peer has a UUID of its own.
+/// If the peers are consistent in both directions, they stay consistent for every result of the call. `a` stays
+/// consistent with third peers that do not have `b`'s UUID, and `b` stays consistent with third peers that do not have
+/// `a`'s UUID.
 pub fn sync_alone<F: WriteFilter, G: WriteFilter>(
     alloc: Global,
     a: &mut Peer<F>,

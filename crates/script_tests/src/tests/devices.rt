@@ -104,8 +104,8 @@ impl ScriptWrite for NarrowWriter {
     }
 }
 
-/// The test makes one run for each write, in which this write fails. The written text is a prefix of the output, and
-/// has one byte for each write before the failed write.
+/// The test makes one run for each write, and lets this write fail. The written text is a prefix of the output, and has
+/// one byte for each write before the failed write.
 #[test]
 fn stops_at_a_failed_write(rt: HostRuntime) -> Result<(), Fail> {
     let writes = ANSWERS.len() as u64;

@@ -1,4 +1,4 @@
-//! Tests a worked example of the progress board, the board's errors, and each public call, without failed allocations.
+//! Tests a worked example of the progress board, the board's errors, and each public call, without failing allocations.
 use progress_board::{Board, BoardFault};
 use std::alloc::Global;
 use std::process::Abort;
@@ -6,7 +6,7 @@ use std::process::Abort;
 /// The result of adding to a worker's counter.
 type Added = Result<(), BoardFault>;
 
-/// Adds to the counters of a board of two workers and a viewer, reads the board, and returns the results.
+/// Creates a board of two workers and a viewer, adds to its counters, reads the board, and returns the results.
 fn two_workers(alloc: Global) -> Option<([Added; 4], [(u64, u64); 2])> {
     let Ok((board, mut seats)) = Board::new(alloc, 2, 1) else {
         return None;

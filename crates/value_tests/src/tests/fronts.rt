@@ -1,5 +1,4 @@
-//! Worked examples of fronts, which are calls with their expected results. The examples of fronts use each public call
-//! at least once.
+//! Worked examples of fronts: calls with expected results. The examples use each public call at least once.
 use crate::tests::texts::expect_answer;
 use range_front::Front;
 use std::alloc::Global;
@@ -41,7 +40,7 @@ fn answer(alloc: Global, front: &mut Front, call: &Call) -> Option<String> {
     }
 }
 
-/// Performs the calls in order, and asserts that each returns its expected result.
+/// Performs the calls in order, and asserts that each call returns its expected result.
 fn run(rt: &impl Abort, alloc: Global, front: &mut Front, calls: &[(Call, &str)]) {
     for (i, (call, wanted)) in calls.iter().enumerate() {
         expect_answer(rt, i, answer(alloc, front, call), wanted);

@@ -1,5 +1,4 @@
-//! Worked examples of logs, which are calls with their expected results. The examples use each public call, without
-//! failed allocations.
+//! Worked examples of logs: calls with expected results. The examples use each public call, without failed allocations.
 use crate::tests::texts::expect_answer;
 use repl_log::{Counts, Entry, Log, Logs, Moment, RepId, common, rep_id, write_log};
 use rev_tree::SessionId;
@@ -18,12 +17,13 @@ enum Call<'a> {
     Put(usize, u128, u64),
     /// Store the entry of session 1 that read one document, with a timestamp.
     PutOne(usize, u64),
-    /// Store the entry of a session, which read nothing, in the log of the replication from database 1 into another.
+    /// Store the entry of a session that read nothing, in the log of the replication from database 1 into another
+    /// database.
     PutInto(u128, u128, u64),
-    /// Copy all logs, copy from them the log of the replication from database 1 into another, and store it as the next
-    /// log.
+    /// Copy all logs, and store the log of the replication from database 1 into another database, from the copy, as the
+    /// next log.
     CopyInto(u128),
-    /// Read whether there is a log of the replication from database 1 into another.
+    /// Read whether there is a log of the replication from database 1 into another database.
     HasInto(u128),
     /// Read whether a log has exactly the entries of sessions with given sequences, newest first.
     Has(usize, &'a [(u128, u64)]),
@@ -73,7 +73,7 @@ impl Bench {
         }
     }
 
-    /// Performs the calls in order, and asserts that each returns its expected result.
+    /// Performs the calls in order, and asserts that each call returns its expected result.
     fn run(&mut self, rt: &impl Abort, calls: &[(Call, &str)]) {
         for (i, (call, wanted)) in calls.iter().enumerate() {
             expect_answer(rt, i, self.answer(call), wanted);
@@ -120,7 +120,7 @@ impl Bench {
         }
     }
 
-    /// Stores an entry in the log of the replication from database 1 into another, if the entry exists.
+    /// Stores an entry in the log of the replication from database 1 to `target`, if the entry exists.
     fn put_into(&mut self, target: u128, entry: Option<Entry>) -> Option<String> {
         match entry {
             Some(entry) => shown(self.alloc, &self.all.put(&from_one(target), entry)),
@@ -128,7 +128,7 @@ impl Bench {
         }
     }
 
-    /// Stores a copy of the log of the replication from database 1 into another, from a copy of all logs.
+    /// Stores the log of the replication from database 1 to `target` as the next log, from a copy of all logs.
     fn keep_into(&mut self, target: u128) -> Option<String> {
         match copy_into(self.alloc, &self.all, target) {
             Some(log) => self.keep(log),
@@ -136,7 +136,7 @@ impl Bench {
         }
     }
 
-    /// Returns whether there is a log of the replication from database 1 into another.
+    /// Returns whether a log of the replication from database 1 to `target` exists.
     fn has_into(&self, target: u128) -> Option<String> {
         shown(self.alloc, &self.all.get(&from_one(target)).is_some())
     }
@@ -166,7 +166,7 @@ impl Bench {
     }
 }
 
-/// Copies the log of the replication from database 1 into another, from a copy of all logs.
+/// Returns the log of the replication from database 1 to `target`, from a copy of all logs.
 fn copy_into(alloc: Global, all: &Logs, target: u128) -> Option<Log> {
     match all.copy(alloc) {
         Ok(all) => all.copy_of(alloc, &from_one(target)).ok(),
@@ -174,7 +174,7 @@ fn copy_into(alloc: Global, all: &Logs, target: u128) -> Option<Log> {
     }
 }
 
-/// Returns the id of the replication of all documents from database 1 into another.
+/// Returns the id of the replication of all documents from database 1 to `target`.
 fn from_one(target: u128) -> RepId {
     RepId {
         source: 1,

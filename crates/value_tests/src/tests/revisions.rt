@@ -1,5 +1,4 @@
-//! Worked examples of revisions, which are calls with their expected results. The examples use each call, without
-//! failed allocations.
+//! Worked examples of revisions: calls with expected results. The examples use each call, without failed allocations.
 use crate::tests::texts::{ancestry, expect_answer, sigs};
 use md5::{Digest, Md5};
 use rev_core::{Ancestry, KeptRev, Rev, new_rev};
@@ -24,7 +23,8 @@ enum Call<'a> {
     Contains(Parts<'a>, &'a str),
     /// Read the parent of a revision in the copy of an ancestry.
     Parent(Parts<'a>, &'a str),
-    /// Store a revision in compact form, copy it, and read the copy's string and whether its signature is short.
+    /// Store a revision in compact form, copy the compact revision, and read the copy's string and whether the
+    /// signature is short.
     Keep(&'a str),
     /// Compute the hexadecimal digits of the digest of a string.
     Digest(&'a str),
@@ -50,7 +50,7 @@ const THREE: Parts<'static> = Parts {
     sigs: &["c", "b", "a"],
 };
 
-/// Performs the calls in order, and asserts that each returns its expected result.
+/// Performs the calls in order, and asserts that each call returns its expected result.
 fn run(rt: &impl Abort, alloc: Global, calls: &[(Call, &str)]) {
     for (i, (call, wanted)) in calls.iter().enumerate() {
         expect_answer(rt, i, answer(alloc, call), wanted);

@@ -18,7 +18,7 @@ enum Call<'a> {
     Falling(usize),
 }
 
-/// The texts that the test reads, each with the compact form of its value or with the expected error.
+/// The texts that the test reads, each with the expected compact form or the expected error.
 type Rows = &'static [(Call<'static>, &'static str)];
 
 /// Reads all texts with one reader, and asserts each result.
@@ -49,7 +49,7 @@ fn nested_text(alloc: Global, reader: &mut ValueReader, depth: usize) -> Option<
     }
 }
 
-/// Returns the compact form of an object of names in falling order, each twice.
+/// Returns the compact form of an object with names in falling order, each name twice.
 fn falling_text(alloc: Global, reader: &mut ValueReader, count: usize) -> Option<String> {
     let (Some(text), Some(wanted)) = (falling(alloc, count), rising(alloc, count)) else {
         return None;
@@ -129,7 +129,7 @@ fn nested(alloc: Global, depth: usize) -> Option<String> {
     Some(text)
 }
 
-/// Returns the text of an object of names in falling order, each twice.
+/// Returns the text of an object with names in falling order, each name twice.
 fn falling(alloc: Global, count: usize) -> Option<String> {
     let Ok(mut text) = "{".to_string(alloc) else {
         return None;
@@ -157,7 +157,7 @@ fn append_null(alloc: Global, text: &mut String, number: usize) -> Option<()> {
     }
 }
 
-/// Appends a member whose name and value are a given number, followed by a given text.
+/// Appends a member whose name and value are a given number, and then a given text.
 fn append_number(alloc: Global, text: &mut String, number: usize, end: &str) -> Option<()> {
     match format!(in alloc; "\"{number:05}\":{number}{end}") {
         Ok(member) => text.push_str(member.as_str()).ok(),
@@ -165,7 +165,7 @@ fn append_number(alloc: Global, text: &mut String, number: usize, end: &str) -> 
     }
 }
 
-/// Returns the text of an object of names in rising order, each name once.
+/// Returns the text of an object with names in rising order, each name once.
 fn rising(alloc: Global, count: usize) -> Option<String> {
     let Ok(mut text) = "{".to_string(alloc) else {
         return None;
