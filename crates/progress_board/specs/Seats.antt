@@ -26,7 +26,7 @@ IsLater v w =
     ((j : ℕ) → slice_index v.reads j ≤ slice_index w.reads j)
     × ((j : ℕ) → slice_index v.settles j ≤ slice_index w.settles j)
 
--- The seats s and t are of the same worker, with the same counters of this worker.
+-- The seats s and t have the same worker, and the same values of this worker's counters.
 abbrev pub SameSeat : BoardSeat → BoardSeat → Type 0
 SameSeat s t = (t.works ≡ s.works) × (t.number ≡ s.number) × (t.read ≡ s.read) × (t.settled ≡ s.settled)
 

@@ -196,7 +196,7 @@ same_order R S r s (k ∷ xs) h =
     ∙ same_placed R S r k (in_order R xs) (λ y m. h k y (ap (λ b. b || list_any (eq_by_cmp R k) xs) ((eq_by_cmp_equiv r).refl k)) (or_right _ _ (sym (any-in_order r xs y) ∙ m)))
     ∙ ap (placed S k) (same_order R S r s xs (λ a b m n. h a b (or_right _ _ m) (or_right _ _ n))) ∙ sym (in_order-cons s k xs)
 
--- Comparing revisions in the leaf order of another tree u finds exactly the leaves of tree t.
+-- If revisions are compared in the leaf order of any tree u, the list `leaves t` has exactly the leaves of tree t.
 any_leaf : (u t : TreeValue) (r : RevId) → list_any (eq_by_cmp (leaf_cmp u) r) (filter (is_leaf t) (keys t.origins)) ≡ is_leaf t r
 any_leaf u t r =
     let all = filter (is_leaf t) (keys t.origins) in

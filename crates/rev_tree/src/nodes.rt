@@ -24,7 +24,7 @@ pub(crate) const MOST_WALKED: usize = 8;
 /// counts the missing revisions, and reserves space only for them.
 const MOST_COUNTED: usize = 4;
 
-/// The maximum number of nodes of a tree, because the index of a parent, counted from 1, has 32 bits.
+/// The maximum number of nodes of a tree. The index of a parent, counted from 1, has 32 bits.
 const MOST_NODES: usize = u32::MAX as usize;
 
 ghost use Rattle.rev_tree.specs.Index.{falls, index_for, mark_of, noted_from};
