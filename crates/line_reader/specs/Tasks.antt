@@ -17,8 +17,8 @@ pub data Runs {S : Type 0} (steps : Steps S) (start : S) : List (List ℕ) → L
       → Runs steps start lines text mid → steps mid line added new → Runs steps start (lines ++ line ∷ []) (text ++ added) new
 
 -- The bytes `taken` were read from the state `start` on, their lines were run, and the text of the lines is written.
--- The bytes `begun` are the last line, which has no line end yet. The arguments `held` and `held'` are what the writer
--- has accepted, before and after.
+-- The bytes `begun` are the last line, which has no line end yet. The arguments `held` and `held'` are the bytes that
+-- the writer has accepted before and after.
 pub record HasRun {S : Type 0} (steps : Steps S) (start : S) (held : Option (List ℕ)) (taken : List ℕ) (state : S)
     (begun : List ℕ) (held' : Option (List ℕ)) : Type 0 where
   pub lines : List (List ℕ)

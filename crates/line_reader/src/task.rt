@@ -22,8 +22,7 @@ pub trait LineTask {
         requires empty { text.old.items ≡ [] }
         ensures { OnOk result (steps self.old line.now text.new.items self.new) };
 
-    /// Reads the bytes after the last line end of the input, and appends text. The bytes after the last line end are
-    /// the end of the input.
+    /// Reads the rest of the input, which is the bytes after the last line end, and appends text.
     ///
     /// # Errors
     ///

@@ -10,7 +10,7 @@ use crate::told::{Column, Row, Table};
 use std::alloc::{AllocError, Global};
 use std::str;
 
-/// Parses a line of numbers (from `info`, `compare` or of a session). Returns `None` if the line is not a line of
+/// Parses a line of numbers about a database, a comparison or a session. Returns `None` if the line is not a line of
 /// numbers.
 pub fn read_row(alloc: Global, line: &[u8], table: Table) -> Result<Option<Row>, AllocError>
     ensures some { IfOk result (λ o. IfSome o (λ r. (r.table ≡ table) × IsRow table line.now (string_bytes r.name) r.numbers.items)) }

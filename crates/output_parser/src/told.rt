@@ -81,7 +81,7 @@ pub enum Table {
 }
 
 impl Table {
-    /// Returns the columns that lines of numbers of a given kind have.
+    /// Returns the columns of a line of numbers, in order.
     pub fn columns(self) -> &'static [Column]
         ensures { result.now ≡ columns_of self }
     {

@@ -1,5 +1,5 @@
--- The rule of the board's counters, and what each step shows a seat, as specified in docs/PROFILE.md, "The progress
--- board".
+-- The rule of the board's counters, and what a seat knows after each step, as specified in docs/PROFILE.md, "The
+-- progress board".
 use Rattle.std.specs.Prelude.{◌≡◌, ◌+◌, ◌<◌, ◌≤◌, ℕ, Bool, true, false, List, length, max, replicate, slice_index, slice_set}
 use mathlib.Core.Option.{some}
 use lib.ListN.{get_elem?}

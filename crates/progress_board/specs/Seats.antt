@@ -12,7 +12,7 @@ use Rattle.progress_board.specs.Rule.{most}
 abbrev pub CameWith : Board → BoardSeat → Type 0
 CameWith b s = (s.place.table_id ≡ b.table.shared.table_id) × (length s.place.me.0.reads ≡ b.workers)
 
--- ---- what a seat has seen
+-- ---- the sums that a seat has loaded
 
 abbrev pub seen_read : BoardSeat → ℕ
 seen_read s = sum s.place.me.0.reads
@@ -20,17 +20,17 @@ seen_read s = sum s.place.me.0.reads
 abbrev pub seen_settled : BoardSeat → ℕ
 seen_settled s = sum s.place.me.0.settles
 
--- No sum that a seat has seen has fallen between the seat's views v and w.
+-- Between a seat's views v and w, no lower bound of a counter has decreased.
 abbrev pub IsLater : SeatView → SeatView → Type 0
 IsLater v w =
     ((j : ℕ) → slice_index v.reads j ≤ slice_index w.reads j)
     × ((j : ℕ) → slice_index v.settles j ≤ slice_index w.settles j)
 
--- The seats s and t are of the same worker, with the same counters of this worker.
+-- The seats s and t have the same worker, and the same values of this worker's counters.
 abbrev pub SameSeat : BoardSeat → BoardSeat → Type 0
 SameSeat s t = (t.works ≡ s.works) × (t.number ≡ s.number) × (t.read ≡ s.read) × (t.settled ≡ s.settled)
 
--- A worker's own counters are at most the totals that the worker has seen.
+-- If seat s is a worker's, the worker's own counters are at most the given totals.
 abbrev pub SeesItself : BoardSeat → ℕ → ℕ → Type 0
 SeesItself s settled read = s.works ≡ true → (s.settled ≤ settled) × (s.read ≤ read)
 
@@ -67,7 +67,7 @@ abbrev pub SeatsAre : TableId → ℕ → ℕ → List BoardSeat → Type 0
 SeatsAre table k n seats = (i : ℕ) (d : BoardSeat) → i < length seats → IsSeat table k n i (slice_index_or seats i d)
 
 -- Seat number i of a new board b. The seats of a new board are first the workers' seats, by the workers' numbers, and
--- then the viewers' seats. No seat of a new board has added or seen any documents.
+-- then the viewers' seats. No seat of a new board has added documents or loaded a counter.
 pub record IsNew (b : Board) (i : ℕ) (s : BoardSeat) : Type 0 where
   pub came : CameWith b s
   pub works : s.works ≡ nat_lt i b.workers

@@ -33,11 +33,11 @@ pub(crate) fn board_of(table: BoardTable, workers: usize) -> Board
 impl Board {
     ghost use Rattle.progress_board.specs.Seats.{CameWith, IsLater, SameSeat, read_refusal, settled_refusal, seen_read, seen_settled, SeesItself};
 
-    /// Returns the sums of all workers' settled counters and read counters, as the seat sees the counters.
+    /// Loads all counters, and returns two totals: the sum of the settled counters, and the sum of the read counters.
     ///
-    /// The settled total is at most the read total. Neither total is less than in any earlier call with this seat. The
-    /// totals that a worker sees include all additions that this worker has made. The call does not block and does not
-    /// allocate. The seat must be one that was created together with this board.
+    /// The settled total is at most the read total. Neither total is less than in any earlier call with this seat. If
+    /// the seat is a worker's, the totals include all additions that this worker has made. The call does not block and
+    /// does not allocate. The seat must be one that was created together with this board.
     pub fn read(&self, seat: &mut BoardSeat) -> (u64, u64)
         requires came { CameWith self.now seat.old }
         ensures came { CameWith self.now seat.new }

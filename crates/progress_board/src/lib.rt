@@ -1,7 +1,7 @@
 //! A board of counters that threads share without a lock. The board shows how many documents each worker has read and
 //! settled, and viewers read the totals.
 //!
-//! A worker changes only its own two counters. The totals that one seat sees never decrease, and count only documents
+//! A worker changes only its own two counters. The totals that one seat reads never decrease, and count only documents
 //! that workers added. The settled total never exceeds the read total. The rules are in docs/PROFILE.md, "The progress
 //! board".
 #![tactic(auto)]

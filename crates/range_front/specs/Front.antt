@@ -107,7 +107,7 @@ appended f hi = record f { windows = f.windows ++ record { hi = hi; done = false
 abbrev pub append_answer : FrontValue → ℕ → Result (Unit {0}) FrontFault
 append_answer f hi = if nat_le hi (end_of f) then Err (faults.NotRising (end_of f)) else Ok tt
 
--- A list of adjacent windows from `from` on, after marking the window (lo, hi] as done.
+-- A list of adjacent windows that begins at `from`, after marking the window (lo, hi] as done.
 abbrev pub finished_from : ℕ → List FrontWindow → ℕ → ℕ → List FrontWindow
 finished_from from [] lo hi = []
 finished_from from (w ∷ ws) lo hi =

@@ -11,7 +11,7 @@ abbrev pub Rising : ℕ → List ℕ → Type 0
 Rising from [] = Unit {0}
 Rising from (e ∷ es) = (from < e) × Rising e es
 
--- Whether (lo, hi] is one of the adjacent windows from `from` on whose ends are `es`.
+-- Whether (lo, hi] is one of the adjacent windows with the ends `es`, the first of which begins at `from`.
 abbrev pub has_window : ℕ → List ℕ → ℕ → ℕ → Bool
 has_window from [] lo hi = false
 has_window from (e ∷ es) lo hi = ((from == lo) && (e == hi)) || has_window e es lo hi

@@ -1,5 +1,5 @@
--- When the relay may request a replication log to record a sequence. A history of the relay is a list of exchanges, the
--- last exchange first.
+-- The conditions under which the relay may request that a server's log record a sequence. A history of the relay is a
+-- list of exchanges, the last exchange first.
 use Rattle.std.specs.Prelude.{ℕ, ◌≡◌, ◌+◌, ◌-◌, ◌^◌, ◌≤◌, ◌==◌, codes, Bool, true, false, ◌&&◌, ◌||◌, not, if◌then◌else◌, List, [], ◌∷◌, ◌++◌, Option, None, Some, min, bytes_eq}
 use Rattle.std.specs.List.{list_any}
 use Rattle.relay_core.specs.declared.messages.Side.{Side}
@@ -20,8 +20,8 @@ abbrev pub is_too_large : Side → ℕ → Bool
 is_too_large Target status = status == 413
 is_too_large Source status = false
 
--- Whether the target's response to a carry, a request that transfers documents, refuses the given leaf, or refuses the
--- document alone as too large.
+-- Whether the target's response to a carry refuses the given leaf, or refuses a carry of this document alone as too
+-- large. A carry is a request that transfers documents.
 abbrev pub rejects : RequestView → ResponseView → Text → Text → Bool
 rejects (carry_docs docs) (row_errors_response rows) id leaf = refuses rows id leaf
 rejects (carry_docs docs) (rejected_response side status words) id leaf = is_too_large side status && is_alone docs id
@@ -100,8 +100,8 @@ pub record AreReady (h : List Exchange) (target source : LogView) (s : Text) (fa
   pub reached : Reached (seq_of (newest_common target.history source.history)) before s rejected
   pub counted : min rejected (2 ^ 64 - 1) ≤ failures
 
--- A log may be requested to record the sequence s that the pages reached. The history of a log that is written is the
--- new entry, followed by the log's history when it was last read.
+-- A log may be requested to record the sequence s that the pages reached. The history of a written log is the new
+-- entry, followed by the history of the log that was last read.
 pub record IsReady (h : List Exchange) (side : Side) (log : LogView) (s : Text) (failures : ℕ) : Type 0 where
   pub target : LogView
   pub source : LogView

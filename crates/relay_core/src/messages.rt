@@ -74,7 +74,7 @@ pub enum Fault {
     BadFeed,
     /// A response to `_revs_diff` is not an object of missing revisions, or names a leaf that was not requested.
     BadDiff,
-    /// A response does not have the form that a request of this kind calls for.
+    /// A response does not have the form that a request of this kind requires.
     BadAnswer(Operation),
     /// The replication log of a server has no `_rev`, or its history is not a list.
     BadLog(Side),

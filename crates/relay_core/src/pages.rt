@@ -40,7 +40,7 @@ pub(crate) fn behind(settings: &Settings, mut run: Run, notices: Vec<Notice>) ->
     }
 }
 
-/// Continues a run after a page of which the target has or has refused each leaf.
+/// Continues a run after the target has, or has refused, each leaf of a page.
 fn onward(settings: &Settings, run: Run, notices: Vec<Notice>) -> Phase
     ensures { (h : List Exchange) → IsReached h run → Knows h result }
 {
@@ -88,7 +88,7 @@ fn notices_of(
     Ok(notices)
 }
 
-/// Counts a page of which the target has or has refused each leaf, and continues the run.
+/// Counts a page after the target has, or has refused, each leaf of the page. The call then continues the run.
 fn accounted(
     alloc: Global,
     settings: &Settings,

@@ -32,7 +32,7 @@ pub struct Start {
 pub struct Run {
     /// The newest pair of a session and a sequence that both logs had when the window began.
     pub begin: Option<Recorded>,
-    /// The sequence up to which the target has or has refused each leaf.
+    /// The sequence up to which the target has, or has refused, each leaf.
     pub since: String,
     /// Whether the current window is open, which means that the run must still record it in both logs.
     pub is_open: bool,

@@ -49,8 +49,8 @@ impl Rev {
         Rev { generation, sig }
     }
 
-    /// Parses a revision id. The call splits the string at its first `-`. The only string that `parse` converts to a
-    /// given revision is the string that `write` returns for it.
+    /// Parses a revision id. The call splits the string at its first `-`. If `parse` converts a string to a revision,
+    /// `write` returns this string for the revision.
     ///
     /// # Errors
     ///

@@ -48,7 +48,7 @@ impl Sig {
     ghost use Rattle.std.specs.Prelude.{take};
     ghost use Rattle.rev_core.specs.Sig.{sig_read, is_sig};
 
-    /// Parses a signature, or returns `BadSig`.
+    /// Parses a signature. Returns `BadSig` if the string is not a signature.
     pub fn parse(text: &[u8]) -> Result<Sig, RevFault>
         ensures { result ≡ sig_read text.now }
     {

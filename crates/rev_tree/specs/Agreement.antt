@@ -6,7 +6,7 @@ use Rattle.rev_core.specs.Rev.{RevId}
 use Rattle.rev_tree.specs.Content.{ContentValue}
 use Rattle.rev_tree.specs.Tree.{TreeValue, has}
 
--- Two trees agree: they give no revision two different parents, and no revision two different contents.
+-- Two trees agree: no revision has different parents in the two trees, and no revision has different contents.
 pub record Agree (s t : TreeValue) : Type 0 where
   pub parents : (c p q : RevId) → get s.parents c ≡ Some p → get t.parents c ≡ Some q → p ≡ q
   pub contents : (r : RevId) (b d : ContentValue) → get s.contents r ≡ Some b → get t.contents r ≡ Some d → b ≡ d

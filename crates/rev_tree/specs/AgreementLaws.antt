@@ -1,4 +1,4 @@
--- Two trees that agree, have complete histories and have each other's leaves are the same. Further theorems of
+-- Two trees are the same if they agree, have complete histories and have each other's leaves. Further theorems of
 -- `AgreementLaws` say how trees come to have each other's leaves.
 use Rattle.std.proofs.Common.{◌≡◌, ◌⊎◌, ℕ, zero, suc, true, false, not, ◌&&◌, ◌||◌, List, [], ◌∷◌, filter, Option, Some, None, is_some, refl, sym, ap, ◌∙◌, inl, inr, arith}
 use Rattle.std.specs.List.{list_any}
@@ -37,7 +37,7 @@ module _ (old other t : TreeValue) (tree : IsTree other) (grown : IsGrownBy old 
   known : has other leaf ≡ true
   known = (and_parts _ _ is).0
 
-  -- The edges that adding a leaf of tree `other` adds are edges of `other`.
+  -- If a leaf of tree `other` is added, each added edge is an edge of `other`.
   edge_at : (q : RevId) → is_among q revs ≡ true → find rev_cmp q (edges_of revs) ≡ get other.parents q
   edge_at q among = edges_walked other tree leaf.generation leaf q known (omega arith) among
 
@@ -89,7 +89,8 @@ leaves_known old other t grown all l top =
       | inr there ↦ there
     ]
 
--- Theorems about growth in both directions: tree b has grown by data of a into b', then a by data of b' into a'.
+-- Theorems about growth in both directions: tree b has grown into b' by data of a, and then a has grown into a' by data
+-- of b'.
 module _ (a b b' a' : TreeValue) (there : IsGrownBy b a b') (back : IsGrownBy a b' a') where
   pub Agree-grown : Agree a b → Agree a' b'
   Agree-grown agree = record {
@@ -151,7 +152,7 @@ module _ (s t : TreeValue) (ours : IsTree s) (theirs : IsTree t) (agree : Agree 
 turned : (s t : TreeValue) → Agree s t → Agree t s
 turned s t agree = record { parents = λ c p q h k. sym (agree.parents c q p k h); contents = λ r b d h k. sym (agree.contents r d b k h) }
 
--- Two trees that agree, have complete histories and have each other's leaves have the same revisions, edges and
+-- If two trees agree, have complete histories and have each other's leaves, they have the same revisions, edges and
 -- contents.
 pub same_by_leaves : (s t : TreeValue) → IsTree s → IsTree t → Agree s t → IsWhole s → IsWhole t → ((l : RevId) → is_leaf s l ≡ true → has t l ≡ true) → ((l : RevId) → is_leaf t l ≡ true → has s l ≡ true) → SameRevisions s t
 same_by_leaves s t ours theirs agree whole_s whole_t there back = record {
@@ -195,7 +196,7 @@ same_order R S r s (k ∷ xs) h =
     ∙ same_placed R S r k (in_order R xs) (λ y m. h k y (ap (λ b. b || list_any (eq_by_cmp R k) xs) ((eq_by_cmp_equiv r).refl k)) (or_right _ _ (sym (any-in_order r xs y) ∙ m)))
     ∙ ap (placed S k) (same_order R S r s xs (λ a b m n. h a b (or_right _ _ m) (or_right _ _ n))) ∙ sym (in_order-cons s k xs)
 
--- Comparing revisions in the leaf order of another tree u finds exactly the leaves of tree t.
+-- If revisions are compared in the leaf order of any tree u, the list `leaves t` has exactly the leaves of tree t.
 any_leaf : (u t : TreeValue) (r : RevId) → list_any (eq_by_cmp (leaf_cmp u) r) (filter (is_leaf t) (keys t.origins)) ≡ is_leaf t r
 any_leaf u t r =
     let all = filter (is_leaf t) (keys t.origins) in

@@ -1,5 +1,5 @@
--- The index from revisions to the positions of their nodes in the node list, in which the key of an entry is a
--- revision's hash.
+-- The index maps revisions to the positions of their nodes in the node list. The key of an index entry is a revision's
+-- hash.
 use Rattle.std.specs.Prelude.{ℕ, Bool, true, ◌&&◌, not, ◌+◌, ◌%◌, ◌^◌, List, [], ◌∷◌, ◌++◌, is_some, length, nat_eq, nat_lt, if◌then◌else◌}
 use Rattle.std.specs.Map.{lookup}
 use Rattle.std.specs.Hash.FoldHasher as hasher
@@ -10,8 +10,8 @@ use Rattle.rev_tree.specs.declared.nodes.TheConstants.{MOST_WALKED}
 abbrev pub mark_of : RevId → ℕ
 mark_of r = (hasher.finish (hasher.write hasher.initial r.sig) + r.generation) % 2 ^ 64
 
--- The entries of a tree's index after adding a hash with the position of its node, or the unchanged entries if they
--- have the hash already.
+-- The entries of a tree's index after adding a hash with the position of its node. If the entries have the hash
+-- already, they do not change.
 abbrev pub noted : List (ℕ × ℕ) → ℕ → ℕ → List (ℕ × ℕ)
 noted entries mark place =
     if is_some (lookup (nat_eq mark) entries) then entries else entries ++ (mark, place) ∷ []

@@ -4,7 +4,7 @@ use Rattle.rev_core.specs.Rev.{RevId}
 use Rattle.rev_tree.specs.declared.revs.Kept.{Kept}
 use Rattle.rev_tree.specs.declared.revs.Kept.TheVariants.{One, Many}
 
--- The revisions that a list of revisions in its stored form has.
+-- The revisions of a list in its stored form.
 abbrev pub kept_revs : Kept → List RevId
 kept_revs (One rev) = rev ∷ []
 kept_revs (Many revs) = revs.items

@@ -143,7 +143,7 @@ module _ (s t : TreeValue) (tree : IsTree s) (part : IsPart s t) (leaf : RevId) 
   absent_parent : (q : RevId) → has t q ≡ false → get t.parents q ≡ None
   absent_parent q h = none_is (get t.parents q) (λ p e. false≢true (sym h ∙ part.child q p e))
 
-  -- Lemmas about the revisions that adding a leaf with its ancestors adds.
+  -- Lemmas about the revisions that are new after a leaf was added with its ancestors.
   brought_parent : (q : RevId) → is_among q revs ≡ true → get grown.parents q ≡ get s.parents q
   brought_parent q among =
       let edge : find rev_cmp q (edges_of revs) ≡ get s.parents q = edges_walked s tree leaf.generation leaf q known (omega arith) among in

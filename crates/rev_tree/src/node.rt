@@ -12,7 +12,7 @@ use rev_core::Rev;
 use std::alloc::AllocError;
 use std::marker::Model;
 
-/// The number 2^64 of values of a 64-bit integer. A session's 128-bit number is stored as two 64-bit integers.
+/// The number of values of a 64-bit integer, 2^64. A session's 128-bit number is stored as two 64-bit integers.
 const HALF: u128 = 1 << 64;
 
 /// A revision, the index of its parent if the parent is known, its origin, and the other data of the node.

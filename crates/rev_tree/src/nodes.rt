@@ -20,11 +20,11 @@ use std::marker::Model;
 /// The maximum number of nodes that a lookup scans. A tree with more nodes has an index.
 pub(crate) const MOST_WALKED: usize = 8;
 
-/// The maximum of the number of nodes plus the number of given revisions for which a merge counts the missing revisions
-/// first. If the sum is at most this maximum, a merge reserves space for the missing revisions only.
+/// A limit for the number of nodes plus the number of given revisions. If the sum is at most this limit, a merge first
+/// counts the missing revisions, and reserves space only for them.
 const MOST_COUNTED: usize = 4;
 
-/// The maximum number of nodes of a tree, because the index of a parent, counted from 1, has 32 bits.
+/// The maximum number of nodes of a tree. The index of a parent, counted from 1, has 32 bits.
 const MOST_NODES: usize = u32::MAX as usize;
 
 ghost use Rattle.rev_tree.specs.Index.{falls, index_for, mark_of, noted_from};
@@ -213,7 +213,7 @@ fn mark_of(rev: &Rev) -> u64
     hasher.finish().wrapping_add(u64::from(rev.generation()))
 }
 
-/// Returns the position of a revision in nodes of which each is one generation below the previous one.
+/// Returns the position of a revision in a list of nodes, each of which is one generation below the previous node.
 #[inline(never)]
 fn fallen_to(nodes: &[Node], rev: &Rev) -> Option<usize>
     requires some { 0 < length nodes.now }

@@ -298,7 +298,7 @@ impl Tree {
     ///
     /// # Errors
     ///
-    /// Returns the newest given child whose parent in the tree differs from its given parent.
+    /// Returns the newest child of the ancestry whose parent in the tree differs from its parent in the ancestry.
     pub fn merge_answer(&self, ancestry: &Ancestry) -> Result<Merged, Contradiction>
         ensures answer { result ≡ merge_answer self.now ancestry.now }
         ensures tree { IsTree self.now }
@@ -322,7 +322,7 @@ impl Tree {
     ///
     /// # Errors
     ///
-    /// - `Contradiction`: a given child's parent in the tree differs from its given parent, as for `merge_answer`.
+    /// - `Contradiction`: a child of the ancestry has another parent in the tree, as for `merge_answer`.
     /// - `Memory`: an allocation failed. The call returns `Memory` only if the merge would change the tree.
     ///
     /// After an error the tree is unchanged.

@@ -17,8 +17,8 @@ impl Nodes {
         requires tree { IsTree (tree_of self.now.items) }
         ensures { IfOk result (λ v. v.items ≡ ancestors_at self.now.items start) }
     {
-        // A revision and its ancestors are at most the number of the tree's nodes, and at most the revision's
-        // generation.
+        // The list of a revision and its ancestors is not longer than the list of nodes, and its length is at most the
+        // revision's generation.
         let most = self
             .all()
             .len()
@@ -79,8 +79,8 @@ impl Nodes {
         Ok(above)
     }
 
-    /// Creates the table of results by node index, in which the given revisions have the result true and all other
-    /// revisions none.
+    /// Creates the table of results by node index, in which the given revisions have the result true, and all other
+    /// revisions have no result.
     fn asked(&self, alloc: Global, revs: &[Rev]) -> Result<Vec<Option<bool>>, AllocError>
         ensures { IfOk result (λ v. IsTold self.now.items revs.now v.items) }
     {

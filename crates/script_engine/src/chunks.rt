@@ -40,7 +40,7 @@ impl Chunks {
         })
     }
 
-    /// Reads the next chunk. Reads the next chunk, or returns `false` at the end of the input.
+    /// Reads the next chunk. Returns `false` at the end of the input.
     ///
     /// # Errors
     ///

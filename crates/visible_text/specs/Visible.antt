@@ -5,8 +5,8 @@ use Rattle.std.specs.Char.{digit_char, is_control}
 use Rattle.std.specs.List.{flat_map, list_any}
 
 -- The ranges of hidden characters above U+009F. The hidden characters are format characters, marks of direction,
--- separators of lines and paragraphs, and characters that Unicode 15 calls default-ignorable. The ranges of hidden
--- characters also have U+FFFE and U+FFFF, which XML forbids.
+-- separators of lines and paragraphs, and characters that Unicode 15 calls default-ignorable. The ranges also include
+-- U+FFFE and U+FFFF, which XML forbids.
 abbrev pub hidden_ranges : List (ℕ × ℕ)
 hidden_ranges =
     (0xAD, 0xAD) ∷ (0x34F, 0x34F) ∷ (0x600, 0x605) ∷ (0x61C, 0x61C) ∷ (0x6DD, 0x6DD) ∷ (0x70F, 0x70F) ∷ (0x890, 0x891)

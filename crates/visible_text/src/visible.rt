@@ -27,8 +27,8 @@ pub fn is_hidden(c: char) -> bool
     }
 }
 
-/// Appends the JSON escape of a character, which is `\u` with four hexadecimal digits, and two such escapes for a
-/// character above U+FFFF (RFC 8259, section 7).
+/// Appends the JSON escape of a character, which is `\u` with four hexadecimal digits (RFC 8259, section 7). For a
+/// character above U+FFFF, the call appends two such escapes.
 ///
 /// # Errors
 ///
