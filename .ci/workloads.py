@@ -82,6 +82,13 @@ def bodies(n):
         load("a", "doc-%d" % i, [digest(i)], items=[small(k) for k in range(200)]) for i in range(n)]
 
 
+def nested(n):
+    """A document of n small objects, in one line."""
+    items = [{"type": "order", "n": i, "name": "name of %d" % i, "tags": ["a", "b"], "at": {"y": i, "x": -i}, "ok": True}
+             for i in range(10 ** 6, 10 ** 6 + n)]
+    return [database("a", 1), load("a", "doc", [digest(0)], items=items)]
+
+
 def plain(n):
     """n documents with a text of 20 KB, in which nothing needs an escape."""
     return [database("a", 1)] + [load("a", "doc-%d" % i, [digest(i)], text="x" * 20_000) for i in range(n)]

@@ -18,6 +18,9 @@ use json::Token;
 use serde_json::Number;
 use std::marker::Model;
 
+/// The length of a text from which on it is long.
+const LONG: usize = 128 * 1024;
+
 /// A JSON text and the position up to which it has been read. Contract clauses describe a lexer by the text from the
 /// next lexeme on.
 #[derive(Drop)]
@@ -72,6 +75,12 @@ impl<'a> Lexer<'a> {
         ensures end { is_blank (class result) ≡ true → self.now.text ≡ [] }
     {
         byte_at(self.text.as_bytes(), self.at)
+    }
+
+    /// Whether the text is so long that the capacities of its arrays and objects take much memory.
+    #[inline(always)]
+    pub(crate) fn is_long(&self) -> bool {
+        self.text.len() >= LONG
     }
 
     /// Returns facts about whether the strings read so far need escapes.
