@@ -6,6 +6,9 @@ use std::cell::Cell;
 /// Eight lengths of 8. Most arrays and objects have at most 8 elements.
 const FIRST: u64 = 0x0808_0808_0808_0808;
 
+/// The length from which on a text is long, so that saving memory is worth some instructions.
+pub(crate) const LONG_TEXT: usize = 128 * 1024;
+
 /// The maximum initial capacity.
 const MOST: usize = 16;
 

@@ -9,6 +9,7 @@ ghost use Rattle.json.specs.Reads.{token_of, Yields};
 ghost use Rattle.json.specs.Token as SpecToken;
 ghost use Rattle.serde_json.specs.Read.{number_of};
 ghost use Rattle.serde_json.specs.View.{number_view};
+ghost use Rattle.json_values.specs.Lexer.{has_backslash};
 ghost use Rattle.json_values.specs.Plain.{IsPlainToken, Narrows, PlainIf};
 ghost use Rattle.json_values.specs.Place.{tokens_at, closes_at, begins_at, begins_key, ends_object, of_string, refused_at, Begins, BeginsNoValue, Closes, NotBeforeComma};
 
@@ -196,7 +197,7 @@ impl<'a> Tokens<'a> {
     /// other strings are slices of the text.
     #[inline(always)]
     pub(crate) fn new(text: &'a str, room: &'a mut [u8]) -> Tokens<'a>
-        requires { length text.now ≤ length room.old }
+        requires { has_backslash text.now ≡ true → length text.now ≤ length room.old }
         ensures { result.tokens ≡ tokens text.now }
     {
         Tokens {
