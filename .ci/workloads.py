@@ -218,7 +218,7 @@ def refused(n):
     """n documents that contradict the target's, each stored in the ledger, which is printed."""
     lines = pair()
     for i in range(n):
-        lines += [load("a", "doc-%d" % i, [digest(i), "x"]), load("b", "doc-%d" % i, [digest(i), "y"])]
+        lines += [load("a", "doc-%d" % i, [digest(i, "child"), digest(i), "x"]), load("b", "doc-%d" % i, [digest(i), "y"])]
     return lines + [session("a", "b", 1), {"do": "ledger", "target": "b", "session": "%032x" % 1}]
 
 
