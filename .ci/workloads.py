@@ -82,6 +82,13 @@ def bodies(n):
         load("a", "doc-%d" % i, [digest(i)], items=[small(k) for k in range(200)]) for i in range(n)]
 
 
+def nested(n):
+    """A document of n small objects, in one line."""
+    items = [{"type": "order", "n": i, "name": "name of %d" % i, "tags": ["a", "b"], "at": {"y": i, "x": -i}, "ok": True}
+             for i in range(10 ** 6, 10 ** 6 + n)]
+    return [database("a", 1), load("a", "doc", [digest(0)], items=items)]
+
+
 def plain(n):
     """n documents with a text of 20 KB, in which nothing needs an escape."""
     return [database("a", 1)] + [load("a", "doc-%d" % i, [digest(i)], text="x" * 20_000) for i in range(n)]
@@ -211,7 +218,7 @@ def refused(n):
     """n documents that contradict the target's, each stored in the ledger, which is printed."""
     lines = pair()
     for i in range(n):
-        lines += [load("a", "doc-%d" % i, [digest(i), "x"]), load("b", "doc-%d" % i, [digest(i), "y"])]
+        lines += [load("a", "doc-%d" % i, [digest(i, "child"), digest(i), "x"]), load("b", "doc-%d" % i, [digest(i), "y"])]
     return lines + [session("a", "b", 1), {"do": "ledger", "target": "b", "session": "%032x" % 1}]
 
 

@@ -1,5 +1,6 @@
 -- The steps of `content`, at an index of the text.
-use Rattle.proof_prelude.proofs.{◌≡◌, ℕ, suc, ◌+◌, ◌-◌, ◌<◌, ◌≤◌, Bool, true, false, not, ◌||◌, cond, ◌&&◌, ◌==◌, nat_lt, List, [], ◌∷◌, ◌++◌, length, take, drop, get_or, Option, Some, None, option_and_then, refl, sym, ap, ◌∙◌, arith, drop_more, drop_all, or_parts, not-true, prefix_len, len_utf8, append_assoc, drop-drop, take-take, length-take-le, get_or-drop, length-drop, eqb-true, true≢false, ne_eqb, lt-ltb, le-ltb}
+use Rattle.proof_prelude.proofs.{◌≡◌, ℕ, suc, ◌+◌, ◌-◌, ◌<◌, ◌≤◌, Bool, true, false, not, ◌||◌, cond, ◌&&◌, ◌==◌, nat_lt, List, [], ◌∷◌, ◌++◌, length, take, drop, get_or, Option, Some, None, option_and_then, refl, sym, ap, ◌∙◌, arith, drop_more, drop_all, or_parts, not-true, prefix_len, len_utf8, append_assoc, drop-drop, take-take, length-take-le, get_or-drop, length-drop, eqb-true, true≢false, ne_eqb, lt-ltb, le-ltb, ⊎_elim, lt_of_not-le, get_or_default}
+use Rattle.std.proofs.lemmas.Bool.{cases_lt}
 use Rattle.std.specs.Char.{encode_utf8}
 use Rattle.json.specs.Text.{code_unit, short_escape, is_high_surrogate, is_low_surrogate, surrogate_pair, Within, plain, after_backslash, after_u, after_high, prepend, content}
 use Rattle.json.specs.Run.{is_plain}
@@ -118,6 +119,14 @@ stop_is_backslash d i stop is h q l =
     last : (b : Bool) → not (b || false) ≡ false → b ≡ true
     last true e = refl
     last false e = absurd (true≢false e)
+
+-- where a run ends at neither a quotation mark nor a backslash, the string has no content
+pub no_content : (d : List ℕ) (i stop : ℕ) → stop ≡ i + prefix_len is_plain (drop i d) → (get_or d stop 32 ≡ 34 → ⊥) → (get_or d stop 32 ≡ 92 → ⊥) → content plain (drop i d) ≡ None
+no_content d i stop is quote slash =
+    content-to_stop d i stop is ∙ ap (prepend (take (stop - i) (drop i d))) (⊎_elim
+    (λ h. at_control d stop h (lt_of_not-le (λ l. slash (sym (get_or_default d stop 0 32 h) ∙ stop_is_backslash d i stop is h (λ e. quote (sym (get_or_default d stop 0 32 h) ∙ e)) l))))
+    (λ h. at_end d stop h)
+    (cases_lt stop (length d)))
 
 pub len_utf8-le : (c : ℕ) → len_utf8 c ≤ 4
 len_utf8-le c = grind arith

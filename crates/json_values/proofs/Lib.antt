@@ -14,6 +14,7 @@ pub mod Lanes
 pub mod AsciiText
 pub mod Runs
 pub mod Content
+pub mod Backslashes
 pub mod Passing
 pub mod NumberStarts
 pub mod Steps
@@ -37,7 +38,8 @@ pub use Lanes.{at_least, below, either, hit, is_high, masked, none_high}
 pub use AsciiText.{ascii_joined}
 pub use Runs.{both_clear, end_clear, end_stops, end_through, run_bound, run_stops, run_through}
 pub use Content.{at_backslash, at_control, at_end, at_quote, content-after_backslash, content-after_high, content-after_u, content-nil}
-pub use Content.{content-to_stop, cut_back, len_utf8-le, prepend-prepend, short_after_high, short_after_u, stop_is_backslash}
+pub use Backslashes.{backslash_at}
+pub use Content.{content-to_stop, cut_back, len_utf8-le, no_content, prepend-prepend, short_after_high, short_after_u, stop_is_backslash}
 pub use Passing.{escape_from, in_escape-any, in_string-backslash, in_string-low_half, in_string-quote, in_string-to_stop, in_string-unit, lex-blank}
 pub use Passing.{lex-operator, lex-quote}
 pub use NumberStarts.{Found, number_ascii}

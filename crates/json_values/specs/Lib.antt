@@ -15,6 +15,7 @@ pub use Entries.{Entry, IsGapFor, IsPlaceOf, IsRising, MovesLast, names_of, put_
 pub use LineOrder.{AllBehind, AreOrdered, IsInOrderOfNames, IsOrdered}
 pub use Members.{entries_of}
 pub use Escapes.{Escape, mode}
+pub use Lexer.{has_backslash}
 pub use Words.{IntegerAt, IsLiteral}
 pub use Place.{NotBeforeComma, begins_at, begins_key, closes_at, ends_object, of_string, refused_at, tokens_at}
 pub use declared.line.LineValue.{Array, Bool, LineValue, Null, Number, Object, String, the_lemmas}

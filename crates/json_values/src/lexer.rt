@@ -1,15 +1,19 @@
 //! Reads the lexemes of a JSON text in order.
-ghost use Rattle.std.specs.Prelude.{◌≡◌, ◌≢◌, ◌≤◌, ℕ, List, [], length, drop, true, Some, None, MatchOption, IfSome};
+ghost use Rattle.std.specs.Prelude.{◌≡◌, ◌≢◌, ◌≤◌, ℕ, List, [], length, drop, get_or, true, Some, None, MatchOption, IfSome};
+ghost use Rattle.std.specs.List.{prefix_len};
+ghost use Rattle.json.specs.Run.{is_plain};
 ghost use Rattle.json.specs.Text.{content, plain};
 ghost use Rattle.json.specs.Word.{head, word};
 ghost use Rattle.json.specs.Token.{bad, number};
 ghost use Rattle.json.specs.Lex.{class, operator, other, between, lex};
 ghost use Rattle.json.specs.Align.{is_good, is_blank};
 ghost use Rattle.json.specs.Reads.{token_of};
+ghost use Rattle.json_values.specs.Lexer.{has_backslash};
 ghost use Rattle.json_values.specs.Plain.{Narrows, PlainIf};
 ghost use Rattle.serde_json.specs.Read.{number_of};
 ghost use Rattle.serde_json.specs.View.{number_view};
 
+use crate::capacities::LONG_TEXT;
 use crate::plain_texts::PlainTexts;
 use crate::run::{after_blanks, byte_at, plain_end};
 use crate::unescape::unescape;
@@ -25,7 +29,8 @@ pub(crate) struct Lexer<'a> {
     text: &'a str,
     /// The position of the next lexeme.
     at: usize,
-    /// The buffer for unescaped strings. The buffer for unescaped strings is at least as long as the remaining text.
+    /// The buffer for unescaped strings. If the text has a backslash, the buffer is at least as long as the remaining
+    /// text.
     room: &'a mut [u8],
     /// Facts about whether the strings read so far need escapes.
     plain: PlainTexts,
@@ -49,7 +54,7 @@ impl<'a> Lexer<'a> {
     /// Creates a lexer for a text.
     #[inline(always)]
     pub(crate) fn new(text: &'a str, room: &'a mut [u8]) -> Lexer<'a>
-        requires { length text.now ≤ length room.old }
+        requires { has_backslash text.now ≡ true → length text.now ≤ length room.old }
         ensures { lex between result.text ≡ lex between text.now }
     {
         let at = after_blanks(text.as_bytes(), 0);
@@ -72,6 +77,12 @@ impl<'a> Lexer<'a> {
         ensures end { is_blank (class result) ≡ true → self.now.text ≡ [] }
     {
         byte_at(self.text.as_bytes(), self.at)
+    }
+
+    /// Whether the text is so long that the capacities of its arrays and objects take much memory.
+    #[inline(always)]
+    pub(crate) fn is_long(&self) -> bool {
+        self.text.len() >= LONG_TEXT
     }
 
     /// Returns facts about whether the strings read so far need escapes.
@@ -136,8 +147,9 @@ impl<'a> Lexer<'a> {
         let text = self.text;
         let start = self.at + 1;
         let stop = plain_end(text.as_bytes(), start);
-        if byte_at(text.as_bytes(), stop) != b'"' {
-            return match self.escaped_string() {
+        let after = byte_at(text.as_bytes(), stop);
+        if after != b'"' {
+            return match self.escaped_string(after) {
                 Some(content) => Some(content),
                 None => None,
             };
@@ -146,10 +158,13 @@ impl<'a> Lexer<'a> {
         Some(&text[start..stop])
     }
 
-    /// Reads the content of a string with escapes.
+    /// Reads the content of a string with escapes. The argument `after` is the byte that follows the content's first
+    /// bytes without escapes, or a space at the end of the text.
     #[inline(never)]
-    fn escaped_string(&mut self) -> Option<&'a str>
-        requires { head self.old.text ≡ 34 }
+    fn escaped_string(&mut self, after: u8) -> Option<&'a str>
+        requires quote { head self.old.text ≡ 34 }
+        requires after { after ≡ get_or (drop 1 self.old.text) (prefix_len is_plain (drop 1 self.old.text)) 32 }
+        requires other { after ≢ 34 }
         ensures value { MatchOption result (content plain (drop 1 self.old.text) ≡ None)
             (λ s. content plain (drop 1 self.old.text) ≡ Some s.now) }
         ensures after { IfSome result (λ _. lex between self.new.text ≡ drop 1 (lex between self.old.text)) }
@@ -157,6 +172,9 @@ impl<'a> Lexer<'a> {
         ensures name { IfSome result (λ s. head self.new.text ≡ 58 → PlainIf self.new.plain.names s.now) }
         ensures text { IfSome result (λ s. head self.new.text ≢ 58 → PlainIf self.new.plain.values s.now) }
     {
+        if after != b'\\' {
+            return None;
+        }
         let room = std::mem::take(&mut self.room);
         let Some((len, end)) = unescape(self.text, self.at + 1, room) else {
             self.room = room;

@@ -1,10 +1,12 @@
 //! The reader of JSON values, and the buffer for unescaped strings.
-ghost use Rattle.std.specs.Prelude.{◌≡◌, ◌≤◌, ◌<◌, length, Some, None, IfOk, OnOk, OnErr, IsUtf8};
+ghost use Rattle.std.specs.Prelude.{◌≡◌, ◌≤◌, ◌<◌, true, length, Some, None, IfOk, OnOk, OnErr, IsUtf8};
 ghost use Rattle.serde_json.specs.Data.{depth};
 ghost use Rattle.serde_json.specs.Read.{max_depth, read as read_text};
+ghost use Rattle.json_values.specs.Lexer.{has_backslash};
 ghost use Rattle.json_values.specs.LineView.{line_view};
 ghost use Rattle.json_values.specs.LineOrder.{IsOrdered};
 
+use crate::capacities::LONG_TEXT;
 use crate::fault::ReadFault;
 use crate::line_part::Line;
 use crate::tokens::Tokens;
@@ -16,7 +18,7 @@ use std::alloc::{AllocError, Global};
 const MAX_DEPTH: usize = 127;
 
 /// Reads JSON values, and reuses one buffer for all values. The buffer grows to the length of the longest text that was
-/// read. The result of a read does not depend on earlier reads.
+/// read, except of long texts without escapes. The result of a read does not depend on earlier reads.
 #[derive(Drop)]
 pub struct ValueReader {
     /// The buffer for unescaped strings.
@@ -53,25 +55,31 @@ impl ValueReader {
         let Some(text) = text_of(bytes) else {
             return Err(ReadFault::NotJson);
         };
-        make_room(&mut self.room, text.len())?;
+        make_room(&mut self.room, text)?;
         read_whole(alloc, text, self.room.as_mut_slice())
     }
 }
 
-/// Grows the buffer to at least `len` bytes.
-fn make_room(room: &mut Vec<u8>, len: usize) -> Result<(), AllocError>
-    ensures ok { OnOk result (len ≤ length room.new.items) }
-    ensures full { OnErr result (length room.old.items < len) }
+/// Grows the buffer to at least the length of a text, unless the text is long and has no backslash. Such a text has no
+/// strings to unescape.
+fn make_room(room: &mut Vec<u8>, text: &str) -> Result<(), AllocError>
+    ensures ok { OnOk result (has_backslash text.now ≡ true → length text.now ≤ length room.new.items) }
+    ensures full { OnErr result (0 < length text.now) }
 {
-    if room.len() < len {
-        room.resize(len, 0)?;
+    let bytes = text.as_bytes();
+    if bytes.len() <= room.len() {
+        return Ok(());
     }
+    if bytes.len() >= LONG_TEXT && !bytes.contains(&b'\\') {
+        return Ok(());
+    }
+    room.resize(bytes.len(), 0)?;
     Ok(())
 }
 
 /// Reads a text that is one JSON value, whose strings are slices of the text or of the buffer.
 fn read_whole<'a>(alloc: Global, text: &'a str, room: &'a mut [u8]) -> Result<Line<'a>, ReadFault>
-    requires { length text.now ≤ length room.old }
+    requires { has_backslash text.now ≡ true → length text.now ≤ length room.old }
     ensures ok { IfOk result (λ line. read_text text.now ≡ Some (line_view line)) }
     ensures nests { IfOk result (λ line. depth (line_view line) ≤ max_depth) }
     ensures ordered { IfOk result (λ line. IsOrdered (line_view line)) }

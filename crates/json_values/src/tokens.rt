@@ -9,9 +9,11 @@ ghost use Rattle.json.specs.Reads.{token_of, Yields};
 ghost use Rattle.json.specs.Token as SpecToken;
 ghost use Rattle.serde_json.specs.Read.{number_of};
 ghost use Rattle.serde_json.specs.View.{number_view};
+ghost use Rattle.json_values.specs.Lexer.{has_backslash};
 ghost use Rattle.json_values.specs.Plain.{IsPlainToken, Narrows, PlainIf};
 ghost use Rattle.json_values.specs.Place.{tokens_at, closes_at, begins_at, begins_key, ends_object, of_string, refused_at, Begins, BeginsNoValue, Closes, NotBeforeComma};
 
+use crate::capacities::Capacities;
 use crate::lexer::Lexer;
 use crate::plain_texts::PlainTexts;
 use crate::run::is_space;
@@ -51,6 +53,7 @@ impl Place {
 pub(crate) struct Tokens<'a> {
     lexer: Lexer<'a>,
     place: Place,
+    capacities: Capacities,
 }
 
 impl<'a> Model for Tokens<'a> {
@@ -194,12 +197,13 @@ impl<'a> Tokens<'a> {
     /// other strings are slices of the text.
     #[inline(always)]
     pub(crate) fn new(text: &'a str, room: &'a mut [u8]) -> Tokens<'a>
-        requires { length text.now ≤ length room.old }
+        requires { has_backslash text.now ≡ true → length text.now ≤ length room.old }
         ensures { result.tokens ≡ tokens text.now }
     {
         Tokens {
             lexer: Lexer::new(text, room),
             place: Place::Fresh,
+            capacities: Capacities::new(),
         }
     }
 
@@ -301,14 +305,25 @@ impl<'a> Tokens<'a> {
     }
 
     /// Returns the initial capacity of an array or object, before its first element is read. The capacity is 0 if the
-    /// array or object is empty, and otherwise 8, because most arrays and objects have at most 8 elements.
+    /// array or object is empty. In a short text, the capacity is otherwise 8. In a long text, the capacity is the
+    /// length of the last array or object of the same kind and depth.
     #[inline(always)]
-    pub(crate) fn room(&self) -> usize {
+    pub(crate) fn room(&self, is_object: bool, depth: usize) -> usize {
         let next = self.lexer.peek();
         if (next == b']') | (next == b'}') {
             0
+        } else if self.lexer.is_long() {
+            self.capacities.of(is_object, depth)
         } else {
             8
+        }
+    }
+
+    /// Records the length of an array or object that was read, if the text is long.
+    #[inline(always)]
+    pub(crate) fn note(&self, is_object: bool, depth: usize, len: usize) {
+        if self.lexer.is_long() {
+            self.capacities.note(is_object, depth, len);
         }
     }
 

@@ -124,11 +124,12 @@ fn read_items<'a>(
     ensures refused { result ≡ Err ReadFault.NotJson
         → converted of_items (items (value depth) (length reader.old.tokens) reader.old.tokens) ≡ None }
 {
-    let mut found = Vec::with_capacity(alloc, reader.room())?;
+    let mut found = Vec::with_capacity(alloc, reader.room(false, depth))?;
     'items: while !reader.take_end_array() {
         let item = read_value(alloc, reader, depth)?;
         found.push(item)?;
     }
+    reader.note(false, depth, found.len());
     Ok(found)
 }
 
@@ -151,10 +152,11 @@ fn read_members<'a>(
         → converted (λ ms. of_members ms no_members)
         (members (value depth) (length reader.old.tokens) reader.old.tokens) ≡ None }
 {
-    let mut found = Members::new(alloc, reader.room())?;
+    let mut found = Members::new(alloc, reader.room(true, depth))?;
     'members: loop {
         let Some(name) = reader.take_key() else {
             let all = end_members(alloc, reader, found)?;
+            reader.note(true, depth, all.len());
             return Ok(all);
         };
         let member = read_value(alloc, reader, depth)?;

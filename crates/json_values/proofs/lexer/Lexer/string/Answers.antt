@@ -23,7 +23,7 @@ returns c =
     let q = quote_at d p e in
     let stop = c.plain_end-stop.result in
     let is : stop ≡ p + 1 + prefix_len is_plain (drop (p + 1) d) = rw (← c.as_bytes.ensures.value) c.plain_end-stop.ensures.value in
-    let closing : get_or d stop 32 ≡ 34 = omega (arith, c.byte_at.ensures.value, ap (λ t. get_or t stop 32) c.as_bytes-2.ensures.value) in
+    let closing : get_or d stop 32 ≡ 34 = omega (arith, c.byte_at-after.ensures.value, ap (λ t. get_or t stop 32) c.as_bytes-2.ensures.value) in
     let within : stop < length d = lt_of_not-le (λ h. omega (arith, get_or_past d stop 32 h)) in
     let found : content plain (drop 1 (drop p d)) ≡ Some (take (stop - (p + 1)) (drop (p + 1) d)) =
     ap (content plain) q.rest ∙ content-to_stop d (p + 1) stop is ∙ ap (prepend _) (at_quote d stop within (get_or_default d stop 0 32 within ∙ closing)) ∙ ap Some (append-nil _) in

@@ -1,0 +1,56 @@
+//! Initial capacities of arrays and objects.
+ghost use Rattle.std.specs.Prelude.{◌<◌};
+
+use std::cell::Cell;
+
+/// Eight lengths of 8. Most arrays and objects have at most 8 elements.
+const FIRST: u64 = 0x0808_0808_0808_0808;
+
+/// The length from which on a text is long, so that saving memory is worth some instructions.
+pub(crate) const LONG_TEXT: usize = 128 * 1024;
+
+/// The maximum initial capacity.
+const MOST: usize = 16;
+
+/// The lengths of the arrays and objects that were read last, by kind and nesting depth. Depths that are equal modulo 4
+/// share an entry.
+///
+/// In a line of many small objects, objects of the same depth usually have the same number of members. An object that
+/// begins with the length of the last one takes no more memory than it needs. No contract depends on a capacity.
+#[derive(Drop)]
+pub(crate) struct Capacities {
+    /// Eight lengths of one byte each.
+    last: Cell<u64>,
+}
+
+impl Capacities {
+    /// Creates a table in which each length is 8.
+    #[inline(always)]
+    pub(crate) fn new() -> Capacities {
+        Capacities {
+            last: Cell::new(FIRST),
+        }
+    }
+
+    /// Returns the initial capacity for an array or object.
+    #[inline(always)]
+    pub(crate) fn of(&self, is_object: bool, depth: usize) -> usize {
+        ((self.last.get() >> shift_of(is_object, depth)) & 0xff) as usize
+    }
+
+    /// Records the length of an array or object that was read.
+    #[inline(always)]
+    pub(crate) fn note(&self, is_object: bool, depth: usize, len: usize) {
+        let shift = shift_of(is_object, depth);
+        let kept = self.last.get() & !(0xff << shift);
+        self.last.set(kept | ((len.min(MOST) as u64) << shift));
+    }
+}
+
+/// Returns the position of a length in the table, in bits.
+#[inline(always)]
+fn shift_of(is_object: bool, depth: usize) -> u32
+    ensures { result < 64 }
+{
+    (((depth & 3) as u32) * 2 + is_object as u32) * 8
+}
