@@ -1,8 +1,8 @@
 -- The string of an id, which is stored inline or on the heap.
 use Rattle.std.specs.Prelude.{ℕ, List, string_bytes}
 use Rattle.doc_json.specs.declared.doc_id.IdText.{IdText}
-use Rattle.doc_json.specs.declared.doc_id.IdText.TheVariants.{LookupHint, Far}
+use Rattle.doc_json.specs.declared.doc_id.IdText.TheVariants.{Inline, Allocated}
 
 abbrev pub text_of : IdText → List ℕ
-text_of (LookupHint text) = text
-text_of (Far text) = string_bytes text
+text_of (Inline text) = text
+text_of (Allocated text) = string_bytes text

@@ -17,8 +17,8 @@ use std::marker::Model;
 /// The string of a document id, which is stored inline if it has at most 32 bytes.
 #[derive(Debug, Drop)]
 enum IdText {
-    LookupHint(NearText),
-    Far(String),
+    Inline(NearText),
+    Allocated(String),
 }
 
 impl IdText {
@@ -30,9 +30,9 @@ impl IdText {
         ensures kept { IfOk result (λ t. text_of t ≡ text.now) }
     {
         if let Some(near) = NearText::keep(text) {
-            return Ok(IdText::LookupHint(near));
+            return Ok(IdText::Inline(near));
         }
-        Ok(IdText::Far(String::from_str(alloc, text)?))
+        Ok(IdText::Allocated(String::from_str(alloc, text)?))
     }
 
     /// Copies the string.
@@ -40,8 +40,8 @@ impl IdText {
         ensures copied { IfOk result (λ t. text_of t ≡ text_of self.now) }
     {
         match self {
-            IdText::LookupHint(near) => Ok(IdText::LookupHint(near.copy())),
-            IdText::Far(far) => Ok(IdText::Far(String::from_str(alloc, far.as_str())?)),
+            IdText::Inline(near) => Ok(IdText::Inline(near.copy())),
+            IdText::Allocated(far) => Ok(IdText::Allocated(String::from_str(alloc, far.as_str())?)),
         }
     }
 
@@ -50,8 +50,8 @@ impl IdText {
         ensures { result.now ≡ text_of self.now }
     {
         match self {
-            IdText::LookupHint(near) => near.as_str(),
-            IdText::Far(far) => far.as_str(),
+            IdText::Inline(near) => near.as_str(),
+            IdText::Allocated(far) => far.as_str(),
         }
     }
 }

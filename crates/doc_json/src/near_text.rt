@@ -1,5 +1,5 @@
 //! Short strings, stored inline.
-ghost use Rattle.std.specs.Prelude.{◌≡◌, IfSome};
+ghost use Rattle.std.specs.Prelude.{◌≡◌, IfSome, is_some, nat_le, length};
 
 use std::fmt::{Debug, Error, Formatter, Write};
 use std::marker::Model;
@@ -30,7 +30,8 @@ impl Model for NearText {
 impl NearText {
     /// Stores a string inline, or returns `None` if the string has more than 32 bytes.
     pub(crate) fn keep(text: &str) -> Option<NearText>
-        ensures { IfSome result (λ t. t ≡ text.now) }
+        ensures kept { IfSome result (λ t. t ≡ text.now) }
+        ensures fits { is_some result ≡ nat_le (length text.now) 32 }
     {
         let len = text.len();
         if len > MOST_BYTES {
