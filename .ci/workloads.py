@@ -163,6 +163,22 @@ def scanned(n):
     return pair() + loads(1000)[1:] + [session("a", "b", i + 1, doc_ids=["doc-%d" % (2 * i), "doc-%d" % (2 * i + 1)]) for i in range(n)]
 
 
+def printed_one(n):
+    """n documents, of which half are changed, and for each document a `docs` line that selects it."""
+    changes = [load("a", "doc-%d" % i, [digest(i, g) for g in (4, 3, 2, 1)], n=i) for i in range(0, n, 2)]
+    return loads(n) + changes + [{"do": "docs", "db": "a", "doc_ids": ["doc-%d" % i]} for i in range(n)]
+
+
+def compared_one(n):
+    """n documents in two databases, and for each document a `compare` line that selects it."""
+    return compared(n)[:-4] + [{"do": "compare", "source": "a", "target": "b", "doc_ids": ["doc-%d" % i]} for i in range(n)]
+
+
+def carried_one(n):
+    """n documents, each replicated by a session that selects it."""
+    return pair() + loads(n)[1:] + [session("a", "b", i + 1, doc_ids=["doc-%d" % i]) for i in range(n)]
+
+
 def copied(n):
     """Four backups of n documents, of which the last is restored."""
     return loads(n) + [{"do": "backup", "db": "a", "name": "k%d" % k} for k in range(4)] + [

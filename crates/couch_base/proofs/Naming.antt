@@ -36,14 +36,19 @@ named_more ids id (e ∷ es) within =
 
 -- ---- lookups
 
--- what a lookup by id found is at its position
-pub placed : (docs : List (Id × Kept)) (id : Id) (i : ℕ) (key : Id) (k : Kept) → Some i ≡ position (bytes_eq id) (keys_of docs) → slice_get docs i ≡ Some (key, k) → Some k ≡ found docs id → IsPlace docs id (Some i)
-placed docs id i key k first at value =
+-- what a lookup by id found is at its position, with this id
+pub placed_at : (docs : List (Id × Kept)) (id : Id) (i : ℕ) (key : Id) (k : Kept) → Some i ≡ position (bytes_eq id) (keys_of docs) → slice_get docs i ≡ Some (key, k) → slice_get docs i ≡ Some (id, k)
+placed_at docs id i key k first at =
     let hit = (position-Some (bytes_eq id) (keys_of docs) i key (sym first)).1 in
     let here = get_or_from_slice_get (keys_of docs) i key key (slice_get-map (λ (e : Id × Kept). e.0) docs i ∙ ap (option_map (λ (e : Id × Kept). e.0)) at) in
     let same : id ≡ key = id_is id key (sym (ap (bytes_eq id) here) ∙ hit) in
+    at ∙ ap (λ (q : Id). Some (q, k)) (sym same)
+
+-- what a lookup by id found is the document at its position
+pub placed : (docs : List (Id × Kept)) (id : Id) (i : ℕ) (key : Id) (k : Kept) → Some i ≡ position (bytes_eq id) (keys_of docs) → slice_get docs i ≡ Some (key, k) → Some k ≡ found docs id → IsPlace docs id (Some i)
+placed docs id i key k first at value =
     record {
-      there = (k, at ∙ ap (λ (q : Id). Some (q, k)) (sym same), sym value);
+      there = (k, placed_at docs id i key k first at, sym value);
       absent = λ none. absurd (none-some i (sym none));
     }
 
@@ -70,7 +75,7 @@ keys_append [] id k = refl
 keys_append (e ∷ es) id k = ap (λ l. e.0 ∷ l) (keys_append es id k)
 
 -- no two positions have the same id
-apart_at : (docs : List (Id × Kept)) (place i : ℕ) (id : Id) (was : Kept) → IsDistinct bytes_eq (keys_of docs) → slice_get docs place ≡ Some (id, was) → i < length docs → (place ≡ i → ⊥) → bytes_eq (id_at (keys_of docs) i) id ≡ false
+pub apart_at : (docs : List (Id × Kept)) (place i : ℕ) (id : Id) (was : Kept) → IsDistinct bytes_eq (keys_of docs) → slice_get docs place ≡ Some (id, was) → i < length docs → (place ≡ i → ⊥) → bytes_eq (id_at (keys_of docs) i) id ≡ false
 apart_at docs place i id was once at within apart =
     let ids = keys_of docs in
     let size : length ids ≡ length docs = length-keys_of docs in

@@ -16,7 +16,7 @@ order_push s i (e ∷ rows) o below = (
   order_push s i rows o.1 (λ x m. below x (inr m)),
 )
 
-order_filter : (p : ℕ × ℕ → Bool) (rows : List (ℕ × ℕ)) → InOrder rows → InOrder (filter p rows)
+pub order_filter : (p : ℕ × ℕ → Bool) (rows : List (ℕ × ℕ)) → InOrder rows → InOrder (filter p rows)
 order_filter p [] o = tt
 order_filter p (e ∷ rows) o =
     cond_both (p e) (e ∷ filter p rows) (filter p rows) InOrder
@@ -109,7 +109,7 @@ place_within n (e ∷ rows) places q h =
     ]
 
 -- there are no more live rows than documents
-few_live : (docs : List (Id × Kept)) (s : ℕ) (rows : List (ℕ × ℕ)) → AreRows (length docs) s rows → length (live docs rows) ≤ length docs
+pub few_live : (docs : List (Id × Kept)) (s : ℕ) (rows : List (ℕ × ℕ)) → AreRows (length docs) s rows → length (live docs rows) ≤ length docs
 few_live docs s rows r =
     let places = map (λ (x : ℕ × ℕ). x.1) (live docs rows) in
     let size : length places ≡ length (live docs rows) = length-map (live docs rows) (λ (x : ℕ × ℕ). x.1) in
@@ -171,7 +171,7 @@ get_set_apart (d ∷ docs) (suc i) (suc j) k apart = get_set_apart docs i j k (�
 
 -- ---- the first row above a sequence
 
-among_get : (rows : List (ℕ × ℕ)) (i : ℕ) (d : ℕ × ℕ) → i < length rows → Among (get_or rows i d) rows
+pub among_get : (rows : List (ℕ × ℕ)) (i : ℕ) (d : ℕ × ℕ) → i < length rows → Among (get_or rows i d) rows
 among_get [] i d within = absurd (omega (arith, within))
 among_get (e ∷ rows) zero d within = inl refl
 among_get (e ∷ rows) (suc i) d within = inr (among_get rows i d (omega (arith, within)))

@@ -5,7 +5,7 @@ ghost use Rattle.std.specs.List.{flat_map};
 ghost use Rattle.couch_base.specs.Feed.{RowValue};
 ghost use Rattle.read_commands.specs.Walks.{rows_left};
 
-use couch_base::{Database, Row};
+use couch_base::{Database, MOST_SEQUENCE, Row};
 use doc_json::Chosen;
 use std::alloc::{AllocError, Global};
 
@@ -125,10 +125,29 @@ fn step<P: RowPrinter>(
         × (later ++ rows_left database.now walk.new ≡ earlier ++ rows_left database.now walk.old)) }
 {
     let goal = database.update_seq();
-    let page = database.page_due(alloc, walk.since, goal, limit, walk.chosen.as_ref())?;
+    let chosen = walk.chosen.as_ref();
+    let page = database.page_due(alloc, walk.since, goal, scan_limit(limit, chosen), chosen)?;
     push_rows(alloc, piece, page.rows(), printer, tally)?;
     walk.since = page.hi();
     Ok(())
+}
+
+/// Returns the number of rows that a page scans. If at most `limit` documents are selected, the page scans all rows that
+/// are left, because it returns at most `limit` of them.
+fn scan_limit(limit: u64, chosen: Option<&Chosen>) -> u64
+    requires { 0 < limit }
+    ensures { 0 < result }
+{
+    match chosen {
+        Some(chosen) => {
+            if chosen.ids().len() as u64 <= limit {
+                MOST_SEQUENCE
+            } else {
+                limit
+            }
+        }
+        None => limit,
+    }
 }
 
 /// Prints rows.

@@ -1,6 +1,6 @@
 use Rattle.proof_prelude.proofs.{◌+◌, [], ◌∷◌, length, Some, sym, ap, ◌∙◌, subst, slice_get, slice_get-get_or, arith, length-append}
 use Rattle.doc_json.specs.Document.{Document}
-use Rattle.couch_base.specs.{AreMade, IsMadeOf}
+use Rattle.couch_base.specs.{AreMade}
 use Rattle.couch_base.proofs.{made_next}
 use Rattle.couch_base.proofs.parcel.make_all.Goals as goal
 

@@ -1,4 +1,4 @@
-use Rattle.proof_prelude.proofs.{◌≡◌, ◌+◌, ◌<◌, ℕ, List, map, drop, slice_index_or, drop_more, sym, ap, ◌∙◌, subst}
+use Rattle.proof_prelude.proofs.{◌≡◌, ◌<◌, ℕ, map, drop, slice_index_or, drop_more, sym, ap, ◌∙◌, subst}
 use Rattle.couch_base.specs.{live_upto, row_by, InOrder}
 use Rattle.couch_base.proofs.{past_goal}
 use Rattle.couch_base.specs.declared.feed.Feed.TheInside.{Inside}
