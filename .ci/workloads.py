@@ -319,7 +319,7 @@ def kept_at_most(words, lines, name, folder):
 
     A child's `rusage` would include the memory of this script, from which the child was forked.
     """
-    is_script = len(words) == 1
+    is_script = len(words) == 1 or words[1].startswith("--")
     last = "refused %d BadLine\n" % (len(lines) + 1)
     text = written(lines) + ("none\n" if is_script else "")
     with subprocess.Popen(words, stdin=subprocess.PIPE, stdout=subprocess.PIPE, encoding="utf-8") as run:

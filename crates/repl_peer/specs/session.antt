@@ -6,6 +6,7 @@ pub mod Stored
 pub mod Windows
 pub mod Kept
 pub mod SessionCalls
+pub mod Ledger
 pub mod LedgerIndex
 pub mod RepIndex
 pub mod SettlingParts

@@ -9,22 +9,32 @@ use doc_json::{Doc, DocId};
 use indexmap::{IndexMap, IndexSet};
 use rev_core::Rev;
 use std::alloc::{AllocError, Global};
+use std::sync::Arc;
 
 /// The revisions in the ancestries of refused documents, by document id.
+///
+/// For most ids, a ledger has only one document. The index shares this document with its ledger row, and stores no
+/// revisions of its own. For an id with several documents, the index stores the revisions of all but the first document
+/// in a set, so that a lookup does not scan these documents.
 #[derive(Drop)]
 pub(crate) struct LedgerIndex {
-    docs: IndexMap<DocId, IndexSet<Rev>>,
+    /// The first document with each id.
+    first: IndexMap<DocId, Arc<Doc>>,
+    /// The revisions of the later documents with each id.
+    later: IndexMap<DocId, IndexSet<Rev>>,
 }
 
 impl LedgerIndex {
-    ghost use Rattle.repl_peer.specs.session.LedgerIndex.{is_ledgered};
+    ghost use Rattle.std.specs.Arc.{arc_value};
+    ghost use Rattle.repl_peer.specs.session.LedgerIndex.{is_in_first, is_in_later, is_ledgered};
 
     /// Creates an empty index.
     pub(crate) fn new(alloc: Global) -> LedgerIndex
         ensures { (id : Id) (r : RevId) → is_ledgered result id r ≡ false }
     {
         LedgerIndex {
-            docs: IndexMap::new(alloc),
+            first: IndexMap::new(alloc),
+            later: IndexMap::new(alloc),
         }
     }
 
@@ -32,28 +42,65 @@ impl LedgerIndex {
     pub(crate) fn has(&self, id: &DocId, rev: Rev) -> bool
         ensures { result ≡ is_ledgered self.now id.now rev }
     {
-        match self.docs.get(id) {
+        self.is_in_first(id, rev) || self.is_in_later(id, rev)
+    }
+
+    /// Whether a revision is in the ancestry of the first document with the given id.
+    fn is_in_first(&self, id: &DocId, rev: Rev) -> bool
+        ensures { result ≡ is_in_first self.now id.now rev }
+    {
+        match self.first.get(id) {
+            Some(doc) => doc.ancestry().contains(rev),
+            None => false,
+        }
+    }
+
+    /// Whether a revision is in the ancestry of a later document with the given id.
+    fn is_in_later(&self, id: &DocId, rev: Rev) -> bool
+        ensures { result ≡ is_in_later self.now id.now rev }
+    {
+        match self.later.get(id) {
             Some(revs) => revs.contains(&rev),
             None => false,
         }
     }
 
     /// Adds the revisions of a refused document to the lookup table. An error changes nothing.
-    pub(crate) fn add(&mut self, doc: &Doc) -> Result<(), AllocError>
+    pub(crate) fn add(&mut self, doc: &Arc<Doc>) -> Result<(), AllocError>
         ensures ok { OnOk result
             ((id : Id) (r : RevId)
             → is_ledgered self.new id r
-            ≡ (is_ledgered self.old id r || (bytes_eq doc.now.id id && is_among r doc.now.ancestry))) }
+            ≡ (is_ledgered self.old id r
+            || (bytes_eq (arc_value doc.now).id id && is_among r (arc_value doc.now).ancestry))) }
         ensures err { OnErr result ((id : Id) (r : RevId) → is_ledgered self.new id r ≡ is_ledgered self.old id r) }
     {
-        let alloc = *self.docs.allocator();
-        match self.docs.get_mut(doc.id()) {
+        if self.first.contains_key(doc.id()) {
+            return self.add_later(doc);
+        }
+        let alloc = *self.first.allocator();
+        let id = doc.id().copy(alloc)?;
+        let shared = Arc::try_clone(doc)?;
+        self.first.insert(id, shared)?;
+        Ok(())
+    }
+
+    /// Adds the revisions of a document to the set of its id. On error, no set changes.
+    fn add_later(&mut self, doc: &Doc) -> Result<(), AllocError>
+        ensures first { self.new.first ≡ self.old.first }
+        ensures ok { OnOk result
+            ((id : Id) (r : RevId)
+            → is_in_later self.new id r
+            ≡ (is_in_later self.old id r || (bytes_eq doc.now.id id && is_among r doc.now.ancestry))) }
+        ensures err { OnErr result ((id : Id) (r : RevId) → is_in_later self.new id r ≡ is_in_later self.old id r) }
+    {
+        let alloc = *self.later.allocator();
+        match self.later.get_mut(doc.id()) {
             Some(known) => add_revs(known, doc.ancestry().revs()),
             None => {
                 let id = doc.id().copy(alloc)?;
                 let mut revs = IndexSet::new(alloc);
                 add_revs(&mut revs, doc.ancestry().revs())?;
-                self.docs.insert(id, revs)?;
+                self.later.insert(id, revs)?;
                 Ok(())
             }
         }

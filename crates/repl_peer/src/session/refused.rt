@@ -1,31 +1,50 @@
 //! Refused documents.
+ghost use Rattle.std.specs.Prelude.{◌≡◌, IfOk};
+
 use crate::fault::Reason;
 use doc_json::Doc;
+use std::alloc::{AllocError, Global};
 use std::marker::Model;
+use std::sync::Arc;
 
 /// A document in a ledger, and the reason why it was refused.
+///
+/// The index of the ledgers shares the document.
 #[derive(Drop)]
 pub struct Refused {
-    doc: Doc,
-    reason: Reason,
+    doc: Arc<Doc>,
+    reason: StoredReason,
+}
+
+/// A reason as a ledger row stores it. A contradiction has three revisions, so it is stored in a heap block.
+#[derive(Drop)]
+enum StoredReason {
+    Filtered,
+    Contradicting(Box<Reason>),
 }
 
 impl Model for Refused {
+    ghost use Rattle.std.specs.Arc.{arc_value};
     ghost use Rattle.repl_peer.specs.peer.Peer.{RefusedValue};
+    ghost use Rattle.repl_peer.specs.session.Ledger.{reason_of};
 
     ghost Value = { RefusedValue };
 
-    ghost view = { λ x. record { doc = x.doc; reason = x.reason } };
+    ghost view = { λ x. record { doc = arc_value x.doc; reason = reason_of x.reason } };
 }
 
 impl Refused {
-    ghost use Rattle.std.specs.Prelude.{◌≡◌};
+    ghost use Rattle.std.specs.Arc.{arc_value};
 
-    /// Creates a ledger row.
-    pub(crate) fn new(doc: Doc, reason: Reason) -> Refused
-        ensures { result ≡ record { doc = doc; reason = reason } }
+    /// Creates a ledger row, which shares the document.
+    pub(crate) fn new(alloc: Global, doc: Arc<Doc>, reason: Reason) -> Result<Refused, AllocError>
+        ensures { IfOk result (λ row. row ≡ record { doc = arc_value doc; reason = reason }) }
     {
-        Refused { doc, reason }
+        let reason = match reason {
+            Reason::Filtered => StoredReason::Filtered,
+            other => StoredReason::Contradicting(Box::new(alloc, other)?),
+        };
+        Ok(Refused { doc, reason })
     }
 
     /// Returns the document.
@@ -39,6 +58,9 @@ impl Refused {
     pub fn reason(&self) -> Reason
         ensures { result ≡ self.now.reason }
     {
-        self.reason
+        match &self.reason {
+            StoredReason::Filtered => Reason::Filtered,
+            StoredReason::Contradicting(reason) => **reason,
+        }
     }
 }

@@ -1,8 +1,7 @@
 -- Adding revisions to the index.
-use Rattle.proof_prelude.proofs.{◌≡◌, ℕ, ◌+◌, ◌<◌, Bool, true, false, ◌||◌, List, [], ◌∷◌, ◌++◌, length, take, get_or, cond, ◌&&◌, Option, Some, None, refl, subst, sym, ap, ◌∙◌, or-false, or_assoc, cond_both, or_right, list_any-append, list_any_more, eq_by_cmp, option_map_or, bytes_eq, bytes_eq-Decides}
+use Rattle.proof_prelude.proofs.{◌≡◌, ℕ, ◌+◌, ◌<◌, Bool, true, false, ◌||◌, List, [], ◌∷◌, ◌++◌, length, take, get_or, cond, ◌&&◌, Option, Some, None, refl, subst, sym, ap, ◌∙◌, or-false, or_assoc, cond_both, or_right, list_any-append, list_any_more, eq_by_cmp, option_map_or, bytes_eq, bytes_eq-Decides, is_some, Result, Ok, Err, OnOk, OnErr, true≢false}
 use Rattle.rev_core.specs.{RevId, rev_cmp, rev_tie_is, is_among}
 use Rattle.indexmap.specs.IndexSet.{insert_key}
-use Rattle.std.specs.HashSet.{HashSet}
 use Rattle.couch_base.specs.{Id}
 
 pub or_held : (a b : Bool) → (a ≡ true → b ≡ true) → (b || a) ≡ b
@@ -27,20 +26,44 @@ among_next before known new revs i rev r d within at is h =
     ∙ ap (λ x. is_among r before || (is_among r (take i revs) || eq_by_cmp rev_cmp r x)) at
     ∙ ap (λ b. is_among r before || b) (sym (list_any_more (eq_by_cmp rev_cmp r) revs i d within))
 
--- whether a document's refused revisions contain this one
-abbrev pub has_rev : {S : Type 0} → Option (HashSet RevId S) → RevId → Bool
-has_rev o r = option_map_or (λ revs. is_among r revs.keys) o false
+-- whether an entry of a table, if it is there, has this revision
+abbrev pub has_rev : {V : Type 0} → (V → List RevId) → Option V → RevId → Bool
+has_rev revs_of o r = option_map_or (λ v. is_among r (revs_of v)) o false
 
--- the revisions of a document that had none
-pub added_new : {S : Type 0} (old new : Id → Option (HashSet RevId S)) (revs : HashSet RevId S) (id : Id) (ancestry : List RevId)
-    → old id ≡ None → ((r : RevId) → is_among r revs.keys ≡ is_among r ancestry)
-    → ((q : Id) → new q ≡ cond (bytes_eq id q) (Some revs) (old q))
-    → (q : Id) (r : RevId) → has_rev (new q) r ≡ (has_rev (old q) r || (bytes_eq id q && is_among r ancestry))
-added_new old new revs id ancestry absent all sets q r =
-    ap (λ o. has_rev o r) (sets q)
-    ∙ elim (bytes_eq id q) as (λ b. bytes_eq id q ≡ b → has_rev (cond b (Some revs) (old q)) r ≡ (has_rev (old q) r || (b && is_among r ancestry))) [
+-- the revisions of a document that had no entry
+pub added_new : {V : Type 0} (revs_of : V → List RevId) (old new : Id → Option V) (v : V) (id : Id) (ancestry : List RevId)
+    → old id ≡ None → ((r : RevId) → is_among r (revs_of v) ≡ is_among r ancestry)
+    → ((q : Id) → new q ≡ cond (bytes_eq id q) (Some v) (old q))
+    → (q : Id) (r : RevId) → has_rev revs_of (new q) r ≡ (has_rev revs_of (old q) r || (bytes_eq id q && is_among r ancestry))
+added_new revs_of old new v id ancestry absent all sets q r =
+    ap (λ o. has_rev revs_of o r) (sets q)
+    ∙ elim (bytes_eq id q) as (λ b. bytes_eq id q ≡ b → has_rev revs_of (cond b (Some v) (old q)) r ≡ (has_rev revs_of (old q) r || (b && is_among r ancestry))) [
       | true ↦ λ same.
           let there = ap old ((bytes_eq-Decides id q).0 same) in
-          all r ∙ sym (ap (λ o. has_rev o r || is_among r ancestry) (sym there ∙ absent))
-      | false ↦ λ _. sym (or-false (has_rev (old q) r))
+          all r ∙ sym (ap (λ o. has_rev revs_of o r || is_among r ancestry) (sym there ∙ absent))
+      | false ↦ λ _. sym (or-false (has_rev revs_of (old q) r))
     ] refl
+
+-- what is added to the first of two parts is added to the whole
+pub or_last : (a x b : Bool) → ((a || x) || b) ≡ ((a || b) || x)
+or_last true x b = refl
+or_last false true true = refl
+or_last false true false = refl
+or_last false false true = refl
+or_last false false false = refl
+
+pub no_some : {A : Type 0} (o : Option A) → is_some o ≡ false → o ≡ None
+no_some None e = refl
+no_some (Some x) e = absurd (true≢false e)
+
+pub on_ok : {T E P Q : Type 0} (r : Result T E) → (P → Q) → OnOk r P → OnOk r Q
+on_ok (Ok x) f p = f p
+on_ok (Err e) f p = p
+
+pub on_err : {T E P Q : Type 0} (r : Result T E) → (P → Q) → OnErr r P → OnErr r Q
+on_err (Ok x) f p = p
+on_err (Err e) f p = f p
+
+pub always_on_err : {T E P : Type 0} (r : Result T E) → P → OnErr r P
+always_on_err (Ok x) p = tt
+always_on_err (Err e) p = p
