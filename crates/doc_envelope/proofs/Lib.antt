@@ -5,6 +5,7 @@ pub mod KitValues
 pub mod Printed
 pub mod PrintedMembers
 pub mod Round
+pub mod Fronts
 pub use Json.{no_utf8, utf8}
 pub use Splits.{length_over, length_step, length_stop, members_first, members_none, no_bytes, other_byte, quoted_end, quoted_escape, quoted_last, quoted_other, quoted_run}
 pub use Folds.{fold_enveloped, taken_first, taken_none, taken_over}
@@ -12,3 +13,4 @@ pub use KitValues.{all_view, empty_utf8, no_envelope, no_string, put_end, put_no
 pub use Printed.{begin_printed, front_marked, front_same, printed_envelope}
 pub use PrintedMembers.{ascii_of, begins_string, id_some, ids_end, ids_shorter, ids_step, printed_deleted, printed_id, printed_rev, printed_revisions, printed_revs, printed_string, rest_all, some_of}
 pub use Round.{put_envelops, take_gives_back}
+pub use Fronts.{runs_none, runs_output, runs_same, runs_some}
