@@ -6,6 +6,11 @@ pub mod Printed
 pub mod PrintedMembers
 pub mod Round
 pub mod Fronts
+pub mod LikeTokens
+pub mod Contents
+pub mod Words
+pub mod Runs
+pub mod RunsUtf8
 pub use Json.{no_utf8, utf8}
 pub use Splits.{length_over, length_step, length_stop, members_first, members_none, no_bytes, other_byte, quoted_end, quoted_escape, quoted_last, quoted_other, quoted_run}
 pub use Folds.{fold_enveloped, taken_first, taken_none, taken_over}
@@ -14,3 +19,6 @@ pub use Printed.{begin_printed, front_marked, front_same, printed_envelope}
 pub use PrintedMembers.{ascii_of, begins_string, id_some, ids_end, ids_shorter, ids_step, printed_deleted, printed_id, printed_rev, printed_revisions, printed_revs, printed_string, rest_all, some_of}
 pub use Round.{put_envelops, take_gives_back}
 pub use Fronts.{runs_none, runs_output, runs_same, runs_some}
+pub use Contents.{content_closed, content_run}
+pub use Runs.{document_run, mode_append, run_lex, run_outside, run_quoted}
+pub use RunsUtf8.{json_run, run_utf8, utf8_run}
