@@ -2,6 +2,13 @@ pub mod Json
 pub mod Splits
 pub mod Folds
 pub mod KitValues
+pub mod Modes
+pub mod TextRuns
+pub mod TakeContents
+pub mod TakeStrings
+pub mod TakeMembers
+pub mod TakeSteps
+pub mod TakeFronts
 pub mod Printed
 pub mod PrintedMembers
 pub mod Round
@@ -15,6 +22,9 @@ pub use Json.{no_utf8, utf8}
 pub use Splits.{length_over, length_step, length_stop, members_first, members_none, no_bytes, other_byte, quoted_end, quoted_escape, quoted_last, quoted_other, quoted_run}
 pub use Folds.{fold_enveloped, taken_first, taken_none, taken_over}
 pub use KitValues.{all_view, empty_utf8, no_envelope, no_string, put_end, put_none, quoted_behind, taken_end, value_envelope, value_string}
+pub use TextRuns.{first_run, log_run}
+pub use TakeSteps.{id_more, length-append_end, take_begins, take_step_id, take_step_none, take_step_some}
+pub use TakeFronts.{take_front_first, take_front_id, take_front_json, take_front_log, take_front_long, take_front_none, take_front_some, take_front_start, take_front_utf8}
 pub use Printed.{begin_printed, front_marked, front_same, printed_envelope}
 pub use PrintedMembers.{ascii_of, begins_string, id_some, ids_end, ids_shorter, ids_step, printed_deleted, printed_id, printed_rev, printed_revisions, printed_revs, printed_string, rest_all, some_of}
 pub use Round.{put_envelops, take_gives_back}

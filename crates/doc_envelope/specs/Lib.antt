@@ -22,4 +22,4 @@ pub use Stored.{HasPrintedFront, held_of, made_of, printed_of}
 pub use Streams.{Front, IsRun, MayStream, Opens, is_streamable, last, more, next, run, start}
 unfoldable pub use Streams.{mode_after}
 pub use PutFronts.{IsPutStart, PutFront, held_from, made_from}
-pub use TakeFronts.{IsTakeStart, TakeFront}
+pub use TakeFronts.{AppendsOpen, IsTakeStart, TakeFront, whole_before}

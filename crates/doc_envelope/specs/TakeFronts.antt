@@ -1,29 +1,34 @@
--- The beginnings of documents that are unwrapped before their envelopes end.
-use Rattle.std.specs.Prelude.{◌≡◌, ℕ, ◌<◌, length, drop, List, [], ◌∷◌, ◌++◌, true, Some}
-use Rattle.doc_envelope.specs.Members.{Outside, Quoted}
-use Rattle.doc_envelope.specs.Names.{has_name, value_of}
-use Rattle.doc_envelope.specs.Envelopes.{whole_name, string_of}
-use Rattle.doc_envelope.specs.Steps.{all_taken}
-use Rattle.doc_envelope.specs.Streams.{Front, MayStream, Opens, mode_after}
+-- The beginnings of envelopes that are unwrapped before they end.
+use Rattle.std.specs.Prelude.{◌≡◌, ℕ, ◌<◌, length, drop, List, [], ◌∷◌, ◌++◌, codes, false, Some}
+use Rattle.doc_envelope.specs.Members.{Outside, first_length, is_blank, members_in}
+use Rattle.doc_envelope.specs.Envelopes.{string_of}
+use Rattle.doc_envelope.specs.Steps.{added, all_taken}
+use Rattle.doc_envelope.specs.Streams.{Front, MayStream}
 
--- A run may follow the beginning s of an envelope, in the string of the member `whole`. The document of each envelope
--- that begins with s begins with S.
+-- The text t after the name, the colon and the opening quotation mark of a member `whole`.
+abbrev pub whole_before : List ℕ → List ℕ
+whole_before t = codes "\"whole\":\"" ++ t
+
+-- The part q of a JSON string, which begins with the quotation mark, has content that is not blank. The text S is `made`
+-- with the content appended as members.
+pub record AppendsOpen (q made S : List ℕ) : Type 0 where
+  pub content : List ℕ
+  pub says : string_of (q ++ 34 ∷ []) ≡ Some content
+  pub filled : is_blank content ≡ false
+  pub front : S ≡ added made content
+
+-- A run may follow the beginning s of an envelope. The members before the member `whole` make the text `made`, and s
+-- ends in the string of the member `whole`. The document of each envelope that begins with s begins with S.
 pub record IsTakeStart (s S : List ℕ) : Type 0 where
   pub may : MayStream s
-  pub members : List (List ℕ)
-  pub whole : List ℕ
-  pub opens : Opens (drop 1 s) members whole
-  pub quoted : mode_after Outside whole ≡ Quoted
-  pub named : has_name whole whole_name ≡ true
-  pub string : List ℕ
-  pub value : value_of whole whole_name ≡ 34 ∷ string
-  pub content : List ℕ
-  pub says : string_of (34 ∷ (string ++ 34 ∷ [])) ≡ Some content
   pub made : List ℕ
-  pub taken : all_taken (123 ∷ []) members ≡ Some made
-  pub one : 1 < length made
-  pub front : S ≡ made ++ 44 ∷ content
+  pub string : List ℕ
+  pub opens : (t : List ℕ) → all_taken (123 ∷ []) (members_in Outside 0 [] (drop 1 (s ++ t)))
+      ≡ all_taken made (members_in Outside 0 [] (whole_before (string ++ t)))
+  pub quoted : MayStream (34 ∷ string)
+  pub appends : AppendsOpen (34 ∷ string) made S
   pub inside : MayStream S
+  pub two : first_length (drop 1 S) < length (drop 1 S)
 
 abbrev pub TakeFront : List ℕ → List ℕ → List ℕ → List ℕ → Type 0
 TakeFront = Front IsTakeStart
