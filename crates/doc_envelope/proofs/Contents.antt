@@ -449,3 +449,28 @@ content_run (x ∷ r) z t =
     let parts = and_parts (is_streamable x) (list_all is_streamable r) t in
     let q = streams_plain x parts.0 in
     rw (q.0, q.1, q.2) (ap (prepend (x ∷ [])) (content_run r z parts.1) ∙ prepend_twice (x ∷ []) r (content plain z))
+
+-- ---- the name of the member `whole` ends a string before it
+
+named_known : (st : State) → (o : Option (List ℕ)) × ((z : List ℕ) → rest st (34 ∷ 119 ∷ 104 ∷ 111 ∷ 108 ∷ 101 ∷ 34 ∷ z) ≡ o)
+unfolding content short_escape
+named_known plainly = (Some [], (λ z. refl))
+named_known escape = (Some (34 ∷ 119 ∷ 104 ∷ 111 ∷ 108 ∷ 101 ∷ []), (λ z. refl))
+named_known u0 = (None, (λ z. means_step u0 34 (119 ∷ 104 ∷ 111 ∷ 108 ∷ 101 ∷ 34 ∷ z)))
+named_known (u1 a) = (None, (λ z. means_step (u1 a) 34 (119 ∷ 104 ∷ 111 ∷ 108 ∷ 101 ∷ 34 ∷ z)))
+named_known (u2 a b) = (None, (λ z. means_step (u2 a b) 34 (119 ∷ 104 ∷ 111 ∷ 108 ∷ 101 ∷ 34 ∷ z)))
+named_known (u3 a b c) = (None, (λ z. means_step (u3 a b c) 34 (119 ∷ 104 ∷ 111 ∷ 108 ∷ 101 ∷ 34 ∷ z)))
+named_known (h0 h) = (None, (λ z. means_step (h0 h) 34 (119 ∷ 104 ∷ 111 ∷ 108 ∷ 101 ∷ 34 ∷ z)))
+named_known (h1 h) = (None, (λ z. means_step (h1 h) 34 (119 ∷ 104 ∷ 111 ∷ 108 ∷ 101 ∷ 34 ∷ z)))
+named_known (h2 h) = (None, (λ z. means_step (h2 h) 34 (119 ∷ 104 ∷ 111 ∷ 108 ∷ 101 ∷ 34 ∷ z)))
+named_known (h3 h a) = (None, (λ z. means_step (h3 h a) 34 (119 ∷ 104 ∷ 111 ∷ 108 ∷ 101 ∷ 34 ∷ z)))
+named_known (h4 h a b) = (None, (λ z. means_step (h4 h a b) 34 (119 ∷ 104 ∷ 111 ∷ 108 ∷ 101 ∷ 34 ∷ z)))
+named_known (h5 h a b c) = (None, (λ z. means_step (h5 h a b c) 34 (119 ∷ 104 ∷ 111 ∷ 108 ∷ 101 ∷ 34 ∷ z)))
+
+pub content_named : (q : List ℕ) → (o : Option (List ℕ)) × ((z : List ℕ) → content plain (q ++ 34 ∷ 119 ∷ 104 ∷ 111 ∷ 108 ∷ 101 ∷ 34 ∷ z) ≡ o)
+content_named q = by (outcome q plainly) where
+  by : Outcome plainly q → (o : Option (List ℕ)) × ((z : List ℕ) → content plain (q ++ 34 ∷ 119 ∷ 104 ∷ 111 ∷ 108 ∷ 101 ∷ 34 ∷ z) ≡ o)
+  by (over o h) = (o, (λ z. h (34 ∷ 119 ∷ 104 ∷ 111 ∷ 108 ∷ 101 ∷ 34 ∷ z)))
+  by (within c next h m) =
+      let k = named_known next in
+      (prepend c k.0, (λ z. h (34 ∷ 119 ∷ 104 ∷ 111 ∷ 108 ∷ 101 ∷ 34 ∷ z) ∙ ap (prepend c) (k.1 z)))

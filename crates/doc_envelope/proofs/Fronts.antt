@@ -1,5 +1,5 @@
 -- Inductions over the runs of a document that is not stored completely.
-use Rattle.proof_prelude.proofs.{◌≡◌, ℕ, List, ◌++◌, refl, sym, ap, ◌∙◌, append_assoc, Option, Some, None}
+use Rattle.proof_prelude.proofs.{◌≡◌, ℕ, ◌≤◌, List, ◌++◌, length, refl, sym, ap, ◌∙◌, append_assoc, length-append, arith, Option, Some, None}
 use Rattle.doc_envelope.specs.{Front, IsRun, start, run, next}
 
 module _ (IsStart : List ℕ → List ℕ → Type 0) where
@@ -35,3 +35,15 @@ module _ (IsStart : List ℕ → List ℕ → Type 0) where
   runs_none g step f s F S t (start i) h = h
   runs_none g step x s X S t (run {f} {F} p i r k) h = ap g (append_assoc f r t) ∙ runs_none g step f s F S (r ++ t) p (step s S r t i k h)
   runs_none g step x y X Y t (next {f} {s} {F} {S} p u d i) h = ap g (append_assoc f u t) ∙ runs_none g step f s F S (u ++ t) p (sym (ap g (append_assoc s u t)) ∙ h)
+
+  -- both texts are as long as a text in which a run may begin
+  pub runs_long : (n : ℕ) → ((s S : List ℕ) → IsStart s S → n ≤ length s) → (f s F S : List ℕ) → Front IsStart f s F S → (n ≤ length s) × (n ≤ length f)
+  runs_long n long f s F S (start i) = (long s S i, long s S i)
+  runs_long n long x s X S (run {f} {F} p i r h) = let k = runs_long n long f s F S p in let a = length-append f r in let k1 = k.1 in (k.0, omega (arith, a, k1))
+  runs_long n long x y X Y (next {f} {s} {F} {S} p t d i) =
+      let k = runs_long n long f s F S p in
+      let k0 = k.0 in
+      let k1 = k.1 in
+      let a = length-append f t in
+      let b = length-append s t in
+      (omega (arith, b, k0), omega (arith, a, k1))

@@ -11,7 +11,7 @@ low : (x : ℕ) → is_streamable x ≡ true → x < 128
 low x h = grind arith
 
 -- a text of UTF-8 is cut after an ASCII character
-utf8_cut : (p : List ℕ) (b : ℕ) (t : List ℕ) → b < 128 → IsUtf8 (p ++ b ∷ t) → IsUtf8 (p ++ b ∷ []) × IsUtf8 t
+pub utf8_cut : (p : List ℕ) (b : ℕ) (t : List ℕ) → b < 128 → IsUtf8 (p ++ b ∷ t) → IsUtf8 (p ++ b ∷ []) × IsUtf8 t
 utf8_cut p b t h u =
     let all = p ++ b ∷ t in
     let at : get_or all (length p) 0 ≡ b = get_or-append_seam p b t 0 in

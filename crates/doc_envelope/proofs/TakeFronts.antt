@@ -1,14 +1,13 @@
 -- An envelope is unwrapped alike with runs and without runs.
-use Rattle.proof_prelude.proofs.{◌≡◌, ℕ, suc, ◌+◌, ◌<◌, ◌≤◌, ◌==◌, length, take, drop, get_or, List, [], ◌∷◌, ◌++◌, Bool, true, false, cond, refl, sym, ap, ◌∙◌, append_assoc, arith, length-append, take-append_seam, get_or-append_seam, Option, Some, None, option_map, option_and_then, is_utf8}
-use Rattle.std.proofs.Math.Seq.{drop-append-add}
-use Rattle.doc_envelope.specs.{AppendsOpen, IsRun, IsTakeStart, MayStream, TakeFront, added, all_taken, behind_comma, first_length, if_any, is_blank, is_json, is_log, members_in, next, run, start, string_of, taken_with, unfolded, whole_before}
+use Rattle.proof_prelude.proofs.{◌≡◌, ℕ, ◌<◌, ◌≤◌, length, drop, get_or, List, [], ◌∷◌, ◌++◌, Bool, true, false, cond, refl, sym, ap, ◌∙◌, arith, Option, Some, None, option_map, option_and_then, is_utf8}
+use Rattle.doc_envelope.specs.{AppendsOpen, IsTakeStart, TakeFront, added, all_taken, first_length, if_any, is_blank, is_json, is_log, members_in, next, run, start, string_of, taken_with, unfolded, whole_before}
 use Rattle.doc_envelope.specs.Members.{Outside}
 use Rattle.doc_envelope.specs.Names.{id_of}
-use Rattle.doc_envelope.proofs.Fronts.{runs_none, runs_output, runs_same, runs_some}
-use Rattle.doc_envelope.proofs.Splits.{members_first}
+use Rattle.doc_envelope.proofs.Fronts.{runs_long, runs_none, runs_output, runs_same, runs_some}
 use Rattle.doc_envelope.proofs.RunsUtf8.{json_run, utf8_run}
 use Rattle.doc_envelope.proofs.TextRuns.{first_run, log_run}
-use Rattle.doc_envelope.proofs.TakeSteps.{length-append_end, take_step_id, take_step_none, take_step_some}
+use Rattle.doc_envelope.proofs.OpenMembers.{comma_members}
+use Rattle.doc_envelope.proofs.TakeSteps.{take_step_id, take_step_none, take_step_some}
 
 pub take_front_some : (f s F S t e : List ℕ) → TakeFront f s F S → unfolded (s ++ t) ≡ Some (S ++ e) → unfolded (f ++ t) ≡ Some (F ++ e)
 take_front_some = runs_some IsTakeStart unfolded take_step_some
@@ -38,40 +37,13 @@ take_front_start x s X S (run p i r h) = i
 take_front_start x y X Y (next p t d i) = i
 
 pub take_front_long : (f s F S : List ℕ) → TakeFront f s F S → (16 ≤ length s) × (16 ≤ length f)
-take_front_long f s F S (start i) = (i.may.long, i.may.long)
-take_front_long x s X S (run {f} {F} p i r h) =
-    let full = (take_front_long f s F S p).1 in
-    let sum = length-append f r in
-    (i.may.long, omega (arith, full, sum))
-take_front_long x y X Y (next {f} {s} {F} {S} p t d i) =
-    let full = (take_front_long f s F S p).1 in
-    let sum = length-append f t in
-    (i.may.long, omega (arith, full, sum))
+take_front_long = runs_long IsTakeStart 16 (λ s S i. i.may.long)
 
 -- ---- the beginning of an envelope
 
 -- what is unwrapped of the text `rest` and each text that follows it is what is unwrapped of the envelope
 abbrev pub Unfolds : List ℕ → List ℕ → List ℕ → Type 0
 Unfolds s made rest = (t : List ℕ) → all_taken (123 ∷ []) (members_in Outside 0 [] (drop 1 (s ++ t))) ≡ all_taken made (members_in Outside 0 [] (rest ++ t))
-
-comma_members : (m u t : List ℕ) → first_length (m ++ 44 ∷ u) ≡ length m → members_in Outside 0 [] ((m ++ 44 ∷ u) ++ t) ≡ m ∷ members_in Outside 0 [] (u ++ t)
-comma_members m u t h =
-    let w = u ++ t in
-    let sum = length-append m (44 ∷ u) in
-    let within : first_length (m ++ 44 ∷ u) < length (m ++ 44 ∷ u) = omega (arith, sum, h) in
-    let count = sym (ap first_length (append_assoc m (44 ∷ u) t)) ∙ length-append_end Outside 0 (m ++ 44 ∷ u) t within ∙ h in
-    let behind = ap (λ b. cond b (drop (length m + 1) (m ++ 44 ∷ w)) []) (ap (λ b. b == 44) (get_or-append_seam m 44 w 0)) ∙ drop-append-add m (44 ∷ w) 1 in
-    ap (members_in Outside 0 []) (append_assoc m (44 ∷ u) t) ∙ members_first (m ++ 44 ∷ w) (some m w)
-    ∙ ap (λ n. take n (m ++ 44 ∷ w) ∷ members_in Outside 0 [] (behind_comma (m ++ 44 ∷ w) n)) count
-    ∙ ap (λ z. z ∷ members_in Outside 0 [] (behind_comma (m ++ 44 ∷ w) (length m))) (take-append_seam m (44 ∷ w))
-    ∙ ap (λ z. m ∷ members_in Outside 0 [] z) behind where
-      some : (m w : List ℕ) → (length (m ++ 44 ∷ w) == 0) ≡ false
-      some [] w = one (length w) where
-        one : (n : ℕ) → (suc n == 0) ≡ false
-        one n = grind arith
-      some (b ∷ m) w = one (length (m ++ 44 ∷ w)) where
-        one : (n : ℕ) → (suc n == 0) ≡ false
-        one n = grind arith
 
 -- the text after the opening brace
 pub unfolds_begin : (s made rest : List ℕ) → 0 < length s → made ≡ 123 ∷ [] → rest ≡ drop 1 s → Unfolds s made rest

@@ -1,11 +1,12 @@
 -- A run in an envelope is a run in its document.
-use Rattle.proof_prelude.proofs.{◌≡◌, ℕ, suc, ◌+◌, ◌<◌, ◌≤◌, ◌==◌, nat_lt, length, take, drop, List, [], ◌∷◌, ◌++◌, Bool, true, false, cond, codes, refl, sym, ap, subst, ◌∙◌, append_assoc, append_cancel_left, arith, lt-ltb, Option, Some, None, option_and_then}
+use Rattle.proof_prelude.proofs.{◌≡◌, ℕ, ◌<◌, ◌≤◌, nat_lt, length, take, drop, List, [], ◌∷◌, ◌++◌, Bool, true, false, cond, codes, refl, sym, ap, subst, ◌∙◌, append_assoc, append_cancel_left, arith, lt-ltb, Option, Some, None, option_and_then}
 use Rattle.std.proofs.lemmas.List.{take-append-le}
 use Rattle.json.specs.Text.{prepend}
-use Rattle.doc_envelope.specs.{IsRun, IsTakeStart, Mode, added, all_taken, ends_member, first_length, has_name, if_json, is_json, length_in, members_in, mode_behind, nesting_behind, unfolded, value_of}
+use Rattle.doc_envelope.specs.{IsRun, IsTakeStart, added, all_taken, first_length, has_name, if_json, is_json, members_in, unfolded, value_of}
 use Rattle.doc_envelope.specs.Members.{Outside}
 use Rattle.doc_envelope.specs.Names.{first_member, id_of}
 use Rattle.doc_envelope.proofs.Folds.{taken_none, taken_some}
+use Rattle.doc_envelope.proofs.OpenMembers.{length-append_end}
 use Rattle.doc_envelope.proofs.RunsUtf8.{json_run}
 use Rattle.doc_envelope.proofs.TakeStrings.{IsOpen, open_string}
 use Rattle.doc_envelope.proofs.TakeMembers.{rest_taken, whole_part, whole_run}
@@ -99,20 +100,6 @@ pub take_begins : (s S t x : List ℕ) → IsTakeStart s S → unfolded (s ++ t)
 take_begins s S t x i h = begins_by S x (rest_taken i.string t) (sym (start_unfolded s S t i) ∙ h)
 
 -- ---- the id
-
-length_by : (m : Mode) (n : ℕ) (b : ℕ) (t x : List ℕ) (c : Bool) → ends_member m n b ≡ c → length_in m n (b ∷ t) < suc (length t)
-    → (length_in (mode_behind m b) (nesting_behind m n b) t < length t → length_in (mode_behind m b) (nesting_behind m n b) (t ++ x) ≡ length_in (mode_behind m b) (nesting_behind m n b) t)
-    → length_in m n (b ∷ (t ++ x)) ≡ length_in m n (b ∷ t)
-unfolding length_in
-length_by m n b t x true e h more = rw e refl
-length_by m n b t x false e h more =
-    let k : length_in (mode_behind m b) (nesting_behind m n b) t + 1 < suc (length t) = subst (λ c. cond c 0 (length_in (mode_behind m b) (nesting_behind m n b) t + 1) < suc (length t)) e h in
-    rw e (ap (λ z. z + 1) (more (omega arith)))
-
--- a member that ends in a text
-pub length-append_end : (m : Mode) (n : ℕ) (t x : List ℕ) → length_in m n t < length t → length_in m n (t ++ x) ≡ length_in m n t
-length-append_end m n [] x h = absurd (omega arith)
-length-append_end m n (b ∷ t) x h = length_by m n b t x (ends_member m n b) refl h (length-append_end (mode_behind m b) (nesting_behind m n b) t x)
 
 first_more : (b : ℕ) (t x : List ℕ) → first_length t < length t → first_member ((b ∷ t) ++ x) ≡ first_member (b ∷ t)
 first_more b t x h =

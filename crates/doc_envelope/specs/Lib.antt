@@ -19,7 +19,7 @@ pub use Steps.{added, behind_comma, held_by, held_with, taken_with, text_with, w
 unfoldable pub use Steps.{all_taken, helds_by, texts_with}
 pub use Printed.{IsPrinted}
 pub use Stored.{HasPrintedFront, held_of, made_of, printed_of}
-pub use Streams.{Front, IsRun, MayStream, Opens, is_streamable, last, more, next, run, start}
+pub use Streams.{Front, IsRun, MayStream, Opens, is_streamable, next, open_last, open_later, run, start}
 unfoldable pub use Streams.{mode_after}
 pub use PutFronts.{IsPutStart, PutFront, held_from, made_from}
 pub use TakeFronts.{AppendsOpen, IsTakeStart, TakeFront, whole_before}

@@ -18,9 +18,8 @@ held_from s = helds_by [] (members_in Outside 0 [] (drop 1 s))
 -- begins with s begins with S, if all later members are wrapped.
 pub record IsPutStart (s S : List ℕ) : Type 0 where
   pub may : MayStream s
-  pub members : List (List ℕ)
   pub attachments : List ℕ
-  pub opens : Opens (drop 1 s) members attachments
+  pub opens : Opens (drop 1 s) attachments
   pub quoted : mode_after Outside attachments ≡ Quoted
   pub named : has_name attachments (codes "\"_attachments\"") ≡ true
   pub two : first_length (drop 1 (made_from s)) < length (drop 1 (made_from s))

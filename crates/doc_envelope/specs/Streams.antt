@@ -23,12 +23,10 @@ pub record MayStream (s : List ℕ) : Type 0 where
   pub long : 16 ≤ length s
   pub plain : IsRun (drop (length s - 8) s)
 
--- The text t after the opening brace of an object has the complete members ms, and then the member u, which does not end
--- in t.
-pub data Opens : List ℕ → List (List ℕ) → List ℕ → Type 0 where
-  last : {u : List ℕ} → first_length u ≡ length u → Opens u [] u
-  more : {m t u : List ℕ} {ms : List (List ℕ)} → first_length (m ++ 44 ∷ t) ≡ length m → Opens t ms u
-      → Opens (m ++ 44 ∷ t) (m ∷ ms) u
+-- The text t after the opening brace of an object ends with the member u, which does not end in t.
+pub data Opens : List ℕ → List ℕ → Type 0 where
+  open_last : {u : List ℕ} → first_length u ≡ length u → Opens u u
+  open_later : {u : List ℕ} (m t : List ℕ) → first_length (m ++ 44 ∷ t) ≡ length m → Opens t u → Opens (m ++ 44 ∷ t) u
 
 -- The text f is the beginning of a document, and s is f without the runs that are not stored. The output for f begins
 -- with F, and the output for s begins with S. `IsStart s S` states that a run may follow s, and that S is the beginning
