@@ -1,5 +1,5 @@
 -- The mode of the scanner after a text, by positions in the text.
-use Rattle.proof_prelude.proofs.{◌≡◌, ℕ, suc, ◌+◌, ◌<◌, ◌≤◌, ◌==◌, get_or, prefix_len, drop, length, List, [], ◌∷◌, Bool, true, false, not, cond, refl, sym, ap, subst, ◌∙◌, drop-cons, arith, common_steps}
+use Rattle.proof_prelude.proofs.{◌≡◌, ℕ, suc, ◌+◌, ◌<◌, ◌==◌, get_or, prefix_len, drop, length, List, [], ◌∷◌, Bool, true, false, not, cond, refl, sym, ap, subst, ◌∙◌, drop-cons, arith, common_steps}
 use Rattle.std.proofs.Math.Seq.{drop-length}
 use Rattle.json.specs.Run.{is_plain}
 use Rattle.doc_envelope.specs.{Mode, mode_after, mode_behind}

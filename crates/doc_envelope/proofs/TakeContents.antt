@@ -1,5 +1,5 @@
 -- The content of a string that goes on after a part without a closing quotation mark.
-use Rattle.proof_prelude.proofs.{◌≡◌, ℕ, ◌==◌, ◌&&◌, nat_lt, List, [], ◌∷◌, ◌++◌, Bool, true, false, not, cond, refl, sym, ap, subst, ◌∙◌, append_assoc, append-nil, Option, Some, None, option_and_then, is_digit, encode_utf8, eqb-true, false_from_ne_true, false≢true, and_parts}
+use Rattle.proof_prelude.proofs.{◌≡◌, ℕ, ◌==◌, ◌&&◌, nat_lt, List, [], ◌∷◌, ◌++◌, Bool, true, false, not, cond, refl, sym, ap, subst, ◌∙◌, append_assoc, append-nil, Option, Some, None, is_digit, encode_utf8, eqb-true, false_from_ne_true, false≢true, and_parts}
 use Rattle.json.specs.Text.{content, code_unit, short_escape, is_high_surrogate, is_low_surrogate, surrogate_pair, Within, plain, after_backslash, after_u, after_high, prepend}
 
 -- Whether the text t leaves a string open. If `escaped` is true, the first byte follows a backslash.

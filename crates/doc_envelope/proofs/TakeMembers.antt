@@ -1,7 +1,7 @@
 -- The unwrapped text of an envelope whose member `whole` goes on after a run.
-use Rattle.proof_prelude.proofs.{◌≡◌, ℕ, suc, ◌+◌, ◌<◌, ◌==◌, ◌&&◌, nat_lt, length, take, drop, get_or, List, [], ◌∷◌, ◌++◌, Bool, true, false, cond, codes, refl, sym, ap, subst, ◌∙◌, append_assoc, append-nil, arith, Option, Some, None, option_map, option_and_then, list_all, list_all-append}
+use Rattle.proof_prelude.proofs.{◌≡◌, ℕ, suc, ◌==◌, ◌&&◌, nat_lt, length, take, drop, List, [], ◌∷◌, ◌++◌, Bool, true, false, cond, codes, refl, sym, ap, subst, ◌∙◌, append_assoc, append-nil, arith, Option, Some, None, option_map, option_and_then, list_all-append}
 use Rattle.json.specs.Text.{prepend}
-use Rattle.doc_envelope.specs.{IsRun, Mode, added, all_taken, behind_comma, ends_member, if_any, is_blank, length_in, members_in, mode_behind, nesting_behind, string_of, taken_with, unfolded_member, whole_before}
+use Rattle.doc_envelope.specs.{IsRun, Mode, added, all_taken, behind_comma, if_any, is_blank, length_in, members_in, string_of, taken_with, unfolded_member, whole_before}
 use Rattle.doc_envelope.specs.Members.{Outside, Quoted, Escaped}
 use Rattle.doc_envelope.proofs.Splits.{first_by}
 use Rattle.doc_envelope.proofs.TakeContents.{is_open, prepend_more}

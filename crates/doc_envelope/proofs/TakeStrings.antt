@@ -4,7 +4,7 @@ use Rattle.json.specs.Json.{Json, document, if_last, value, max_depth}
 use Rattle.json.specs.Token.{Token, begin_object, end_object, begin_array, end_array, key, string, number, boolean, null, bad}
 use Rattle.json.specs.Text.{content, plain, prepend}
 use Rattle.json.specs.Word.{is_operator, is_space}
-use Rattle.json.specs.Lex.{Class, quote, backslash, operator, space, other, Lexeme, token, comma, colon, lex, lex_byte, class, string_token, Mode, between, in_string, in_escape, in_word, Place, fresh, after_value, after_comma, after_key, begins_colon, if_allowed, may_begin, may_close, place_token, punctuate}
+use Rattle.json.specs.Lex.{Class, quote, backslash, operator, space, other, Lexeme, token, comma, colon, lex, lex_byte, class, string_token, Mode, between, in_string, in_escape, Place, fresh, after_value, after_comma, after_key, begins_colon, if_allowed, may_begin, may_close, place_token, punctuate}
 use Rattle.json.specs.Find.{as_str}
 use Rattle.doc_envelope.specs.{IsRun, MayStream, is_streamable, mode_after, string_of}
 use Rattle.doc_envelope.specs.Members.{Outside, Quoted, Escaped}

@@ -1,4 +1,4 @@
-use Rattle.proof_prelude.proofs.{◌≡◌, ◌+◌, ◌≤◌, ◌∙◌, arith, length}
+use Rattle.proof_prelude.proofs.{◌≡◌, ◌∙◌, arith, length}
 use Rattle.doc_envelope.proofs.Modes.{mode_end, mode_quote}
 use Rattle.doc_envelope.proofs.streaming.ends_quoted.Goals as goal
 
