@@ -19,7 +19,7 @@ some_of (Some x) P Q h = h
 
 -- ---- a string without escapes
 
-escape_plain_byte : (x : ℕ) → is_plain x ≡ true → escape_byte x ≡ x ∷ []
+pub escape_plain_byte : (x : ℕ) → is_plain x ≡ true → escape_byte x ≡ x ∷ []
 unfolding escape_byte
 escape_plain_byte x h =
     let a : (x == 34) ≡ false = grind arith in

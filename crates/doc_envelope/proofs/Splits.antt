@@ -15,7 +15,7 @@ comma_members true t = unfold members_in in refl
 comma_members false t = unfold members_in in refl
 
 -- if this much of a text was read, the first member is that and what follows of it, and the others come after its comma
-abbrev FirstBy : Mode → ℕ → List ℕ → List ℕ → Type 0
+abbrev pub FirstBy : Mode → ℕ → List ℕ → List ℕ → Type 0
 FirstBy m n u t = members_in m n u t ≡ (u ++ take (length_in m n t) t) ∷ members_in Outside 0 [] (behind_comma t (length_in m n t))
 
 first_end : (m : Mode) (n : ℕ) (u : List ℕ) (b : ℕ) (t : List ℕ) → ends_member m n b ≡ true → FirstBy m n u (b ∷ t)
@@ -31,7 +31,7 @@ first_more m n u b t h more = unfold members_in length_in in
 first_none : (m : Mode) (n : ℕ) (u : List ℕ) → (length u == 0) ≡ false → FirstBy m n u []
 first_none m n u h = unfold members_in length_in in rw h (ap (λ z. z ∷ []) (sym (append-nil u)))
 
-first_by : (m : Mode) (n : ℕ) (u t : List ℕ) → (length (u ++ t) == 0) ≡ false → FirstBy m n u t
+pub first_by : (m : Mode) (n : ℕ) (u t : List ℕ) → (length (u ++ t) == 0) ≡ false → FirstBy m n u t
 first_by m n u [] some = first_none m n u (ap (λ z. length z == 0) (sym (append-nil u)) ∙ some)
 first_by m n u (b ∷ t) some =
     by_end (ends_member m n b) refl (first_by (mode_behind m b) (nesting_behind m n b) (u ++ b ∷ []) t (ap (λ z. length z == 0) (append_assoc u (b ∷ []) t) ∙ some)) where

@@ -21,7 +21,7 @@ const WHOLE: &[u8] = b"\"whole\"";
 /// Wraps and unwraps documents, and reuses its buffers.
 #[derive(Drop)]
 pub struct Envelope {
-    alloc: Global,
+    pub(crate) alloc: Global,
     /// The last result.
     text: Vec<u8>,
     /// The text of the members that the envelope stores in its string.
@@ -117,7 +117,7 @@ impl Envelope {
     }
 
     /// Starts a new result.
-    fn begin(&mut self) -> Result<(), AllocError>
+    pub(crate) fn begin(&mut self) -> Result<(), AllocError>
         ensures made { OnOk result (made_of self.new ≡ 123 ∷ []) }
         ensures held { OnOk result (held_of self.new ≡ []) }
     {
@@ -243,7 +243,7 @@ impl Envelope {
 
     /// Appends a member of an envelope, or the wrapped members if the member's name is `whole`. Returns `false` if the
     /// envelope has a member `whole` that is not a string of members.
-    fn take_member(&mut self, member: &[u8]) -> Result<bool, AllocError>
+    pub(crate) fn take_member(&mut self, member: &[u8]) -> Result<bool, AllocError>
         ensures { IfOk result (λ ok. taken_with (made_of self.old) member.now
             ≡ cond ok (Some (made_of self.new)) None) }
     {
@@ -258,7 +258,7 @@ impl Envelope {
     }
 
     /// Appends the wrapped members, which are the content of a JSON string.
-    fn take_held(&mut self, value: &[u8]) -> Result<bool, AllocError>
+    pub(crate) fn take_held(&mut self, value: &[u8]) -> Result<bool, AllocError>
         ensures { IfOk result (λ ok. option_map (added (made_of self.old))
             (option_and_then if_any (string_of value.now)) ≡ cond ok (Some (made_of self.new)) None) }
     {
@@ -279,7 +279,7 @@ impl Envelope {
 }
 
 /// Returns the text after an object's opening brace.
-fn behind_brace(document: &[u8]) -> &[u8]
+pub(crate) fn behind_brace(document: &[u8]) -> &[u8]
     ensures { result.now ≡ drop 1 document.now }
 {
     if document.is_empty() {

@@ -7,6 +7,8 @@ mod envelope;
 mod members;
 mod names;
 mod printing;
+mod streaming;
+mod takes;
 mod values;
 
 pub use envelope::Envelope;

@@ -1,0 +1,29 @@
+-- The beginnings of envelopes whose documents are wrapped before they end.
+use Rattle.std.specs.Prelude.{◌≡◌, ℕ, ◌<◌, length, drop, List, [], ◌∷◌, ◌++◌, codes, true}
+use Rattle.json.specs.Print.{escape}
+use Rattle.doc_envelope.specs.Members.{Outside, Quoted, first_length, members_in}
+use Rattle.doc_envelope.specs.Names.{has_name}
+use Rattle.doc_envelope.specs.Steps.{texts_with, helds_by}
+use Rattle.doc_envelope.specs.Streams.{Front, MayStream, Opens, mode_after}
+
+-- The text of an envelope without its closing brace and without its member `whole`, for the beginning s of a document.
+abbrev pub made_from : List ℕ → List ℕ
+made_from s = texts_with (123 ∷ []) (members_in Outside 0 [] (drop 1 s))
+
+-- The texts that an envelope stores in its string, for the beginning s of a document.
+abbrev pub held_from : List ℕ → List ℕ
+held_from s = helds_by [] (members_in Outside 0 [] (drop 1 s))
+
+-- A run may follow the beginning s of a document, in the member `_attachments`. The envelope of each document that
+-- begins with s begins with S, if all later members are wrapped.
+pub record IsPutStart (s S : List ℕ) : Type 0 where
+  pub may : MayStream s
+  pub attachments : List ℕ
+  pub opens : Opens (drop 1 s) attachments
+  pub quoted : mode_after Outside attachments ≡ Quoted
+  pub named : has_name attachments (codes "\"_attachments\"") ≡ true
+  pub two : first_length (drop 1 (made_from s)) < length (drop 1 (made_from s))
+  pub front : S ≡ made_from s ++ (codes ",\"whole\":\"" ++ escape (held_from s))
+
+abbrev pub PutFront : List ℕ → List ℕ → List ℕ → List ℕ → Type 0
+PutFront = Front IsPutStart

@@ -1,0 +1,39 @@
+-- Beginnings of documents whose output is written before the document ends. A run of bytes in a string is written at
+-- once, and is not stored.
+use Rattle.std.specs.Prelude.{◌≡◌, ℕ, ◌≤◌, ◌-◌, ◌&&◌, ◌==◌, nat_le, nat_lt, length, drop, List, [], ◌∷◌, ◌++◌, Bool, true, not}
+use Rattle.std.specs.List.{list_all}
+use Rattle.doc_envelope.specs.Members.{Mode, Outside, Quoted, first_length, mode_behind}
+
+-- Whether a byte is printable ASCII, and not a quotation mark or a backslash.
+abbrev pub is_streamable : ℕ → Bool
+is_streamable b = nat_le 32 b && nat_lt b 127 && not (b == 34) && not (b == 92)
+
+-- The text r consists of streamable bytes.
+abbrev pub IsRun : List ℕ → Type 0
+IsRun r = list_all is_streamable r ≡ true
+
+-- The mode after a text, if its first byte has mode m.
+unfoldable pub mode_after : Mode → List ℕ → Mode
+mode_after m [] = m
+mode_after m (b ∷ t) = mode_after (mode_behind m b) t
+
+-- A run may be inserted after the text s: s ends in a string, and the last bytes of s are not part of an escape.
+pub record MayStream (s : List ℕ) : Type 0 where
+  pub quoted : mode_after Outside s ≡ Quoted
+  pub long : 16 ≤ length s
+  pub plain : IsRun (drop (length s - 8) s)
+
+-- The text t after the opening brace of an object ends with the member u, which does not end in t.
+pub data Opens : List ℕ → List ℕ → Type 0 where
+  open_last : {u : List ℕ} → first_length u ≡ length u → Opens u u
+  open_later : {u : List ℕ} (m t : List ℕ) → first_length (m ++ 44 ∷ t) ≡ length m → Opens t u → Opens (m ++ 44 ∷ t) u
+
+-- The text f is the beginning of a document, and s is f without the runs that are not stored. The output for f begins
+-- with F, and the output for s begins with S. `IsStart s S` states that a run may follow s, and that S is the beginning
+-- of the output for each document that begins with s.
+pub data Front (IsStart : List ℕ → List ℕ → Type 0) : List ℕ → List ℕ → List ℕ → List ℕ → Type 0 where
+  start : {s S : List ℕ} → IsStart s S → Front IsStart s s S S
+  run : {f s F S : List ℕ} → Front IsStart f s F S → IsStart s S → (r : List ℕ) → IsRun r
+      → Front IsStart (f ++ r) s (F ++ r) S
+  next : {f s F S : List ℕ} → Front IsStart f s F S → (t d : List ℕ) → IsStart (s ++ t) (S ++ d)
+      → Front IsStart (f ++ t) (s ++ t) (F ++ d) (S ++ d)

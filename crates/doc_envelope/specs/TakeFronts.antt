@@ -1,0 +1,34 @@
+-- The beginnings of envelopes that are unwrapped before they end.
+use Rattle.std.specs.Prelude.{◌≡◌, ℕ, ◌<◌, length, drop, List, [], ◌∷◌, ◌++◌, codes, false, Some}
+use Rattle.doc_envelope.specs.Members.{Outside, first_length, is_blank, members_in}
+use Rattle.doc_envelope.specs.Envelopes.{string_of}
+use Rattle.doc_envelope.specs.Steps.{added, all_taken}
+use Rattle.doc_envelope.specs.Streams.{Front, MayStream}
+
+-- The text t after the name, the colon and the opening quotation mark of a member `whole`.
+abbrev pub whole_before : List ℕ → List ℕ
+whole_before t = codes "\"whole\":\"" ++ t
+
+-- The part q of a JSON string, which begins with the quotation mark, has content that is not blank. The text S is `made`
+-- with the content appended as members.
+pub record AppendsOpen (q made S : List ℕ) : Type 0 where
+  pub content : List ℕ
+  pub says : string_of (q ++ 34 ∷ []) ≡ Some content
+  pub filled : is_blank content ≡ false
+  pub front : S ≡ added made content
+
+-- A run may follow the beginning s of an envelope. The members before the member `whole` make the text `made`, and s
+-- ends in the string of the member `whole`. The document of each envelope that begins with s begins with S.
+pub record IsTakeStart (s S : List ℕ) : Type 0 where
+  pub may : MayStream s
+  pub made : List ℕ
+  pub string : List ℕ
+  pub opens : (t : List ℕ) → all_taken (123 ∷ []) (members_in Outside 0 [] (drop 1 (s ++ t)))
+      ≡ all_taken made (members_in Outside 0 [] (whole_before (string ++ t)))
+  pub quoted : MayStream (34 ∷ string)
+  pub appends : AppendsOpen (34 ∷ string) made S
+  pub inside : MayStream S
+  pub two : first_length (drop 1 S) < length (drop 1 S)
+
+abbrev pub TakeFront : List ℕ → List ℕ → List ℕ → List ℕ → Type 0
+TakeFront = Front IsTakeStart

@@ -1,0 +1,101 @@
+//! Unwraps the beginning of an envelope.
+ghost use Rattle.std.specs.Prelude.{◌≡◌, ◌++◌, ◌∷◌, [], ◌<◌, ℕ, List, length, drop, true, IfOk, IfSome};
+ghost use Rattle.doc_envelope.specs.Members.{Outside, first_length, members_in};
+ghost use Rattle.doc_envelope.specs.Steps.{all_taken};
+ghost use Rattle.doc_envelope.specs.Stored.{made_of};
+ghost use Rattle.doc_envelope.specs.TakeFronts.{IsTakeStart, AppendsOpen, whole_before};
+
+use crate::envelope::{Envelope, behind_brace};
+use crate::members::first_length;
+use crate::streaming::may_stream;
+use std::alloc::AllocError;
+
+impl Envelope {
+    /// Unwraps the beginning of an envelope. Returns true only if a run may follow the beginning. The result is then
+    /// the beginning of the document of each envelope that begins with `beginning`.
+    pub fn begin_take(&mut self, beginning: &[u8]) -> Result<bool, AllocError>
+        ensures { IfOk result (λ ok. ok ≡ true → IsTakeStart beginning.now (made_of self.new)) }
+    {
+        if !may_stream(beginning) {
+            return Ok(false);
+        }
+        let Some(member) = self.begin_unfold(beginning)? else {
+            return Ok(false);
+        };
+        let Some(string) = open_whole(member) else {
+            return Ok(false);
+        };
+        if !may_stream(string) || !self.take_open(string)? {
+            return Ok(false);
+        }
+        Ok(ends_first(self.text()) && may_stream(self.text()))
+    }
+
+    /// Copies each complete member of an envelope. Returns the text of the last member, which is not complete. Returns
+    /// `None` if the envelope has a member `whole` that is not a string of members.
+    fn begin_unfold<'a>(&mut self, beginning: &'a [u8]) -> Result<Option<&'a [u8]>, AllocError>
+        requires { 0 < length beginning.now }
+        ensures { IfOk result (λ last. IfSome last (λ member. (t : List ℕ)
+            → all_taken (123 ∷ []) (members_in Outside 0 [] (drop 1 (beginning.now ++ t)))
+            ≡ all_taken (made_of self.new) (members_in Outside 0 [] (member.now ++ t)))) }
+    {
+        self.begin()?;
+        let mut rest = behind_brace(beginning);
+        while let Some((member, more)) = split_member(rest) {
+            if !self.take_member(member)? {
+                return Ok(None);
+            }
+            rest = more;
+        }
+        Ok(Some(rest))
+    }
+
+    /// Appends the members in the part of a JSON string. Returns `false` if the part has no content.
+    fn take_open(&mut self, string: &[u8]) -> Result<bool, AllocError>
+        ensures { IfOk result (λ ok. ok ≡ true
+            → AppendsOpen string.now (made_of self.old) (made_of self.new)) }
+    {
+        let mut closed = Vec::new(self.alloc);
+        closed.extend_from_slice(string)?;
+        closed.push(b'"')?;
+        match self.take_held(closed.as_slice()) {
+            Ok(taken) => Ok(taken),
+            Err(refused) => Err(refused),
+        }
+    }
+}
+
+/// Returns the first member of an object and the text after the member's comma, or `None` if no comma follows the
+/// member.
+fn split_member(text: &[u8]) -> Option<(&[u8], &[u8])>
+    ensures parts { IfSome result (λ p. text.now ≡ p.0.now ++ 44 ∷ p.1.now) }
+    ensures first { IfSome result (λ p. first_length text.now ≡ length p.0.now) }
+{
+    let length = first_length(text);
+    if length < text.len() && text[length] == b',' {
+        Some((&text[..length], &text[length + 1..]))
+    } else {
+        None
+    }
+}
+
+/// Returns the value of a member `whole`, if the value is a string, and if the member has no white space before the
+/// value.
+fn open_whole(member: &[u8]) -> Option<&[u8]>
+    ensures { IfSome result (λ string. (member.now ≡ whole_before (drop 1 string.now))
+        × (string.now ≡ 34 ∷ drop 1 string.now)) }
+{
+    if member.starts_with(b"\"whole\":\"") {
+        Some(&member[8..])
+    } else {
+        None
+    }
+}
+
+/// Returns true only if the first member of an object ends in a part of the object's text.
+fn ends_first(text: &[u8]) -> bool
+    ensures { result ≡ true → first_length (drop 1 text.now) < length (drop 1 text.now) }
+{
+    let members = behind_brace(text);
+    first_length(members) < members.len()
+}
