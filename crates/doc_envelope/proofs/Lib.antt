@@ -36,5 +36,5 @@ pub use Fronts.{runs_long, runs_none, runs_output, runs_same, runs_some}
 pub use Contents.{content_closed, content_run}
 pub use Runs.{document_run, mode_append, run_lex, run_outside, run_quoted}
 pub use RunsUtf8.{json_run, run_utf8, utf8_run}
-pub use OpenMembers.{length-append_end}
-pub use PutFronts.{put_front_first, put_front_id, put_front_json, put_front_log, put_front_long, put_front_none, put_front_some, put_front_start, put_front_utf8}
+pub use OpenMembers.{length-append_end, opens_all, opens_step}
+pub use PutFronts.{put_front_first, put_front_id, put_front_json, put_front_log, put_front_long, put_front_none, put_front_some, put_front_start, put_front_utf8, put_started}

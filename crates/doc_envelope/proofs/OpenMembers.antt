@@ -97,3 +97,11 @@ run_members (x ∷ r) n u z h =
     let parts = and_parts (is_streamable x) (list_all is_streamable r) h in
     let q = streams x parts.0 in
     ap (λ m. members_in m n (u ++ x ∷ []) (r ++ z)) (run_by n x q.0 q.1) ∙ run_members r n (u ++ x ∷ []) z parts.1 ∙ ap (λ v. members_in Quoted n v z) (append_assoc u (x ∷ []) r)
+
+-- ---- the loop over the members before the open member
+
+pub opens_step : (s rest m t : List ℕ) → rest ≡ m ++ 44 ∷ t → first_length rest ≡ length m → ((u : List ℕ) → Opens rest u → Opens s u) → (u : List ℕ) → Opens t u → Opens s u
+opens_step s rest m t e f inside u o = inside u (subst (λ v. Opens v u) (sym e) (open_later m t (sym (ap first_length e) ∙ f) o))
+
+pub opens_all : (s rest : List ℕ) → ((u : List ℕ) → Opens rest u → Opens s u) → first_length rest ≡ length rest → Opens s rest
+opens_all s rest inside h = inside rest (open_last h)

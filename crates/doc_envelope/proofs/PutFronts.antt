@@ -1,9 +1,9 @@
 -- The envelope of a document whose runs are not stored.
-use Rattle.proof_prelude.proofs.{◌≡◌, ℕ, ◌+◌, ◌≤◌, ◌<◌, List, [], ◌∷◌, ◌++◌, length, take, drop, get_or, codes, Bool, true, false, cond, ◌&&◌, ◌==◌, nat_lt, refl, sym, ap, subst, ◌∙◌, arith, append_assoc, list_all, and_parts, Some, None, length-append, append_cancel_left, flat_map-append, is_utf8, IsUtf8-from_is_utf8}
+use Rattle.proof_prelude.proofs.{◌≡◌, ℕ, ◌+◌, ◌≤◌, ◌<◌, List, [], ◌∷◌, ◌++◌, length, take, drop, get_or, codes, Bool, true, false, cond, ◌&&◌, ◌==◌, nat_lt, refl, sym, ap, subst, ◌∙◌, arith, append_assoc, list_all, and_parts, Some, None, length-append, append_cancel_left, flat_map-append, is_utf8, IsUtf8-from_is_utf8, append-nil, take-append_seam, ◌-◌, Result, Ok, Err, IfOk}
 use Rattle.std.proofs.lemmas.List.{take-append-le}
 use Rattle.json.specs.Print.{quoted, escape, escape_byte}
 use Rattle.json.specs.Run.{is_plain}
-use Rattle.doc_envelope.specs.{IsPutStart, IsRun, PutFront, added, envelope_of, enveloped, first_length, has_name, held_from, is_envelope, is_json, is_log, is_streamable, made_from, next, run, start, stays, texts_with, value_of, whole_name, with_held}
+use Rattle.doc_envelope.specs.{InAttachments, IsPutStart, IsRun, MayStream, PutFront, added, before_last, envelope_of, enveloped, first_length, has_name, held_from, is_envelope, is_json, is_log, is_streamable, made_from, next, run, start, stays, texts_with, value_of, whole_name, with_held}
 use Rattle.doc_envelope.specs.Members.{Outside}
 use Rattle.doc_envelope.specs.Names.{first_member, id_of}
 use Rattle.doc_envelope.proofs.Folds.{fold_enveloped}
@@ -45,10 +45,10 @@ module _ (s S : List ℕ) (i : IsPutStart s S) where
       let p = parts_of s i.may in
       let one = drop_front s in
       let two = front s S i in
-      let whole : (one.0 ++ two.text) ++ i.attachments ≡ p.front ++ p.back = append_assoc one.0 two.text i.attachments ∙ ap (λ t. one.0 ++ t) (sym two.is) ∙ sym one.1 ∙ p.is in
+      let whole : (one.0 ++ two.text) ++ i.inside.member ≡ p.front ++ p.back = append_assoc one.0 two.text i.inside.member ∙ ap (λ t. one.0 ++ t) (sym two.is) ∙ sym one.1 ∙ p.is in
       let n = (goes_on s S i).long in
       let k = p.long in
-      let v = shared_end (one.0 ++ two.text) i.attachments p.front p.back whole (omega (arith, n, k)) in
+      let v = shared_end (one.0 ++ two.text) i.inside.member p.front p.back whole (omega (arith, n, k)) in
       let b = comma_after (held s S i) in
       (b ++ v.0, p.back, held_all s S i ∙ ap (λ t. b ++ t) v.1 ∙ sym (append_assoc b v.0 p.back), p.run, omega (arith, k))
 
@@ -62,11 +62,11 @@ module _ (s S : List ℕ) (i : IsPutStart s S) where
     positive : (n a b c d : ℕ) → n ≡ (a + b) + c → 14 ≤ b → (n == 0) ≡ false
     positive n a b c d e h = grind arith
 
-    by : held_from s ++ x ≡ (comma_after (held s S i) ++ i.attachments) ++ x → (length (held_from s ++ x) == 0) ≡ false
+    by : held_from s ++ x ≡ (comma_after (held s S i) ++ i.inside.member) ++ x → (length (held_from s ++ x) == 0) ≡ false
     by e =
         let b = comma_after (held s S i) in
-        let n = ap length e ∙ length-append (b ++ i.attachments) x ∙ ap (λ k. k + length x) (length-append b i.attachments) in
-        positive (length (held_from s ++ x)) (length b) (length i.attachments) (length x) 0 n (goes_on s S i).long
+        let n = ap length e ∙ length-append (b ++ i.inside.member) x ∙ ap (λ k. k + length x) (length-append b i.inside.member) in
+        positive (length (held_from s ++ x)) (length b) (length i.inside.member) (length x) 0 n (goes_on s S i).long
 
 -- ---- the envelope, by its parts
 
@@ -262,3 +262,30 @@ pub put_front_start : (f s F S : List ℕ) → PutFront f s F S → IsPutStart s
 put_front_start f s F S (start i) = i
 put_front_start x s X S (run p i r h) = i
 put_front_start x y X Y (next p t d i) = i
+
+-- ---- the front of an envelope
+
+quoted_front : (m h : List ℕ) → nat_lt 1 (length m) ≡ true → (length h == 0) ≡ false → with_held m h ≡ (m ++ (codes ",\"whole\":\"" ++ escape h)) ++ 34 ∷ []
+quoted_front m h e f =
+    let w = whole_name ++ 58 ∷ [] in
+    ap (λ b. cond b m (added m w ++ quoted h)) f ∙ ap (λ b. cond b (m ++ 44 ∷ w) (m ++ w) ++ quoted h) e ∙ append_assoc m (44 ∷ w) (quoted h)
+    ∙ ap (λ z. m ++ z) (sym (append_assoc (codes ",\"whole\":\"") (escape h) (34 ∷ []))) ∙ sym (append_assoc m (codes ",\"whole\":\"" ++ escape h) (34 ∷ []))
+
+all_but_last : (t : List ℕ) (b : ℕ) → before_last (t ++ b ∷ []) ≡ t
+all_but_last t b =
+    let n = length-append t (b ∷ []) in
+    let one : length (t ++ b ∷ []) - 1 ≡ length t = omega (arith, n) in
+    ap (λ k. take k (t ++ b ∷ [])) one ∙ take-append_seam t (b ∷ [])
+
+pub put_start : (s S : List ℕ) → MayStream s → InAttachments s → first_length (drop 1 (made_from s)) < length (drop 1 (made_from s)) → S ≡ before_last (with_held (made_from s) (held_from s)) → IsPutStart s S
+put_start s S m a two e =
+    let front = made_from s ++ (codes ",\"whole\":\"" ++ escape (held_from s)) in
+    let i : IsPutStart s front = record { may = m; inside = a; two = two; front = refl } in
+    let some = ap (λ h. length h == 0) (sym (append-nil (held_from s))) ∙ held_some s front i [] in
+    record { may = m; inside = a; two = two; front = e ∙ ap before_last (quoted_front (made_from s) (held_from s) (made_long s front i) some) ∙ all_but_last front 34 }
+
+pub put_started : {E : Type 0} (s S text wrapped : List ℕ) (r : Result Bool E) → MayStream s → InAttachments s → text ≡ made_from s → wrapped ≡ held_from s
+    → first_length (drop 1 text) < length (drop 1 text) → IfOk r (λ ok. ok ≡ true → S ≡ before_last (with_held text wrapped)) → IfOk r (λ ok. ok ≡ true → IsPutStart s S)
+put_started s S text wrapped (Err w) m a e f two h = tt
+put_started s S text wrapped (Ok b) m a e f two h = λ ok.
+    put_start s S m a (subst (λ t. first_length (drop 1 t) < length (drop 1 t)) e two) (h ok ∙ ap (λ t. before_last (with_held t wrapped)) e ∙ ap (λ t. before_last (with_held (made_from s) t)) f)

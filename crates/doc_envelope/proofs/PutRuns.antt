@@ -131,19 +131,19 @@ grown_of (m ∷ ms) t h = by (is_blank m) (stays m) refl (λ u. grown_of ms u) w
 -- ---- a beginning, and what follows
 
 module _ (s S : List ℕ) (i : IsPutStart s S) where
-  pub goes_on : Goes i.attachments
-  goes_on = goes_of i.attachments i.named
+  pub goes_on : Goes i.inside.member
+  goes_on = goes_of i.inside.member i.inside.named
 
-  abbrev pub front : Before (drop 1 s) i.attachments
-  front = before_of (drop 1 s) i.attachments i.opens
+  abbrev pub front : Before (drop 1 s) i.inside.member
+  front = before_of (drop 1 s) i.inside.member i.inside.opens
 
   behind : (z : List ℕ) → drop 1 (s ++ z) ≡ drop 1 s ++ z
   behind z = let n = i.may.long in drop-append-le 1 s z (omega arith)
 
-  members_are : (z : List ℕ) → members_in Outside 0 [] (drop 1 (s ++ z)) ≡ front.members ++ members_in Quoted (nesting_after Outside 0 i.attachments) i.attachments z
+  members_are : (z : List ℕ) → members_in Outside 0 [] (drop 1 (s ++ z)) ≡ front.members ++ members_in Quoted (nesting_after Outside 0 i.inside.member) i.inside.member z
   members_are z =
       ap (members_in Outside 0 []) (behind z) ∙ front.all z
-      ∙ ap (λ m. front.members ++ members_in m (nesting_after Outside 0 i.attachments) i.attachments z) i.quoted
+      ∙ ap (λ m. front.members ++ members_in m (nesting_after Outside 0 i.inside.member) i.inside.member z) i.inside.quoted
 
   abbrev made : List ℕ
   made = texts_with (123 ∷ []) front.members
@@ -152,18 +152,18 @@ module _ (s S : List ℕ) (i : IsPutStart s S) where
   held = helds_by [] front.members
 
   -- the open member, and the members that follow it
-  texts_are : (z x : List ℕ) (ms : List (List ℕ)) → members_in Outside 0 [] (drop 1 (s ++ z)) ≡ front.members ++ ((i.attachments ++ x) ∷ ms) → made_from (s ++ z) ≡ texts_with made ms
+  texts_are : (z x : List ℕ) (ms : List (List ℕ)) → members_in Outside 0 [] (drop 1 (s ++ z)) ≡ front.members ++ ((i.inside.member ++ x) ∷ ms) → made_from (s ++ z) ≡ texts_with made ms
   texts_are z x ms e =
-      ap (texts_with (123 ∷ [])) e ∙ texts_append (123 ∷ []) front.members ((i.attachments ++ x) ∷ ms) ∙ text_first made (i.attachments ++ x) ms (goes_on.stays x)
+      ap (texts_with (123 ∷ [])) e ∙ texts_append (123 ∷ []) front.members ((i.inside.member ++ x) ∷ ms) ∙ text_first made (i.inside.member ++ x) ms (goes_on.stays x)
 
-  helds_are : (z x : List ℕ) (ms : List (List ℕ)) → members_in Outside 0 [] (drop 1 (s ++ z)) ≡ front.members ++ ((i.attachments ++ x) ∷ ms)
-      → held_from (s ++ z) ≡ (comma_after held ++ i.attachments) ++ (x ++ later ms)
+  helds_are : (z x : List ℕ) (ms : List (List ℕ)) → members_in Outside 0 [] (drop 1 (s ++ z)) ≡ front.members ++ ((i.inside.member ++ x) ∷ ms)
+      → held_from (s ++ z) ≡ (comma_after held ++ i.inside.member) ++ (x ++ later ms)
   helds_are z x ms e =
-      let first = helds_append [] front.members ((i.attachments ++ x) ∷ ms) ∙ held_first held (i.attachments ++ x) ms (goes_on.filled x) (goes_on.stays x) in
-      let joined = held_is held (i.attachments ++ x) ∙ sym (append_assoc (comma_after held) i.attachments x) in
+      let first = helds_append [] front.members ((i.inside.member ++ x) ∷ ms) ∙ held_first held (i.inside.member ++ x) ms (goes_on.filled x) (goes_on.stays x) in
+      let joined = held_is held (i.inside.member ++ x) ∙ sym (append_assoc (comma_after held) i.inside.member x) in
       ap (helds_by []) e ∙ first ∙ ap (λ h. helds_by h ms) joined
-      ∙ helds_later ms ((comma_after held ++ i.attachments) ++ x) (more_length (comma_after held ++ i.attachments) x (filled (comma_after held) i.attachments (long i.attachments goes_on.long)))
-      ∙ append_assoc (comma_after held ++ i.attachments) x (later ms) where
+      ∙ helds_later ms ((comma_after held ++ i.inside.member) ++ x) (more_length (comma_after held ++ i.inside.member) x (filled (comma_after held) i.inside.member (long i.inside.member goes_on.long)))
+      ∙ append_assoc (comma_after held ++ i.inside.member) x (later ms) where
         long : (v : List ℕ) → 14 ≤ length v → (length v == 0) ≡ false
         long v h = grind arith
 
@@ -173,10 +173,10 @@ module _ (s S : List ℕ) (i : IsPutStart s S) where
           positive : (n : ℕ) → (suc n == 0) ≡ false
           positive n = grind arith
 
-  alone : members_in Outside 0 [] (drop 1 (s ++ [])) ≡ front.members ++ ((i.attachments ++ []) ∷ [])
+  alone : members_in Outside 0 [] (drop 1 (s ++ [])) ≡ front.members ++ ((i.inside.member ++ []) ∷ [])
   unfolding members_in
   alone =
-      members_are [] ∙ ap (λ b. front.members ++ cond b [] (i.attachments ∷ [])) (some (length i.attachments) goes_on.long) ∙ ap (λ v. front.members ++ v ∷ []) (sym (append-nil i.attachments)) where
+      members_are [] ∙ ap (λ b. front.members ++ cond b [] (i.inside.member ∷ [])) (some (length i.inside.member) goes_on.long) ∙ ap (λ v. front.members ++ v ∷ []) (sym (append-nil i.inside.member)) where
         some : (n : ℕ) → 14 ≤ n → (n == 0) ≡ false
         some n h = grind arith
 
@@ -184,9 +184,9 @@ module _ (s S : List ℕ) (i : IsPutStart s S) where
   unfolding texts_with
   made_is = ap made_from (sym (append-nil s)) ∙ texts_are [] [] [] alone
 
-  pub held_all : held_from s ≡ comma_after held ++ i.attachments
+  pub held_all : held_from s ≡ comma_after held ++ i.inside.member
   unfolding later
-  held_all = ap held_from (sym (append-nil s)) ∙ helds_are [] [] [] alone ∙ append-nil (comma_after held ++ i.attachments)
+  held_all = ap held_from (sym (append-nil s)) ∙ helds_are [] [] [] alone ∙ append-nil (comma_after held ++ i.inside.member)
 
   pub made_long : nat_lt 1 (length (made_from s)) ≡ true
   made_long = long (made_from s) i.two where
@@ -197,7 +197,7 @@ module _ (s S : List ℕ) (i : IsPutStart s S) where
   -- a run in front of the text t
   module _ (r t : List ℕ) (run : IsRun r) where
     abbrev tail_length : ℕ
-    tail_length = length_in Quoted (nesting_after Outside 0 i.attachments) t
+    tail_length = length_in Quoted (nesting_after Outside 0 i.inside.member) t
 
     abbrev pub rest_of : List (List ℕ)
     rest_of = members_in Outside 0 [] (behind_comma t tail_length)
@@ -208,16 +208,16 @@ module _ (s S : List ℕ) (i : IsPutStart s S) where
     filled_by : (v x : List ℕ) → 14 ≤ length v → (length (v ++ x) == 0) ≡ false
     filled_by v x h = let n = length-append v x in grind (arith, n)
 
-    stored_members : members_in Outside 0 [] (drop 1 (s ++ t)) ≡ front.members ++ ((i.attachments ++ take tail_length t) ∷ rest_of)
+    stored_members : members_in Outside 0 [] (drop 1 (s ++ t)) ≡ front.members ++ ((i.inside.member ++ take tail_length t) ∷ rest_of)
     stored_members =
-        members_are t ∙ ap (λ ms. front.members ++ ms) (first_by Quoted (nesting_after Outside 0 i.attachments) i.attachments t (filled_by i.attachments t goes_on.long))
+        members_are t ∙ ap (λ ms. front.members ++ ms) (first_by Quoted (nesting_after Outside 0 i.inside.member) i.inside.member t (filled_by i.inside.member t goes_on.long))
 
-    full_members : members_in Outside 0 [] (drop 1 (s ++ (r ++ t))) ≡ front.members ++ ((i.attachments ++ (r ++ take tail_length t)) ∷ rest_of)
+    full_members : members_in Outside 0 [] (drop 1 (s ++ (r ++ t))) ≡ front.members ++ ((i.inside.member ++ (r ++ take tail_length t)) ∷ rest_of)
     full_members =
-        members_are (r ++ t) ∙ ap (λ ms. front.members ++ ms) (run_members r (nesting_after Outside 0 i.attachments) i.attachments t run
-        ∙ first_by Quoted (nesting_after Outside 0 i.attachments) (i.attachments ++ r) t
-        (ap (λ v. length v == 0) (append_assoc i.attachments r t) ∙ filled_by i.attachments (r ++ t) goes_on.long)
-        ∙ ap (λ v. v ∷ rest_of) (append_assoc i.attachments r (take tail_length t)))
+        members_are (r ++ t) ∙ ap (λ ms. front.members ++ ms) (run_members r (nesting_after Outside 0 i.inside.member) i.inside.member t run
+        ∙ first_by Quoted (nesting_after Outside 0 i.inside.member) (i.inside.member ++ r) t
+        (ap (λ v. length v == 0) (append_assoc i.inside.member r t) ∙ filled_by i.inside.member (r ++ t) goes_on.long)
+        ∙ ap (λ v. v ∷ rest_of) (append_assoc i.inside.member r (take tail_length t)))
 
     pub made_stored : made_from (s ++ t) ≡ texts_with (made_from s) rest_of
     made_stored = texts_are t (take tail_length t) rest_of stored_members ∙ ap (λ m. texts_with m rest_of) (sym made_is)
@@ -230,5 +230,5 @@ module _ (s S : List ℕ) (i : IsPutStart s S) where
 
     pub held_full : held_from (s ++ (r ++ t)) ≡ held_from s ++ (r ++ tail)
     held_full =
-        helds_are (r ++ t) (r ++ take tail_length t) rest_of full_members ∙ ap (λ x. (comma_after held ++ i.attachments) ++ x) (append_assoc r (take tail_length t) (later rest_of))
+        helds_are (r ++ t) (r ++ take tail_length t) rest_of full_members ∙ ap (λ x. (comma_after held ++ i.inside.member) ++ x) (append_assoc r (take tail_length t) (later rest_of))
         ∙ ap (λ h. h ++ (r ++ tail)) (sym held_all)

@@ -21,5 +21,5 @@ pub use Printed.{IsPrinted}
 pub use Stored.{HasPrintedFront, held_of, made_of, printed_of}
 pub use Streams.{Front, IsRun, MayStream, Opens, is_streamable, next, open_last, open_later, run, start}
 unfoldable pub use Streams.{mode_after}
-pub use PutFronts.{IsPutStart, PutFront, held_from, made_from}
+pub use PutFronts.{InAttachments, IsPutStart, PutFront, before_last, held_from, made_from}
 pub use TakeFronts.{AppendsOpen, IsTakeStart, TakeFront, whole_before}

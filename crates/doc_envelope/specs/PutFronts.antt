@@ -1,5 +1,5 @@
 -- The beginnings of envelopes whose documents are wrapped before they end.
-use Rattle.std.specs.Prelude.{◌≡◌, ℕ, ◌<◌, length, drop, List, [], ◌∷◌, ◌++◌, codes, true}
+use Rattle.std.specs.Prelude.{◌≡◌, ℕ, ◌<◌, ◌-◌, length, take, drop, List, [], ◌∷◌, ◌++◌, codes, true}
 use Rattle.json.specs.Print.{escape}
 use Rattle.doc_envelope.specs.Members.{Outside, Quoted, first_length, members_in}
 use Rattle.doc_envelope.specs.Names.{has_name}
@@ -14,14 +14,22 @@ made_from s = texts_with (123 ∷ []) (members_in Outside 0 [] (drop 1 s))
 abbrev pub held_from : List ℕ → List ℕ
 held_from s = helds_by [] (members_in Outside 0 [] (drop 1 s))
 
--- A run may follow the beginning s of a document, in the member `_attachments`. The envelope of each document that
--- begins with s begins with S, if all later members are wrapped.
+-- The text t without its last byte.
+abbrev pub before_last : List ℕ → List ℕ
+before_last t = take (length t - 1) t
+
+-- The beginning s of a document ends in a string of the member `_attachments`.
+pub record InAttachments (s : List ℕ) : Type 0 where
+  pub member : List ℕ
+  pub opens : Opens (drop 1 s) member
+  pub quoted : mode_after Outside member ≡ Quoted
+  pub named : has_name member (codes "\"_attachments\"") ≡ true
+
+-- A run may follow the beginning s of a document. The envelope of each document that begins with s begins with S, if
+-- all later members are wrapped.
 pub record IsPutStart (s S : List ℕ) : Type 0 where
   pub may : MayStream s
-  pub attachments : List ℕ
-  pub opens : Opens (drop 1 s) attachments
-  pub quoted : mode_after Outside attachments ≡ Quoted
-  pub named : has_name attachments (codes "\"_attachments\"") ≡ true
+  pub inside : InAttachments s
   pub two : first_length (drop 1 (made_from s)) < length (drop 1 (made_from s))
   pub front : S ≡ made_from s ++ (codes ",\"whole\":\"" ++ escape (held_from s))
 

@@ -7,6 +7,7 @@ ghost use Rattle.doc_envelope.specs.Envelopes.{stays, enveloped, unfolded, if_an
 ghost use Rattle.doc_envelope.specs.Carried.{HasMembers, Envelops, AreOthers, Carries, AreMembers};
 ghost use Rattle.doc_envelope.specs.Steps.{added, held_with, text_with, held_by, taken_with, behind_comma, with_held, texts_with, helds_by, all_taken};
 ghost use Rattle.doc_envelope.specs.Stored.{made_of, held_of, printed_of, HasPrintedFront};
+ghost use Rattle.doc_envelope.specs.PutFronts.{before_last};
 
 use crate::members::first_length;
 use crate::names::{has_name, value_of};
@@ -129,7 +130,7 @@ impl Envelope {
     }
 
     /// Copies each member of a document, either to the envelope itself or to the envelope's string.
-    fn fold(&mut self, document: &[u8]) -> Result<(), AllocError>
+    pub(crate) fn fold(&mut self, document: &[u8]) -> Result<(), AllocError>
         ensures made { OnOk result
             (made_of self.new ≡ texts_with (123 ∷ []) (members_in Outside 0 [] (drop 1 document.now))) }
         ensures held { OnOk result
@@ -239,6 +240,20 @@ impl Envelope {
         }
         self.add(b"\"whole\":")?;
         quote(self.alloc, self.held.as_slice(), &mut self.text)
+    }
+
+    /// Appends the member `whole` to the envelope without its closing quotation mark, if there are wrapped members.
+    /// Returns `false` if the wrapped members are not UTF-8.
+    pub(crate) fn begin_held(&mut self) -> Result<bool, AllocError>
+        ensures is { IfOk result (λ ok. ok ≡ is_utf8 (held_of self.old)) }
+        ensures made { IfOk result (λ ok. ok ≡ true
+            → made_of self.new ≡ before_last (with_held (made_of self.old) (held_of self.old))) }
+    {
+        if !self.end_held()? {
+            return Ok(false);
+        }
+        self.text.pop();
+        Ok(true)
     }
 
     /// Appends a member of an envelope, or the wrapped members if the member's name is `whole`. Returns `false` if the

@@ -7,6 +7,7 @@ mod envelope;
 mod members;
 mod names;
 mod printing;
+mod puts;
 mod streaming;
 mod takes;
 mod values;

@@ -1,5 +1,5 @@
 //! Splits an object into the texts of its members.
-ghost use Rattle.std.specs.Prelude.{◌≡◌, ◌+◌, ◌<◌, ◌≤◌, ◌==◌, ℕ, length, drop, get_or, false};
+ghost use Rattle.std.specs.Prelude.{◌≡◌, ◌+◌, ◌++◌, ◌∷◌, ◌<◌, ◌≤◌, ◌==◌, ℕ, length, drop, get_or, false, IfSome};
 ghost use Rattle.doc_envelope.specs.Members.{Mode, Outside, Quoted, opens, closes, ends_member, nesting_behind, length_in, first_length};
 
 use json_values::plain_end;
@@ -99,4 +99,18 @@ pub(crate) fn first_length(text: &[u8]) -> usize
         }
     }
     at
+}
+
+/// Returns the first member of an object and the text after the member's comma, or `None` if no comma follows the
+/// member.
+pub(crate) fn split_member(text: &[u8]) -> Option<(&[u8], &[u8])>
+    ensures parts { IfSome result (λ p. text.now ≡ p.0.now ++ 44 ∷ p.1.now) }
+    ensures first { IfSome result (λ p. first_length text.now ≡ length p.0.now) }
+{
+    let length = first_length(text);
+    if length < text.len() && text[length] == b',' {
+        Some((&text[..length], &text[length + 1..]))
+    } else {
+        None
+    }
 }

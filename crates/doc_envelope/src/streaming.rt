@@ -1,9 +1,11 @@
 //! Finds texts after which a run of bytes that are not stored may follow.
 ghost use Rattle.std.specs.Prelude.{◌≡◌, ◌<◌, ◌≤◌, ◌==◌, length, drop, get_or, cond, true, false, IfSome};
 ghost use Rattle.std.specs.List.{list_all};
-ghost use Rattle.doc_envelope.specs.Members.{Outside, Quoted};
+ghost use Rattle.doc_envelope.specs.Members.{Outside, Quoted, first_length};
 ghost use Rattle.doc_envelope.specs.Streams.{MayStream, is_streamable, mode_after};
 
+use crate::envelope::behind_brace;
+use crate::members::first_length;
 use json_values::plain_end;
 
 /// Returns true only if a run may follow a text.
@@ -70,4 +72,12 @@ fn past_byte(quoted: bool, text: &[u8], at: usize) -> Option<usize>
     } else {
         None
     }
+}
+
+/// Returns true only if the first member of an object ends in a part of the object's text.
+pub(crate) fn ends_first(text: &[u8]) -> bool
+    ensures { result ≡ true → first_length (drop 1 text.now) < length (drop 1 text.now) }
+{
+    let members = behind_brace(text);
+    first_length(members) < members.len()
 }

@@ -6,8 +6,8 @@ ghost use Rattle.doc_envelope.specs.Stored.{made_of};
 ghost use Rattle.doc_envelope.specs.TakeFronts.{IsTakeStart, AppendsOpen, whole_before};
 
 use crate::envelope::{Envelope, behind_brace};
-use crate::members::first_length;
-use crate::streaming::may_stream;
+use crate::members::split_member;
+use crate::streaming::{ends_first, may_stream};
 use std::alloc::AllocError;
 
 impl Envelope {
@@ -65,20 +65,6 @@ impl Envelope {
     }
 }
 
-/// Returns the first member of an object and the text after the member's comma, or `None` if no comma follows the
-/// member.
-fn split_member(text: &[u8]) -> Option<(&[u8], &[u8])>
-    ensures parts { IfSome result (λ p. text.now ≡ p.0.now ++ 44 ∷ p.1.now) }
-    ensures first { IfSome result (λ p. first_length text.now ≡ length p.0.now) }
-{
-    let length = first_length(text);
-    if length < text.len() && text[length] == b',' {
-        Some((&text[..length], &text[length + 1..]))
-    } else {
-        None
-    }
-}
-
 /// Returns the value of a member `whole`, if the value is a string, and if the member has no white space before the
 /// value.
 fn open_whole(member: &[u8]) -> Option<&[u8]>
@@ -90,12 +76,4 @@ fn open_whole(member: &[u8]) -> Option<&[u8]>
     } else {
         None
     }
-}
-
-/// Returns true only if the first member of an object ends in a part of the object's text.
-fn ends_first(text: &[u8]) -> bool
-    ensures { result ≡ true → first_length (drop 1 text.now) < length (drop 1 text.now) }
-{
-    let members = behind_brace(text);
-    first_length(members) < members.len()
 }

@@ -1,7 +1,7 @@
 -- Bytes in order.
 use Rattle.proof_prelude.proofs.{◌≡◌, ℕ, ◌+◌, ◌-◌, ◌<◌, List, [], ◌∷◌, ◌++◌, take, drop, get_or, length, Bool, false, ◌||◌, refl, sym, ap, ◌∙◌, append_assoc, append-nil, take_more, take-add, take_all, length-drop, arith}
 use Rattle.response_parser.specs.State.{State}
-use Rattle.response_parser.specs.{step, is_refused, after, given, pieces, piece_of, is_piece, stops, Found}
+use Rattle.response_parser.specs.{step, is_refused, after, given, pieces, piece_of, is_piece, stops, Found, Piece}
 use Rattle.response_parser.specs.declared.place.Found.TheVariants.{Nothing}
 
 pub after-append : (s : State) (xs ys : List ℕ) → after s (xs ++ ys) ≡ after (after s xs) ys
@@ -50,6 +50,21 @@ module _ (s m n : State) (bytes : List ℕ) (i k : ℕ) where
   pieces_copied come more none =
       ap (pieces s) (take-add i k bytes) ∙ pieces-append s (take i bytes) (take k (drop i bytes))
       ∙ ap (λ l. l ++ pieces (after s (take i bytes)) (take k (drop i bytes))) none ∙ ap (λ z. pieces z (take k (drop i bytes))) (sym come) ∙ more
+
+none_before : (ps qs : List Piece) → ps ++ qs ≡ [] → ps ≡ []
+none_before [] qs h = refl
+none_before (p ∷ ps) qs h = absurd (cc)
+
+one_less : (i : ℕ) → i ≡ (i - 1) + (i - (i - 1))
+one_less i = omega arith
+
+-- the same without the last byte
+pub pieces_before : (s : State) (bytes : List ℕ) (i : ℕ) → pieces s (take i bytes) ≡ [] → pieces s (take (i - 1) bytes) ≡ []
+pieces_before s bytes i h =
+    let k = i - (i - 1) in
+    let cut : take i bytes ≡ take (i - 1) bytes ++ take k (drop (i - 1) bytes) = ap (λ n. take n bytes) (one_less i) ∙ take-add (i - 1) k bytes in
+    none_before (pieces s (take (i - 1) bytes)) (pieces (after s (take (i - 1) bytes)) (take k (drop (i - 1) bytes)))
+    (sym (pieces-append s (take (i - 1) bytes) (take k (drop (i - 1) bytes))) ∙ ap (pieces s) (sym cut) ∙ h)
 
 none_of : (f : Found) (text : List ℕ) (b : Bool) → (is_piece f || b) ≡ false → piece_of f text ≡ []
 none_of Nothing text b h = refl

@@ -9,6 +9,9 @@ pub mod Revs
 pub mod Steps
 pub mod Reading
 pub mod Runs
+pub mod Fronts
+pub mod Mirrors
+pub mod Passing
 pub mod Grammar
 pub mod LineGrammar
 pub mod ChangeGrammar
@@ -27,7 +30,7 @@ pub use Grammar.{AreAnswers, Holds, IsAnswered, IsDocument, IsItems, IsList, IsM
 pub use Grammar.{itself, last_item, last_list, last_value, list_first, log, no_items, no_members, no_more, no_object, object_first, of_last, of_list}
 pub use Grammar.{of_object, of_other, of_passed, value, with_items, with_members}
 pub use ChangeGrammar.{AreChanges, AreRevs, IsChangeScript, change, empty, is_word_byte, last_rev, none, object, rev, word, words}
-pub use Stored.{state_of}
+pub use Stored.{front_length_of, front_of, state_of}
 pub use declared.place.Found.{Found}
 pub use declared.place.LinePlace.{LinePlace}
 pub use declared.place.Name.{Name}

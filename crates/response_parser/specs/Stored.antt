@@ -1,6 +1,8 @@
--- The parser's state in contracts that a stored parser represents.
+-- The values in contracts that a stored parser and a stored front represent.
+use Rattle.std.specs.Prelude.{ℕ, List}
 use Rattle.response_parser.specs.State.{State}
 use Rattle.response_parser.specs.declared.reading.Reading.{Reading}
+use Rattle.response_parser.specs.declared.fronts.Front.{Front}
 
 abbrev pub state_of : Reading → State
 state_of r = record {
@@ -21,3 +23,10 @@ state_of r = record {
   passed = r.passed;
   taken = r.taken;
 }
+
+abbrev pub front_of : Front → List ℕ
+front_of f = f.text.items
+
+-- The number of the bytes of the document that the parser had stored when the front was built.
+abbrev pub front_length_of : Front → ℕ
+front_length_of f = f.length

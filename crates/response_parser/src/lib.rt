@@ -7,6 +7,7 @@
 mod brackets;
 mod copies;
 mod cover;
+mod fronts;
 mod lines;
 mod members;
 mod place;
@@ -18,5 +19,6 @@ mod strings;
 mod values;
 mod wanted;
 
+pub use fronts::Front;
 pub use place::{Found, LinePlace, Name, Place, Refusal, RevPlace, Wanted};
 pub use reading::Reading;

@@ -1,5 +1,5 @@
 //! The parser of responses, and the calls that feed it bytes.
-ghost use Rattle.std.specs.Prelude.{◌≡◌, ◌<◌, ◌≤◌, false, length, take, IfOk, OnOk};
+ghost use Rattle.std.specs.Prelude.{◌≡◌, ◌<◌, ◌≤◌, ◌-◌, [], false, length, take, IfOk, OnOk};
 ghost use Rattle.response_parser.specs.Stored.{state_of};
 ghost use Rattle.response_parser.specs.State.{start};
 ghost use Rattle.response_parser.specs.Reading.{after, end_of, given, has_rest, pieces, stops};
@@ -86,6 +86,8 @@ impl Reading {
         ensures state { IfOk result (λ count. state_of self.new ≡ after (state_of self.old) (take count bytes.now)) }
         ensures pieces { IfOk result
             (λ count. pieces (state_of self.old) (take count bytes.now) ≡ given (state_of self.new)) }
+        // No byte before the last byte that this call read completes an item.
+        ensures first { IfOk result (λ count. pieces (state_of self.old) (take (count - 1) bytes.now) ≡ []) }
         ensures all { IfOk result (λ count. stops (state_of self.new) ≡ false → count ≡ length bytes.now) }
     {
         let mut i = 0;

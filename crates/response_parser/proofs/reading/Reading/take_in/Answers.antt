@@ -1,6 +1,6 @@
 use Rattle.proof_prelude.proofs.{◌≡◌, ◌+◌, [], inr, ◌∙◌, sym, ap, subst, length, length-drop, take, arith}
 use Rattle.response_parser.specs.{after, piece_of, pieces, state_of}
-use Rattle.response_parser.proofs.{after_copied, after_taken, given_none, pieces_copied, pieces_taken, rest_of}
+use Rattle.response_parser.proofs.{after_copied, after_taken, given_none, pieces_before, pieces_copied, pieces_taken, rest_of}
 use Rattle.response_parser.proofs.reading.Reading.take_in.Goals as goal
 
 pub returns-then-stops-clause-state : goal.returns-then-stops-clause-state
@@ -31,3 +31,6 @@ loop-i-preserved c =
       pieces = pieces_copied s m n b (c.loop-i.i + 1) k one (subst (λ r. pieces m (take k r) ≡ []) rest c.in_ok-i.ensures.none) empty;
       going = inr (ap (λ f. piece_of f n.text) c.in_ok-i.ensures.found);
     }
+
+pub returns-clause-first : goal.returns-clause-first
+returns-clause-first c = pieces_before (state_of c.args.self.now) c.args.bytes.now c.loop-i.i c.loop-i.invariant.pieces

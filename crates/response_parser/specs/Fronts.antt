@@ -1,0 +1,60 @@
+-- The beginning of a long document's output, which is written before the document ends, as specified in
+-- docs/PROFILE.md, "Documents in envelopes".
+use Rattle.std.specs.Prelude.{◌≡◌, ℕ, ◌≤◌, nat_eq, length, List, ◌++◌, false, Some}
+use Rattle.std.specs.List.{starts_with}
+use Rattle.doc_envelope.specs.Streams.{Front}
+use Rattle.doc_envelope.specs.PutFronts.{IsPutStart}
+use Rattle.doc_envelope.specs.TakeFronts.{IsTakeStart}
+use Rattle.response_parser.specs.Wanted.{covered}
+use Rattle.response_parser.specs.State.{State}
+use Rattle.response_parser.specs.Values.{document_found}
+use Rattle.response_parser.specs.declared.place.Wanted.{Wanted}
+use Rattle.response_parser.specs.declared.place.Wanted.TheVariants.{Documents, Enveloped, Bodies, Unfolded, Leaves, Changes}
+
+-- The minimum number of bytes of a document before the first run that the parser does not store.
+abbrev pub long : ℕ
+long = 262144
+
+-- A run may follow the beginning s of a document, and the output for each document that begins with s begins with S.
+abbrev pub IsStart : Wanted → List ℕ → List ℕ → Type 0
+IsStart Documents s S = ⊥
+IsStart Enveloped s S = IsPutStart s S
+IsStart Bodies s S = ⊥
+IsStart Unfolded s S = IsTakeStart s S
+IsStart Leaves s S = ⊥
+IsStart Changes s S = ⊥
+
+-- The beginning of a document up to the end of a run: its text, its text without the runs, and the outputs for both.
+pub record Cut : Type 0 where
+  pub full : List ℕ
+  pub stored : List ℕ
+  pub written : List ℕ
+  pub front : List ℕ
+
+abbrev pub IsCut : Wanted → Cut → Type 0
+IsCut wanted c = Front (IsStart wanted) c.full c.stored c.written c.front
+
+-- The text of the state s begins with a long beginning of a document, and `written` is the output for this beginning.
+pub record HasWritten (s : State) (written : List ℕ) : Type 0 where
+  pub cut : Cut
+  pub behind : List ℕ
+  pub text : s.text ≡ cut.full ++ behind
+  pub begun : IsCut s.wanted cut
+  pub length_is : long ≤ length cut.full
+  pub is : written ≡ cut.written
+
+-- The parser has just found a document in the state s, and `written` is the output for a long beginning of the
+-- document. The output for the document without its runs does not begin like the output for the beginning without its
+-- runs, because an unwrapped member follows the beginning.
+pub record IsLate (s : State) (written : List ℕ) : Type 0 where
+  pub cut : Cut
+  pub rest : List ℕ
+  pub ended : State
+  pub found : s ≡ document_found ended
+  pub text : ended.text ≡ cut.full ++ rest
+  pub begun : IsCut ended.wanted cut
+  pub length_is : long ≤ length cut.full
+  pub is : written ≡ cut.written
+  pub made : List ℕ
+  pub makes : covered ended.wanted (cut.stored ++ rest) ≡ Some made
+  pub differs : starts_with nat_eq made cut.front ≡ false

@@ -1,0 +1,177 @@
+//! Passes long runs of bytes in a document's strings on, without storing them.
+ghost use Rattle.std.specs.Prelude.{◌≡◌, ◌<◌, ◌≤◌, ◌==◌, [], false, length, nat_eq, take, true, IfOk, OnOk};
+ghost use Rattle.std.specs.List.{list_all, starts_with};
+ghost use Rattle.doc_envelope.specs.Stored.{made_of};
+ghost use Rattle.doc_envelope.specs.Streams.{IsRun, is_streamable};
+ghost use Rattle.response_parser.specs.Fronts.{IsStart};
+ghost use Rattle.response_parser.specs.Passing.{FollowsFront, IsLong, Passes};
+ghost use Rattle.response_parser.specs.Stored.{front_length_of, front_of, state_of};
+
+use crate::place::{Found, Name, Place, Wanted};
+use crate::reading::Reading;
+use doc_envelope::is_log;
+use json_values::plain_end;
+use std::alloc::{AllocError, Global};
+
+/// The minimum number of bytes of a document before the first run that the parser does not store.
+const LONG: usize = 262_144;
+
+/// The minimum number of bytes of a run in one read.
+const RUN: usize = 1_024;
+
+/// After building a front, the parser reads a fourth of the number of the text's bytes before it builds the next front.
+const SHARE: u64 = 4;
+
+/// The beginning of the current document's output, which the caller writes before the document ends. The front is empty
+/// if the caller has not written a byte of the current document.
+#[derive(Drop)]
+pub struct Front {
+    text: Vec<u8>,
+    /// The number of the bytes of the document that the parser had stored when the front was built.
+    length: usize,
+    /// The number of read bytes after which the parser may build a front again.
+    next: u64,
+}
+
+impl Front {
+    /// Creates an empty front.
+    pub fn new(alloc: Global) -> Front
+        ensures { front_of result ≡ [] }
+    {
+        Front {
+            text: Vec::new(alloc),
+            length: 0,
+            next: 0,
+        }
+    }
+
+    /// Returns the text of the front.
+    pub fn text(&self) -> &[u8]
+        ensures { result.now ≡ front_of self.now }
+    {
+        self.text.as_slice()
+    }
+
+    /// Makes the front empty, because the document has ended.
+    pub fn end(&mut self)
+        ensures { front_of self.new ≡ [] }
+    {
+        self.text.clear();
+    }
+
+    /// Reads a run of a long document's string without storing it. The caller must write what the front has gained, and
+    /// then the run. Returns the number of bytes in the run, or 0 if the parser must read the next bytes itself.
+    pub fn pass(&mut self, reading: &mut Reading, bytes: &[u8]) -> Result<usize, AllocError>
+        ensures within { IfOk result (λ count. count ≤ length bytes.now) }
+        ensures none { IfOk result (λ count. count ≡ 0 → (state_of reading.new ≡ state_of reading.old)
+            × (front_of self.new ≡ front_of self.old) × (front_length_of self.new ≡ front_length_of self.old)) }
+        ensures passes { IfOk result (λ count. 0 < count → Passes (state_of reading.old) (take count bytes.now)
+            (state_of reading.new) (front_of self.old) (front_length_of self.old) (front_of self.new)
+            (front_length_of self.new)) }
+    {
+        let Place::Quoted(name) = reading.place else {
+            return Ok(0);
+        };
+        if !reading.is_long(name) {
+            return Ok(0);
+        }
+        let count = run_length(bytes);
+        if count == 0 || !self.may_pass(reading, count)? {
+            return Ok(0);
+        }
+        reading.taken = reading.taken.saturating_add(count as u64);
+        Ok(count)
+    }
+
+    /// Whether a run of `count` bytes may follow the stored text. The call builds the front if the text has grown.
+    fn may_pass(&mut self, reading: &mut Reading, count: usize) -> Result<bool, AllocError>
+        ensures same { OnOk result (state_of reading.new ≡ state_of reading.old) }
+        ensures none { IfOk result (λ ok. ok ≡ false → (front_of self.new ≡ front_of self.old)
+            × (front_length_of self.new ≡ front_length_of self.old)) }
+        ensures follows { IfOk result (λ ok. ok ≡ true → FollowsFront (state_of reading.old) (front_of self.old)
+            (front_length_of self.old) (front_of self.new) (front_length_of self.new)) }
+    {
+        if !self.text.is_empty() && reading.text.len() == self.length {
+            return Ok(true);
+        }
+        if count < RUN || reading.taken < self.next {
+            return Ok(false);
+        }
+        self.next = reading
+            .taken
+            .saturating_add(reading.text.len() as u64 / SHARE);
+        if !reading.make_front()? || !self.may_become(reading.envelope.text()) {
+            return Ok(false);
+        }
+        self.text.clear();
+        self.text.extend_from_slice(reading.envelope.text())?;
+        self.length = reading.text.len();
+        Ok(true)
+    }
+
+    /// Whether a text is not empty and begins with the front.
+    fn may_become(&self, text: &[u8]) -> bool
+        ensures begins { result ≡ true → starts_with nat_eq text.now (front_of self.now) ≡ true }
+        ensures some { result ≡ true → (length text.now == 0) ≡ false }
+    {
+        !text.is_empty() && text.starts_with(self.text.as_slice())
+    }
+}
+
+impl Reading {
+    /// Whether the current value is a long document in which a run may be passed on.
+    fn is_long(&self, name: Name) -> bool
+        ensures { result ≡ true → IsLong name (state_of self.now) }
+    {
+        if self.text.len() < LONG || self.text[0] != b'{' || self.found != Found::Nothing {
+            return false;
+        }
+        match name {
+            Name::Document => true,
+            Name::Plain => self.nesting > 0 && !is_log(self.text.as_slice()),
+            _ => false,
+        }
+    }
+
+    /// Builds the beginning of the current document's output. Returns `false` if no run may follow the stored text.
+    fn make_front(&mut self) -> Result<bool, AllocError>
+        ensures same { OnOk result (state_of self.new ≡ state_of self.old) }
+        ensures starts { IfOk result
+            (λ ok. ok ≡ true → IsStart self.old.wanted self.old.text.items (made_of self.new.envelope)) }
+    {
+        match self.wanted {
+            Wanted::Enveloped => self.envelope.begin_put(self.text.as_slice()),
+            Wanted::Unfolded => self.envelope.begin_take(self.text.as_slice()),
+            _ => Ok(false),
+        }
+    }
+}
+
+/// Returns the number of bytes before the first quotation mark, backslash or control character, or 0 if one of these
+/// bytes is not printable ASCII.
+fn run_length(bytes: &[u8]) -> usize
+    ensures within { result ≤ length bytes.now }
+    ensures run { IsRun (take result bytes.now) }
+{
+    let end = plain_end(bytes, 0);
+    if are_streamable(&bytes[..end]) {
+        end
+    } else {
+        0
+    }
+}
+
+/// Whether each byte of a text is printable ASCII, and not a quotation mark or a backslash.
+fn are_streamable(text: &[u8]) -> bool
+    ensures { result ≡ list_all is_streamable text.now }
+{
+    text.iter().all(|b| is_streamable(*b))
+}
+
+/// Whether a byte is printable ASCII, and not a quotation mark or a backslash.
+#[inline(always)]
+fn is_streamable(byte: u8) -> bool
+    ensures { result ≡ is_streamable byte }
+{
+    byte >= b' ' && byte < 127 && byte != b'"' && byte != b'\\'
+}
