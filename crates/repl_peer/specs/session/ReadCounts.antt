@@ -1,4 +1,5 @@
--- The number of documents that a session has read, and that settling adds, as specified in docs/PROFILE.md, "Settling".
+-- The number of documents that a session has read, and the number that settling adds, as specified in docs/PROFILE.md,
+-- "Settling".
 use Rattle.std.specs.Prelude.{ℕ, List, Option, Some, None, Result, Ok, Err}
 use Rattle.rev_tree.specs.declared.origin.SessionId.{SessionId}
 use Rattle.repl_peer.specs.peer.Peer.{SessionValue, session_in}
