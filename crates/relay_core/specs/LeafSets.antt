@@ -6,7 +6,7 @@ use Rattle.std.specs.List.{list_any, list_all}
 use Rattle.relay_core.specs.Messages.{Text, DocView}
 use Rattle.relay_core.specs.Leaves.{has_text}
 
--- Whether one of a set's keys is the given leaf of the given id.
+-- Whether a set of leaves has the given leaf of the document with the given id.
 abbrev pub has_leaf : List (Bor Text × Bor Text) → Text → Text → Bool
 has_leaf keys id leaf = list_any (λ k. bytes_eq id k.0.now && bytes_eq leaf k.1.now) keys
 
