@@ -47,7 +47,7 @@ pub record Tied (w : WorldValue) : Type 0 where
   pub window_lives : (x : WindowValue) → Among x w.bag.windows → x.life ≤ w.source.db.life
   pub log_lives : (g : ℕ × List EntryValue) → Among g w.bag.logs → g.0 ≤ w.source.db.life
   -- A window of the bag that has the source's current life is consistent with the source's database. The requests and
-  -- parcels of such a window are consistent with the window.
+  -- parcels of a window with the source's current life are consistent with the window.
   pub windows : (x : WindowValue) → Among x w.bag.windows → x.life ≡ w.source.db.life
       → IsTiedWindow w.source.db w.chosen x
   pub asked : (a : ℕ × AskedValue) → Among a w.bag.asked → OwnAsked w a.0 a.1

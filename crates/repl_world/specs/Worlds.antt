@@ -172,8 +172,8 @@ run refuses w (step ∷ steps) = run refuses (happens refuses w step) steps
 
 -- ---- failed allocations
 
--- The effect of a step that ran out of memory. A step that runs out of memory changes the world only if it settles a
--- parcel, and may then have settled a part of the parcel's documents.
+-- The effect of a step that ran out of memory. A step that runs out of memory changes the world only if the step
+-- settles a parcel. The step may then have settled a part of the parcel's documents.
 abbrev pub IsStopped : (Document → Bool) → WorldValue → SessionId → Option (ℕ × ParcelValue) → WorldValue → Type 0
 IsStopped refuses w session parcel now =
     (now ≡ w)

@@ -15,8 +15,8 @@ read_of (Some s) = s.counts.read
 abbrev pub read_in : List SessionValue → SessionId → ℕ
 read_in sessions id = read_of (session_in sessions id)
 
--- The number of documents that settling a parcel of n documents adds: n if all were settled, m if settling stopped
--- after m, else 0.
+-- The number of documents that settling a parcel of n documents adds. The number is n if all documents were settled, m
+-- if settling stopped after m documents, and 0 otherwise.
 abbrev pub taken : Result Settled TargetFault → ℕ → ℕ
 taken (Ok settled) n = n
 taken (Err (faults.Uncovered seq id rev)) n = n
