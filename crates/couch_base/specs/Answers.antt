@@ -10,8 +10,8 @@ abbrev pub GivesUnlessMemory : {A : Type 0} → Result A BaseFault → Result A 
 GivesUnlessMemory (Err faults.Memory) expected = IsOk expected
 GivesUnlessMemory result expected = result ≡ expected
 
--- The error of an edit whose new revision could not be computed, which is `Memory` if an allocation failed, or else
--- `GenerationFull`.
+-- The error of an edit whose new revision could not be computed. The error is `Memory` if an allocation failed, and
+-- `GenerationFull` otherwise.
 abbrev pub edit_refusal : RevFault → BaseFault
 edit_refusal revs.Memory = faults.Memory
 edit_refusal refused = faults.GenerationFull

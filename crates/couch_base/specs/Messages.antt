@@ -78,13 +78,13 @@ abbrev pub leaf_document : Id → TreeValue → RevId → Document
 leaf_document id t leaf =
     record { id = id; ancestry = ancestors t leaf; deleted = is_deleted t leaf; body = body_at t leaf }
 
--- The document `id` at revision r, if the document's tree t has a content of r.
+-- Revision r of document `id` as a document, if the document's tree t stores the content of r.
 abbrev pub document_in : Id → TreeValue → RevId → Option Document
 document_in id t r =
     option_map (λ (c : ContentValue). record { id = id; ancestry = ancestors t r; deleted = c.deleted; body = c.body })
     (get t.contents r)
 
--- Document `id` of database `db` at revision r, if the content of r is stored.
+-- Revision r of document `id` as a document, if database `db` stores the content of r.
 abbrev pub document_at : DatabaseValue → Id → RevId → Option Document
 document_at db id r = document_in id (tree_of db.docs id) r
 

@@ -14,7 +14,7 @@ pub struct Wanted {
     revs: Revs,
 }
 
-// `Drop` is implemented by hand because its derived code would be proved again in each crate that owns such a value
+// This type has no `#[derive(Drop)]`, because each crate that owns such a value would have to prove the derived code
 // (docs/DECISIONS.md, "Letting values go").
 impl Drop for Wanted {
     fn drop(self) {
@@ -72,7 +72,7 @@ pub struct Asked {
     docs: Vec<Wanted>,
 }
 
-// `Drop` is implemented by hand because its derived code would be proved again in each crate that owns such a value
+// This type has no `#[derive(Drop)]`, because each crate that owns such a value would have to prove the derived code
 // (docs/DECISIONS.md, "Letting values go").
 impl Drop for Asked {
     fn drop(self) {

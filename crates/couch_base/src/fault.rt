@@ -26,8 +26,8 @@ pub enum Put {
 /// Why a call failed.
 #[derive(Clone, Copy, Debug, Error)]
 pub enum BaseFault {
-    /// A child in the given ancestry has another parent in the document's tree. The variant names the newest child of
-    /// which the tree has another parent.
+    /// A child in the given ancestry has another parent in the document's tree. The variant names the newest child that
+    /// has another parent in the tree.
     #[error("a revision has another parent in the document's tree")]
     Contradiction { child: Rev, known: Rev, given: Rev },
     /// The update sequence is the greatest one, 9,007,199,254,740,991.

@@ -26,7 +26,7 @@ pub struct Parcel {
     made: Vec<Option<PreparedTree>>,
 }
 
-// `Drop` is implemented by hand because its derived code would be proved again in each crate that owns such a value
+// This type has no `#[derive(Drop)]`, because each crate that owns such a value would have to prove the derived code
 // (docs/DECISIONS.md, "Letting values go").
 impl Drop for Parcel {
     fn drop(self) {

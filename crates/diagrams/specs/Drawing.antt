@@ -52,8 +52,8 @@ pub record Holds (d : Document) (id : List ℕ) (leaves : List State) : Type 0 w
   pub named : string_bytes d.id ≡ id
   pub read : states d ≡ leaves
 
--- The effect of a line of a script's output: the open document after the line, and the item of the picture that the
--- line completes, if any.
+-- The effect of one line of a script's output. The effect is the open document after the line, and the picture's item
+-- that the line completes, if any.
 pub data IsNext : Option Document → Told → Option Document → Option Whole → Type 0 where
   -- A line of a script's output that begins a document.
   opened : {old : Option Document} {id : String Global} {count : ℕ} {d : Document} → Holds d (string_bytes id) [] → d.count ≡ count
@@ -131,8 +131,8 @@ abbrev pub first_sketch : Form → Option (List ℕ) → Sketch
 first_sketch form db = record { form = form; db = db; begun = None }
 
 -- A picture of a script's output, which has a start, the drawings for the output's lines, and an end. The Boolean
--- `clean` says whether memory was sufficient for every line. In the picture, no character of an input text is a hidden
--- character, and in SVG no such character is markup.
+-- `clean` says whether memory was sufficient for every line. In the picture, input texts have no hidden characters. In
+-- SVG, input texts have no markup either.
 pub record IsPictureOf (form : Form) (db : Option (List ℕ)) (input : List ℕ) (clean : Bool) (picture : List ℕ) : Type 0 where
   pub head : List ℕ
   pub head_drawn : Draws [] head []
@@ -180,7 +180,8 @@ pub record IsPicturedUntil (fault : ScriptFault) (form : Form) (db : Option (Lis
   pub written : Appends held held' text
   pub drawn : IsDrawnUntil fault form db input text
 
--- A picture of the reader's remaining bytes is written, or after an error a prefix of such a picture.
+-- If there is no error, a picture of the reader's remaining bytes is written. After an error, a prefix of a picture is
+-- written.
 abbrev pub PicturedBy : Result Bool ScriptFault → Form → Option (List ℕ) → Option (List ℕ) → Option (List ℕ) → Option (List ℕ) → Type 0
 PicturedBy (Ok clean) form db left held held' = IsPictured form db clean left held held'
 PicturedBy (Err fault) form db left held held' = IsPicturedUntil fault form db left held held'

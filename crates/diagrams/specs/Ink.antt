@@ -144,7 +144,7 @@ table_text tables.Compared = codes "compare"
 table_text tables.Info = codes "database "
 table_text tables.Session = codes "session "
 
--- A part of a total as a number from 0 to 400, in which 400 is the total.
+-- A part of a total, scaled to a number from 0 to 400. The total itself is scaled to 400.
 abbrev pub share : ℕ → ℕ → ℕ
 share part all = if all == 0 then 400 else (if nat_le 400 (part * 400 / all) then 400 else part * 400 / all)
 
@@ -244,23 +244,24 @@ signs_of forms.Svg db id leaves = title forms.Svg id ∷ map (leaf_sign forms.Sv
 
 -- ---- signs of other lines
 
--- The signs of a finding of `compare` in a picture: the finding, and its revisions.
+-- The signs that draw a finding of `compare`: a sign for the finding, and a sign for each of its revisions.
 abbrev pub signs_of_found : Form → Finding → List ℕ → List RevId → List Sign
 signs_of_found form finding id revs = found form finding id ∷ map listed revs
 
--- The signs of the numbers in a line, each number with its column.
+-- The signs (pieces of a picture) for the numbers of a line. Each sign shows a number with its column.
 abbrev pub counts_of : List Column → List ℕ → List Sign
 counts_of (c ∷ cs) (n ∷ ns) = count c n ∷ counts_of cs ns
 counts_of cs ns = []
 
--- The bar of a line of numbers. In a line of `compare`, the bar shows the number of leaves that the target has, of all
--- compared leaves. In a line of a session, the bar shows the number of documents written, of the documents read.
+-- The bar that a picture shows after the numbers of a line, if there is one. For a line of `compare`, the bar shows
+-- which part of the compared leaves the target has. For a line of a session, the bar shows which part of the documents
+-- read were written. A line of `info` has no bar.
 abbrev pub bars_of : Form → Table → List ℕ → List Sign
 bars_of form tables.Compared ns = bar form (get_or ns 1 0 - get_or ns 2 0) (get_or ns 1 0) ∷ []
 bars_of form tables.Info ns = []
 bars_of form tables.Session ns = bar form (get_or ns 5 0) (get_or ns 4 0) ∷ []
 
--- The signs of a line of numbers in a picture: its name, its numbers, and a bar.
+-- The signs that draw a line of numbers: a heading, the numbers, and a bar if the line has one.
 abbrev pub signs_of_row : Form → Table → List ℕ → List ℕ → List Sign
 signs_of_row form table name ns = heading form table name ∷ (counts_of (columns_of table) ns ++ bars_of form table ns)
 
@@ -269,7 +270,7 @@ abbrev pub most_from : ℕ → List Entry → ℕ
 most_from most [] = most
 most_from most (e ∷ es) = most_from (max most e.read) es
 
--- The signs of a log's session in a picture: its start time, its documents, and its id.
+-- The signs that draw a session of a log: the start time, a bar, the numbers of documents, and the session's id.
 abbrev pub signs_of_session : Form → ℕ → Entry → List Sign
 signs_of_session form most e =
     moment form (string_bytes e.begun) ∷ chart form e.written e.read most ∷ count columns.Read e.read ∷ count columns.Written e.written

@@ -6,7 +6,7 @@ use rev_core::Rev;
 use std::alloc::{AllocError, Global};
 use std::cmp::Ordering;
 
-/// A revision of a branch, as the last revision of an ancestry.
+/// The last revision of an ancestry, given by its branch and its position in the branch.
 #[derive(Clone, Copy, Debug, PartialEq, Eq, Hash)]
 pub struct Point {
     /// The index of the revision's branch.
@@ -97,7 +97,7 @@ impl Ancestries {
         Ok(at)
     }
 
-    /// Returns the point after a point, if a stored ancestry continues with the given revision.
+    /// Returns the point that follows the given point, if a stored ancestry continues there with the given revision.
     fn after(&self, at: Option<Point>, rev: &Rev) -> Option<Point> {
         let (branch, count) = match at {
             Some(point) => (point.branch, point.count),
@@ -159,7 +159,7 @@ impl Ancestries {
         }
     }
 
-    /// Returns the ancestor of a generation in the ancestry up to a point.
+    /// Returns the ancestor with the given generation, in the ancestry that ends at a point.
     pub fn ancestor(&self, last: Option<Point>, generation: u32) -> Option<&Rev> {
         let mut next = last;
         for _ in 0..self.branches.len() {

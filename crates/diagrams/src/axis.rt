@@ -1,5 +1,5 @@
 //! Computes the columns of a diagram of a revision tree. A generation in which a row forks or ends has a separate
-//! column. All generations between two such columns share one column.
+//! column. All generations between two separate columns share one column.
 
 use crate::ancestries::Ancestries;
 use crate::document::Leaf;

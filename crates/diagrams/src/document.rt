@@ -10,8 +10,8 @@ use std::cmp::Ordering;
 /// A leaf of a document.
 #[derive(Debug, Drop)]
 pub struct Leaf {
-    /// For the winner 0. For another leaf, a constant minus the number of revisions that the leaf shares with the
-    /// winner.
+    /// The sort key of the leaf. The key is 0 for the winner. For another leaf, the key is a constant minus the number
+    /// of revisions that the leaf shares with the winner.
     pub apart: usize,
     /// The leaf's parent, if the parent is known. In the leaf's ancestry, each revision's generation is one above the
     /// generation of its parent.

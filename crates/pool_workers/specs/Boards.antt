@@ -49,8 +49,8 @@ abbrev pub AreSeated : Option Board → List BoardSeat → Type 0
 AreSeated None seats = seats ≡ []
 AreSeated (Some b) seats = All (WorksAt b) seats
 
--- If there is a board, all seats are the board's worker seats, and these seats plus `out` further seats are at least
--- one seat per worker. If a run has no board, it has no seats.
+-- If a run has a board, all seats are the board's worker seats. These seats and `out` further seats are enough for one
+-- seat per worker. If a run has no board, it has no seats.
 abbrev pub AreSeats : Option Board → ℕ → ℕ → List BoardSeat → Type 0
 AreSeats None out workers seats = seats ≡ []
 AreSeats (Some b) out workers seats = (workers ≤ length seats + out) × All (WorksAt b) seats
@@ -91,15 +91,15 @@ abbrev pub HasRoom : Option Board → ℕ → Option BoardSeat → Type 0
 HasRoom (Some b) n (Some s) = s.settled + n ≤ s.read
 HasRoom board n seat = Unit {0}
 
--- If there is a board, the seat's settled counter has grown by the difference between a and z.
+-- If there is a board, the settled counter of seat s has grown by z - a, and seat t is the result.
 abbrev pub HasSettled : Option Board → ℕ → ℕ → Option BoardSeat → Option BoardSeat → Type 0
 HasSettled None a z s t = t ≡ s
 HasSettled (Some b) a z (Some s) (Some t) =
     WorksAt b t × (t.number ≡ s.number) × (t.read ≡ s.read) × (t.settled + a ≡ s.settled + z)
 HasSettled (Some b) a z s t = ⊥
 
--- If there is a board, the seat's settled counter has grown by the difference between a and z. If no writer was
--- stopped, the seat's read counter has grown by the same difference.
+-- If there is a board, the settled counter of seat s has grown by z - a, and seat t is the result. If no writer was
+-- stopped, the read counter of seat s has also grown by z - a.
 abbrev pub HasWritten : Option Board → ℕ → ℕ → Option Halt → Option BoardSeat → Option BoardSeat → Type 0
 HasWritten None a z stopped s t = t ≡ s
 HasWritten (Some b) a z stopped (Some s) (Some t) =

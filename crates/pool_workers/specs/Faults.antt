@@ -47,8 +47,8 @@ fault_of halts.BoardFull = faults.BoardFull
 fault_of halts.Memory = faults.Memory
 fault_of halts.Lost = faults.Memory
 
--- The reasons for which a worker may halt: the gate allows the halt, a board that can be full is full, or a call of the
--- worker failed.
+-- The reasons for which a worker may halt: the gate allows the halt, a call of the worker failed, or the board is full.
+-- The board may be full only if `may_fill` is true.
 abbrev pub AllowsOn : Type 0 → (Place → Type 0) → Halt → Type 0
 AllowsOn may_fill may_stop (halts.Stopped place) = may_stop place
 AllowsOn may_fill may_stop (halts.Refused fault) = IsStepFault fault

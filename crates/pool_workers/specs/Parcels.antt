@@ -10,7 +10,8 @@ use Rattle.pool_workers.specs.declared.parcels.ParcelMessage.TheVariants.{Parcel
 abbrev pub parcel_view : ℕ → List (ℕ × ℕ) → List (ℕ × ℕ) → ParcelView
 parcel_view parts sent got = record { parts = parts; sent = sent; got = got }
 
--- A thread that has no part of the pass to the parcel channel has sent and received no parcels.
+-- A thread without a part of the parcel channel's pass (the ghost right to use the channel) has sent and received no
+-- parcels.
 abbrev pub IdleIsEmpty : List ParcelView → Type 0
 IdleIsEmpty views =
     (port : ℕ) (v : ParcelView) → get_elem? views port ≡ some v → v.parts ≡ 0 → (v.sent ≡ []) × (v.got ≡ [])
@@ -37,6 +38,7 @@ module _ {S : Type 0} where
       ≡ total (λ (v : ParcelView). weigh h v.got) views + weigh h (parcels items))
       × IdleIsEmpty views
 
-  -- What a thread knows about the parcel channel if it has all parts of the channel's pass.
+  -- The fact about the parcel channel that a thread knows if it has the channel's complete pass (the ghost right to use
+  -- the channel).
   abbrev pub Accounts : ParcelView → List (ParcelMessage S) → Type 0
   Accounts v items = (h : ℕ → ℕ → ℕ) → weigh h v.sent ≡ weigh h v.got + weigh h (parcels items)

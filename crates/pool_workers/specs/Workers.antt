@@ -10,11 +10,11 @@ use Rattle.pool_workers.specs.Windows.{window_view}
 use Rattle.pool_workers.specs.declared.fetcher.Fetcher.{Fetcher}
 use Rattle.pool_workers.specs.declared.writer.Writer.{Writer}
 
--- The sum of the amounts of a list of numbered amounts.
+-- The sum of the amounts a of all pairs (n, a) in a list.
 abbrev pub amounts : List (ℕ × ℕ) → ℕ
 amounts xs = weigh (λ n a. a) xs
 
--- The numbers of a list of numbered amounts.
+-- The numbers n of all pairs (n, a) in a list.
 abbrev pub names : List (ℕ × ℕ) → List ℕ
 names xs = map (λ (x : ℕ × ℕ). x.0) xs
 

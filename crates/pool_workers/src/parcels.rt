@@ -86,7 +86,7 @@ impl<S: SourceBrand> Lesson<ParcelMessage<S>, ParcelView> for Gets {
     ghost fact = { λ _ _. Unit {0} };
 }
 
-/// The facts about the channel of parcels that follow from the pass that has all parts.
+/// The facts about the channel of parcels that follow from the channel's complete pass.
 pub struct Whole;
 
 impl<S: SourceBrand> Lesson<ParcelMessage<S>, ParcelView> for Whole {
@@ -95,7 +95,7 @@ impl<S: SourceBrand> Lesson<ParcelMessage<S>, ParcelView> for Whole {
     ghost fact = { Accounts };
 }
 
-/// The facts about the channel of parcels that follow from a thread's pass.
+/// A pass of the channel of parcels: the ghost right to use the channel, with a thread's facts about the channel.
 pub type ParcelPass<S> = Pass<ParcelMessage<S>, ParcelView>;
 
 /// The sending end.

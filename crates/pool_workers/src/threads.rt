@@ -156,8 +156,9 @@ impl<
         (Some(ended), seats)
     }
 
-    /// Runs the workers as threads of one thread scope (`in_scope`). If the gate never blocks, the workers are pairs
-    /// (`pairs_in_scope`), and a single pair runs on the caller's thread (`in_turn`).
+    /// Runs the workers as threads of one thread scope (`in_scope`). If the gate never blocks, each thread runs a
+    /// fetcher and a writer in turn (`pairs_in_scope`). If there is only one such thread, the caller's thread does its
+    /// work instead (`in_turn`).
     pub fn with_workers(
         &'e self,
         workers: usize,

@@ -130,7 +130,7 @@ fn sum_up<F: WriteFilter, S: SourceBrand, T: TargetBrand<F>, L: Ledger, G: Gate>
 
 /// Gives proofs two facts: at most one fetcher took each window, and at most one writer received each parcel. If the
 /// numbers of sent and received parcels are equal, the sent and the received parcels are the same, each with its number
-/// of documents. A pass gives proofs the facts about windows and parcels only if it has all 1,024 parts.
+/// of documents. Only a complete pass (all 1,024 parts) gives proofs the facts about windows and parcels.
 fn each_once<S: SourceBrand, L: Ledger>(channels: &Channels<S>, ended: &mut Ended<S, L>)
     requires window_seat { IsSeatAt (sends_on channels.now.to_fetchers) ended.old.windows }
     requires parcel_seat { IsSeatAt (sends_on channels.now.to_writers) ended.old.parcels }

@@ -88,7 +88,7 @@ impl<S: SourceBrand> Lesson<WindowMessage<S>, WindowView> for Takes {
     ghost fact = { λ _ _. Unit {0} };
 }
 
-/// The facts about the channel of windows that follow from the pass that has all parts.
+/// The facts about the channel of windows that follow from the channel's complete pass.
 pub struct AllTaken;
 
 impl<S: SourceBrand> Lesson<WindowMessage<S>, WindowView> for AllTaken {
@@ -97,7 +97,7 @@ impl<S: SourceBrand> Lesson<WindowMessage<S>, WindowView> for AllTaken {
     ghost fact = { Covers };
 }
 
-/// The facts about the channel of windows that follow from a thread's pass.
+/// A pass of the channel of windows: the ghost right to use the channel, with a thread's facts about the channel.
 pub type WindowPass<S> = Pass<WindowMessage<S>, WindowView>;
 
 /// The sending end.

@@ -38,16 +38,16 @@ abbrev pub added_settled : SeatView → ℕ → SeatView
 added_settled v n =
     seat_view v.deals v.works v.number v.reads (slice_set v.settles v.number (slice_index v.settles v.number + n))
 
--- A load of worker i's read counter returned n. The number n that a seat loads is the seat's new lower bound of the
--- counter, and is not below the old bound. For its own counter, a worker loads exactly its own count.
+-- A seat loaded n from worker i's read counter. The number n is the seat's new lower bound of this counter, and is at
+-- least the old bound. If worker i itself loaded the counter, n equals the old bound.
 abbrev pub SeesRead : SeatView → ℕ → ℕ → SeatView → Type 0
 SeesRead v i n w =
     (w ≡ seat_view v.deals v.works v.number (slice_set v.reads i n) v.settles)
     × (slice_index v.reads i ≤ n) × (n ≤ most) × (v.works ≡ true → v.number ≡ i → n ≡ slice_index v.reads i)
 
--- A load of worker i's settled counter returned n. The number n that a seat loads is the seat's new lower bound of the
--- counter, and is not below the old bound. Worker i has read at least n documents. For its own
--- counter, a worker loads exactly its own count.
+-- A seat loaded n from worker i's settled counter. The number n is the seat's new lower bound of this counter, and is
+-- at least the old bound. Worker i has read at least n documents. If worker i itself loaded the counter, n equals the
+-- old bound.
 abbrev pub SeesSettled : SeatView → ℕ → ℕ → SeatView → Type 0
 SeesSettled v i n w =
     (w ≡ seat_view v.deals v.works v.number (slice_set v.reads i (max (slice_index v.reads i) n))

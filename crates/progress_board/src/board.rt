@@ -37,7 +37,7 @@ impl Board {
     ///
     /// The settled total is at most the read total. Neither total is less than in any earlier call with this seat. If
     /// the seat is a worker's, the totals include all additions that this worker has made. The call does not block and
-    /// does not allocate. The seat must be one that was created together with this board.
+    /// does not allocate. The seat must have been created together with this board.
     pub fn read(&self, seat: &mut BoardSeat) -> (u64, u64)
         requires came { CameWith self.now seat.old }
         ensures came { CameWith self.now seat.new }
@@ -61,7 +61,7 @@ impl Board {
     /// - `NotWorker`: the seat is a viewer's.
     /// - `BoardFull`: the worker's counter would exceed 2^53 - 1.
     ///
-    /// The call does not block and does not allocate. The seat must be one that was created together with this board.
+    /// The call does not block and does not allocate. The seat must have been created together with this board.
     pub fn add_read(&self, seat: &mut BoardSeat, n: u64) -> Result<(), BoardFault>
         requires came { CameWith self.now seat.old }
         ensures came { CameWith self.now seat.new }
@@ -95,7 +95,7 @@ impl Board {
     /// - `NotWorker`: the seat is a viewer's.
     /// - `AheadOfRead`: the worker would have settled more than it has read.
     ///
-    /// The call does not block and does not allocate. The seat must be one that was created together with this board.
+    /// The call does not block and does not allocate. The seat must have been created together with this board.
     pub fn add_settled(&self, seat: &mut BoardSeat, n: u64) -> Result<(), BoardFault>
         requires came { CameWith self.now seat.old }
         ensures came { CameWith self.now seat.new }

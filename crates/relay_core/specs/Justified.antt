@@ -20,8 +20,8 @@ abbrev pub is_too_large : Side → ℕ → Bool
 is_too_large Target status = status == 413
 is_too_large Source status = false
 
--- Whether the target's response to a carry refuses the given leaf, or refuses a carry of this document alone as too
--- large. A carry is a request that transfers documents.
+-- Whether the target's response to a `carry` request refuses the given leaf, or rejects as too large a `carry` request
+-- for only the leaf's document. A `carry` request transfers documents to the target.
 abbrev pub rejects : RequestView → ResponseView → Text → Text → Bool
 rejects (carry_docs docs) (row_errors_response rows) id leaf = refuses rows id leaf
 rejects (carry_docs docs) (rejected_response side status words) id leaf = is_too_large side status && is_alone docs id
@@ -100,8 +100,8 @@ pub record AreReady (h : List Exchange) (target source : LogView) (s : Text) (fa
   pub reached : Reached (seq_of (newest_common target.history source.history)) before s rejected
   pub counted : min rejected (2 ^ 64 - 1) ≤ failures
 
--- A log may be requested to record the sequence s that the pages reached. The history of a written log is the new
--- entry, followed by the history of the log that was last read.
+-- The relay may request that a server's log record sequence s, which the pages have reached. The history of a written
+-- log is the new entry, followed by the history of the log that was last read.
 pub record IsReady (h : List Exchange) (side : Side) (log : LogView) (s : Text) (failures : ℕ) : Type 0 where
   pub target : LogView
   pub source : LogView
@@ -115,7 +115,7 @@ IsStoring (put_log Target log checkpoint) stored_response s before = checkpoint.
 IsStoring (tell notice) r s before = before
 IsStoring q r s before = ⊥
 
--- The last exchange, notices aside, stored the target's log, which records sequence s.
+-- The last exchange that is not a notice stored the target's log with recorded sequence s.
 abbrev pub IsStored : List Exchange → Text → Type 0
 IsStored [] s = ⊥
 IsStored (e ∷ h) s = IsStoring e.request e.response s (IsStored h s)

@@ -40,7 +40,7 @@ asked_by run (stages.TargetPut target source checkpoint) = put_log Target (log_v
 asked_by run (stages.SourcePut source checkpoint) = put_log Source (log_view source) (checkpoint_view checkpoint)
 asked_by run (stages.Done fault) = done (option_map fault_view fault) run.counts (begin_of run)
 
--- The next notice of the relay's phase, or the request of its stage.
+-- The next notice of the relay's phase, or the request of the phase's stage if no notice is left.
 abbrev pub asked_of : Phase → RequestView
 asked_of phase = option_map_or (λ n. tell (notice_view n)) (slice_get phase.notices.items phase.told) (asked_by phase.run phase.stage)
 

@@ -1,12 +1,12 @@
--- The elements of sets of leaves and of sets of ids. A key of a set is a reference to an id, or two references, to an
--- id and a leaf.
+-- The elements of sets of leaves and of sets of ids. A key of a set of ids is a reference to an id. A key of a set of
+-- leaves is a pair of references, to an id and to a leaf.
 use Rattle.std.specs.Prelude.{Bool, ◌&&◌, List, bytes_eq}
 use Rattle.std.specs.Borrow.{Bor}
 use Rattle.std.specs.List.{list_any, list_all}
 use Rattle.relay_core.specs.Messages.{Text, DocView}
 use Rattle.relay_core.specs.Leaves.{has_text}
 
--- Whether one of a set's keys is the given leaf of the given id.
+-- Whether a set of leaves has the given leaf of the document with the given id.
 abbrev pub has_leaf : List (Bor Text × Bor Text) → Text → Text → Bool
 has_leaf keys id leaf = list_any (λ k. bytes_eq id k.0.now && bytes_eq leaf k.1.now) keys
 

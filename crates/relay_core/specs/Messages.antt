@@ -41,8 +41,8 @@ pub data FaultView : Type 0 where
   bad_answer : Operation → FaultView
   bad_log : Side → FaultView
   refused : Text → Side → ℕ → Text → FaultView
-  -- The fault of leaves that the target's response to a carry does not account for. The fault `unaccounted` has the id,
-  -- revision, error and reason of one leaf that the response omits, and the number of omitted leaves.
+  -- The fault that leaves are still missing at the target, although the target has not refused them. The fault has the
+  -- id and revision of one such leaf, the error and reason of its row if there is one, and the number of such leaves.
   unaccounted : Text → Text → Option (Text × Text) → ℕ → FaultView
   log_changed : FaultView
 

@@ -53,7 +53,7 @@ pub fn name_all(alloc: Global, docs: &[DocLeaves], named: &[DocLeaves]) -> Resul
     Ok(has_all(&leaves, named))
 }
 
-/// Returns those of the given leaves of one document that a set of leaves has.
+/// Returns the given leaves of one document, without the leaves that a set of leaves lacks.
 fn revs_in(
     alloc: Global,
     leaves: &LeafSet<'_>,

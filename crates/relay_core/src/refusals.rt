@@ -206,7 +206,7 @@ fn error_of(
     Ok(None)
 }
 
-/// Returns the first missing leaf that no refusing row concerns, and the number of such leaves.
+/// Returns the number of missing leaves that no refusing row concerns, and the first of these leaves.
 pub(crate) fn unaccounted(
     alloc: Global,
     refused: &[RowError],

@@ -21,7 +21,7 @@ counts_tokens c =
     ∷ key (codes "docs_written") ∷ number (decimal c.docs_written)
     ∷ key (codes "doc_write_failures") ∷ number (decimal c.doc_write_failures) ∷ []
 
--- The members of a log for a session, a sequence, and the version of the log's format.
+-- The members of a log that give a session id, a sequence, and the version of the log's format.
 abbrev pub position_tokens : Text → Text → List Token
 position_tokens session seq =
     key (codes "session_id") ∷ string session ∷ key (codes "source_last_seq") ∷ string seq
@@ -57,7 +57,7 @@ abbrev pub may_keep : List Recorded → EntryView → Bool
 may_keep kept e =
     nat_lt (length kept) 50 && nat_lt (count_by (is_of_session e.session) kept) 2 && not (list_any (is_recorded e.session e.seq) kept)
 
--- The entries of a log's history that are kept, newest first, after the kept entries in `kept`.
+-- The entries of a log's history that are kept, newest first, if the entries in `kept` are kept before them.
 abbrev pub thinned : List Recorded → List EntryView → List EntryView
 thinned kept [] = []
 thinned kept (e ∷ es) = if may_keep kept e then e ∷ thinned (kept ++ recorded_of e ∷ []) es else thinned kept es

@@ -59,8 +59,8 @@ shared source target = find (λ t. holds source t.session) target
 abbrev pub lesser_of : EntryValue → EntryValue → SessionId × ℕ
 lesser_of t s = (t.session, min s.recorded t.recorded)
 
--- If the source's log has the session of the target's entry t: the session, and the lesser of the session's two
--- recorded sequences.
+-- The session of the target's entry t, with the lesser of the session's two recorded sequences, or `None` if the
+-- source's log lacks the session.
 abbrev pub checkpoint_at : List EntryValue → EntryValue → Option (SessionId × ℕ)
 checkpoint_at source t = option_map (lesser_of t) (entry_for source t.session)
 

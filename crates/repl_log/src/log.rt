@@ -14,7 +14,7 @@ pub struct Log {
     entries: IndexMap<SessionId, Entry>,
 }
 
-// `Drop` is implemented by hand because its derived code would be proved again in each crate that owns such a value
+// This type has no `#[derive(Drop)]`, because each crate that owns such a value would have to prove the derived code
 // (docs/DECISIONS.md, "Letting values go").
 impl Drop for Log {
     fn drop(self) {
@@ -97,7 +97,7 @@ impl Log {
         ensures err { OnErr result (self.new ≡ self.old) }
         ensures log { IsLog self.new }
     {
-        // The call's result is unused, and only gives proofs the fact that no session id occurs twice.
+        // The result of this call is not used. The call only gives proofs the fact that no session id occurs twice.
         let _len = self.entries.len();
         self.entries.insert(entry.session, entry)?;
         Ok(())
@@ -134,7 +134,7 @@ impl Log {
     pub fn recorded_of(&self, session: SessionId) -> Option<u64>
         ensures { result ≡ recorded_of self.now session }
     {
-        // The call's result is unused, and only gives proofs the fact that no session id occurs twice.
+        // The result of this call is not used. The call only gives proofs the fact that no session id occurs twice.
         let _len = self.entries.len();
         let entry = self.entries.get(&session)?;
         Some(entry.recorded)

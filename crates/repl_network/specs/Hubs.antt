@@ -7,12 +7,12 @@ use Rattle.repl_target.specs.declared.replication.Plan.{Plan}
 use Rattle.repl_network.specs.declared.hop.Hop.{Hop}
 use Rattle.repl_network.specs.Nets.{AllAgree, AllWhole, IsRefusedNowhere, IsSameEverywhere}
 
--- The hops from each place after the first to the hub.
+-- The hops of a hub's synchronization that lead to the hub, one for each other peer.
 abbrev pub gathers : ℕ → List Plan → List Hop
 gathers n [] = []
 gathers n (plan ∷ plans) = record { from = n + 1; to = 0; plan = plan } ∷ gathers (n + 1) plans
 
--- The hops from the hub to each place after the first.
+-- The hops of a hub's synchronization that lead from the hub, one for each other peer.
 abbrev pub spreads : ℕ → List Plan → List Hop
 spreads n [] = []
 spreads n (plan ∷ plans) = record { from = 0; to = n + 1; plan = plan } ∷ spreads (n + 1) plans

@@ -122,7 +122,7 @@ Spread peers hops peers' =
 abbrev pub tree_alone : Document → TreeValue
 tree_alone d = merged no_revisions d.ancestry (content_of d.deleted d.body) (Local 0)
 
--- Document d gives no revision a parent or a content that differs from a peer's tree.
+-- No revision has one parent or content in document d, and another in a peer's tree.
 abbrev pub FitsIn : List PeerValue → Document → Type 0
 FitsIn peers d = (n : ℕ) (p : PeerValue) → IsAt peers n p → Agree (tree_of p.db.docs d.id) (tree_alone d)
 
@@ -134,7 +134,7 @@ IsRooted db d =
 abbrev pub IsRootedAt : List PeerValue → ℕ → Document → Type 0
 IsRootedAt peers place d = (p : PeerValue) → IsAt peers place p → IsRooted p.db d
 
--- The document that an edit stores gives no revision a parent or a content that differs from a peer's tree. Every edit
+-- No revision has one parent or content in the document that an edit stores, and another in a peer's tree. Every edit
 -- satisfies `EditFits` if no two different edits have the same MD5.
 abbrev pub EditFits : List PeerValue → ℕ → Id → Option RevId → Bool → List ℕ → Type 0
 EditFits peers place id parent deleted body =

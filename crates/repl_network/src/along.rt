@@ -54,7 +54,7 @@ pub fn replicate_along<F: WriteFilter>(
 ///
 /// If every two peers are consistent, they stay consistent, even if the call fails. If the document's trees agreed and
 /// had complete histories before the call, the trees still agree and have complete histories after the call under two
-/// conditions. First, the stored document gives no revision a parent or content that differs from a peer's tree.
+/// conditions. First, no revision has one parent or content in the stored document, and another in a peer's tree.
 /// Second, the ancestry of the stored document is complete, or the peer's tree has the ancestry's oldest revision.
 pub fn load_at<F: WriteFilter>(
     peers: &mut [Peer<F>],

@@ -19,7 +19,7 @@ pub enum NetFault {
     /// The hop at the given index failed, and the earlier hops succeeded.
     #[error("hop {0}: {1}")]
     Hop(usize, TargetFault),
-    /// The number of plans for a direction differs from the number of peers without the hub.
+    /// The number of plans for a direction differs from the number of peers other than the hub.
     #[error("one plan each way is wanted for each peer behind the hub")]
     Plans,
     /// An allocation failed. The call added no peer and replicated nothing.

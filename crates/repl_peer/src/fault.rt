@@ -63,7 +63,7 @@ pub enum TargetFault {
     /// The peer has no session with this id.
     #[error("no such session")]
     NoSuchSession,
-    /// The window or entry is from a life of the source that differs from the life `now` of the session or database.
+    /// The life of the window or entry differs from `now`, the life of the session or database.
     #[error("of another life than {now}")]
     OtherLife {
         now: u64,

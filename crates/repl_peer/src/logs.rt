@@ -71,7 +71,7 @@ impl<F: WriteFilter> Peer<F> {
     ///
     /// Checked in this order; an error changes nothing:
     ///
-    /// - `OtherLife`: the entry is from another life than the database.
+    /// - `OtherLife`: the entry's life is not the database's current life.
     /// - `Older`: the log's entry of the session has a greater recorded sequence.
     /// - `Memory`: an allocation failed.
     pub fn put_entry(&mut self, rep: &RepId, entry: Entry) -> Result<(), TargetFault>

@@ -43,7 +43,7 @@ pub struct Peer<F: WriteFilter> {
     pub(crate) outgoing: Logs,
 }
 
-// `Drop` is implemented by hand because its derived code would be proved again in each crate that owns such a value
+// This type has no `#[derive(Drop)]`, because each crate that owns such a value would have to prove the derived code
 // (docs/DECISIONS.md, "Letting values go").
 impl<F: WriteFilter + Drop> Drop for Peer<F> {
     fn drop(self) {
@@ -103,8 +103,8 @@ impl<F: WriteFilter> Peer<F> {
     ghost use Rattle.repl_peer.specs.peer.Law.{Lawful};
     ghost use Rattle.repl_peer.specs.peer.Trusted.{IsTrusted};
 
-    /// Creates a peer without documents. `uuid` is the database's UUID as a number, `filter` refuses replicated
-    /// documents.
+    /// Creates a peer without documents. `uuid` is the database's UUID as a number, and `filter` decides which
+    /// replicated documents the peer refuses.
     pub fn new(alloc: Global, uuid: u128, filter: F) -> Peer<F>
         ensures value { result ≡ (filter, new_peer uuid) }
         ensures law { Lawful (F.refuses result.0) result.1 }
@@ -205,8 +205,7 @@ impl<F: WriteFilter> Peer<F> {
         self.db.page(alloc, since, goal, limit, chosen)
     }
 
-    /// Returns a page of the changes feed, if the arguments are ones for which `page` returns no argument error
-    /// (`Database::page_due`).
+    /// Returns a page of the changes feed, for arguments that `page` accepts (`Database::page_due`).
     pub fn page_due(
         &self,
         alloc: Global,
@@ -315,8 +314,8 @@ impl<F: WriteFilter> Peer<F> {
     /// Checked in this order; an error changes nothing:
     ///
     /// - `NoSuchSession`: the peer has no session with this id.
-    /// - `OtherLife`: the window is from another life than the session.
-    /// - `Gap`: the window does not begin where the stored ones end.
+    /// - `OtherLife`: the window's life is not the session's life.
+    /// - `Gap`: the window does not begin at the end of the stored windows.
     /// - `PastGoal`: the window ends above the goal.
     /// - `Memory`: an allocation failed.
     pub fn append(&mut self, id: SessionId, window: Window) -> Result<(), TargetFault>
@@ -338,7 +337,8 @@ impl<F: WriteFilter> Peer<F> {
         ensures err { OnErr result (self.new.1 ≡ self.old.1) }
         ensures law { Lawful (F.refuses self.new.0) self.new.1 }
     {
-        // The call's result is unused, and only gives proofs the fact that the window satisfies its invariant.
+        // The result of this call is not used. The call only gives proofs the fact that the window satisfies its
+        // invariant.
         let _hi = ready.window().hi();
         self.sessions.append(id, ready)
     }

@@ -94,8 +94,8 @@ impl Session {
     ///
     /// Checked in this order; an error changes nothing:
     ///
-    /// - `OtherLife`: the window is from another life than the session.
-    /// - `Gap`: the window does not begin where the stored ones end.
+    /// - `OtherLife`: the window's life is not the session's life.
+    /// - `Gap`: the window does not begin at the end of the stored windows.
     /// - `PastGoal`: the window ends above the goal.
     /// - `Memory`: an allocation failed.
     pub(crate) fn append(&mut self, ready: ReadyWindow) -> Result<(), TargetFault>

@@ -2,8 +2,8 @@
 use Rattle.std.specs.Prelude.{ℕ, ◌+◌, ◌-◌, ◌/◌, nat_le, min, if◌then◌else◌}
 use Rattle.repl_target.specs.declared.replication.Plan.{Plan}
 
--- The maximum number of windows of a run that must read windows. A run has this number of windows if each sequence has
--- a row.
+-- The maximum number of windows that a run reads, if the run must read windows. A run reads this number of windows if
+-- each sequence of the feed has a row.
 abbrev pub most_windows : Plan → ℕ → ℕ → ℕ
 most_windows plan start goal = (goal - start - 1) / plan.batch + 1
 

@@ -9,8 +9,8 @@ use Rattle.pool_workers.specs.declared.fault.PoolFault.{PoolFault}
 use Rattle.pool_workers.specs.declared.fault.PoolFault.TheVariants as faults
 use Rattle.repl_pool.specs.Early.{early_answer}
 
--- The errors that a run between consistent peers may return. The error is an early or a late error, or says that the
--- target has the session, that a worker's call failed, or that the run is unfinished.
+-- The errors that a run between consistent peers may return. The possible errors are an early error of the plan,
+-- `SessionExists`, `Unfinished`, an error of a worker's call (`IsStepFault`), or a late error (`IsLateOn`).
 abbrev pub IsExpectedRun : Type 0 → (Place → Type 0) → PeerValue → PeerValue → Plan → PoolFault → Type 0
 IsExpectedRun may_fill may_stop source target plan faults.NoWorkers =
     early_answer source target plan ≡ Err faults.NoWorkers

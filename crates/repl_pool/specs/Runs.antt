@@ -56,7 +56,7 @@ pub data IsRecorded (plan : Plan) (fault : Option PoolFault) (complete : Bool) (
       → after ≡ closed before plan → IsRecorded plan fault complete before after (faults.Refused why)
 
 -- The outcome of a run after its last step. If the allocation for the entry at the source fails, success becomes
--- `Memory`. Any other outcome stays.
+-- `Memory`. Any other outcome stays unchanged.
 abbrev pub UnlessMemory : Result Report PoolFault → Result Report PoolFault → Type 0
 UnlessMemory (Ok report) result = (result ≡ Ok report) ⊎ (result ≡ Err faults.Memory)
 UnlessMemory (Err why) result = result ≡ Err why

@@ -308,8 +308,8 @@ fn run_with<F: WriteFilter + Send + Sync, G: Gate + Sync, R: Threads + Wait + Sy
 ///
 /// - `NoWorkers`, `TooManyWorkers`, `BadBatch`, `SamePeer`: the errors of `check_run`, in this order. Both peers stay
 ///   unchanged.
-/// - `Refused`: a step failed. If no worker failed or stopped, and all windows that the plan allows are settled but end
-///   below the goal, the error is `Refused` of `Unfinished`.
+/// - `Refused`: a step failed. Suppose that no worker failed or stopped, and that all windows that the plan allows are
+///   settled. If these windows end below the goal, the error is `Refused` of `Unfinished`.
 /// - `Halted`: the gate returned `Stop` at this place.
 /// - `CountFull`: a fetcher's count of documents would exceed 9,007,199,254,740,991.
 /// - `Memory`: an allocation failed, or a thread cannot be created.

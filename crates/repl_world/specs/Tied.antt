@@ -28,8 +28,8 @@ pub record IsWorld (refuses : Document → Bool) (w : WorldValue) : Type 0 where
 
 -- ---- tied worlds
 
--- A request or a parcel is consistent with its window, which has index `place` in the bag, if the window is from the
--- source's life.
+-- The bag has a window at index `place`. If this window has the source's current life, the request or the parcel is
+-- consistent with the window.
 pub record OwnAsked (w : WorldValue) (place : ℕ) (a : AskedValue) : Type 0 where
   pub window : WindowValue
   pub own : slice_get w.bag.windows place ≡ Some window
@@ -43,11 +43,11 @@ pub record OwnParcel (w : WorldValue) (place : ℕ) (p : ParcelValue) : Type 0 w
 pub record Tied (w : WorldValue) : Type 0 where
   -- The target of the world is consistent with the source and with each backup of the source.
   pub peers : IsTiedWith w.backups w.source w.target w.chosen
-  -- No window or log of the bag is from a later life than the source's database.
+  -- The life of each window or log in the bag is at most the life of the source's database.
   pub window_lives : (x : WindowValue) → Among x w.bag.windows → x.life ≤ w.source.db.life
   pub log_lives : (g : ℕ × List EntryValue) → Among g w.bag.logs → g.0 ≤ w.source.db.life
-  -- The bag's windows from the source's life, and the requests and parcels of these windows, are consistent with the
-  -- source's current database.
+  -- A window of the bag that has the source's current life is consistent with the source's database. The requests and
+  -- parcels of a window with the source's current life are consistent with the window.
   pub windows : (x : WindowValue) → Among x w.bag.windows → x.life ≡ w.source.db.life
       → IsTiedWindow w.source.db w.chosen x
   pub asked : (a : ℕ × AskedValue) → Among a w.bag.asked → OwnAsked w a.0 a.1
@@ -65,8 +65,8 @@ pub record HoldNone (source target : PeerValue) (chosen : Choice) : Type 0 where
 
 -- ---- guarantees of tied worlds
 
--- Settling a parcel of the bag never returns `Uncovered` if the session has the parcel's window, and this window is
--- from the source's life.
+-- Settling a parcel of the bag never returns `Uncovered` if the session has the parcel's window and the window has the
+-- source's current life.
 abbrev pub NeverUncovered : (Document → Bool) → WorldValue → Type 0
 NeverUncovered refuses w =
     (p : ℕ × ParcelValue) → Among p w.bag.parcels

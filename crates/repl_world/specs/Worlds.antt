@@ -126,7 +126,7 @@ abbrev pub agreed : WorldValue → List EntryValue → Option (SessionId × ℕ)
 agreed w log = common log (target_log w.target (rep_of w))
 
 -- The parameters of a new session of the target. The session begins at the common checkpoint of the target's log and a
--- log of the bag, in the life of the bag's log.
+-- log of the bag, and has the life of the bag's log.
 abbrev pub beginning_in : WorldValue → ℕ → ℕ × List EntryValue → Beginning
 beginning_in w goal log = record {
   scope = record { rep = rep_of w; life = log.0; base = base_at (agreed w log.1); goal = goal };
@@ -172,8 +172,8 @@ run refuses w (step ∷ steps) = run refuses (happens refuses w step) steps
 
 -- ---- failed allocations
 
--- The effect of a step that ran out of memory. A step that runs out of memory changes the world only if it settles a
--- parcel, and may then have settled a part of the parcel's documents.
+-- The effect of a step that ran out of memory. A step that runs out of memory changes the world only if the step
+-- settles a parcel. The step may then have settled a part of the parcel's documents.
 abbrev pub IsStopped : (Document → Bool) → WorldValue → SessionId → Option (ℕ × ParcelValue) → WorldValue → Type 0
 IsStopped refuses w session parcel now =
     (now ≡ w)

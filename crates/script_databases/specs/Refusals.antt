@@ -87,12 +87,12 @@ target_refusal target.BadBatch = why.BadBatch
 target_refusal target.SamePeer = why.SamePeer
 target_refusal target.Memory = why.Memory
 
--- The low water of a replication that its plan stopped, or the error of the line.
+-- The low water of a replication that returned `Unfinished`, or the error of the line.
 abbrev pub stop_of : TargetFault → Result ℕ Refusal
 stop_of (target.Unfinished low_water) = Ok low_water
 stop_of fault = Err (target_refusal fault)
 
--- The low water of a pool run that its plan stopped, or the error of the line.
+-- The low water of a pool run that returned `Unfinished`, or the error of the line.
 abbrev pub run_stop_of : PoolFault → Result ℕ Refusal
 run_stop_of pool.NoWorkers = Err why.NoWorkers
 run_stop_of pool.TooManyWorkers = Err why.TooManyWorkers

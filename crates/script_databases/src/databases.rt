@@ -52,7 +52,8 @@ pub struct Databases {
     backups: Backups,
 }
 
-// `Drop` is implemented by hand here so that it is proved once (docs/DECISIONS.md, "Letting values go").
+// This type has no `#[derive(Drop)]`, so that the code that drops its values is proved only once (docs/DECISIONS.md,
+// "Letting values go").
 impl Drop for Databases {
     fn drop(self) {
         let Databases {
@@ -177,7 +178,7 @@ impl Databases {
     ///
     /// # Errors
     ///
-    /// `NoDatabase` if the name is unknown, or else the error of the database.
+    /// The call returns `NoDatabase` if the name is unknown, and otherwise the error of the database.
     pub fn load(&mut self, name: &str, doc: &Doc) -> Result<Put, Refusal>
         ensures answer { GivesOrMemory result (load_answer (peer_at self.old name.now) doc.now) }
         ensures ok { OnOk result (self.new ≡ loaded_at self.old name.now doc.now) }
@@ -195,7 +196,7 @@ impl Databases {
     ///
     /// # Errors
     ///
-    /// `NoDatabase` if the name is unknown, or else the error of the database.
+    /// The call returns `NoDatabase` if the name is unknown, and otherwise the error of the database.
     pub fn edit(
         &mut self,
         name: &str,

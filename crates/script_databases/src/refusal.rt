@@ -12,7 +12,8 @@ use rev_core::RevFault;
 use std::alloc::{AllocError, AllocFailed};
 
 /// The reason why a line failed (docs/PROFILE.md, "Order of checks"). The method `name` returns the printed name of the
-/// error. No line is expected to fail with some of the variants, which exist so that each error of a call has a name.
+/// error. Some variants exist only so that each error of a call has a name. No line is expected to fail with these
+/// variants.
 #[derive(Clone, Copy, Debug, PartialEq, Eq)]
 pub enum Refusal {
     /// A window is already done. No line is expected to fail with this error.
@@ -99,7 +100,8 @@ pub enum Refusal {
     NotObject,
     /// The stored log entry has a greater recorded sequence. No line is expected to fail with this error.
     Older,
-    /// A window or an entry is from another life. No line is expected to fail with this error.
+    /// A window or an entry has another life than the session or the database. No line is expected to fail with this
+    /// error.
     OtherLife,
     /// A window ends above the goal. No line is expected to fail with this error.
     PastGoal,
@@ -203,7 +205,7 @@ impl Refusal {
         }
     }
 
-    /// Returns the low water of a replication that its plan stopped, or the error of the line.
+    /// Returns the low water of a replication that returned `Unfinished`, or the error of the line.
     pub fn stop_of(fault: TargetFault) -> Result<u64, Refusal>
         ensures { result ≡ stop_of fault }
     {
@@ -213,7 +215,7 @@ impl Refusal {
         }
     }
 
-    /// Returns the low water of a pool run that its plan stopped, or the error of the line.
+    /// Returns the low water of a pool run that returned `Unfinished`, or the error of the line.
     pub fn run_stop_of(fault: PoolFault) -> Result<u64, Refusal>
         ensures { result ≡ run_stop_of fault }
     {

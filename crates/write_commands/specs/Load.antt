@@ -35,7 +35,7 @@ pub record LoadAsk : Type 0 where
 abbrev pub load_asked : Load → LoadAsk
 load_asked ask = record { db = ask.db.now; uuid = ask.uuid; doc = option_map line_view ask.doc }
 
--- The parameters of a `load` line, of which `doc` may be any value.
+-- The parameters of a `load` line. The value of `doc` may have any type.
 abbrev pub load_in : Data → Result LoadAsk Refusal
 load_in d = do
   db ← needed (name_at (codes "db") d)

@@ -111,7 +111,7 @@ report_line r = ended (session_part r ++ checked_part r ++ documents_part r)
 abbrev pub progress_line : Watched → List ℕ
 progress_line w = ended (codes "progress " ++ decimal w.settled ++ codes " of " ++ decimal w.read)
 
--- The line of `replicate` with the low water of a session that its plan stopped.
+-- The line of `replicate` with the low water of a session that ended below its goal.
 abbrev pub stopped_line : SessionId → ℕ → List ℕ
 stopped_line session low_water = ended (codes "stopped " ++ id_digits session.0 ++ codes " at " ++ decimal low_water)
 
@@ -158,14 +158,14 @@ plan_of s options chosen = plan_with s.program options (session_of s options) ch
 
 -- ---- its result
 
--- The ending of a replication by one thread. A replication by one thread that its plan stopped has not failed.
+-- The ending of a replication by one thread. A replication by one thread that returned `Unfinished` has not failed.
 abbrev pub ending_of : Result Report TargetFault → Result Ending Refusal
 ending_of (Ok report) = Ok (Done report)
 ending_of (Err fault) = do
   low_water ← stop_of fault
   Ok (Stopped low_water)
 
--- The ending of a replication by the pool. A replication by the pool that its plan stopped has not failed.
+-- The ending of a replication by the pool. A replication by the pool that returned `Unfinished` has not failed.
 abbrev pub ending_of_run : Result Report PoolFault → Result Ending Refusal
 ending_of_run (Ok report) = Ok (Done report)
 ending_of_run (Err fault) = do

@@ -216,7 +216,7 @@ fn plan_asked(
 }
 
 /// Replicates the source database of a line into the target database. Both databases exist. The call uses one thread if
-/// `alone` is true, and otherwise the pool, with a progress board if `progress` is true.
+/// `alone` is true, and otherwise the pool. The pool has a progress board if `progress` is true.
 fn run_plan<H: Threads + Wait + Sync>(
     rt: &H,
     alloc: Global,

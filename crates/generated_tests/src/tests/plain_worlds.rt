@@ -486,9 +486,9 @@ impl PlainWorld {
         }
     }
 
-    /// Returns the session to continue. The newest session is continued if it has not recorded its goal and is from the
-    /// source's life, or from any life if `any_life` is true. If the newest session cannot be continued, the call
-    /// returns the next session number.
+    /// Returns the session to continue. The newest session is continued if it has not recorded its goal, and if its
+    /// life is the source's life or `any_life` is true. If the newest session cannot be continued, the call returns the
+    /// next session number.
     pub(crate) fn carried(&self, any_life: bool) -> u128 {
         match self.sessions.begun.last() {
             Some(held)

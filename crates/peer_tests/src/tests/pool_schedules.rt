@@ -32,7 +32,7 @@ const WINDOWS: u64 = 3;
 
 const WORKERS: u64 = 2;
 
-/// The number of places of a run, at which the run calls the gate (five for each window).
+/// The number of places at which a run calls the gate (five for each window).
 const PLACES: u64 = 15;
 
 /// Masks with the bits of all places `Fetched` and of all places `Recorded`, two stages of each window.

@@ -53,8 +53,8 @@ restore_answer p b =
     then (if nat_lt (greater_life p b) most then Ok tt else Err faults.LifeFull)
     else Err faults.ForeignBackup)
 
--- Peer p after restoring backup b: the backup's database, local writes and outgoing logs, in a life above the lives of
--- both.
+-- Peer p after restoring backup b. The restored peer has the database, local writes and outgoing logs of b, and a life
+-- above the lives of p and b.
 abbrev pub restored : PeerValue → BackupValue → PeerValue
 restored p b =
     record p { db = in_life b.db (greater_life p b + 1); locals = b.locals; outgoing = b.outgoing }

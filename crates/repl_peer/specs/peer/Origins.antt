@@ -12,7 +12,7 @@ use Rattle.couch_base.specs.Database.{Id, tree_of}
 use Rattle.couch_base.specs.Feed.{RowValue, WindowValue}
 use Rattle.repl_peer.specs.peer.Peer.{PeerValue, SessionValue, WrittenValue}
 
--- The local write number n of peer p is of document `id` and has revision r.
+-- Local write number n of peer p is a write of document `id` whose revisions include r.
 pub record IsLocal (p : PeerValue) (id : Id) (r : RevId) (n : ℕ) : Type 0 where
   pub write : WrittenValue
   pub stored : slice_get p.locals n ≡ Some write
@@ -28,14 +28,15 @@ pub record IsListed (s : SessionValue) (id : Id) (seq : ℕ) : Type 0 where
   pub at : row.seq ≡ seq
   pub of : row.id ≡ id
 
--- An arrival of session s is of document `id` and has revision r.
+-- Session s has an arrival (a stored document) with the id `id` and with revision r in its ancestry.
 pub record IsArrival (s : SessionValue) (id : Id) (r : RevId) : Type 0 where
   pub arrival : WrittenValue
   pub stored : Among arrival s.arrivals
   pub of : arrival.id ≡ id
   pub brings : is_among r arrival.ancestry ≡ true
 
--- A session of peer p has a row of document `id` at sequence `seq`, and an arrival of document `id` with revision r.
+-- The given session of peer p has a row of document `id` at sequence `seq`, and an arrival of document `id` with
+-- revision r.
 pub record IsFed (p : PeerValue) (id : Id) (r : RevId) (session : SessionId) (seq : ℕ) : Type 0 where
   pub by : SessionValue
   pub held : Among by p.sessions

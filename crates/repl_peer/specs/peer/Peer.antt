@@ -65,7 +65,7 @@ new_peer_at uuid seq = record { db = no_documents_at uuid seq; locals = []; sess
 abbrev pub new_peer : ℕ → PeerValue
 new_peer uuid = new_peer_at uuid 0
 
--- The result of creating a peer at update sequence `seq`, `SeqTooLarge` if `seq` is above the maximum.
+-- The result of creating a peer at update sequence `seq`. The result is `SeqTooLarge` if `seq` is above the maximum.
 abbrev pub new_at_answer : {F : Type 0} → F → ℕ → ℕ → Result (F × PeerValue) BaseFault
 new_at_answer filter uuid seq =
     if nat_le seq most then Ok (filter, new_peer_at uuid seq) else Err base_faults.SeqTooLarge

@@ -1,4 +1,4 @@
--- An encoding of peers as data, by which proofs decide their equality.
+-- An encoding of peers as data, by which proofs decide whether two peers are equal.
 use Rattle.std.specs.Prelude.{◌≡◌, ◌⊎◌, ℕ, List, Option, refl}
 use Rattle.std.specs.Coded.{Coded, code_by, coded×, coded⊎, coded_ℕ, coded_list, coded_option}
 use mathlib.Core.Logic.{inl, inr}

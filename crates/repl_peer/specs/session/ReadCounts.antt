@@ -1,4 +1,5 @@
--- The number of documents that a session has read, and that settling adds, as specified in docs/PROFILE.md, "Settling".
+-- The number of documents that a session has read, and the number that settling adds, as specified in docs/PROFILE.md,
+-- "Settling".
 use Rattle.std.specs.Prelude.{ℕ, List, Option, Some, None, Result, Ok, Err}
 use Rattle.rev_tree.specs.declared.origin.SessionId.{SessionId}
 use Rattle.repl_peer.specs.peer.Peer.{SessionValue, session_in}
@@ -14,8 +15,8 @@ read_of (Some s) = s.counts.read
 abbrev pub read_in : List SessionValue → SessionId → ℕ
 read_in sessions id = read_of (session_in sessions id)
 
--- The number of documents that settling a parcel of n documents adds: n if all were settled, m if settling stopped
--- after m, else 0.
+-- The number of documents that settling a parcel of n documents adds. The number is n if all documents were settled, m
+-- if settling stopped after m documents, and 0 otherwise.
 abbrev pub taken : Result Settled TargetFault → ℕ → ℕ
 taken (Ok settled) n = n
 taken (Err (faults.Uncovered seq id rev)) n = n

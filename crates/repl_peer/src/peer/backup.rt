@@ -21,7 +21,7 @@ pub struct Backup {
     pub(crate) outgoing: Logs,
 }
 
-// `Drop` is implemented by hand because its derived code would be proved again in each crate that owns such a value
+// This type has no `#[derive(Drop)]`, because each crate that owns such a value would have to prove the derived code
 // (docs/DECISIONS.md, "Letting values go").
 impl Drop for Backup {
     fn drop(self) {
@@ -106,7 +106,8 @@ impl<F: WriteFilter> Peer<F> {
         ensures law { Lawful (F.refuses self.new.0) self.new.1 }
     {
         let life = self.next_life(backup)?;
-        // The call's result is unused, and only gives proofs the fact that the backup satisfies its invariant.
+        // The result of this call is not used. The call only gives proofs the fact that the backup satisfies its
+        // invariant.
         let _copy = backup.db();
         self.law();
         let alloc = *self.locals.allocator();

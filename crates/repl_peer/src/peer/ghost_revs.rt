@@ -18,7 +18,7 @@ impl Model for GhostRevs {
     ghost also_owns = { λ _. ftrue };
 }
 
-// A struct with `also_owns` does not implement `Send` or `Sync` automatically. This one owns nothing.
+// A struct with `also_owns` does not implement `Send` or `Sync` automatically. `GhostRevs` owns nothing.
 unsafe impl Send for GhostRevs {}
 
 unsafe impl Sync for GhostRevs {}

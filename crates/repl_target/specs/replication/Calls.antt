@@ -90,8 +90,8 @@ abbrev pub IsGrown : (Document → Bool) → DatabaseValue → Choice → Sessio
 IsGrown refuses source chosen run given now =
     (calls : List Call) × AllFrom source chosen run calls × (now ≡ after_calls refuses given calls)
 
--- The effect of a replication on its target. After a replication, the target is unchanged, or the plan's session has
--- begun at the common checkpoint, and the target has grown by calls of this session.
+-- The effect of a replication on its target. After a replication, the target may be unchanged. Otherwise, the plan's
+-- session has begun at the common checkpoint, and the target has grown by calls of this session.
 abbrev pub IsLeft : (Document → Bool) → PeerValue → PeerValue → Plan → PeerValue → Type 0
 IsLeft refuses source given plan now =
     (now ≡ given)
