@@ -45,8 +45,8 @@ IsOneOf among peers place id parent deleted body =
     (p : PeerValue) → IsAt peers place p → (e : RevId × Option RevId) → edited p.db id parent deleted body ≡ Ok e
     → among (record { before = e.1; deleted = deleted; body = body }) ≡ true
 
--- If no two edits of a set have the same MD5, the trees of a document that was made only by edits of this set agree at
--- all peers, and have complete histories.
+-- If a document was made only by edits of a set in which no two edits have the same MD5, the document's trees agree at
+-- all peers. These trees also have complete histories.
 abbrev pub MadeAgree : List PeerValue → Type 0
 MadeAgree peers =
     (among : EditValue → Bool) → HaveNoCollision among → (id : Id) → AllMadeBy among peers id

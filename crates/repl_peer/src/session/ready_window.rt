@@ -6,8 +6,8 @@ use couch_base::Window;
 use std::alloc::Global;
 use std::marker::Model;
 
-/// A window, optionally with its prebuilt shorter form, which the session keeps when the window is done. The shorter
-/// form is built before the peer is locked.
+/// A window, optionally with a prebuilt shorter form of the window. When the window is done, the session keeps only the
+/// shorter form. The shorter form is built before the peer is locked.
 pub struct ReadyWindow {
     window: Window,
     done: Option<DoneWindow>,
