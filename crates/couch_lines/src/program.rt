@@ -173,6 +173,7 @@ fn tell_run(rt: &impl Eprint, run: &Run) -> u8
             3
         }
         Err(AnswerFault::Refused { why, at }) => tell_refused(rt, run, *why, *at),
+        Err(AnswerFault::LateMember { at }) => tell_late(rt, *at),
     }
 }
 
@@ -195,6 +196,16 @@ fn tell_refused(rt: &impl Eprint, run: &Run, why: Refusal, at: u64) -> u8
     } else {
         let _ = eprintln!(rt; "error: invalid input at byte {at}, after document {id} ({why})");
     }
+    3
+}
+
+/// Reports that a member of an envelope follows an attachment that was already written, and returns the exit status.
+fn tell_late(rt: &impl Eprint, at: u64) -> u8
+    ensures { result ≡ 3 }
+{
+    let _ = eprintln!(rt;
+        "error: byte {at} ends a long document in which _id, _rev, _revisions or _deleted follows an attachment (LateMember)"
+    );
     3
 }
 

@@ -6,11 +6,11 @@ use Rattle.response_parser.specs.State.{State}
 use Rattle.response_parser.specs.LineGrammar.{IsScript}
 use Rattle.response_parser.specs.FeedGrammar.{AreLeaves}
 use Rattle.response_output.specs.Words.{Words}
-use Rattle.response_output.specs.{Answered, Converts, Stopped, ReadsAnswers, all_text, ended_of, judged_by, AnswerFault}
+use Rattle.response_output.specs.{Answered, Converts, IsBegun, Stopped, ReadsAnswers, all_text, ended_of, judged_by, AnswerFault}
 use Rattle.response_parser.specs.declared.place.Place.TheVariants.{Between, Refused}
 use Rattle.response_parser.specs.declared.place.Wanted.{Wanted}
 use Rattle.response_parser.specs.declared.place.Wanted.TheVariants.{Changes, Leaves}
-use Rattle.response_output.specs.declared.run.AnswerFault.TheVariants.{Device, Refused as Refusing}
+use Rattle.response_output.specs.declared.run.AnswerFault.TheVariants.{Device, LateMember, Refused as Refusing}
 use Rattle.response_output.proofs.Running.{Ran, Stopped-refused}
 use Rattle.response_parser.proofs.{after-append, pieces-append, answers_read, changes_read, leaves_read, lines_read, ends_lines, lines_end, stood_before, line_end_given}
 
@@ -44,14 +44,22 @@ module _ (wanted : Wanted) (t : List ℕ) (ps : List Piece) (well : end_of (afte
   reads_all w left held held' (Ok passed) e ok err =
       let all : ok.0 ≡ whole (start wanted) t = ok.1.2 ∙ ap (whole (start wanted)) (sym (given_text left t ok.1.0 e ok.1.1)) in
       subst (λ z. Appends held held' (all_text w z)) (ap (pieces (start wanted)) all ∙ holds) ok.2
-  reads_all w left held held' (Err (Refusing why at)) e ok (bytes, inl (rest, gives, refused), written, ended, taken) =
+  reads_all w left held held' (Err (Refusing why at)) e ok (bytes, inl (rest, gives, refused), begun, ended, taken) =
       let tail = last_end (after (start wanted) t) in
       let same : whole (start wanted) t ≡ bytes ++ (rest ++ tail) = ap (λ l. l ++ tail) (given_text left t (bytes ++ rest) e gives) ∙ append_assoc bytes rest tail in
       let bad = subst (λ (z : State). is_refused z.place ≡ true) (sym (after-append (start wanted) bytes (rest ++ tail))) (refused_stays (after (start wanted) bytes) (rest ++ tail) refused) in
       absurd (refused_not_ok (after (start wanted) (whole (start wanted) t)).place (subst (λ z. is_refused (after (start wanted) z).place ≡ true) (sym same) bad) well)
-  reads_all w left held held' (Err (Refusing why at)) e ok (bytes, inr (input, gives, is, going), written, ended, taken) =
+  reads_all w left held held' (Err (Refusing why at)) e ok (bytes, inr (input, gives, is, going), begun, ended, taken) =
       let all : bytes ≡ whole (start wanted) t = is ∙ ap (whole (start wanted)) (sym (given_text left t input e gives)) in
       absurd (ok_err (end_of (after (start wanted) (whole (start wanted) t)).place) well (ap (λ z. end_of (after (start wanted) z).place) (sym all) ∙ ended))
+  reads_all w left held held' (Err (LateMember at)) e ok (read, (input, gives, is), q) =
+      let all : read ≡ whole (start wanted) t = is ∙ ap (whole (start wanted)) (sym (given_text left t input e gives)) in (
+        pieces (start wanted) q.front,
+        pieces (after (start wanted) q.front) (q.last ∷ q.behind),
+        q.begun,
+        sym holds ∙ ap (pieces (start wanted)) (sym all ∙ q.bytes_are) ∙ pieces-append (start wanted) q.front (q.last ∷ q.behind),
+        subst (Appends held held') q.text_is q.written,
+      )
   reads_all w left held held' (Err (Device fault)) e ok err = tt
 
 -- ---- CouchDB responses
@@ -116,6 +124,6 @@ converts_by wanted w left held held' (Ok u) x passed taken is bad h = absurd (ba
 converts_by wanted w left held held' (Err why) x passed taken is bad h =
     subst (λ z. Converts z wanted w left held held') (sym is) (subst (λ z. IfErr z (Stopped wanted w left held held')) is h)
 
-pub Converts-refused : {wanted : Wanted} {w : Words} {s : State} {w' : Words} {left left' held held' : Option (List ℕ)} (r : Ran wanted w s w' left left' held held') (x : Result ℕ AnswerFault) → x ≡ ended_of s → is_refused s.place ≡ true → Converts x wanted w left held held'
-Converts-refused {wanted} {w} {s} {left = left} {held = held} {held'} r x is h =
-    converts_by wanted w left held held' (end_of s.place) x s.passed s.taken is (refused_not_ok s.place h) (Stopped-refused r x is h)
+pub Converts-refused : {wanted : Wanted} {w : Words} {s : State} {w' : Words} {part : List ℕ} {left left' held held' : Option (List ℕ)} (r : Ran wanted w s w' part left left' held held') (x : Result ℕ AnswerFault) → IsBegun s w' part → x ≡ ended_of s → is_refused s.place ≡ true → Converts x wanted w left held held'
+Converts-refused {wanted} {w} {s} {left = left} {held = held} {held'} r x b is h =
+    converts_by wanted w left held held' (end_of s.place) x s.passed s.taken is (refused_not_ok s.place h) (Stopped-refused r x b is h)

@@ -1,5 +1,6 @@
 -- The output for responses, as specified in docs/PROFILE.md, "CouchDB's answers".
-use Rattle.std.specs.Prelude.{◌≡◌, ◌⊎◌, ℕ, List, [], ◌++◌, true, false, Option, Result, Ok, Err, ⊤}
+use Rattle.std.specs.Prelude.{◌≡◌, ◌⊎◌, ℕ, ◌==◌, nat_eq, length, List, [], ◌∷◌, ◌++◌, true, false, Option, Result, Ok, Err, ⊤}
+use Rattle.std.specs.List.{starts_with}
 use Rattle.std.specs.Io.KnownBytes.{Appends}
 use Rattle.script_engine.specs.Device.{Gives}
 use Rattle.script_engine.specs.Faults.{IsFaultOf, IsOfWriter}
@@ -7,21 +8,29 @@ use Rattle.script_engine.specs.declared.fault.ScriptFault.{ScriptFault}
 use Rattle.script_engine.specs.declared.fault.ScriptFault.TheVariants.{Read, Write, Memory, Cut}
 use Rattle.response_parser.specs.State.{State, start}
 use Rattle.response_parser.specs.Steps.{is_refused}
+use Rattle.response_parser.specs.Fronts.{Cut as LongCut, HasWritten, IsLate}
+use Rattle.response_parser.specs.Mirrors.{Like, Mirrors, Rejected}
 use Rattle.response_parser.specs.Reading.{Piece, after, pieces, end_of, last_end, whole}
-use Rattle.response_output.specs.Words.{Words, texts, words_behind, last_text}
+use Rattle.response_output.specs.Words.{Words, before, rest_text, texts, words_behind, last_text}
 use Rattle.response_parser.specs.declared.place.Wanted.{Wanted}
+use Rattle.response_parser.specs.declared.place.Name.{Name}
 use Rattle.response_parser.specs.declared.place.Refusal.{Refusal}
 use Rattle.response_output.specs.declared.run.AnswerFault.{AnswerFault}
-use Rattle.response_output.specs.declared.run.AnswerFault.TheVariants.{Refused, Device}
+use Rattle.response_output.specs.declared.run.AnswerFault.TheVariants.{Refused, LateMember, Device}
 
--- ---- some bytes
+-- ---- an item that the output has begun
 
--- The given bytes were read, and the items in these bytes were written. The last two arguments of `Fed` are the bytes
--- that the writer has accepted before and after.
-pub record Fed (s : State) (w : Words) (bytes : List ℕ) (s' : State) (w' : Words) (held held' : Option (List ℕ)) : Type 0 where
+-- The text `part` is the beginning of the next item in the output. If `part` is not empty, the parser is in a document
+-- whose beginning is long, and `part` ends with the output for this beginning.
+abbrev pub IsBegun : State → Words → List ℕ → Type 0
+IsBegun s w part = (part ≡ []) ⊎ ((written : List ℕ) × HasWritten s written × (part ≡ before w ++ written))
+
+-- The given bytes were read, and the items in these bytes were written, and then the beginning `part` of the next item.
+-- The last two arguments of `Fed` are the bytes that the writer has accepted before and after.
+pub record Fed (s : State) (w : Words) (bytes : List ℕ) (s' : State) (w' : Words) (part : List ℕ) (held held' : Option (List ℕ)) : Type 0 where
   pub state : s' ≡ after s bytes
   pub words : w' ≡ words_behind w (pieces s bytes)
-  pub written : Appends held held' (texts w (pieces s bytes))
+  pub written : Appends held held' (texts w (pieces s bytes) ++ part)
 
 -- Only a failed write leaves an incomplete item. The program's output is not produced in pieces, so `Cut` does not
 -- occur.
@@ -31,16 +40,76 @@ IsWhole Write missing = ⊤
 IsWhole Memory missing = missing ≡ []
 IsWhole Cut missing = ⊥
 
--- The bytes that the writer has accepted are a prefix of the texts of the given items.
-pub record Begins (fault : ScriptFault) (w : Words) (all : List Piece) (held held' : Option (List ℕ)) : Type 0 where
-  pub told : List Piece
-  pub untold : List Piece
-  pub pieces_are : all ≡ told ++ untold
+-- A text was not written completely: a write failed in the text, or before its first byte.
+pub data WritesInPart (fault : ScriptFault) (made : List ℕ) (held held' : Option (List ℕ)) : Type 0 where
+  in_part : (text missing : List ℕ) → made ≡ text ++ missing → Appends held held' text → fault ≡ Write → WritesInPart fault made held held'
+  nothing : Appends held held' [] → IsWhole fault [] → WritesInPart fault made held held'
+
+-- The rest of a document was not written completely, or the document's text does not begin with the front. The state s
+-- is the parser's at the document's end.
+abbrev pub RestBreaks : AnswerFault → State → Words → List ℕ → Option (List ℕ) → Option (List ℕ) → Type 0
+RestBreaks (Refused why at) s w front held held' = ⊥
+RestBreaks (LateMember at) s w front held held' =
+    (starts_with nat_eq s.text front ≡ false) × Appends held held' [] × (at ≡ s.taken)
+RestBreaks (Device fault) s w front held held' =
+    (starts_with nat_eq s.text front ≡ true) × WritesInPart fault (rest_text w s.text (length front)) held held'
+
+-- A device or an allocation failed after the bytes `before`. The texts of the items in these bytes were written, and the
+-- beginning of the next item, but a failed write has not written `missing`. The text `part` was written before the given
+-- bytes.
+pub record Begins (fault : ScriptFault) (s : State) (w : Words) (part bytes : List ℕ) (held held' : Option (List ℕ)) : Type 0 where
+  pub before : List ℕ
+  pub behind : List ℕ
+  pub bytes_are : bytes ≡ before ++ behind
+  pub last : List ℕ
+  pub begun : IsBegun (after s before) (words_behind w (pieces s before)) last
   pub text : List ℕ
   pub missing : List ℕ
-  pub text_is : texts w told ≡ text ++ missing
+  pub text_is : part ++ (text ++ missing) ≡ texts w (pieces s before) ++ last
   pub written : Appends held held' text
   pub complete : IsWhole fault missing
+
+-- The last byte of the given bytes up to `behind` ends a document whose output has begun in another way. The items
+-- before this document were written, and the beginning of the document. The text `part` was written before the given
+-- bytes, and `at` is the number of bytes up to the document's end.
+pub record IsLateAt (at : ℕ) (s : State) (w : Words) (part bytes : List ℕ) (held held' : Option (List ℕ)) : Type 0 where
+  pub front : List ℕ
+  pub last : ℕ
+  pub behind : List ℕ
+  pub bytes_are : bytes ≡ front ++ last ∷ behind
+  pub begun : List ℕ
+  pub late : IsLate (after s (front ++ last ∷ [])) begun
+  pub text : List ℕ
+  pub text_is : part ++ text ≡ texts w (pieces s front) ++ (before (words_behind w (pieces s front)) ++ begun)
+  pub written : Appends held held' text
+  pub at_is : at ≡ (after s (front ++ last ∷ [])).taken
+
+-- The effect of an error while bytes of a response were read.
+abbrev pub Breaks : AnswerFault → State → Words → List ℕ → List ℕ → Option (List ℕ) → Option (List ℕ) → Type 0
+Breaks (Refused why at) s w part bytes held held' = ⊥
+Breaks (LateMember at) s w part bytes held held' = IsLateAt at s w part bytes held held'
+Breaks (Device fault) s w part bytes held held' = Begins fault s w part bytes held held'
+
+-- ---- the stored parser
+
+-- The parser that stores each byte has the state s, and the program's parser has the state r. The output has begun the
+-- next item with the text `part`. The program has a front of the current document, with the number of stored bytes when
+-- the front was built.
+pub data Tracks (s r : State) (front : List ℕ) (at : ℕ) (w : Words) (part : List ℕ) : Type 0 where
+  tracks_whole : Like s r → front ≡ [] → part ≡ [] → Tracks s r front at w part
+  tracks_long : (cut : LongCut) (name : Name) → Mirrors cut name s r → front ≡ cut.front → at ≡ length cut.stored → (length front == 0) ≡ false
+      → part ≡ before w ++ cut.written → Tracks s r front at w part
+  tracks_stuck : (cut : LongCut) → Rejected cut s r → part ≡ before w ++ cut.written → Tracks s r front at w part
+
+-- The parser read the given bytes, and the items in these bytes were written. The texts `part` and `part'` are the
+-- beginnings of the next item that were written before and after.
+pub record Feeds (s : State) (w : Words) (part bytes : List ℕ) (r' : State) (front' : List ℕ) (at' : ℕ) (w' : Words) (held held' : Option (List ℕ)) : Type 0 where
+  pub part' : List ℕ
+  pub tracks : Tracks (after s bytes) r' front' at' w' part'
+  pub words : w' ≡ words_behind w (pieces s bytes)
+  pub text : List ℕ
+  pub text_is : part ++ text ≡ texts w (pieces s bytes) ++ part'
+  pub written : Appends held held' text
 
 -- ---- the end
 
@@ -62,18 +131,23 @@ EndsAnswers s w held held' (Ok passed) =
     Appends held held' (last_text w) × (end_of s.place ≡ Ok tt) × (passed ≡ s.passed)
 EndsAnswers s w held held' (Err (Refused why at)) =
     Appends held held' [] × (end_of s.place ≡ Err why) × (at ≡ s.taken)
-EndsAnswers s w held held' (Err (Device fault)) = EndsInPart fault (last_text w) held held'
+EndsAnswers s w held held' (Err (LateMember at)) = ⊥
+EndsAnswers s w held held' (Err (Device fault)) = EndsInPart fault (last_text w) held held' × (end_of s.place ≡ Ok tt)
 
--- The effect of the end of the input on a conversion, which first adds a line end to a last line without one.
-abbrev pub Finishes : State → Words → Option (List ℕ) → Option (List ℕ) → Result ℕ AnswerFault → Type 0
-Finishes s w held held' (Ok passed) =
-    Appends held held' (all_text w (pieces s (last_end s))) × (end_of (after s (last_end s)).place ≡ Ok tt)
-    × (passed ≡ (after s (last_end s)).passed)
-Finishes s w held held' (Err (Refused why at)) =
-    Appends held held' (texts w (pieces s (last_end s))) × (end_of (after s (last_end s)).place ≡ Err why)
-    × (at ≡ (after s (last_end s)).taken)
-Finishes s w held held' (Err (Device fault)) =
-    Begins fault w (pieces s (last_end s)) held held' ⊎ EndsInPart fault (all_text w (pieces s (last_end s))) held held'
+-- The effect of the end of the input on a conversion, which first adds a line end to a last line without one. The text
+-- `part` is the beginning of an item that was written before the end.
+abbrev pub Finishes : State → Words → List ℕ → Option (List ℕ) → Option (List ℕ) → Result ℕ AnswerFault → Type 0
+Finishes s w part held held' (Ok passed) =
+    (text : List ℕ) × Appends held held' text × (part ++ text ≡ all_text w (pieces s (last_end s)))
+    × (end_of (after s (last_end s)).place ≡ Ok tt) × (passed ≡ (after s (last_end s)).passed)
+Finishes s w part held held' (Err (Refused why at)) =
+    (text : List ℕ) × (part' : List ℕ) × Appends held held' text × (part ++ text ≡ texts w (pieces s (last_end s)) ++ part')
+    × IsBegun (after s (last_end s)) (words_behind w (pieces s (last_end s))) part'
+    × (end_of (after s (last_end s)).place ≡ Err why) × (at ≡ (after s (last_end s)).taken)
+Finishes s w part held held' (Err (LateMember at)) = IsLateAt at s w part (last_end s) held held'
+Finishes s w part held held' (Err (Device fault)) =
+    Begins fault s w part (last_end s) held held'
+    ⊎ ((whole : List ℕ) × (part ++ whole ≡ all_text w (pieces s (last_end s))) × EndsInPart fault whole held held')
 
 -- ---- everything from a reader
 
@@ -102,31 +176,41 @@ Answered wanted w left held held' passed =
     × (end_of (after (start wanted) read).place ≡ Ok tt) × (passed ≡ (after (start wanted) read).passed)
 
 -- The effect of a run that failed. If the input of a run is invalid at its last byte, the items before that byte are
--- written. If a device or an allocation failed, the written text is a prefix of the output for the complete input.
+-- written. If a device or an allocation failed, the written text is a prefix of the output for the complete input. In a
+-- long document, the beginning of the document's item is written, too. The item of the document may be different only
+-- if an unwrapped member follows, which is the error `LateMember` at the document's end.
 abbrev pub Stopped : Wanted → Words → Option (List ℕ) → Option (List ℕ) → Option (List ℕ) → AnswerFault → Type 0
 Stopped wanted w left held held' (Refused why at) =
     (read : List ℕ) × (IsFront wanted left read ⊎ IsAll wanted left read)
-    × Appends held held' (texts w (pieces (start wanted) read))
+    × ((part : List ℕ) × IsBegun (after (start wanted) read) (words_behind w (pieces (start wanted) read)) part
+    × Appends held held' (texts w (pieces (start wanted) read) ++ part))
     × (end_of (after (start wanted) read).place ≡ Err why) × (at ≡ (after (start wanted) read).taken)
+Stopped wanted w left held held' (LateMember at) =
+    (read : List ℕ) × IsLeft wanted left read × IsLateAt at (start wanted) w [] read held held'
 Stopped wanted w left held held' (Device fault) =
     (read : List ℕ) × IsLeft wanted left read
-    × (Begins fault w (pieces (start wanted) read) held held' ⊎ EndsInPart fault (all_text w (pieces (start wanted) read)) held held')
+    × (Begins fault (start wanted) w [] read held held' ⊎ EndsInPart fault (all_text w (pieces (start wanted) read)) held held')
 
 -- The guarantees of a conversion for any input, by the conversion's result.
 abbrev pub Converts : Result ℕ AnswerFault → Wanted → Words → Option (List ℕ) → Option (List ℕ) → Option (List ℕ) → Type 0
 Converts (Ok passed) wanted w left held held' = Answered wanted w left held held' passed
 Converts (Err fault) wanted w left held held' = Stopped wanted w left held held' fault
 
--- The effect of a run on responses with the given items: the items are written, and the input is not rejected.
+-- The effect of a run on responses with the given items: the items are written, and the input is not rejected. After
+-- the error `LateMember`, the first items are written, and the beginning `begun` of the next one.
 abbrev pub ReadsAnswers : Words → List Piece → Option (List ℕ) → Option (List ℕ) → Result ℕ AnswerFault → Type 0
 ReadsAnswers w all held held' (Ok passed) = Appends held held' (all_text w all)
 ReadsAnswers w all held held' (Err (Refused why at)) = ⊥
+ReadsAnswers w all held held' (Err (LateMember at)) =
+    (told : List Piece) × (untold : List Piece) × (begun : List ℕ) × (all ≡ told ++ untold)
+    × Appends held held' (texts w told ++ (before (words_behind w told) ++ begun))
 ReadsAnswers w all held held' (Err (Device fault)) = ⊤
 
 -- Of the reader and the writer, exactly the device that the error names failed. The arguments of `CountsOf` are the
 -- reader's counts of reads before and after, then the failure counts of reader and writer.
 abbrev pub CountsOf : AnswerFault → ℕ → ℕ → ℕ → ℕ → ℕ → ℕ → Type 0
 CountsOf (Refused why at) reads reads' reader reader' writer writer' = (reader' ≡ reader) × (writer' ≡ writer)
+CountsOf (LateMember at) reads reads' reader reader' writer writer' = (reader' ≡ reader) × (writer' ≡ writer)
 CountsOf (Device fault) reads reads' reader reader' writer writer' = IsFaultOf fault reads reads' reader reader' writer writer'
 
 -- The writer failed exactly if the error names the writer. The arguments of `CountsOfWriter` are the writer's failure
@@ -134,6 +218,7 @@ CountsOf (Device fault) reads reads' reader reader' writer writer' = IsFaultOf f
 abbrev pub CountsOfWriter : Result ℕ AnswerFault → ℕ → ℕ → Type 0
 CountsOfWriter (Ok passed) writer writer' = writer' ≡ writer
 CountsOfWriter (Err (Refused why at)) writer writer' = writer' ≡ writer
+CountsOfWriter (Err (LateMember at)) writer writer' = writer' ≡ writer
 CountsOfWriter (Err (Device fault)) writer writer' = IsOfWriter fault writer writer'
 
 -- The result of a conversion at the end of its input.

@@ -1,6 +1,6 @@
 -- The output for the items that the parser found, as specified in docs/PROFILE.md, "CouchDB's answers" and "Lines of
 -- documents".
-use Rattle.std.specs.Prelude.{ℕ, ◌&&◌, ◌==◌, nat_lt, List, [], ◌∷◌, ◌++◌, Bool, true, false, not, cond, codes}
+use Rattle.std.specs.Prelude.{ℕ, ◌&&◌, ◌==◌, nat_lt, drop, List, [], ◌∷◌, ◌++◌, Bool, true, false, not, cond, codes}
 use Rattle.doc_envelope.specs.Names.{id_of}
 use Rattle.response_parser.specs.State.{more}
 use Rattle.response_parser.specs.Reading.{Piece}
@@ -46,6 +46,15 @@ id_kept w id = record w { id = id; listed = false }
 -- The text that the formatter writes for a document, given the document's own text.
 abbrev pub document_text : Words → List ℕ → List ℕ
 document_text w text = before w ++ (text ++ behind w)
+
+-- A part of a document's text: what the text `front` has after its first `told` bytes, and then the given bytes. The
+-- part begins with the text before the document if `told` is 0.
+abbrev pub part_text : Words → List ℕ → ℕ → List ℕ → List ℕ
+part_text w front told bytes = cond (told == 0) (before w) [] ++ (drop told front ++ bytes)
+
+-- What the formatter writes for a document after the document's first `told` bytes.
+abbrev pub rest_text : Words → List ℕ → ℕ → List ℕ
+rest_text w text told = drop told text ++ behind w
 
 abbrev pub with_document : Words → List ℕ → Words
 with_document w text = counted_up (id_kept w (id_of text))

@@ -1,28 +1,33 @@
 //! Reads responses from a reader, and writes their contents to a writer.
-ghost use Rattle.std.specs.Prelude.{◌≡◌, ℕ, List, Some, IfOk, OnOk, IfErr, true, false};
+ghost use Rattle.std.specs.Prelude.{◌≡◌, ◌<◌, ◌≤◌, ◌==◌, ℕ, List, [], length, nat_eq, take, Some, Err, IfOk, OnOk, IfErr, true, false};
 ghost use Rattle.std.specs.Io.KnownBytes.{Appends, IsAtEnd};
 ghost use Rattle.script_engine.specs.Chunks.{AreChunks};
 ghost use Rattle.script_engine.specs.Faults.{IsOfWriter};
-ghost use Rattle.response_parser.specs.Stored.{state_of};
-ghost use Rattle.response_output.specs.Stored.{words_of_wording};
+ghost use Rattle.std.specs.List.{starts_with};
+ghost use Rattle.response_parser.specs.Stored.{front_length_of, front_of, state_of};
+ghost use Rattle.response_output.specs.Stored.{made_of, words_of_wording};
 ghost use Rattle.response_parser.specs.Wanted.{wants_documents, is_strict};
 ghost use Rattle.response_parser.specs.declared.place.Wanted.TheVariants.{Changes, Leaves};
-ghost use Rattle.response_parser.specs.State.{start};
-ghost use Rattle.response_parser.specs.Reading.{Piece, given, last_end, pieces};
+ghost use Rattle.response_parser.specs.declared.place.Found.TheVariants.{Document};
+ghost use Rattle.response_parser.specs.State.{State, start};
+ghost use Rattle.response_parser.specs.Reading.{Piece, given, last_end};
 ghost use Rattle.response_parser.specs.Grammar.{IsAnswered};
 ghost use Rattle.response_parser.specs.LineGrammar.{IsScript};
 ghost use Rattle.response_parser.specs.ChangeGrammar.{IsChangeScript};
 ghost use Rattle.response_parser.specs.FeedGrammar.{AreLeaves};
-ghost use Rattle.response_output.specs.Words.{texts, words_behind};
+ghost use Rattle.response_output.specs.Words.{part_text, rest_text, texts, with_document, words_behind};
 ghost use Rattle.script_engine.specs.declared.fault.ScriptFault.TheVariants.{Memory};
 ghost use Rattle.response_output.specs.declared.run.AnswerFault.TheVariants.{Device};
-ghost use Rattle.response_output.specs.Runs.{Fed, Begins, EndsAnswers, Finishes, Answered, Stopped, Converts, CountsOf, CountsOfWriter, ReadsAnswers, ended_of};
+ghost use Rattle.response_output.specs.Runs.{Feeds, Tracks, Breaks, RestBreaks, WritesInPart, EndsAnswers, Finishes, Answered, Stopped, Converts, CountsOf, CountsOfWriter, ReadsAnswers, ended_of};
 
 use crate::wording::Wording;
-use response_parser::{Reading, Refusal};
+use response_parser::{Found, Front, Reading, Refusal};
 use script_engine::{Chunks, ScriptFault, ScriptRead, ScriptWrite, write_all};
 use std::alloc::{AllocError, Global};
 use thiserror::Error;
+
+/// The maximum number of bytes that the parser reads before the loop looks for a run that it does not store.
+const PART: usize = 4_096;
 
 /// Why reading stopped early.
 #[derive(Debug, Drop, Error)]
@@ -31,6 +36,10 @@ pub enum AnswerFault {
     /// rejected byte.
     #[error("refused: {why} at byte {at}")]
     Refused { why: Refusal, at: u64 },
+    /// The parser ended a long document in which a member `_id`, `_rev`, `_revisions` or `_deleted` follows an
+    /// attachment. The field `at` is the number of bytes that the parser read.
+    #[error("refused: LateMember at byte {at}")]
+    LateMember { at: u64 },
     /// The reader, the writer or an allocation failed.
     #[error("{fault}")]
     Device { fault: ScriptFault },
@@ -54,6 +63,20 @@ impl From<AllocError> for AnswerFault {
     }
 }
 
+/// Writes the text that the formatter formatted last.
+fn write_text<W: ScriptWrite>(wording: &Wording, writer: &mut W) -> Result<(), ScriptFault>
+    ensures ok { OnOk result (Appends (W.held writer.old) (W.held writer.new) (made_of wording.now)
+        × (W.failures writer.new ≡ W.failures writer.old)) }
+    ensures err { IfErr result (λ fault. WritesInPart fault (made_of wording.now) (W.held writer.old)
+        (W.held writer.new)) }
+    ensures fault { IfErr result (λ fault. IsOfWriter fault (W.failures writer.old) (W.failures writer.new)) }
+{
+    match write_all(writer, wording.text()) {
+        Ok(()) => Ok(()),
+        Err(fault) => Err(fault),
+    }
+}
+
 /// Writes the item that the last byte of the response completed.
 fn tell<W: ScriptWrite>(
     reading: &Reading,
@@ -65,39 +88,196 @@ fn tell<W: ScriptWrite>(
     ensures words { OnOk result (words_of_wording wording.new
         ≡ words_behind (words_of_wording wording.old) (given (state_of reading.now))) }
     ensures counted { OnOk result (W.failures writer.new ≡ W.failures writer.old) }
-    ensures err { IfErr result (λ fault. Begins fault (words_of_wording wording.old) (given (state_of reading.now))
-        (W.held writer.old) (W.held writer.new)) }
+    ensures err { IfErr result (λ fault. WritesInPart fault
+        (texts (words_of_wording wording.old) (given (state_of reading.now))) (W.held writer.old)
+        (W.held writer.new)) }
     ensures fault { IfErr result (λ fault. IsOfWriter fault (W.failures writer.old) (W.failures writer.new)) }
 {
     wording.put(reading.found(), reading.text())?;
-    match write_all(writer, wording.text()) {
+    match write_text(wording, writer) {
         Ok(()) => Ok(()),
         Err(fault) => Err(fault),
+    }
+}
+
+/// Writes the rest of the long document that the last byte of the response completed.
+fn tell_rest<W: ScriptWrite>(
+    reading: &Reading,
+    front: &mut Front,
+    wording: &mut Wording,
+    writer: &mut W,
+) -> Result<(), AnswerFault>
+    ensures begins { OnOk result
+        (starts_with nat_eq (state_of reading.now).text (front_of front.old) ≡ true) }
+    ensures ended { OnOk result (front_of front.new ≡ []) }
+    ensures written { OnOk result (Appends (W.held writer.old) (W.held writer.new)
+        (rest_text (words_of_wording wording.old) (state_of reading.now).text (length (front_of front.old)))) }
+    ensures words { OnOk result (words_of_wording wording.new
+        ≡ with_document (words_of_wording wording.old) (state_of reading.now).text) }
+    ensures counted { OnOk result (W.failures writer.new ≡ W.failures writer.old) }
+    ensures err { IfErr result (λ fault. RestBreaks fault (state_of reading.now) (words_of_wording wording.old)
+        (front_of front.old) (W.held writer.old) (W.held writer.new)) }
+    ensures fault { IfErr result (λ fault. CountsOfWriter (Err fault) (W.failures writer.old)
+        (W.failures writer.new)) }
+{
+    if !reading.text().starts_with(front.text()) {
+        return Err(AnswerFault::LateMember {
+            at: reading.taken(),
+        });
+    }
+    wording.put_rest(reading.text(), front.text().len())?;
+    front.end();
+    match write_text(wording, writer) {
+        Ok(()) => Ok(()),
+        Err(fault) => Err(AnswerFault::Device { fault }),
+    }
+}
+
+/// Writes a run that the parser did not store, and before the run what the front has gained since `told` bytes of it were
+/// written.
+fn tell_run<W: ScriptWrite>(
+    front: &Front,
+    told: usize,
+    run: &[u8],
+    wording: &mut Wording,
+    writer: &mut W,
+) -> Result<(), ScriptFault>
+    requires { told ≤ length (front_of front.now) }
+    ensures written { OnOk result (Appends (W.held writer.old) (W.held writer.new)
+        (part_text (words_of_wording wording.old) (front_of front.now) told run.now)) }
+    ensures words { OnOk result (words_of_wording wording.new ≡ words_of_wording wording.old) }
+    ensures counted { OnOk result (W.failures writer.new ≡ W.failures writer.old) }
+    ensures err { IfErr result (λ fault. WritesInPart fault
+        (part_text (words_of_wording wording.old) (front_of front.now) told run.now) (W.held writer.old)
+        (W.held writer.new)) }
+    ensures fault { IfErr result (λ fault. IsOfWriter fault (W.failures writer.old) (W.failures writer.new)) }
+{
+    wording.put_part(front.text(), told, run)?;
+    match write_text(wording, writer) {
+        Ok(()) => Ok(()),
+        Err(fault) => Err(fault),
+    }
+}
+
+/// Returns the bytes that the parser reads at once.
+fn first_part(bytes: &[u8]) -> &[u8]
+    requires { 0 < length bytes.now }
+    ensures some { 0 < length result.now }
+    ensures within { length result.now ≤ length bytes.now }
+    ensures front { (n : ℕ) → n ≤ length result.now → take n result.now ≡ take n bytes.now }
+{
+    if bytes.len() < PART {
+        bytes
+    } else {
+        &bytes[..PART]
+    }
+}
+
+/// Whether the last byte completed a document of which the front was written.
+fn ends_front(reading: &Reading, front: &Front) -> bool
+    ensures found { result ≡ true → (state_of reading.now).found ≡ Document }
+    ensures some { result ≡ true → (length (front_of front.now) == 0) ≡ false }
+    ensures other { result ≡ false → (state_of reading.now).found ≡ Document
+        → (length (front_of front.now) == 0) ≡ true }
+{
+    reading.found() == Found::Document && !front.text().is_empty()
+}
+
+/// Lets the parser read bytes, and writes the item that they complete. Returns the number of bytes that were read.
+fn feed_part<W: ScriptWrite>(
+    reading: &mut Reading,
+    front: &mut Front,
+    wording: &mut Wording,
+    writer: &mut W,
+    bytes: &[u8],
+) -> Result<usize, AnswerFault>
+    requires { 0 < length bytes.now }
+    ensures within { IfOk result (λ count. (0 < count) × (count ≤ length bytes.now)) }
+    ensures ok { (s : State) → (part : List ℕ) → Tracks s (state_of reading.old) (front_of front.old)
+        (front_length_of front.old) (words_of_wording wording.old) part → IfOk result (λ count.
+        Feeds s (words_of_wording wording.old) part (take count bytes.now) (state_of reading.new)
+        (front_of front.new) (front_length_of front.new) (words_of_wording wording.new) (W.held writer.old)
+        (W.held writer.new)) }
+    ensures counted { OnOk result (W.failures writer.new ≡ W.failures writer.old) }
+    ensures err { (s : State) → (part : List ℕ) → Tracks s (state_of reading.old) (front_of front.old)
+        (front_length_of front.old) (words_of_wording wording.old) part → IfErr result (λ fault.
+        Breaks fault s (words_of_wording wording.old) part bytes.now (W.held writer.old) (W.held writer.new)) }
+    ensures fault { IfErr result (λ fault. CountsOfWriter (Err fault) (W.failures writer.old)
+        (W.failures writer.new)) }
+{
+    let count = reading.take_in(first_part(bytes))?;
+    if ends_front(reading, front) {
+        match tell_rest(reading, front, wording, writer) {
+            Ok(()) => Ok(count),
+            Err(fault) => Err(fault),
+        }
+    } else {
+        match tell(reading, wording, writer) {
+            Ok(()) => Ok(count),
+            Err(fault) => Err(AnswerFault::Device { fault }),
+        }
+    }
+}
+
+/// Passes a run on that the parser does not store, or lets the parser read bytes. Returns the number of bytes that were
+/// read.
+fn feed_some<W: ScriptWrite>(
+    reading: &mut Reading,
+    front: &mut Front,
+    wording: &mut Wording,
+    writer: &mut W,
+    bytes: &[u8],
+) -> Result<usize, AnswerFault>
+    requires { 0 < length bytes.now }
+    ensures within { IfOk result (λ count. (0 < count) × (count ≤ length bytes.now)) }
+    ensures ok { (s : State) → (part : List ℕ) → Tracks s (state_of reading.old) (front_of front.old)
+        (front_length_of front.old) (words_of_wording wording.old) part → IfOk result (λ count.
+        Feeds s (words_of_wording wording.old) part (take count bytes.now) (state_of reading.new)
+        (front_of front.new) (front_length_of front.new) (words_of_wording wording.new) (W.held writer.old)
+        (W.held writer.new)) }
+    ensures counted { OnOk result (W.failures writer.new ≡ W.failures writer.old) }
+    ensures err { (s : State) → (part : List ℕ) → Tracks s (state_of reading.old) (front_of front.old)
+        (front_length_of front.old) (words_of_wording wording.old) part → IfErr result (λ fault.
+        Breaks fault s (words_of_wording wording.old) part bytes.now (W.held writer.old) (W.held writer.new)) }
+    ensures fault { IfErr result (λ fault. CountsOfWriter (Err fault) (W.failures writer.old)
+        (W.failures writer.new)) }
+{
+    let told = front.text().len();
+    let count = front.pass(reading, bytes)?;
+    if count == 0 {
+        return feed_part(reading, front, wording, writer, bytes);
+    }
+    match tell_run(front, told, &bytes[..count], wording, writer) {
+        Ok(()) => Ok(count),
+        Err(fault) => Err(AnswerFault::Device { fault }),
     }
 }
 
 /// Parses bytes of a response, and writes each completed item.
 fn feed<W: ScriptWrite>(
     reading: &mut Reading,
+    front: &mut Front,
     wording: &mut Wording,
     writer: &mut W,
     bytes: &[u8],
-) -> Result<(), ScriptFault>
-    ensures ok { OnOk result
-        (Fed (state_of reading.old) (words_of_wording wording.old) bytes.now (state_of reading.new)
-        (words_of_wording wording.new) (W.held writer.old) (W.held writer.new)) }
+) -> Result<(), AnswerFault>
+    ensures ok { (s : State) → (part : List ℕ) → Tracks s (state_of reading.old) (front_of front.old)
+        (front_length_of front.old) (words_of_wording wording.old) part → OnOk result
+        (Feeds s (words_of_wording wording.old) part bytes.now (state_of reading.new) (front_of front.new)
+        (front_length_of front.new) (words_of_wording wording.new) (W.held writer.old) (W.held writer.new)) }
     ensures counted { OnOk result (W.failures writer.new ≡ W.failures writer.old) }
-    ensures err { IfErr result (λ fault. Begins fault (words_of_wording wording.old)
-        (pieces (state_of reading.old) bytes.now) (W.held writer.old) (W.held writer.new)) }
-    ensures fault { IfErr result (λ fault. IsOfWriter fault (W.failures writer.old) (W.failures writer.new)) }
+    ensures err { (s : State) → (part : List ℕ) → Tracks s (state_of reading.old) (front_of front.old)
+        (front_length_of front.old) (words_of_wording wording.old) part → IfErr result (λ fault.
+        Breaks fault s (words_of_wording wording.old) part bytes.now (W.held writer.old) (W.held writer.new)) }
+    ensures fault { IfErr result (λ fault. CountsOfWriter (Err fault) (W.failures writer.old)
+        (W.failures writer.new)) }
 {
     let mut rest = bytes;
     while !rest.is_empty() {
-        let count = reading.take_in(rest)?;
-        match tell(reading, wording, writer) {
-            Ok(()) => {}
+        let count = match feed_some(reading, front, wording, writer, rest) {
+            Ok(count) => count,
             Err(fault) => return Err(fault),
-        }
+        };
         rest = &rest[count..];
     }
     Ok(())
@@ -119,20 +299,25 @@ fn ended(reading: &Reading) -> Result<u64, AnswerFault>
 /// If the input's last line has no line end, passes a line feed to the parser.
 fn feed_rest<W: ScriptWrite>(
     reading: &mut Reading,
+    front: &mut Front,
     wording: &mut Wording,
     writer: &mut W,
-) -> Result<(), ScriptFault>
-    ensures ok { OnOk result (Fed (state_of reading.old) (words_of_wording wording.old) (last_end (state_of reading.old))
-        (state_of reading.new) (words_of_wording wording.new) (W.held writer.old) (W.held writer.new)) }
+) -> Result<(), AnswerFault>
+    ensures ok { (s : State) → (part : List ℕ) → Tracks s (state_of reading.old) (front_of front.old)
+        (front_length_of front.old) (words_of_wording wording.old) part → OnOk result
+        (Feeds s (words_of_wording wording.old) part (last_end s) (state_of reading.new) (front_of front.new)
+        (front_length_of front.new) (words_of_wording wording.new) (W.held writer.old) (W.held writer.new)) }
     ensures counted { OnOk result (W.failures writer.new ≡ W.failures writer.old) }
-    ensures err { IfErr result (λ fault. Begins fault (words_of_wording wording.old)
-        (pieces (state_of reading.old) (last_end (state_of reading.old))) (W.held writer.old) (W.held writer.new)) }
-    ensures fault { IfErr result (λ fault. IsOfWriter fault (W.failures writer.old) (W.failures writer.new)) }
+    ensures err { (s : State) → (part : List ℕ) → Tracks s (state_of reading.old) (front_of front.old)
+        (front_length_of front.old) (words_of_wording wording.old) part → IfErr result (λ fault.
+        Breaks fault s (words_of_wording wording.old) part (last_end s) (W.held writer.old) (W.held writer.new)) }
+    ensures fault { IfErr result (λ fault. CountsOfWriter (Err fault) (W.failures writer.old)
+        (W.failures writer.new)) }
 {
     if !reading.has_rest() {
         return Ok(());
     }
-    feed(reading, wording, writer, b"\n")
+    feed(reading, front, wording, writer, b"\n")
 }
 
 /// Writes the text that closes the output, if the input consists of complete responses.
@@ -157,28 +342,32 @@ fn end<W: ScriptWrite>(
 /// Handles the end of the input, and writes the text that closes the output.
 fn finish<W: ScriptWrite>(
     reading: &mut Reading,
+    front: &mut Front,
     wording: &mut Wording,
     writer: &mut W,
 ) -> Result<u64, AnswerFault>
-    ensures finishes { Finishes (state_of reading.old) (words_of_wording wording.old) (W.held writer.old)
-        (W.held writer.new) result }
+    ensures finishes { (s : State) → (part : List ℕ) → Tracks s (state_of reading.old) (front_of front.old)
+        (front_length_of front.old) (words_of_wording wording.old) part → Finishes s (words_of_wording wording.old)
+        part (W.held writer.old) (W.held writer.new) result }
     ensures counts { CountsOfWriter result (W.failures writer.old) (W.failures writer.new) }
 {
-    match feed_rest(reading, wording, writer) {
+    match feed_rest(reading, front, wording, writer) {
         Ok(()) => end(reading, wording, writer),
-        Err(fault) => Err(AnswerFault::Device { fault }),
+        Err(fault) => Err(fault),
     }
 }
 
 /// Reads the input in chunks, and writes the items of each chunk.
 fn run_chunks<R: ScriptRead, W: ScriptWrite>(
     reading: &mut Reading,
+    front: &mut Front,
     wording: &mut Wording,
     reader: &mut R,
     writer: &mut W,
     chunks: &mut Chunks,
 ) -> Result<u64, AnswerFault>
     requires begins { state_of reading.old ≡ start reading.old.wanted }
+    requires nothing { front_of front.old ≡ [] }
     requires room { AreChunks chunks.old }
     requires unread { chunks.old.turns ≡ 0 }
     ensures ok { IfOk result (λ passed. Answered reading.old.wanted (words_of_wording wording.old)
@@ -201,11 +390,11 @@ fn run_chunks<R: ScriptRead, W: ScriptWrite>(
             Err(fault) => return Err(AnswerFault::Device { fault }),
         };
         if !more {
-            return finish(reading, wording, writer);
+            return finish(reading, front, wording, writer);
         }
-        match feed(reading, wording, writer, chunks.bytes()) {
+        match feed(reading, front, wording, writer, chunks.bytes()) {
             Ok(()) => {}
-            Err(fault) => return Err(AnswerFault::Device { fault }),
+            Err(fault) => return Err(fault),
         }
         if reading.is_refused() {
             return ended(reading);
@@ -218,7 +407,10 @@ fn run_chunks<R: ScriptRead, W: ScriptWrite>(
 ///
 /// # Errors
 ///
-/// - `Refused` if the input is not a response. All items before the rejected byte have been written.
+/// - `Refused` if the input is not a response. All items before the rejected byte have been written, and the beginning of
+///   a long document that the byte is in.
+/// - `LateMember` if the document that ends is long, and a member `_id`, `_rev`, `_revisions` or `_deleted` follows an
+///   attachment in it. All earlier items, and the beginning of the document, have been written.
 /// - `Device` if the reader, the writer or an allocation failed. The fault in `Device` is `Read` if the reader failed
 ///   in this call, or after 4,294,967,295 reads of at most 65,536 bytes. The fault in `Device` is `Write` if the writer
 ///   failed in this call, and `Memory` if an allocation failed.
@@ -274,5 +466,6 @@ pub fn run_answers<R: ScriptRead, W: ScriptWrite>(
         (R.failures reader.old) (R.failures reader.new) (W.failures writer.old) (W.failures writer.new)) }
 {
     let mut chunks = Chunks::new(alloc)?;
-    run_chunks(reading, wording, reader, writer, &mut chunks)
+    let mut front = Front::new(alloc);
+    run_chunks(reading, &mut front, wording, reader, writer, &mut chunks)
 }

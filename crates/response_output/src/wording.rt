@@ -1,9 +1,9 @@
 //! Formats the items that the parser of responses found.
-ghost use Rattle.std.specs.Prelude.{◌≡◌, ◌++◌, ◌∷◌, [], IfOk, OnOk};
+ghost use Rattle.std.specs.Prelude.{◌≡◌, ◌≤◌, ◌++◌, ◌∷◌, [], length, IfOk, OnOk};
 ghost use Rattle.response_parser.specs.State.{more};
 ghost use Rattle.response_output.specs.Stored.{made_of, words_of_wording};
 ghost use Rattle.response_output.specs.Forms.{before_rev as before_rev_of};
-ghost use Rattle.response_output.specs.Words.{before, behind, is_full, document_text, with_document, id_kept, rev_text, with_rev, first_rev_text, with_first_rev, over_text, over, text_for, counted_up, words_then, last_text, words_of, loads_of, asked_of, diffs_of, docs_of, bodies_of};
+ghost use Rattle.response_output.specs.Words.{before, behind, is_full, document_text, part_text, rest_text, with_document, id_kept, rev_text, with_rev, first_rev_text, with_first_rev, over_text, over, text_for, counted_up, words_then, last_text, words_of, loads_of, asked_of, diffs_of, docs_of, bodies_of};
 
 use crate::forms::{Form, before_rev, closing, empty, ends, has_lists, opening, separator};
 use doc_envelope::id_of;
@@ -137,6 +137,36 @@ impl Wording {
         self.keep_id(id_of(text))?;
         self.put_before()?;
         self.text.extend_from_slice(text)?;
+        self.put_behind()?;
+        self.count_up();
+        Ok(())
+    }
+
+    /// Formats a part of a document, which ends with `bytes`. The caller has written the first `told` bytes of `front`, and
+    /// the text before the document if `told` is not 0.
+    pub fn put_part(&mut self, front: &[u8], told: usize, bytes: &[u8]) -> Result<(), AllocError>
+        requires { told ≤ length front.now }
+        ensures text { OnOk result (made_of self.new ≡ part_text (words_of_wording self.old) front.now told bytes.now) }
+        ensures words { words_of_wording self.new ≡ words_of_wording self.old }
+    {
+        self.text.clear();
+        if told == 0 {
+            self.put_before()?;
+        }
+        self.text.extend_from_slice(&front[told..])?;
+        self.text.extend_from_slice(bytes)
+    }
+
+    /// Formats the rest of a document, of which the caller has written the first `told` bytes.
+    pub fn put_rest(&mut self, document: &[u8], told: usize) -> Result<(), AllocError>
+        requires { told ≤ length document.now }
+        ensures text { OnOk result (made_of self.new ≡ rest_text (words_of_wording self.old) document.now told) }
+        ensures words { OnOk result
+            (words_of_wording self.new ≡ with_document (words_of_wording self.old) document.now) }
+    {
+        self.text.clear();
+        self.keep_id(id_of(document))?;
+        self.text.extend_from_slice(&document[told..])?;
         self.put_behind()?;
         self.count_up();
         Ok(())

@@ -1,16 +1,13 @@
-use Rattle.proof_prelude.proofs.{◌∙◌, refl, err_from_is_err_and}
-use Rattle.response_parser.specs.{state_of}
-use Rattle.response_output.specs.{words_of_wording}
-use Rattle.response_output.proofs.{Begins-none, Begins-part}
+use Rattle.proof_prelude.proofs.{◌≡◌, ◌∙◌, ap, sym, subst}
+use Rattle.response_parser.specs.{given, state_of}
+use Rattle.response_output.specs.{made_of, text_for, texts, words_of_wording, WritesInPart}
+use Rattle.response_output.proofs.{texts-piece}
 use Rattle.response_output.proofs.run.tell.Goals as goal
-
-pub returns-in_err-put-clause-err : goal.returns-in_err-put-clause-err
-returns-in_err-put-clause-err g c =
-    let p = err_from_is_err_and c.from_residual.result c.from_residual.ensures.1 in
-    rw (p.1, p.2) (Begins-none _ _ _ _ refl)
 
 pub returns-in-Err-clause-err : goal.returns-in-Err-clause-err
 returns-in-Err-clause-err g c =
-    let part = c.in-Err.ensures.err in
-    Begins-part c.in-Err.fault (words_of_wording c.args.wording.now) (state_of c.args.reading.now) c.found.result c.text.result.now c.text-2.result.now part.0 part.1 _ _
-    c.in-Err.ensures.fault c.found.ensures c.text.ensures (c.text-2.ensures ∙ c.in_ok-put.ensures.text) part.2 part.3
+    let w = words_of_wording c.args.wording.now in
+    let s = state_of c.args.reading.now in
+    let made : made_of c.put.new.self ≡ texts w (given s) =
+    c.in_ok-put.ensures.text ∙ ap (λ f. text_for w f c.text.result.now) c.found.ensures ∙ ap (text_for w s.found) c.text.ensures ∙ sym (texts-piece w s.found s.text) in
+    subst (λ z. WritesInPart c.in-Err.fault z (g.W.ScriptWrite.held c.args.writer.now) (g.W.ScriptWrite.held c.write_text.new.writer)) made c.in-Err.ensures.err
