@@ -3,10 +3,10 @@ use Rattle.proof_prelude.proofs.{◌≡◌, ℕ, ◌+◌, ◌*◌, ◌≤◌, Li
 use Rattle.std.proofs.Math.Seq.{drop-append_seam}
 use Rattle.sha2.proofs.Facts256.{length-sha256}
 use Rattle.sha2.specs.Sha256.{sha256}
-use Rattle.hex.specs.Hex.{encode_lower, lower_digits}
+use Rattle.hex.specs.Hex.{lower_digits}
 use Rattle.hex.proofs.HexLemmas.{length-encode_with}
 use Rattle.line_reader.specs.{joined}
-use Rattle.journal_core.specs.{Confirmed, IsGreatest, Place, block, block_hash, closed, end_in, ended_by, hash_at, held_more, is_sum, next, nothing, place_after, right_end, seq_of, start, sum_head, sum_line}
+use Rattle.journal_core.specs.{Confirmed, IsGreatest, Place, block, block_hash, end_in, ended_by, hash_at, held_more, is_sum, next, nothing, place_after, right_end, seq_of, start, sum_head, sum_line}
 use Rattle.journal_core.proofs.Steps.{next_damaged, next_ended, next_held}
 
 -- the place after these lines

@@ -1,5 +1,5 @@
 -- The hash of a block.
-use Rattle.proof_prelude.proofs.{◌≡◌, ℕ, List, [], ◌∷◌, ◌++◌, String, string_bytes, codes, Result, Ok, Err, IfOk, Global, refl, sym, ap, subst, ◌∙◌, append_assoc, AllocError}
+use Rattle.proof_prelude.proofs.{◌≡◌, ℕ, List, [], ◌∷◌, ◌++◌, String, string_bytes, codes, Result, Ok, Err, IfOk, Global, refl, sym, ap, ◌∙◌, append_assoc, AllocError}
 use Rattle.sha2.specs.Hashers.{Holds256}
 use Rattle.sha2.specs.Sha256.{sha256}
 use Rattle.sha2.specs.declared.Sha256.{Sha256}

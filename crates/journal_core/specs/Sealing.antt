@@ -1,10 +1,11 @@
 -- Sealing a block.
-use Rattle.std.specs.Prelude.{◌≡◌, ℕ, List, [], ◌∷◌, ◌++◌, Bool, true, false, Option, None, Some, All, codes, length, ⊤}
+use Rattle.std.specs.Prelude.{◌≡◌, ◌⊎◌, ℕ, List, [], ◌∷◌, ◌++◌, Bool, true, false, Option, None, Some, All, codes, length}
 use Rattle.std.specs.Io.KnownBytes.{Appends}
 use Rattle.sha2.specs.Hashers.{Holds256}
 use Rattle.script_engine.specs.Device.{Gives}
-use Rattle.line_reader.specs.Lines.{joined}
+use Rattle.line_reader.specs.Lines.{AreLines, joined}
 use Rattle.journal_core.specs.Journal.{Confirmed, block_hash, is_sum, sum_line}
+use Rattle.journal_core.specs.Wrong.{first_index, wrong_at}
 use Rattle.journal_core.specs.declared.seal.Seal.{Seal}
 
 -- The number of lines before the first wrong line of a block, after one more line that is wrong or not.
@@ -18,6 +19,7 @@ pub record IsSealing (chain seq : List ℕ) (lines : List (List ℕ)) (seal : Se
   pub hashed : Holds256 seal.hasher ((chain ++ codes " " ++ seq ++ codes "\n") ++ joined lines)
   pub seq_is : seal.seq.items ≡ seq
   pub count : seal.count ≡ length lines
+  pub wrong_is : seal.wrong ≡ first_index is_sum lines
   pub right : seal.wrong ≡ None → All (λ line. is_sum line ≡ false) lines
 
 -- A line of a block is read, and no text is written.
@@ -26,30 +28,69 @@ Seals old line text new = (text ≡ []) × ((chain seq : List ℕ) (lines : List
 
 -- At the end of a block, the line that ends it is written. If nothing is wrong with the block, no line of it is a sum
 -- line, and its last line has a line end.
-abbrev pub EndsSeal : Seal → List ℕ → List ℕ → Seal → Type 0
-EndsSeal old rest text new = new.wrong ≡ None → (rest ≡ []) × ((chain seq : List ℕ) (lines : List (List ℕ)) → IsSealing chain seq lines old
+abbrev pub EndsRight : Seal → List ℕ → List ℕ → Type 0
+EndsRight old rest text = (rest ≡ []) × ((chain seq : List ℕ) (lines : List (List ℕ)) → IsSealing chain seq lines old
     → All (λ line. is_sum line ≡ false) lines × (text ≡ sum_line (length lines) (block_hash chain seq (joined lines)) seq ++ codes "\n"))
+
+-- At the end of a block with a wrong line, no text is written. The last argument of `EndsWrong` is the number of lines
+-- before the first wrong line.
+abbrev pub EndsWrong : Seal → List ℕ → List ℕ → ℕ → Type 0
+EndsWrong old rest text count = (text ≡ []) × ((chain seq : List ℕ) (lines : List (List ℕ)) → IsSealing chain seq lines old
+    → wrong_at is_sum lines rest ≡ Some count)
+
+abbrev pub EndsSeal : Seal → List ℕ → List ℕ → Seal → Type 0
+EndsSeal old rest text new =
+    (new.wrong ≡ None → EndsRight old rest text) × ((count : ℕ) → new.wrong ≡ Some count → EndsWrong old rest text count)
 
 -- The input consists of the lines of a block, and the line that ends the block is written. With its last line, the
 -- block continues every journal that ends with the hash `chain`. The statement `given` holds for the input.
 pub record IsSealedOn (chain seq : List ℕ) (given : List ℕ → Type 0) (held held' : Option (List ℕ)) : Type 0 where
   pub lines : List (List ℕ)
   pub gives : given (joined lines)
+  pub body : All (λ line. is_sum line ≡ false) lines
   pub written : Appends held held' (sum_line (length lines) (block_hash chain seq (joined lines)) seq ++ codes "\n")
   pub continues : (before : List (List ℕ)) (seq' : List ℕ) → Confirmed before chain seq'
       → Confirmed (before ++ (lines ++ sum_line (length lines) (block_hash chain seq (joined lines)) seq ∷ [])) (block_hash chain seq (joined lines)) seq
 
--- A block was sealed from the bytes `left` that the reader had left before the call.
-abbrev pub IsSealed : List ℕ → List ℕ → Option (List ℕ) → Option (List ℕ) → Option (List ℕ) → Type 0
-IsSealed chain seq left held held' = IsSealedOn chain seq (Gives left) held held'
+-- The input is not the lines of a block, and nothing is written. The argument `count` is the number of lines before the
+-- first line that a block cannot contain.
+pub record IsUnsealedOn (count : ℕ) (given : List ℕ → Type 0) (held held' : Option (List ℕ)) : Type 0 where
+  pub input : List ℕ
+  pub lines : List (List ℕ)
+  pub rest : List ℕ
+  pub gives : given input
+  pub splits : AreLines input lines rest
+  pub wrong : wrong_at is_sum lines rest ≡ Some count
+  pub nothing : Appends held held' []
 
--- A block was sealed from the bytes `left`, unless the block has a wrong line.
+-- A block was sealed from the input, unless the block has a wrong line. The statement `given` holds for the input.
+abbrev pub SealsOn : List ℕ → List ℕ → (List ℕ → Type 0) → Option (List ℕ) → Option (List ℕ) → Option ℕ → Type 0
+SealsOn chain seq given held held' None = IsSealedOn chain seq given held held'
+SealsOn chain seq given held held' (Some count) = IsUnsealedOn count given held held'
+
+-- A block was sealed from the bytes `left` that the reader had left before the call, unless the block has a wrong line.
 abbrev pub SealsBlock : List ℕ → List ℕ → Option (List ℕ) → Option (List ℕ) → Option (List ℕ) → Option ℕ → Type 0
-SealsBlock chain seq left held held' None = IsSealed chain seq left held held'
-SealsBlock chain seq left held held' (Some lines) = ⊤
+SealsBlock chain seq left held held' wrong = SealsOn chain seq (Gives left) held held' wrong
 
 -- A block was sealed from the bytes that the reads of the call returned, unless the block has a wrong line. The
 -- arguments `taken` and `taken'` are the bytes that all reads returned before and after the call.
 abbrev pub HasSealed : List ℕ → List ℕ → Option (List ℕ) → Option (List ℕ) → Option (List ℕ) → Option (List ℕ) → Option ℕ → Type 0
-HasSealed chain seq taken taken' held held' None = IsSealedOn chain seq (Appends taken taken') held held'
-HasSealed chain seq taken taken' held held' (Some lines) = ⊤
+HasSealed chain seq taken taken' held held' wrong = SealsOn chain seq (Appends taken taken') held held' wrong
+
+-- The input is the lines of a block, and the output is the line that ends the block.
+abbrev pub IsSeal : List ℕ → List ℕ → List ℕ → List ℕ → Type 0
+IsSeal chain seq input text =
+    (lines : List (List ℕ)) × (input ≡ joined lines) × All (λ line. is_sum line ≡ false) lines
+    × (text ≡ sum_line (length lines) (block_hash chain seq (joined lines)) seq ++ codes "\n")
+
+-- The output is a prefix of the line that ends a block.
+abbrev pub IsSealedPart : List ℕ → List ℕ → List ℕ → List ℕ → Type 0
+IsSealedPart chain seq input text = (back : List ℕ) × IsSeal chain seq input (text ++ back)
+
+-- An error stopped the sealing of a block. Nothing is written, or a prefix of the line that ends the block. The
+-- statement `ended` says that the input was read to its end.
+abbrev pub HasSealedPart : List ℕ → List ℕ → Type 0 → Option (List ℕ) → Option (List ℕ) → Option (List ℕ) → Option (List ℕ)
+    → Type 0
+HasSealedPart chain seq ended taken taken' held held' =
+    (input text : List ℕ) × Appends taken taken' input × Appends held held' text
+    × ((text ≡ []) ⊎ (ended × IsSealedPart chain seq input text))

@@ -1,6 +1,7 @@
 //! Seals a block of a journal with a checksum.
-ghost use Rattle.std.specs.Prelude.{◌≡◌, IfOk, OnOk, [], None};
-ghost use Rattle.journal_core.specs.Sealing.{EndsSeal, HasSealed, IsSealing, Seals, SealsBlock, wrong_after};
+ghost use Rattle.std.specs.Prelude.{◌≡◌, IfErr, IfOk, OnErr, OnOk, [], None};
+ghost use Rattle.script_engine.specs.Faults.{IsFaultOf};
+ghost use Rattle.journal_core.specs.Sealing.{EndsSeal, HasSealed, HasSealedPart, IsSealing, Seals, SealsBlock, wrong_after};
 
 use crate::sums::{added, hasher_of, hex_of, is_sum, sum_line};
 use line_reader::{LineTask, run_task};
@@ -103,9 +104,18 @@ pub fn seal_block<R: ScriptRead, W: ScriptWrite>(
         (W.held writer.new) wrong) }
     ensures took { IfOk result (λ wrong. HasSealed chain.now seq.now (R.taken reader.old) (R.taken reader.new)
         (W.held writer.old) (W.held writer.new) wrong) }
+    ensures stopped { OnErr result (HasSealedPart chain.now seq.now (R.ended reader.new) (R.taken reader.old)
+        (R.taken reader.new) (W.held writer.old) (W.held writer.new)) }
     ensures ended { OnOk result (R.ended reader.new) }
+    ensures counted { OnOk result ((R.failures reader.new ≡ R.failures reader.old)
+        × (W.failures writer.new ≡ W.failures writer.old)) }
+    ensures fault { IfErr result (λ fault. IsFaultOf fault (R.reads reader.old) (R.reads reader.new)
+        (R.failures reader.old) (R.failures reader.new) (W.failures writer.old) (W.failures writer.new)) }
 {
     let mut task = Seal::new(alloc, chain, seq)?;
-    run_task(alloc, &mut task, reader, writer)?;
+    match run_task(alloc, &mut task, reader, writer) {
+        Ok(()) => {}
+        Err(fault) => return Err(fault),
+    }
     Ok(task.wrong())
 }

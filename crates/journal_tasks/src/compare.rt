@@ -131,7 +131,7 @@ impl LineTask for Compare {
     }
 
     fn end(&mut self, rest: &[u8], _text: &mut Vec<u8>) -> Result<(), AllocError> {
-        self.count.end(rest);
+        self.count.end(rest)?;
         if !self.in_second {
             self.count.fail();
         }

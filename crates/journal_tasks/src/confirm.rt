@@ -1,5 +1,6 @@
 //! The task that checks which part of a journal its checksums confirm.
-ghost use Rattle.std.specs.Prelude.{⊤};
+ghost use Rattle.std.specs.Prelude.{ℕ, List, OnOk, ⊤};
+ghost use Rattle.std.specs.Io.KnownBytes.{Appends};
 
 use crate::lacks::Lacks;
 use itoa::Buffer;
@@ -194,8 +195,15 @@ pub fn confirm_journal<R: ScriptRead, W: ScriptWrite>(
     at: Option<&[u8]>,
     reader: &mut R,
     writer: &mut W,
-) -> Result<Confirm, ScriptFault> {
+) -> Result<Confirm, ScriptFault>
+    ensures took { (input text : List ℕ) × Appends (R.taken reader.old) (R.taken reader.new) input
+        × Appends (W.held writer.old) (W.held writer.new) text }
+    ensures ended { OnOk result (R.ended reader.new) }
+{
     let mut task = Confirm::new(alloc, at)?;
-    run_task(alloc, &mut task, reader, writer)?;
+    match run_task(alloc, &mut task, reader, writer) {
+        Ok(()) => {}
+        Err(fault) => return Err(fault),
+    }
     Ok(task)
 }

@@ -227,7 +227,7 @@ impl LineTask for Conflicts {
     }
 
     fn end(&mut self, rest: &[u8], text: &mut Vec<u8>) -> Result<(), AllocError> {
-        self.count.end(rest);
+        self.count.end(rest)?;
         if !self.count.is_right() {
             return Ok(());
         }

@@ -1,4 +1,7 @@
 //! Counts the lines that a task has read.
+ghost use Rattle.std.specs.Prelude.{◌≡◌, ◌+◌, OnOk, None, is_none};
+ghost use Rattle.journal_tasks.specs.Counting.{failed, failed_end};
+
 use journal_core::added;
 use std::alloc::AllocError;
 
@@ -13,7 +16,9 @@ pub(crate) struct Count {
 
 impl Count {
     /// Returns the count before the first line.
-    pub(crate) fn new() -> Count {
+    pub(crate) fn new() -> Count
+        ensures { result ≡ record { lines = 0; wrong = None } }
+    {
         Count {
             lines: 0,
             wrong: None,
@@ -25,27 +30,42 @@ impl Count {
     /// # Errors
     ///
     /// Returns an error if the count is at its maximum.
-    pub(crate) fn add(&mut self) -> Result<(), AllocError> {
+    pub(crate) fn add(&mut self) -> Result<(), AllocError>
+        ensures { OnOk result (self.new ≡ record { lines = self.old.lines + 1; wrong = self.old.wrong }) }
+    {
         self.lines = added(self.lines, 1)?;
         Ok(())
     }
 
     /// Records that the last counted line has a wrong form.
-    pub(crate) fn fail(&mut self) {
+    pub(crate) fn fail(&mut self)
+        ensures { self.new ≡ record { lines = self.old.lines; wrong = failed self.old.wrong self.old.lines } }
+    {
         if self.wrong.is_none() {
             self.wrong = Some(self.lines);
         }
     }
 
     /// If there are bytes after the last line end, records that the last line has a wrong form.
-    pub(crate) fn end(&mut self, rest: &[u8]) {
-        if !rest.is_empty() && self.wrong.is_none() {
-            self.wrong = Some(self.lines.saturating_add(1));
+    ///
+    /// # Errors
+    ///
+    /// Returns an error if there are bytes after the last line end, and the count is at its maximum.
+    pub(crate) fn end(&mut self, rest: &[u8]) -> Result<(), AllocError>
+        ensures { OnOk result (self.new.wrong ≡ failed_end self.old.wrong self.old.lines rest.now) }
+    {
+        if rest.is_empty() {
+            return Ok(());
         }
+        self.add()?;
+        self.fail();
+        Ok(())
     }
 
     /// Whether no line that was read has a wrong form.
-    pub(crate) fn is_right(&self) -> bool {
+    pub(crate) fn is_right(&self) -> bool
+        ensures { result ≡ is_none self.now.wrong }
+    {
         self.wrong.is_none()
     }
 }

@@ -109,7 +109,7 @@ impl LineTask for Diff {
     }
 
     fn end(&mut self, rest: &[u8], text: &mut Vec<u8>) -> Result<(), AllocError> {
-        self.count.end(rest);
+        self.count.end(rest)?;
         if self.count.is_right() {
             return self.push(text);
         }

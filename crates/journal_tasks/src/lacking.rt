@@ -171,7 +171,7 @@ impl LineTask for Lacking {
 
     fn end(&mut self, rest: &[u8], text: &mut Vec<u8>) -> Result<(), AllocError> {
         if !self.in_response {
-            self.count.end(rest);
+            self.count.end(rest)?;
             self.refused = true;
             return Ok(());
         }

@@ -15,7 +15,7 @@ mod received;
 mod select;
 mod states;
 
-pub use ask::Ask;
+pub use ask::{Ask, ask_leaves};
 pub use compare::Compare;
 pub use confirm::{Confirm, confirm_journal};
 pub use conflicts::Conflicts;

@@ -73,7 +73,7 @@ impl LineTask for Name {
     }
 
     fn end(&mut self, rest: &[u8], _text: &mut Vec<u8>) -> Result<(), AllocError> {
-        self.count.end(rest);
+        self.count.end(rest)?;
         Ok(())
     }
 }

@@ -80,7 +80,7 @@ impl LineTask for Parts {
     }
 
     fn end(&mut self, rest: &[u8], text: &mut Vec<u8>) -> Result<(), AllocError> {
-        self.count.end(rest);
+        self.count.end(rest)?;
         if self.lines > 0 && self.count.is_right() {
             return self.push(text);
         }

@@ -249,7 +249,7 @@ impl LineTask for Received {
     }
 
     fn end(&mut self, rest: &[u8], text: &mut Vec<u8>) -> Result<(), AllocError> {
-        self.count.end(rest);
+        self.count.end(rest)?;
         if !self.count.is_right() {
             return Ok(());
         }

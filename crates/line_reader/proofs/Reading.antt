@@ -1,9 +1,9 @@
 -- Bytes that were read, and what they wrote.
-use Rattle.proof_prelude.proofs.{◌≡◌, ℕ, zero, suc, ◌+◌, ◌-◌, ◌<◌, List, [], ◌∷◌, ◌++◌, length, take, drop, slice_index, true, false, Option, Some, Result, Ok, Err, OnOk, refl, sym, ap, subst, ◌∙◌, arith, eqb-true, append_assoc, append-nil, All-push, All-nil, Appends, Appends-nil, Appends-trans}
+use Rattle.proof_prelude.proofs.{◌≡◌, ℕ, zero, suc, ◌+◌, ◌-◌, ◌<◌, List, [], ◌∷◌, ◌++◌, length, take, drop, slice_index, Bool, true, false, inl, inr, Option, Some, Result, Ok, Err, OnErr, OnOk, refl, sym, ap, subst, ◌∙◌, arith, eqb-true, append_assoc, append-nil, All-push, All-nil, Appends, Appends-nil, Appends-trans}
 use Rattle.memchr.specs.Find.{IsFirstByte, is_byte}
 use Rattle.script_engine.specs.{has_line_end, is_line_end}
 use Rattle.script_engine.proofs.{open-joined, rest_all}
-use Rattle.line_reader.specs.{joined, HasRun, IsDoneOn, Steps, more, none}
+use Rattle.line_reader.specs.{joined, HasRun, IsDoneOn, IsStoppedOn, Steps, more, none}
 
 pub joined-append : (lines : List (List ℕ)) (line : List ℕ) → joined (lines ++ line ∷ []) ≡ joined lines ++ (line ++ 10 ∷ [])
 joined-append [] line = refl
@@ -86,6 +86,76 @@ IsDone-given given gives d = record {
 pub HasRun-same : {S : Type 0} {steps : Steps S} {start state : S} {held held' : Option (List ℕ)} {taken begun : List ℕ} (taken' : List ℕ) → taken ≡ taken' → HasRun steps start held taken state begun held' → HasRun steps start held taken' state begun held'
 HasRun-same {steps = steps} {start} {state} {held} {held'} {taken} {begun} taken' e h = subst (λ z. HasRun steps start held z state begun held') e h
 
+-- ---- a task that an error stopped
+
+-- nothing of the next text is written
+pub HasRun-stopped : {S : Type 0} {steps : Steps S} (ends : Steps S) {start state : S} {held held' : Option (List ℕ)} {taken begun : List ℕ} (after : List ℕ) (given : List ℕ → Type 0) → given (taken ++ after) → HasRun steps start held taken state begun held' → IsStoppedOn false steps ends start given held held'
+HasRun-stopped ends {start} {state} {held} {held'} {taken} {begun} after given gives h = record {
+  input = taken ++ after;
+  lines = h.lines;
+  rest = begun ++ after;
+  text = h.text;
+  front = [];
+  state = state;
+  gives = gives;
+  splits = ap (λ z. z ++ after) h.splits.whole ∙ append_assoc (joined h.lines) begun after;
+  lines_whole = h.splits.lines_whole;
+  runs = h.runs;
+  is_front = inl refl;
+  written = subst (Appends held held') (sym (append-nil h.text)) h.written;
+}
+
+-- a prefix of the text of the next line is written
+pub HasRun-cut : {S : Type 0} {steps : Steps S} (ends : Steps S) {start state : S} {held held' : Option (List ℕ)} {taken begun : List ℕ} (line added written front back after : List ℕ) (new : S) (held'' : Option (List ℕ)) → HasRun steps start held taken state begun held' → line ≡ begun → steps state line added new → written ≡ added → written ≡ front ++ back → Appends held' held'' front → IsStoppedOn false steps ends start (λ input. input ≡ (taken ++ 10 ∷ []) ++ after) held held''
+HasRun-cut {steps = steps} ends {start} {state} {held} {held'} {taken} {begun} line added written front back after new held'' h is step a e w = record {
+  input = (taken ++ 10 ∷ []) ++ after;
+  lines = h.lines;
+  rest = begun ++ 10 ∷ after;
+  text = h.text;
+  front = front;
+  state = state;
+  gives = refl;
+  splits = append_assoc taken (10 ∷ []) after ∙ ap (λ z. z ++ 10 ∷ after) h.splits.whole ∙ append_assoc (joined h.lines) begun (10 ∷ after);
+  lines_whole = h.splits.lines_whole;
+  runs = h.runs;
+  is_front = inr (begun, after, back, new, refl, h.splits.rest_begun, subst (λ z. steps state z (front ++ back) new) is (subst (λ z. steps state line z new) (sym a ∙ e) step));
+  written = Appends-trans held held' held'' h.text front h.written w;
+}
+
+-- a prefix of the text of the input's end is written
+pub HasRun-cut_end : {S : Type 0} {steps ends : Steps S} {start state : S} {held held' : Option (List ℕ)} {input begun : List ℕ} (rest added written front back : List ℕ) (new : S) (held'' : Option (List ℕ)) → HasRun steps start held input state begun held' → rest ≡ begun → ends state rest added new → written ≡ added → written ≡ front ++ back → Appends held' held'' front → IsStoppedOn true steps ends start (λ bytes. bytes ≡ input) held held''
+HasRun-cut_end {steps = steps} {ends} {start} {state} {held} {held'} {input} {begun} rest added written front back new held'' h is end a e w = record {
+  input = input;
+  lines = h.lines;
+  rest = begun;
+  text = h.text;
+  front = front;
+  state = state;
+  gives = refl;
+  splits = h.splits.whole;
+  lines_whole = h.splits.lines_whole;
+  runs = h.runs;
+  is_front = (back, new, h.splits.rest_begun, subst (λ z. ends state z (front ++ back) new) is (subst (λ z. ends state rest z new) (sym a ∙ e) end));
+  written = Appends-trans held held' held'' h.text front h.written w;
+}
+
+-- the input, of which more is known
+pub IsStopped-given : {S : Type 0} {at_end : Bool} {steps ends : Steps S} {start : S} {held held' : Option (List ℕ)} {input : List ℕ} (given : List ℕ → Type 0) → given input → IsStoppedOn at_end steps ends start (λ bytes. bytes ≡ input) held held' → IsStoppedOn at_end steps ends start given held held'
+IsStopped-given given gives d = record {
+  input = d.input;
+  lines = d.lines;
+  rest = d.rest;
+  text = d.text;
+  front = d.front;
+  state = d.state;
+  gives = subst given (sym d.gives) gives;
+  splits = d.splits;
+  lines_whole = d.lines_whole;
+  runs = d.runs;
+  is_front = d.is_front;
+  written = d.written;
+}
+
 -- ---- bytes up to a line end
 
 pub regroup : (taken front piece : List ℕ) → ((taken ++ front) ++ piece) ++ 10 ∷ [] ≡ taken ++ (front ++ (piece ++ 10 ∷ []))
@@ -108,3 +178,11 @@ after_line bytes front rest i h e =
 pub on_ok : {T E P Q : Type 0} (r : Result T E) → (P → Q) → OnOk r P → OnOk r Q
 on_ok (Ok x) f h = f h
 on_ok (Err e) f h = h
+
+pub on_err : {T E P : Type 0} (r : Result T E) → P → OnErr r P
+on_err (Ok x) h = tt
+on_err (Err e) h = h
+
+pub on_err_map : {T E P Q : Type 0} (r : Result T E) → (P → Q) → OnErr r P → OnErr r Q
+on_err_map (Ok x) f h = tt
+on_err_map (Err e) f h = f h

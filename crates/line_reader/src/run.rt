@@ -1,9 +1,9 @@
 //! Runs a task over the lines of a reader.
-ghost use Rattle.std.specs.Prelude.{◌≡◌, ◌∷◌, [], ◌++◌, ℕ, List, Option, IfErr, OnOk};
+ghost use Rattle.std.specs.Prelude.{◌≡◌, ◌∷◌, [], ◌++◌, ℕ, List, Option, Bool, IfErr, OnErr, OnOk, false};
 ghost use Rattle.std.specs.Io.KnownBytes.{IsAtEnd};
 ghost use Rattle.script_engine.specs.Chunks.{AreChunks};
 ghost use Rattle.script_engine.specs.Faults.{IsOfWriter, IsFaultOf};
-ghost use Rattle.line_reader.specs.Tasks.{HasDone, HasRun, IsDone, IsDoneOn};
+ghost use Rattle.line_reader.specs.Tasks.{HasDone, HasRun, HasStopped, IsDone, IsDoneOn, IsStoppedOn};
 
 use crate::task::LineTask;
 use memchr::memchr;
@@ -28,6 +28,9 @@ fn end_line<T: LineTask, W: ScriptWrite>(
     ensures ok { OnOk result ((start : T) (held : Option (List ℕ)) (taken : List ℕ)
         → HasRun T.steps start held taken task.old progress.old.begun.items (W.held writer.old)
         → HasRun T.steps start held (taken ++ 10 ∷ []) task.new progress.new.begun.items (W.held writer.new)) }
+    ensures err { OnErr result ((start : T) (held : Option (List ℕ)) (taken more : List ℕ)
+        → HasRun T.steps start held taken task.old progress.old.begun.items (W.held writer.old)
+        → IsStoppedOn false T.steps T.ends start (λ input. input ≡ (taken ++ 10 ∷ []) ++ more) held (W.held writer.new)) }
     ensures counted { OnOk result (W.failures writer.new ≡ W.failures writer.old) }
     ensures fault { IfErr result (λ fault. IsOfWriter fault (W.failures writer.old) (W.failures writer.new)) }
 {
@@ -58,6 +61,9 @@ fn feed<T: LineTask, W: ScriptWrite>(
     ensures ok { OnOk result ((start : T) (held : Option (List ℕ)) (taken : List ℕ)
         → HasRun T.steps start held taken task.old progress.old.begun.items (W.held writer.old)
         → HasRun T.steps start held (taken ++ bytes.now) task.new progress.new.begun.items (W.held writer.new)) }
+    ensures err { OnErr result ((start : T) (held : Option (List ℕ)) (taken : List ℕ)
+        → HasRun T.steps start held taken task.old progress.old.begun.items (W.held writer.old)
+        → IsStoppedOn false T.steps T.ends start (λ input. input ≡ taken ++ bytes.now) held (W.held writer.new)) }
     ensures counted { OnOk result (W.failures writer.new ≡ W.failures writer.old) }
     ensures fault { IfErr result (λ fault. IsOfWriter fault (W.failures writer.old) (W.failures writer.new)) }
 {
@@ -83,6 +89,9 @@ fn finish<T: LineTask, W: ScriptWrite>(
     ensures ok { OnOk result ((start : T) (held : Option (List ℕ)) (input : List ℕ)
         → HasRun T.steps start held input task.old progress.old.begun.items (W.held writer.old)
         → IsDoneOn T.steps T.ends start (λ bytes. bytes ≡ input) held task.new (W.held writer.new)) }
+    ensures err { OnErr result ((start : T) (held : Option (List ℕ)) (input : List ℕ)
+        → HasRun T.steps start held input task.old progress.old.begun.items (W.held writer.old)
+        → (at_end : Bool) × IsStoppedOn at_end T.steps T.ends start (λ bytes. bytes ≡ input) held (W.held writer.new)) }
     ensures counted { OnOk result (W.failures writer.new ≡ W.failures writer.old) }
     ensures fault { IfErr result (λ fault. IsOfWriter fault (W.failures writer.old) (W.failures writer.new)) }
 {
@@ -114,6 +123,8 @@ pub fn run_task<T: LineTask, R: ScriptRead, W: ScriptWrite>(
         (W.held writer.new)) }
     ensures took { OnOk result (HasDone T.steps T.ends task.old (R.taken reader.old) (R.taken reader.new)
         (W.held writer.old) task.new (W.held writer.new)) }
+    ensures stopped { OnErr result (HasStopped T.steps T.ends task.old (R.ended reader.new) (R.taken reader.old)
+        (R.taken reader.new) (W.held writer.old) (W.held writer.new)) }
     ensures end { OnOk result (IsAtEnd (R.left reader.new)) }
     ensures ended { OnOk result (R.ended reader.new) }
     ensures counted { OnOk result ((R.failures reader.new ≡ R.failures reader.old)

@@ -1,5 +1,5 @@
 //! Reads a complete input into memory.
-ghost use Rattle.std.specs.Prelude.{◌≡◌, IfOk, IfErr, OnOk};
+ghost use Rattle.std.specs.Prelude.{◌≡◌, ℕ, List, IfOk, IfErr, OnErr, OnOk};
 ghost use Rattle.std.specs.Io.KnownBytes.{Appends, IsAtEnd};
 ghost use Rattle.script_engine.specs.Device.{Gives};
 ghost use Rattle.script_engine.specs.Faults.{IsFaultOf};
@@ -16,6 +16,7 @@ use std::alloc::Global;
 pub fn read_all<R: ScriptRead>(alloc: Global, reader: &mut R) -> Result<Vec<u8>, ScriptFault>
     ensures ok { IfOk result (λ bytes. Gives (R.left reader.old) bytes.items) }
     ensures took { IfOk result (λ bytes. Appends (R.taken reader.old) (R.taken reader.new) bytes.items) }
+    ensures err { OnErr result ((input : List ℕ) × Appends (R.taken reader.old) (R.taken reader.new) input) }
     ensures end { OnOk result (IsAtEnd (R.left reader.new)) }
     ensures ended { OnOk result (R.ended reader.new) }
     ensures counted { OnOk result (R.failures reader.new ≡ R.failures reader.old) }

@@ -1,5 +1,3 @@
-use Rattle.proof_prelude.proofs.{◌++◌, codes}
-use Rattle.journal_core.specs.{block_hash}
 use Rattle.journal_core.proofs.{hash_is}
 use Rattle.journal_core.proofs.sums.hash_of.Goals as goal
 

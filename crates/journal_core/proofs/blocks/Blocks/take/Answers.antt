@@ -1,5 +1,5 @@
-use Rattle.proof_prelude.proofs.{◌≡◌, false, ap, sym, refl, subst, ◌∙◌}
-use Rattle.journal_core.specs.{IsAt, Place, held_more, next}
+use Rattle.proof_prelude.proofs.{◌≡◌, false, sym, refl, subst, ◌∙◌}
+use Rattle.journal_core.specs.{IsAt, Place, held_more}
 use Rattle.journal_core.proofs.{if_ok, next_damaged, next_held, took_ended}
 use Rattle.journal_core.proofs.blocks.Blocks.take.Goals as goal
 

@@ -2,7 +2,7 @@ use Rattle.proof_prelude.proofs.{◌≡◌, ◌++◌, ◌∷◌, [], false, code
 use Rattle.sha2.specs.Hashers.{Holds256}
 use Rattle.line_reader.specs.{joined}
 use Rattle.journal_core.specs.{is_sum}
-use Rattle.journal_core.proofs.{seal_message, wrong_none}
+use Rattle.journal_core.proofs.{seal_message, wrong_more, wrong_none}
 use Rattle.journal_core.proofs.seal.SealLineTask.line.Goals as goal
 
 pub returns : goal.returns
@@ -15,6 +15,7 @@ returns c = (
         hashed = subst (λ z. Holds256 c.update-2.new.self z) (ap (λ z. ((front ++ joined lines) ++ line) ++ z) c.as_slice.ensures ∙ seal_message front lines line) (c.update-2.ensures _ (c.update.ensures _ s.hashed));
         seq_is = s.seq_is;
         count = omega (arith, c.in_ok-self.ensures, s.count, length-append lines (line ∷ []));
+        wrong_is = c.wrong_after-self.ensures ∙ wrong_more is_sum lines line c.args.self.now.wrong c.is_sum.result c.args.self.now.count s.wrong_is c.is_sum.ensures s.count;
         right = λ none.
             let w = wrong_none c.args.self.now.wrong c.is_sum.result c.args.self.now.count (sym c.wrong_after-self.ensures ∙ none) in
             All-push (λ z. is_sum z ≡ false) lines line (s.right w.0) (sym c.is_sum.ensures ∙ w.1);

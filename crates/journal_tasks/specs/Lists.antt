@@ -1,0 +1,24 @@
+-- Lists of leaves, as specified in docs/PROFILE.md, "Journals".
+use Rattle.std.specs.Prelude.{ℕ, Bool, true, false, List, [], ◌∷◌, map, flat_map}
+use Rattle.journal_lines.specs.Entries.{EntryView, entry_in, state, lacks, leaf, wrong}
+
+-- The leaves that a line of a list names, each with the id of its document.
+abbrev pub listed : EntryView → List (List ℕ × List ℕ)
+listed (state leaves) = map (λ rev. (leaves.1, rev)) leaves.2
+listed (lacks leaves) = map (λ rev. (leaves.1, rev)) leaves.2
+listed (leaf head) = (head.0, head.1.0) ∷ []
+listed wrong = []
+
+-- The leaves that the lines of a list name, in order.
+abbrev pub leaves_in : List (List ℕ) → List (List ℕ × List ℕ)
+leaves_in lines = flat_map (λ line. listed (entry_in line)) lines
+
+abbrev pub is_wrong_entry : EntryView → Bool
+is_wrong_entry (state leaves) = false
+is_wrong_entry (lacks leaves) = false
+is_wrong_entry (leaf head) = false
+is_wrong_entry wrong = true
+
+-- Whether a line does not have the form of a line of a list.
+abbrev pub is_wrong : List ℕ → Bool
+is_wrong line = is_wrong_entry (entry_in line)
