@@ -1,0 +1,4 @@
+pub mod Options
+pub mod Tasks
+pub mod Status
+pub mod Runs

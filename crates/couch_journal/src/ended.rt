@@ -1,16 +1,15 @@
 //! The outcome of a run of the program.
 ghost use Rattle.std.specs.Prelude.{◌≡◌};
-ghost use Rattle.script_engine.specs.declared.fault.ScriptFault.TheVariants.{Memory};
-ghost use Rattle.couch_journal.specs.declared.ended.Ended.TheVariants.{Fault};
+ghost use Rattle.couch_journal.specs.Status.{missing_or_done, wrong_or};
 
+use crate::options::NoTask;
 use journal_responses::Said;
 use script_engine::ScriptFault;
-use std::alloc::AllocError;
 
-/// The outcome of a run of the program.
+/// The outcome of a task.
 #[derive(Drop)]
-pub(crate) enum Ended {
-    /// The run found everything that its task needs.
+pub(crate) enum Outcome {
+    /// The task found everything that it needs.
     Done,
     /// Something is missing, refused or not found.
     Missing,
@@ -24,35 +23,34 @@ pub(crate) enum Ended {
     Differs,
     /// The response does not have the form that the task reads.
     Said(Said),
-    /// A device or an allocation failed during the run.
-    Fault(ScriptFault),
 }
 
-impl From<ScriptFault> for Ended {
-    ghost from_gives = { λ fault e. e ≡ Fault fault };
-
-    fn from(fault: ScriptFault) -> Ended {
-        Ended::Fault(fault)
-    }
-}
-
-impl From<AllocError> for Ended {
-    ghost from_gives = { λ _ e. e ≡ Fault Memory };
-
-    fn from(_refused: AllocError) -> Ended {
-        Ended::Fault(ScriptFault::Memory)
-    }
+/// How a run of the program ended.
+#[derive(Drop)]
+pub(crate) enum Ended {
+    /// The arguments name no task, and no byte was read or written.
+    NotRun(NoTask),
+    /// The outcome of a task, or the fault that stopped the task.
+    Ran(Result<Outcome, ScriptFault>),
 }
 
 /// Returns the outcome `Wrong` for the first wrong line, or `otherwise` if no line is wrong.
-pub(crate) fn ended_by(wrong: Option<u64>, otherwise: Ended) -> Ended {
+pub(crate) fn wrong_or(wrong: Option<u64>, otherwise: Outcome) -> Outcome
+    ensures { result ≡ wrong_or wrong otherwise }
+{
     match wrong {
-        Some(line) => Ended::Wrong(line),
+        Some(line) => Outcome::Wrong(line),
         None => otherwise,
     }
 }
 
 /// Returns the outcome `Missing` if something is missing, otherwise `Done`.
-pub(crate) fn ended_missing(missing: bool) -> Ended {
-    if missing { Ended::Missing } else { Ended::Done }
+pub(crate) fn missing_or_done(missing: bool) -> Outcome
+    ensures { result ≡ missing_or_done missing }
+{
+    if missing {
+        Outcome::Missing
+    } else {
+        Outcome::Done
+    }
 }

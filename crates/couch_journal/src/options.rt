@@ -1,6 +1,12 @@
 //! Parses the program's command line.
+ghost use Rattle.std.specs.Prelude.{◌≡◌, IfOk, IfErr, map, string_bytes, false};
+ghost use Rattle.clap.specs.Words.{app_of, first_value, found_of, one_text, rule_of};
+ghost use Rattle.cli_common.specs.Words.{IsFound};
+ghost use Rattle.couch_journal.specs.declared.options.NoTask.TheVariants.{Memory};
+ghost use Rattle.couch_journal.specs.Options.{AreGiven, Refuses, command_line, task_word, text_option, with_arguments, with_options};
+
 use clap::{Arg, ArgAction, ArgMatches, Command, Error};
-use cli_common::{flag, hidden_word, program};
+use cli_common::{find, flag, hidden_word, program};
 use std::alloc::{AllocError, Global};
 
 /// The description of the program in the output of `--help`.
@@ -56,6 +62,25 @@ const TASKS_HELP: &str = "Reads standard input and writes standard output.
 Exit status: 0 success; 1 as above; 2 usage error; 3 the input is damaged or has another form,
 or reading, writing or an allocation failed.";
 
+/// The reason why a command line names no task.
+#[derive(Drop)]
+pub(crate) enum NoTask {
+    /// The error of `clap`, which includes requests for help.
+    Words(Error),
+    /// The task is unknown, or does not take the given arguments and options.
+    Unknown,
+    /// An allocation failed.
+    Memory,
+}
+
+impl From<AllocError> for NoTask {
+    ghost from_gives = { λ _ e. e ≡ Memory };
+
+    fn from(_refused: AllocError) -> NoTask {
+        NoTask::Memory
+    }
+}
+
 /// The arguments and options of a command line.
 #[derive(Drop)]
 pub(crate) struct Options<'a> {
@@ -70,7 +95,11 @@ pub(crate) struct Options<'a> {
     pub(crate) unverified: bool,
 }
 
-fn text<'a>(alloc: Global, name: &'a str, value: &'a str, help: &'a str) -> Arg<'a> {
+/// Defines an option with a string value.
+fn text<'a>(alloc: Global, name: &'a str, value: &'a str, help: &'a str) -> Arg<'a>
+    ensures rule { rule_of result ≡ text_option name.entry.now }
+    ensures local { result.global ≡ false }
+{
     Arg::new(alloc, name)
         .long(name)
         .value_name(value)
@@ -78,7 +107,11 @@ fn text<'a>(alloc: Global, name: &'a str, value: &'a str, help: &'a str) -> Arg<
         .help(help)
 }
 
-fn task_word<'a>(alloc: Global) -> Arg<'a> {
+/// Defines the argument that names the task.
+fn task_word<'a>(alloc: Global) -> Arg<'a>
+    ensures rule { rule_of result ≡ task_word }
+    ensures local { result.global ≡ false }
+{
     Arg::new(alloc, "task")
         .value_name("TASK")
         .required(true)
@@ -86,15 +119,21 @@ fn task_word<'a>(alloc: Global) -> Arg<'a> {
         .help("The task: see below")
 }
 
-fn with_arguments<'a>(alloc: Global, command: Command<'a>) -> Result<Command<'a>, AllocError> {
+/// Adds the positional arguments to a command line.
+fn with_arguments<'a>(alloc: Global, command: Command<'a>) -> Result<Command<'a>, AllocError>
+    ensures { IfOk result (λ c. app_of c ≡ with_arguments (app_of command.entry)) }
+{
     command
         .arg(task_word(alloc))?
         .arg(hidden_word(alloc, "first"))?
         .arg(hidden_word(alloc, "second"))
 }
 
-fn with_options<'a>(alloc: Global, command: Command<'a>) -> Result<Command<'a>, AllocError> {
-    command
+/// Adds the options to a command line.
+fn with_options<'a>(alloc: Global, command: Command<'a>) -> Result<Command<'a>, AllocError>
+    ensures { IfOk result (λ c. app_of c ≡ with_options (app_of command.entry)) }
+{
+    let command = command
         .arg(text(alloc, "at", "SEQ", "End at this sequence (confirm)"))?
         .arg(text(alloc, "doc", "ID", "Select this document (select)"))?
         .arg(flag(
@@ -108,24 +147,39 @@ fn with_options<'a>(alloc: Global, command: Command<'a>) -> Result<Command<'a>, 
             "documents",
             "Only documents that the first list does not have (compare)",
         ))?
-        .arg(flag(alloc, "unverified", "Ignore the checksums (states, select)"))
+        .arg(flag(alloc, "unverified", "Ignore the checksums (states, select)"))?;
+    Ok(command)
 }
 
-/// Returns the definition of the program's command line.
-fn command<'a>(alloc: Global) -> Result<Command<'a>, AllocError> {
+/// Defines the program's command line.
+fn command<'a>(alloc: Global) -> Result<Command<'a>, AllocError>
+    ensures { IfOk result (λ c. app_of c ≡ command_line) }
+{
     let command = program(alloc, "couch_journal", ABOUT, TASKS_HELP);
     let command = with_arguments(alloc, command)?;
     with_options(alloc, command)
 }
 
 /// Parses the arguments, of which the first is the program's name.
-pub(crate) fn matches_of<'a>(alloc: Global, words: &'a [String]) -> Result<ArgMatches<'a>, Error> {
+///
+/// # Errors
+///
+/// The call returns `Words` if `clap` rejects the arguments or they request help, and `Memory` if an allocation fails.
+pub(crate) fn matches_of<'a>(alloc: Global, words: &'a [String]) -> Result<ArgMatches<'a>, NoTask>
+    ensures ok { IfOk result (IsFound command_line (map string_bytes words.entry.now)) }
+    ensures err { IfErr result (Refuses (map string_bytes words.entry.now)) }
+{
     let command = command(alloc)?;
-    command.try_get_matches_from(words)
+    match find(command, words) {
+        Ok(matches) => Ok(matches),
+        Err(error) => Err(NoTask::Words(error)),
+    }
 }
 
 /// Returns the arguments and options that a command line gives.
-pub(crate) fn options_of<'m, 'a>(matches: &'m ArgMatches<'a>) -> Options<'m> {
+pub(crate) fn options_of<'m, 'a>(matches: &'m ArgMatches<'a>) -> Options<'m>
+    ensures { AreGiven (first_value (found_of matches.now)) (one_text (found_of matches.now)) result }
+{
     let task = match matches.get_str("task") {
         Some(task) => task,
         None => "",

@@ -1,18 +1,20 @@
-//! The program's arguments, standard input and output, and exit status.
-ghost use Rattle.std.specs.Prelude.{◌≤◌};
+//! Runs the program with its arguments and its standard streams, and determines its exit status.
+ghost use Rattle.std.specs.Prelude.{◌≡◌, ◌≤◌, ◌⊎◌, ℕ, List, Some, IfOk, map, string_bytes};
+ghost use Rattle.std.specs.Io.KnownBytes.{Keeps};
+ghost use Rattle.couch_journal.specs.Runs.{RunsStandard};
+ghost use Rattle.couch_journal.specs.Status.{ended_status, status_of, unflushed, unwritten};
 
-use crate::ended::Ended;
-use crate::options::{Options, matches_of, options_of};
-use crate::run::run;
-use crate::tasks::task_of;
+use crate::ended::{Ended, Outcome};
+use crate::options::NoTask;
+use crate::run::run_words;
 use cli_common::{
     BAD_COMMAND_LINE, report_arguments, report_bad_arguments, report_out_of_memory, words_of,
 };
 use journal_responses::Said;
-use script_engine::{OverRead, OverWrite, ScriptFault, ScriptWrite};
+use script_engine::{OverRead, OverWrite, Recorder, ScriptFault, ScriptRead, ScriptWrite};
 use std::env::Env;
 use std::io;
-use std::io::{Eprint, Input, Print};
+use std::io::{Eprint, Input, Print, Printer, Write};
 
 /// Runs the program, and returns its exit status. The exit status is 0 on success, 1 if something is missing, and 2 for
 /// a usage error. The exit status is 3 if the input is damaged or has another form, or if reading, writing or an
@@ -21,78 +23,116 @@ pub(crate) fn run_program<H: AllocGlobal + Env + Input + Print + Eprint>(rt: &H)
     ensures { result ≤ 3 }
 {
     match words_of(rt) {
-        Ok(words) => run_words(rt, words.as_slice()),
+        Ok(words) => match run_standard(rt, words.as_slice()) {
+            Ok((ended, _reader, _writer)) => tell(rt, &ended),
+            Err(_) => report_out_of_memory(rt),
+        },
         Err(error) => report_bad_arguments(rt, &error),
     }
 }
 
-/// Runs the task that the command line's arguments name.
-fn run_words<H: AllocGlobal + Input + Print + Eprint>(rt: &H, words: &[String]) -> u8
-    ensures { result ≤ 3 }
+/// Runs the program on standard input and output. Returns how the run ended, and both streams. The contract names the
+/// bytes that went through the streams. Output is buffered, and flushed at the end.
+///
+/// # Errors
+///
+/// Returns `OutOfMemory` if the output buffer cannot be allocated. If the output buffer cannot be allocated, the call
+/// reads and writes no byte.
+fn run_standard<'a, H>(
+    rt: &'a H,
+    words: &[String],
+) -> io::Result<(Ended, OverRead<H::Reader>, Recorder<Printer<'a, H>>)>
+where
+    H: AllocGlobal + Input + Print,
+    ensures { IfOk result (λ ran. (input : List ℕ) × (text : List ℕ)
+        × (⟦<OverRead<H::Reader> as ScriptRead>⟧.taken ran.1 ≡ Some input)
+        × (⟦<Recorder<Printer<'a, H>> as Write>⟧.contents ran.2 ≡ Some text)
+        × RunsStandard (map string_bytes words.now) (⟦<OverRead<H::Reader> as ScriptRead>⟧.ended ran.1) input text
+        ran.0) }
 {
-    match matches_of(rt.alloc(), words) {
-        Ok(matches) => run_options(rt, &options_of(&matches)),
-        Err(error) => report_arguments(rt, &error),
-    }
-}
-
-/// Runs the task of a parsed command line on standard input and output. The program buffers its output, and flushes the
-/// buffer at the end.
-fn run_options<H: AllocGlobal + Input + Print + Eprint>(rt: &H, options: &Options<'_>) -> u8
-    ensures { result ≤ 3 }
-{
-    let Some(task) = task_of(options) else {
-        let _ = eprintln!(rt; "error: unknown task or wrong arguments; see couch_journal --help");
-        return BAD_COMMAND_LINE;
-    };
-    let Ok(mut writer) = OverWrite::new(rt.alloc(), io::writer(rt)) else {
-        return report_out_of_memory(rt);
-    };
+    let mut writer = OverWrite::new(rt.alloc(), Recorder::new(io::writer(rt)))?;
     let mut reader = OverRead::new(rt.reader());
-    let ended = match run(rt.alloc(), &task, options, &mut reader, &mut writer) {
-        Ok(ended) => ended,
-        Err(ended) => ended,
-    };
+    let first = run_words(rt.alloc(), words, &mut reader, &mut writer);
+    let ended = flushed(&mut writer, first);
+    Ok((ended, reader, writer.into_inner()))
+}
+
+/// Flushes the output. Returns how the run ended, given whether flushing the output succeeded.
+fn flushed<W: ScriptWrite>(writer: &mut W, first: Ended) -> Ended
+    ensures kept { Keeps (W.held writer.old) (W.held writer.new) }
+    ensures flushed { (Keeps (W.held writer.new) (W.sent writer.new) × (result ≡ first)) ⊎ (result ≡ unflushed first) }
+{
     match writer.flush() {
-        Ok(()) => tell(rt, &ended),
-        Err(_) => tell(rt, &unflushed(ended)),
+        Ok(()) => first,
+        Err(_) => unflushed(first),
     }
 }
 
-/// Returns the outcome of a run whose last output could not be flushed. If the run failed before, the earlier failure
-/// stays the outcome.
-fn unflushed(ended: Ended) -> Ended {
-    match ended {
-        Ended::Done | Ended::Missing => Ended::Fault(ScriptFault::Write),
-        _ => ended,
-    }
-}
-
-/// Reports the outcome of a run on standard error, unless the run succeeded, and returns the exit status.
-fn tell(rt: &impl Eprint, ended: &Ended) -> u8
-    ensures { result ≤ 3 }
+/// Returns the end of a run whose last output could not be flushed. If the run failed before, the call returns the
+/// earlier failure.
+fn unflushed(ended: Ended) -> Ended
+    ensures { result ≡ unflushed ended }
 {
     match ended {
-        Ended::Done => 0,
-        Ended::Missing => 1,
-        Ended::Wrong(line) => {
+        Ended::Ran(result) => Ended::Ran(unwritten(result)),
+        Ended::NotRun(why) => Ended::NotRun(why),
+    }
+}
+
+/// Returns the result of a task whose last output could not be flushed. If the task failed before, the call returns the
+/// earlier failure.
+fn unwritten(ran: Result<Outcome, ScriptFault>) -> Result<Outcome, ScriptFault>
+    ensures { result ≡ unwritten ran }
+{
+    match ran {
+        Ok(Outcome::Done) | Ok(Outcome::Missing) => Err(ScriptFault::Write),
+        Ok(outcome) => Ok(outcome),
+        Err(fault) => Err(fault),
+    }
+}
+
+/// Reports how a run ended, unless it succeeded, and returns the exit status.
+fn tell<H: Print + Eprint>(rt: &H, ended: &Ended) -> u8
+    ensures { result ≡ ended_status ended.now }
+{
+    match ended {
+        Ended::NotRun(NoTask::Words(error)) => report_arguments(rt, error),
+        Ended::NotRun(NoTask::Unknown) => {
+            let _ = eprintln!(rt;
+                "error: unknown task or wrong arguments; see couch_journal --help"
+            );
+            BAD_COMMAND_LINE
+        }
+        Ended::NotRun(NoTask::Memory) => report_out_of_memory(rt),
+        Ended::Ran(result) => tell_result(rt, result),
+    }
+}
+
+/// Reports the result of a task, unless the task succeeded, and returns the exit status.
+fn tell_result(rt: &impl Eprint, ran: &Result<Outcome, ScriptFault>) -> u8
+    ensures { result ≡ status_of ran.now }
+{
+    match ran {
+        Ok(Outcome::Done) => 0,
+        Ok(Outcome::Missing) => 1,
+        Ok(Outcome::Wrong(line)) => {
             let _ = eprintln!(rt; "error: line {line} has another form");
             3
         }
-        Ended::Damaged(lines) => {
+        Ok(Outcome::Damaged(lines)) => {
             let _ = eprintln!(rt; "error: damaged after line {lines}");
             3
         }
-        Ended::NoSums => {
+        Ok(Outcome::NoSums) => {
             let _ = eprintln!(rt; "error: has no checksums");
             3
         }
-        Ended::Differs => {
+        Ok(Outcome::Differs) => {
             let _ = eprintln!(rt; "error: the second copy differs from the first");
             3
         }
-        Ended::Said(said) => tell_said(rt, said),
-        Ended::Fault(fault) => {
+        Ok(Outcome::Said(said)) => tell_said(rt, said),
+        Err(fault) => {
             let _ = eprintln!(rt; "{fault}");
             3
         }
@@ -101,7 +141,7 @@ fn tell(rt: &impl Eprint, ended: &Ended) -> u8
 
 /// Reports why a response does not have the requested form, and returns the exit status.
 fn tell_said(rt: &impl Eprint, said: &Said) -> u8
-    ensures { result ≤ 3 }
+    ensures { result ≡ 3 }
 {
     match said {
         Said::Error(error, reason) => {

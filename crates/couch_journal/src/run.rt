@@ -1,16 +1,24 @@
 //! Runs the program's tasks over any reader and writer.
-use crate::ended::{Ended, ended_by, ended_missing};
-use crate::options::Options;
-use crate::tasks::Task;
+ghost use Rattle.std.specs.Prelude.{◌≡◌, ◌++◌, ℕ, List, IfOk, IfErr, OnErr, OnOk, map, string_bytes};
+ghost use Rattle.std.specs.Io.KnownBytes.{Appends};
+ghost use Rattle.json.specs.Value.{value_view};
+ghost use Rattle.script_engine.specs.Device.{FailsOnce};
+ghost use Rattle.journal_responses.specs.Responses.{IsOther, IsSaid};
+ghost use Rattle.couch_journal.specs.Status.{missing_or_done};
+ghost use Rattle.couch_journal.specs.Runs.{IsNotShown, IsShown, RunsAsk, RunsResponse, RunsSeal, RunsTask, RunsWords, Shows, ShowsNothing};
+
+use crate::ended::{Ended, Outcome, missing_or_done, wrong_or};
+use crate::options::{NoTask, Options, matches_of, options_of};
+use crate::tasks::{Task, task_of};
 use journal_core::seal_block;
 use journal_responses::{Said, info_of, page_of, read_said, refused_of};
 use journal_tasks::{
-    Ask, Compare, Conflicts, Diff, Filter, Lacking, Name, Parts, Received, Select, States,
+    Compare, Conflicts, Diff, Filter, Lacking, Name, Parts, Received, Select, States, ask_leaves,
     confirm_journal,
 };
-use json::Scratch;
-use line_reader::{read_all, run_task};
-use script_engine::{ScriptRead, ScriptWrite, write_all};
+use json::{Scratch, Value};
+use line_reader::{LineTask, read_all, run_task};
+use script_engine::{ScriptFault, ScriptRead, ScriptWrite, write_all};
 use std::alloc::{AllocError, Global};
 
 /// The kind of a response that a task reads completely.
@@ -21,25 +29,110 @@ enum Response {
     Info,
 }
 
-/// Appends the output for a response to `text`. Returns whether the response says that a document was refused.
+/// Appends the output for a page of changes to `text`.
+fn show_page(
+    alloc: Global,
+    several: bool,
+    value: &Value<'_>,
+    text: &mut Vec<u8>,
+) -> Result<bool, Said>
+    ensures ok { IfOk result (λ refused. (shown : List ℕ) × (text.new.items ≡ text.old.items ++ shown)
+        × Shows (Response.Page several) (value_view value.now) shown refused) }
+    ensures err { IfErr result (λ said. IsOther said → ShowsNothing (Response.Page several) (value_view value.now)) }
+    ensures said { IfErr result (IsSaid (value_view value.now)) }
+{
+    match page_of(alloc, text, several, value) {
+        Ok(()) => Ok(false),
+        Err(said) => Err(said),
+    }
+}
+
+/// Appends the output for a response of `_bulk_docs` to `text`. Returns whether a document was rejected.
+fn show_refused(alloc: Global, value: &Value<'_>, text: &mut Vec<u8>) -> Result<bool, Said>
+    ensures ok { IfOk result (λ refused. (shown : List ℕ) × (text.new.items ≡ text.old.items ++ shown)
+        × Shows Response.Refused (value_view value.now) shown refused) }
+    ensures err { IfErr result (λ said. IsOther said → ShowsNothing Response.Refused (value_view value.now)) }
+    ensures said { IfErr result (IsSaid (value_view value.now)) }
+{
+    match refused_of(alloc, text, value) {
+        Ok(refused) => Ok(refused),
+        Err(said) => Err(said),
+    }
+}
+
+/// Appends the output for a description of a server or a database to `text`.
+fn show_info(alloc: Global, value: &Value<'_>, text: &mut Vec<u8>) -> Result<bool, Said>
+    ensures ok { IfOk result (λ refused. (shown : List ℕ) × (text.new.items ≡ text.old.items ++ shown)
+        × Shows Response.Info (value_view value.now) shown refused) }
+    ensures err { IfErr result (λ said. IsOther said → ShowsNothing Response.Info (value_view value.now)) }
+    ensures said { IfErr result (IsSaid (value_view value.now)) }
+{
+    match info_of(alloc, text, value) {
+        Ok(()) => Ok(false),
+        Err(said) => Err(said),
+    }
+}
+
+/// Appends the output for a JSON value to `text`. Returns whether the value says that a document was rejected.
+///
+/// # Errors
+///
+/// Returns `Error` or `Other` if the value is not the response. Returns `Memory` if an allocation failed.
+fn show(
+    alloc: Global,
+    response: Response,
+    value: &Value<'_>,
+    text: &mut Vec<u8>,
+) -> Result<bool, Said>
+    ensures ok { IfOk result (λ refused. (shown : List ℕ) × (text.new.items ≡ text.old.items ++ shown)
+        × Shows response (value_view value.now) shown refused) }
+    ensures err { IfErr result (λ said. IsOther said → ShowsNothing response (value_view value.now)) }
+    ensures said { IfErr result (IsSaid (value_view value.now)) }
+{
+    match response {
+        Response::Page(several) => show_page(alloc, several, value, text),
+        Response::Info => show_info(alloc, value, text),
+        Response::Refused => show_refused(alloc, value, text),
+    }
+}
+
+/// Appends the output for a response to `text`. Returns whether the response says that a document was rejected.
+///
+/// # Errors
+///
+/// Returns `NotJson`, `Error` or `Other` if the body is not the response. Returns `Memory` if an allocation failed.
 fn read_response(
     alloc: Global,
     response: Response,
     body: &[u8],
     text: &mut Vec<u8>,
-) -> Result<bool, Said> {
+) -> Result<bool, Said>
+    ensures ok { IfOk result (λ refused. (shown : List ℕ) × (text.new.items ≡ text.old.items ++ shown)
+        × IsShown response body.now shown refused) }
+    ensures err { IfErr result (IsNotShown response body.now) }
+{
     let mut scratch = Scratch::new(alloc);
-    let value = read_said(alloc, &mut scratch, body)?;
-    match response {
-        Response::Page(several) => {
-            page_of(alloc, text, several, &value)?;
-            Ok(false)
-        }
-        Response::Info => {
-            info_of(alloc, text, &value)?;
-            Ok(false)
-        }
-        Response::Refused => refused_of(alloc, text, &value),
+    match read_said(alloc, &mut scratch, body) {
+        Ok(value) => show(alloc, response, &value, text),
+        Err(said) => Err(said),
+    }
+}
+
+/// Writes the output for a response, and returns the outcome of its task.
+fn write_shown<W: ScriptWrite>(
+    writer: &mut W,
+    text: &[u8],
+    refused: bool,
+) -> Result<Outcome, ScriptFault>
+    ensures ok { IfOk result (λ outcome. Appends (W.held writer.old) (W.held writer.new) text.now
+        × (outcome ≡ missing_or_done refused)) }
+    ensures err { OnErr result ((front : List ℕ) × (back : List ℕ) × (text.now ≡ front ++ back)
+        × Appends (W.held writer.old) (W.held writer.new) front
+        × FailsOnce (W.failures writer.old) (W.failures writer.new)) }
+{
+    match write_all(writer, text) {
+        Ok(()) => Ok(missing_or_done(refused)),
+        Err(fault) => Err(fault),
     }
 }
 
@@ -49,29 +142,58 @@ fn run_response<R: ScriptRead, W: ScriptWrite>(
     response: Response,
     reader: &mut R,
     writer: &mut W,
-) -> Result<Ended, Ended> {
-    let body = read_all(alloc, reader)?;
+) -> Result<Outcome, ScriptFault>
+    ensures { (input text : List ℕ) × Appends (R.taken reader.old) (R.taken reader.new) input
+        × Appends (W.held writer.old) (W.held writer.new) text
+        × RunsResponse response (R.ended reader.new) input text result }
+{
+    let body = match read_all(alloc, reader) {
+        Ok(body) => body,
+        Err(fault) => return Err(fault),
+    };
     let mut text = Vec::new(alloc);
     match read_response(alloc, response, body.as_slice(), &mut text) {
-        Ok(refused) => {
-            write_all(writer, text.as_slice())?;
-            Ok(ended_missing(refused))
-        }
-        Err(said) => Ok(Ended::Said(said)),
+        Ok(refused) => write_shown(writer, text.as_slice(), refused),
+        Err(said) => Ok(Outcome::Said(said)),
     }
 }
 
+/// Runs a task over the lines of the input.
+fn run_lines<T: LineTask, R: ScriptRead, W: ScriptWrite>(
+    alloc: Global,
+    task: &mut T,
+    reader: &mut R,
+    writer: &mut W,
+) -> Result<(), ScriptFault>
+    ensures took { (input text : List ℕ) × Appends (R.taken reader.old) (R.taken reader.new) input
+        × Appends (W.held writer.old) (W.held writer.new) text }
+    ensures ended { OnOk result (R.ended reader.new) }
+{
+    run_task(alloc, task, reader, writer)
+}
+
+/// Seals a block, and writes the line that ends it.
 fn run_seal<R: ScriptRead, W: ScriptWrite>(
     alloc: Global,
     chain: &str,
     seq: &str,
     reader: &mut R,
     writer: &mut W,
-) -> Result<Ended, Ended> {
-    let wrong = seal_block(alloc, chain.as_bytes(), seq.as_bytes(), reader, writer)?;
-    match wrong {
-        Some(lines) => Ok(Ended::Wrong(lines.saturating_add(1))),
-        None => Ok(Ended::Done),
+) -> Result<Outcome, ScriptFault>
+    ensures { (input text : List ℕ) × Appends (R.taken reader.old) (R.taken reader.new) input
+        × Appends (W.held writer.old) (W.held writer.new) text
+        × RunsSeal chain.now seq.now (R.ended reader.new) input text result }
+{
+    let wrong = match seal_block(alloc, chain.as_bytes(), seq.as_bytes(), reader, writer) {
+        Ok(wrong) => wrong,
+        Err(fault) => return Err(fault),
+    };
+    let Some(lines) = wrong else {
+        return Ok(Outcome::Done);
+    };
+    match lines.checked_add(1) {
+        Some(line) => Ok(Outcome::Wrong(line)),
+        None => Err(ScriptFault::Memory),
     }
 }
 
@@ -80,35 +202,42 @@ fn run_confirm<R: ScriptRead, W: ScriptWrite>(
     at: Option<&str>,
     reader: &mut R,
     writer: &mut W,
-) -> Result<Ended, Ended> {
+) -> Result<Outcome, ScriptFault>
+    ensures { (input text : List ℕ) × Appends (R.taken reader.old) (R.taken reader.new) input
+        × Appends (W.held writer.old) (W.held writer.new) text }
+{
     let at = match at {
         Some(at) => Some(at.as_bytes()),
         None => None,
     };
     let task = confirm_journal(alloc, at, reader, writer)?;
     if task.is_not_found() {
-        Ok(Ended::Missing)
+        Ok(Outcome::Missing)
     } else if at.is_some() || task.is_confirmed() {
-        Ok(Ended::Done)
+        Ok(Outcome::Done)
     } else if task.is_without_sums() {
-        Ok(Ended::NoSums)
+        Ok(Outcome::NoSums)
     } else {
-        Ok(Ended::Damaged(task.confirmed_lines()))
+        Ok(Outcome::Damaged(task.confirmed_lines()))
     }
 }
 
+#[tactic(auto, using(crate::proofs::Bytes::nothing_passed))]
 fn run_states<R: ScriptRead, W: ScriptWrite>(
     alloc: Global,
     unverified: bool,
     reader: &mut R,
     writer: &mut W,
-) -> Result<Ended, Ended> {
+) -> Result<Outcome, ScriptFault>
+    ensures { (input text : List ℕ) × Appends (R.taken reader.old) (R.taken reader.new) input
+        × Appends (W.held writer.old) (W.held writer.new) text }
+{
     let mut task = States::new(alloc, unverified)?;
-    run_task(alloc, &mut task, reader, writer)?;
+    run_lines(alloc, &mut task, reader, writer)?;
     if task.is_damaged() {
-        return Ok(Ended::Damaged(task.confirmed_lines()));
+        return Ok(Outcome::Damaged(task.confirmed_lines()));
     }
-    Ok(ended_by(task.wrong(), Ended::Done))
+    Ok(wrong_or(task.wrong(), Outcome::Done))
 }
 
 /// Returns the filter that the options of the task `select` give.
@@ -124,23 +253,27 @@ fn filter_of(alloc: Global, options: &Options<'_>) -> Result<Filter, AllocError>
     })
 }
 
+#[tactic(auto, using(crate::proofs::Bytes::nothing_passed))]
 fn run_select<R: ScriptRead, W: ScriptWrite>(
     alloc: Global,
     size: u64,
     options: &Options<'_>,
     reader: &mut R,
     writer: &mut W,
-) -> Result<Ended, Ended> {
+) -> Result<Outcome, ScriptFault>
+    ensures { (input text : List ℕ) × Appends (R.taken reader.old) (R.taken reader.new) input
+        × Appends (W.held writer.old) (W.held writer.new) text }
+{
     let filter = filter_of(alloc, options)?;
     let mut task = Select::new(alloc, size, filter)?;
-    run_task(alloc, &mut task, reader, writer)?;
+    run_lines(alloc, &mut task, reader, writer)?;
     if task.is_damaged() {
-        return Ok(Ended::Damaged(task.confirmed_lines()));
+        return Ok(Outcome::Damaged(task.confirmed_lines()));
     }
     if task.differs() {
-        return Ok(Ended::Differs);
+        return Ok(Outcome::Differs);
     }
-    Ok(ended_by(task.wrong(), ended_missing(task.lacks())))
+    Ok(wrong_or(task.wrong(), missing_or_done(task.lacks())))
 }
 
 /// Reads requested leaves and received documents, and prints what was received.
@@ -149,10 +282,29 @@ fn run_received<R: ScriptRead, W: ScriptWrite>(
     only_lacks: bool,
     reader: &mut R,
     writer: &mut W,
-) -> Result<Ended, Ended> {
+) -> Result<Outcome, ScriptFault>
+    ensures { (input text : List ℕ) × Appends (R.taken reader.old) (R.taken reader.new) input
+        × Appends (W.held writer.old) (W.held writer.new) text }
+{
     let mut task = Received::new(alloc, only_lacks);
-    run_task(alloc, &mut task, reader, writer)?;
-    Ok(ended_by(task.wrong(), ended_missing(task.lacks())))
+    run_lines(alloc, &mut task, reader, writer)?;
+    Ok(wrong_or(task.wrong(), missing_or_done(task.lacks())))
+}
+
+/// Prints a `_bulk_get` request for the leaves of a list.
+fn run_ask<R: ScriptRead, W: ScriptWrite>(
+    alloc: Global,
+    reader: &mut R,
+    writer: &mut W,
+) -> Result<Outcome, ScriptFault>
+    ensures { (input text : List ℕ) × Appends (R.taken reader.old) (R.taken reader.new) input
+        × Appends (W.held writer.old) (W.held writer.new) text
+        × RunsAsk (R.ended reader.new) input text result }
+{
+    match ask_leaves(alloc, reader, writer) {
+        Ok(task) => Ok(wrong_or(task.wrong(), Outcome::Done)),
+        Err(fault) => Err(fault),
+    }
 }
 
 /// Reads a list and the response of `_revs_diff`, and prints the missing leaves.
@@ -160,66 +312,112 @@ fn run_lacking<R: ScriptRead, W: ScriptWrite>(
     alloc: Global,
     reader: &mut R,
     writer: &mut W,
-) -> Result<Ended, Ended> {
+) -> Result<Outcome, ScriptFault>
+    ensures { (input text : List ℕ) × Appends (R.taken reader.old) (R.taken reader.new) input
+        × Appends (W.held writer.old) (W.held writer.new) text }
+{
     let mut task = Lacking::new(alloc);
-    run_task(alloc, &mut task, reader, writer)?;
+    run_lines(alloc, &mut task, reader, writer)?;
     let ended = if task.is_refused() {
-        Ended::Said(Said::Other)
+        Outcome::Said(Said::Other)
     } else {
-        Ended::Done
+        Outcome::Done
     };
-    Ok(ended_by(task.wrong(), ended))
+    Ok(wrong_or(task.wrong(), ended))
 }
 
-/// Runs a task that reads a list of leaves or documents.
-fn run_list<R: ScriptRead, W: ScriptWrite>(
+/// Prints a `_revs_diff` request for the leaves of a list.
+fn run_diff<R: ScriptRead, W: ScriptWrite>(
     alloc: Global,
-    task: &Task<'_>,
     reader: &mut R,
     writer: &mut W,
-) -> Result<Option<u64>, Ended> {
-    match task {
-        Task::Diff => {
-            let mut task = Diff::new(alloc);
-            run_task(alloc, &mut task, reader, writer)?;
-            Ok(task.wrong())
-        }
-        Task::Parts(bytes, lines) => {
-            let mut task = Parts::new(alloc, *bytes, *lines);
-            run_task(alloc, &mut task, reader, writer)?;
-            Ok(task.wrong())
-        }
-        Task::Name(word) => {
-            let mut task = Name::new(alloc, *word)?;
-            run_task(alloc, &mut task, reader, writer)?;
-            Ok(task.wrong())
-        }
-        Task::Compare(documents) => {
-            let mut task = Compare::new(alloc, *documents);
-            run_task(alloc, &mut task, reader, writer)?;
-            Ok(task.wrong())
-        }
-        Task::Conflicts => {
-            let mut task = Conflicts::new(alloc);
-            run_task(alloc, &mut task, reader, writer)?;
-            Ok(task.wrong())
-        }
-        _ => {
-            let mut task = Ask::new(alloc);
-            run_task(alloc, &mut task, reader, writer)?;
-            Ok(task.wrong())
-        }
-    }
+) -> Result<Outcome, ScriptFault>
+    ensures { (input text : List ℕ) × Appends (R.taken reader.old) (R.taken reader.new) input
+        × Appends (W.held writer.old) (W.held writer.new) text }
+{
+    let mut task = Diff::new(alloc);
+    run_lines(alloc, &mut task, reader, writer)?;
+    Ok(wrong_or(task.wrong(), Outcome::Done))
+}
+
+/// Cuts lines into parts.
+fn run_parts<R: ScriptRead, W: ScriptWrite>(
+    alloc: Global,
+    bytes: u64,
+    lines: u64,
+    reader: &mut R,
+    writer: &mut W,
+) -> Result<Outcome, ScriptFault>
+    ensures { (input text : List ℕ) × Appends (R.taken reader.old) (R.taken reader.new) input
+        × Appends (W.held writer.old) (W.held writer.new) text }
+{
+    let mut task = Parts::new(alloc, bytes, lines);
+    run_lines(alloc, &mut task, reader, writer)?;
+    Ok(wrong_or(task.wrong(), Outcome::Done))
+}
+
+/// Prints a line for each leaf of a list.
+#[tactic(auto, using(crate::proofs::Bytes::nothing_passed))]
+fn run_name<R: ScriptRead, W: ScriptWrite>(
+    alloc: Global,
+    word: &str,
+    reader: &mut R,
+    writer: &mut W,
+) -> Result<Outcome, ScriptFault>
+    ensures { (input text : List ℕ) × Appends (R.taken reader.old) (R.taken reader.new) input
+        × Appends (W.held writer.old) (W.held writer.new) text }
+{
+    let mut task = Name::new(alloc, word)?;
+    run_lines(alloc, &mut task, reader, writer)?;
+    Ok(wrong_or(task.wrong(), Outcome::Done))
+}
+
+/// Prints the leaves of a list that another list lacks.
+fn run_compare<R: ScriptRead, W: ScriptWrite>(
+    alloc: Global,
+    documents: bool,
+    reader: &mut R,
+    writer: &mut W,
+) -> Result<Outcome, ScriptFault>
+    ensures { (input text : List ℕ) × Appends (R.taken reader.old) (R.taken reader.new) input
+        × Appends (W.held writer.old) (W.held writer.new) text }
+{
+    let mut task = Compare::new(alloc, documents);
+    run_lines(alloc, &mut task, reader, writer)?;
+    Ok(wrong_or(task.wrong(), Outcome::Done))
+}
+
+/// Prints the documents with two or more live leaves.
+fn run_conflicts<R: ScriptRead, W: ScriptWrite>(
+    alloc: Global,
+    reader: &mut R,
+    writer: &mut W,
+) -> Result<Outcome, ScriptFault>
+    ensures { (input text : List ℕ) × Appends (R.taken reader.old) (R.taken reader.new) input
+        × Appends (W.held writer.old) (W.held writer.new) text }
+{
+    let mut task = Conflicts::new(alloc);
+    run_lines(alloc, &mut task, reader, writer)?;
+    Ok(wrong_or(task.wrong(), Outcome::Done))
 }
 
 /// Runs a task with its arguments and options, and returns the outcome.
-pub(crate) fn run<R: ScriptRead, W: ScriptWrite>(
+///
+/// # Errors
+///
+/// Returns `Read` if the reader failed, or after 4,294,967,295 reads of at most 65,536 bytes. Returns `Write` if the
+/// writer failed. Returns `Memory` if an allocation failed, or if a count is at its maximum.
+fn run<R: ScriptRead, W: ScriptWrite>(
     alloc: Global,
     task: &Task<'_>,
     options: &Options<'_>,
     reader: &mut R,
     writer: &mut W,
-) -> Result<Ended, Ended> {
+) -> Result<Outcome, ScriptFault>
+    ensures { (input text : List ℕ) × Appends (R.taken reader.old) (R.taken reader.new) input
+        × Appends (W.held writer.old) (W.held writer.new) text
+        × RunsTask task.now options.now (R.ended reader.new) input text result }
+{
     match task {
         Task::Page(several) => run_response(alloc, Response::Page(*several), reader, writer),
         Task::Refused => run_response(alloc, Response::Refused, reader, writer),
@@ -230,9 +428,33 @@ pub(crate) fn run<R: ScriptRead, W: ScriptWrite>(
         Task::Select(size) => run_select(alloc, *size, options, reader, writer),
         Task::Received(only_lacks) => run_received(alloc, *only_lacks, reader, writer),
         Task::Lacking => run_lacking(alloc, reader, writer),
-        _ => {
-            let wrong = run_list(alloc, task, reader, writer)?;
-            Ok(ended_by(wrong, Ended::Done))
-        }
+        Task::Ask => run_ask(alloc, reader, writer),
+        Task::Diff => run_diff(alloc, reader, writer),
+        Task::Parts(bytes, lines) => run_parts(alloc, *bytes, *lines, reader, writer),
+        Task::Name(word) => run_name(alloc, *word, reader, writer),
+        Task::Compare(documents) => run_compare(alloc, *documents, reader, writer),
+        Task::Conflicts => run_conflicts(alloc, reader, writer),
+    }
+}
+
+/// Parses the arguments, of which the first is the program's name, and runs the task that they name.
+pub(crate) fn run_words<R: ScriptRead, W: ScriptWrite>(
+    alloc: Global,
+    words: &[String],
+    reader: &mut R,
+    writer: &mut W,
+) -> Ended
+    ensures { (input text : List ℕ) × Appends (R.taken reader.old) (R.taken reader.new) input
+        × Appends (W.held writer.old) (W.held writer.new) text
+        × RunsWords (map string_bytes words.now) (R.ended reader.new) input text result }
+{
+    let matches = match matches_of(alloc, words) {
+        Ok(matches) => matches,
+        Err(why) => return Ended::NotRun(why),
+    };
+    let options = options_of(&matches);
+    match task_of(&options) {
+        Some(task) => Ended::Ran(run(alloc, &task, &options, reader, writer)),
+        None => Ended::NotRun(NoTask::Unknown),
     }
 }

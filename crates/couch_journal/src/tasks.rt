@@ -1,4 +1,10 @@
 //! The tasks of the program, and their arguments.
+ghost use Rattle.std.specs.Prelude.{◌≡◌, ℕ, IfSome, IfNone};
+ghost use Rattle.couch_journal.specs.declared.tasks.Named.{Named};
+ghost use Rattle.couch_journal.specs.declared.tasks.Named.TheVariants as named;
+ghost use Rattle.couch_journal.specs.declared.tasks.Task.{Task};
+ghost use Rattle.couch_journal.specs.Tasks.{Fits, IsNumber, IsTaskOf, IsTaskless, Takes, arguments_given, arguments_of, has_other_option, is_other, takes_at, takes_doc, takes_documents, takes_lacks, takes_several, takes_unverified, word_of};
+
 use crate::options::Options;
 
 /// A task with its arguments.
@@ -59,8 +65,11 @@ enum Named {
     Info,
 }
 
-/// Returns the task with the given name, if it is a task on responses or on lists.
-fn first_named(word: &str) -> Option<Named> {
+/// Parses the name of a task.
+fn named_by(word: &str) -> Option<Named>
+    ensures some { IfSome result (λ n. word.now ≡ word_of n) }
+    ensures none { IfNone result ((n : Named) → word.now ≡ word_of n → ⊥) }
+{
     if word == "page" {
         Some(Named::Page)
     } else if word == "ask" {
@@ -75,14 +84,7 @@ fn first_named(word: &str) -> Option<Named> {
         Some(Named::Parts)
     } else if word == "refused" {
         Some(Named::Refused)
-    } else {
-        None
-    }
-}
-
-/// Returns the task with the given name.
-fn named_by(word: &str) -> Option<Named> {
-    if word == "seal" {
+    } else if word == "seal" {
         Some(Named::Seal)
     } else if word == "confirm" {
         Some(Named::Confirm)
@@ -99,23 +101,94 @@ fn named_by(word: &str) -> Option<Named> {
     } else if word == "info" {
         Some(Named::Info)
     } else {
-        first_named(word)
+        None
     }
 }
 
+/// Whether a task takes the option `--at`.
+fn takes_at(named: Named) -> bool
+    ensures { result ≡ takes_at named }
+{
+    match named {
+        Named::Confirm => true,
+        _ => false,
+    }
+}
+
+/// Whether a task takes the option `--doc`.
+fn takes_doc(named: Named) -> bool
+    ensures { result ≡ takes_doc named }
+{
+    match named {
+        Named::Select => true,
+        _ => false,
+    }
+}
+
+/// Whether a task takes the option `--several`.
+fn takes_several(named: Named) -> bool
+    ensures { result ≡ takes_several named }
+{
+    match named {
+        Named::Page | Named::Select => true,
+        _ => false,
+    }
+}
+
+/// Whether a task takes the option `--lacks`.
+fn takes_lacks(named: Named) -> bool
+    ensures { result ≡ takes_lacks named }
+{
+    match named {
+        Named::Received => true,
+        _ => false,
+    }
+}
+
+/// Whether a task takes the option `--documents`.
+fn takes_documents(named: Named) -> bool
+    ensures { result ≡ takes_documents named }
+{
+    match named {
+        Named::Compare => true,
+        _ => false,
+    }
+}
+
+/// Whether a task takes the option `--unverified`.
+fn takes_unverified(named: Named) -> bool
+    ensures { result ≡ takes_unverified named }
+{
+    match named {
+        Named::States | Named::Select => true,
+        _ => false,
+    }
+}
+
+/// Whether an option is given that the task does not take.
+fn is_other(given: bool, taken: bool) -> bool
+    ensures { result ≡ is_other given taken }
+{
+    given && !taken
+}
+
 /// Whether a command line has an option that its task does not take.
-fn has_other_option(named: Named, options: &Options<'_>) -> bool {
-    let select = named == Named::Select;
-    options.at.is_some() && named != Named::Confirm
-        || options.doc.is_some() && !select
-        || options.several && named != Named::Page && !select
-        || options.lacks && named != Named::Received
-        || options.documents && named != Named::Compare
-        || options.unverified && named != Named::States && !select
+fn has_other_option(named: Named, options: &Options<'_>) -> bool
+    ensures { result ≡ has_other_option named options.now }
+{
+    let at = is_other(options.at.is_some(), takes_at(named));
+    let doc = is_other(options.doc.is_some(), takes_doc(named));
+    let several = is_other(options.several, takes_several(named));
+    let lacks = is_other(options.lacks, takes_lacks(named));
+    let documents = is_other(options.documents, takes_documents(named));
+    let unverified = is_other(options.unverified, takes_unverified(named));
+    at || doc || several || lacks || documents || unverified
 }
 
 /// Returns the number of arguments that a task takes.
-fn arguments_of(named: Named) -> u8 {
+fn arguments_of(named: Named) -> u8
+    ensures { result ≡ arguments_of named }
+{
     match named {
         Named::Parts | Named::Seal => 2,
         Named::Select | Named::Name => 1,
@@ -124,7 +197,9 @@ fn arguments_of(named: Named) -> u8 {
 }
 
 /// Returns the number of arguments that the command line gives.
-fn arguments_given(options: &Options<'_>) -> u8 {
+fn arguments_given(options: &Options<'_>) -> u8
+    ensures { result ≡ arguments_given options.now }
+{
     if options.second.is_some() {
         2
     } else if options.first.is_some() {
@@ -135,23 +210,55 @@ fn arguments_given(options: &Options<'_>) -> u8 {
 }
 
 /// Returns the task of a command line, or `None` if the name, the arguments or the options are wrong.
-pub(crate) fn task_of<'a>(options: &Options<'a>) -> Option<Task<'a>> {
+pub(crate) fn task_of<'a>(options: &Options<'a>) -> Option<Task<'a>>
+    ensures some { IfSome result (IsTaskOf options.now) }
+    ensures none { IfNone result (IsTaskless options.now) }
+{
     let Some(named) = named_by(options.task) else {
         return None;
     };
+    taken(named, options)
+}
+
+/// Returns the named task with its arguments and options, or `None` if they are wrong.
+fn taken<'a>(named: Named, options: &Options<'a>) -> Option<Task<'a>>
+    ensures some { IfSome result (Takes named options.now) }
+    ensures none { IfNone result ((task : Task) → Takes named options.now task → ⊥) }
+{
     if has_other_option(named, options) || arguments_given(options) != arguments_of(named) {
         return None;
     }
+    fitting(named, options)
+}
+
+/// Returns the named task with its arguments and options, or `None` if an argument is wrong.
+fn fitting<'a>(named: Named, options: &Options<'a>) -> Option<Task<'a>>
+    ensures some { IfSome result (Fits named options.now) }
+    ensures none { IfNone result ((task : Task) → Fits named options.now task → ⊥) }
+{
     match named {
+        Named::Page => Some(Task::Page(options.several)),
+        Named::Ask => Some(Task::Ask),
+        Named::Diff => Some(Task::Diff),
+        Named::Lacking => Some(Task::Lacking),
+        Named::Received => Some(Task::Received(options.lacks)),
         Named::Parts => parts_of(options),
+        Named::Refused => Some(Task::Refused),
         Named::Seal => seal_of(options),
+        Named::Confirm => Some(Task::Confirm(options.at)),
+        Named::States => Some(Task::States(options.unverified)),
         Named::Select => select_of(options),
+        Named::Conflicts => Some(Task::Conflicts),
         Named::Name => name_of(options),
-        _ => Some(plain_task(named, options)),
+        Named::Compare => Some(Task::Compare(options.documents)),
+        Named::Info => Some(Task::Info),
     }
 }
 
-fn parts_of<'a>(options: &Options<'a>) -> Option<Task<'a>> {
+fn parts_of<'a>(options: &Options<'a>) -> Option<Task<'a>>
+    ensures some { IfSome result (Fits named.Parts options.now) }
+    ensures none { IfNone result ((task : Task) → Fits named.Parts options.now task → ⊥) }
+{
     let Some(bytes) = number_of(options.first) else {
         return None;
     };
@@ -161,46 +268,44 @@ fn parts_of<'a>(options: &Options<'a>) -> Option<Task<'a>> {
     Some(Task::Parts(bytes, lines))
 }
 
-fn seal_of<'a>(options: &Options<'a>) -> Option<Task<'a>> {
-    match (options.first, options.second) {
-        (Some(chain), Some(seq)) => Some(Task::Seal(chain, seq)),
-        _ => None,
-    }
+fn seal_of<'a>(options: &Options<'a>) -> Option<Task<'a>>
+    ensures some { IfSome result (Fits named.Seal options.now) }
+    ensures none { IfNone result ((task : Task) → Fits named.Seal options.now task → ⊥) }
+{
+    let Some(chain) = options.first else {
+        return None;
+    };
+    let Some(seq) = options.second else {
+        return None;
+    };
+    Some(Task::Seal(chain, seq))
 }
 
-fn select_of<'a>(options: &Options<'a>) -> Option<Task<'a>> {
+fn select_of<'a>(options: &Options<'a>) -> Option<Task<'a>>
+    ensures some { IfSome result (Fits named.Select options.now) }
+    ensures none { IfNone result ((task : Task) → Fits named.Select options.now task → ⊥) }
+{
     match number_of(options.first) {
         Some(size) => Some(Task::Select(size)),
         None => None,
     }
 }
 
-fn name_of<'a>(options: &Options<'a>) -> Option<Task<'a>> {
+fn name_of<'a>(options: &Options<'a>) -> Option<Task<'a>>
+    ensures some { IfSome result (Fits named.Name options.now) }
+    ensures none { IfNone result ((task : Task) → Fits named.Name options.now task → ⊥) }
+{
     match options.first {
         Some(word) => Some(Task::Name(word)),
         None => None,
     }
 }
 
-/// Returns a task that takes no arguments, with its options.
-fn plain_task<'a>(named: Named, options: &Options<'a>) -> Task<'a> {
-    match named {
-        Named::Page => Task::Page(options.several),
-        Named::Diff => Task::Diff,
-        Named::Lacking => Task::Lacking,
-        Named::Received => Task::Received(options.lacks),
-        Named::Refused => Task::Refused,
-        Named::Confirm => Task::Confirm(options.at),
-        Named::States => Task::States(options.unverified),
-        Named::Conflicts => Task::Conflicts,
-        Named::Compare => Task::Compare(options.documents),
-        Named::Info => Task::Info,
-        _ => Task::Ask,
-    }
-}
-
 /// Returns the number that an argument gives, or `None` if it is not a number.
-fn number_of(word: Option<&str>) -> Option<u64> {
+fn number_of(word: Option<&str>) -> Option<u64>
+    ensures some { IfSome result (IsNumber word.entry) }
+    ensures none { IfNone result ((n : ℕ) → IsNumber word.entry n → ⊥) }
+{
     let Some(word) = word else {
         return None;
     };

@@ -1,0 +1,55 @@
+-- The command line of the program `couch_journal`.
+use Rattle.std.specs.Prelude.{◌≡◌, ℕ, List, [], Option, Some, option_map, codes, unwrap_or, true}
+use Rattle.clap.specs.Words.{App, HasKind, Rule, fault_of, first_of, one_of, matches_of, new_rule, with_rule}
+use Rattle.clap.specs.declared.builder.action.ArgAction.TheVariants.{Set}
+use Rattle.cli_common.specs.Words.{IsFlag, flag_option, hidden_option, program_app}
+use Rattle.couch_journal.specs.declared.options.NoTask.{NoTask}
+use Rattle.couch_journal.specs.declared.options.NoTask.TheVariants.{Words, Unknown, Memory}
+use Rattle.couch_journal.specs.declared.options.Options.{Options}
+
+-- The `clap` rule of the argument that names the task, which is required.
+abbrev pub task_word : Rule
+task_word = record (new_rule (codes "task")) { action = Some Set; value_names = 1; required = true }
+
+-- The `clap` rule of an option with a string value.
+abbrev pub text_option : List ℕ → Rule
+text_option name = record (new_rule name) { long = Some name; action = Some Set; value_names = 1 }
+
+-- A command line with the positional arguments.
+abbrev pub with_arguments : App → App
+with_arguments app =
+    with_rule (with_rule (with_rule app task_word) (hidden_option (codes "first"))) (hidden_option (codes "second"))
+
+-- A command line with the options.
+abbrev pub with_options : App → App
+with_options app = with_rule (with_rule (with_rule (with_rule (with_rule (with_rule
+    app (text_option (codes "at"))) (text_option (codes "doc"))) (flag_option (codes "several")))
+    (flag_option (codes "lacks"))) (flag_option (codes "documents"))) (flag_option (codes "unverified"))
+
+-- The command line of the program.
+abbrev pub command_line : App
+command_line = with_options (with_arguments (program_app (codes "couch_journal")))
+
+-- Each argument and option has the value that its text gives. The functions `text` and `flag` give the text of an
+-- argument or option by its name.
+pub record AreGiven (text flag : List ℕ → Option (List ℕ)) (o : Options) : Type 0 where
+  pub task : o.task.now ≡ unwrap_or (text (codes "task")) []
+  pub first : option_map (λ s. s.now) o.first ≡ text (codes "first")
+  pub second : option_map (λ s. s.now) o.second ≡ text (codes "second")
+  pub at : option_map (λ s. s.now) o.at ≡ text (codes "at")
+  pub doc : option_map (λ s. s.now) o.doc ≡ text (codes "doc")
+  pub several : IsFlag (flag (codes "several")) o.several
+  pub lacks : IsFlag (flag (codes "lacks")) o.lacks
+  pub documents : IsFlag (flag (codes "documents")) o.documents
+  pub unverified : IsFlag (flag (codes "unverified")) o.unverified
+
+-- The arguments and options have the values that `clap` reads from the arguments, of which the first is the program's
+-- name.
+abbrev pub Says : List (List ℕ) → Options → Type 0
+Says words o = AreGiven (λ id. first_of id (matches_of command_line words)) (λ id. one_of id (matches_of command_line words)) o
+
+-- The reason why `clap` reads no values from the arguments: `clap`'s error, or a failed allocation.
+abbrev pub Refuses : List (List ℕ) → NoTask → Type 0
+Refuses words (Words error) = HasKind (fault_of command_line words) error
+Refuses words Unknown = ⊥
+Refuses words Memory = Unit {0}

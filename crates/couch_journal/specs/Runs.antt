@@ -1,0 +1,149 @@
+-- Running the program `couch_journal` over any reader and writer.
+use Rattle.std.specs.Prelude.{◌≡◌, ◌⊎◌, ◌++◌, [], ℕ, List, suc, Bool, true, false, All, Option, option_map, None, Some, Result, Ok, Err}
+use Rattle.json.specs.Json.{Json, Items}
+use Rattle.json.specs.Find.{as_array}
+use Rattle.script_engine.specs.declared.fault.ScriptFault.{ScriptFault}
+use Rattle.script_engine.specs.Lines.{has_line_end}
+use Rattle.line_reader.specs.Lines.{AreLines, joined}
+use Rattle.journal_core.specs.Journal.{is_sum}
+use Rattle.journal_core.specs.Sealing.{IsSeal, IsSealedPart}
+use Rattle.journal_core.specs.Wrong.{wrong_at}
+use Rattle.journal_tasks.specs.Asking.{ask_body, asked_items}
+use Rattle.journal_tasks.specs.Counting.{wrong_line}
+use Rattle.journal_tasks.specs.Lists.{is_wrong, leaves_in}
+use Rattle.journal_responses.specs.Infos.{info_text, is_info}
+use Rattle.journal_responses.specs.Pages.{page_in}
+use Rattle.journal_responses.specs.Refusals.{any_refused, refused_text}
+use Rattle.journal_responses.specs.Responses.{IsOther, IsSaid, IsUnread, response_in}
+use Rattle.journal_responses.specs.declared.said.Said.{Said}
+use Rattle.couch_journal.specs.declared.ended.Outcome.{Outcome}
+use Rattle.couch_journal.specs.declared.ended.Outcome.TheVariants as outcomes
+use Rattle.couch_journal.specs.declared.ended.Ended.{Ended}
+use Rattle.couch_journal.specs.declared.ended.Ended.TheVariants.{NotRun, Ran}
+use Rattle.couch_journal.specs.declared.options.Options.{Options}
+use Rattle.couch_journal.specs.declared.run.Response.{Response}
+use Rattle.couch_journal.specs.declared.run.Response.TheVariants.{Page, Refused, Info}
+use Rattle.couch_journal.specs.declared.tasks.Task.{Task}
+use Rattle.couch_journal.specs.declared.tasks.Task.TheVariants as tasks
+use Rattle.couch_journal.specs.Options.{Refuses, Says}
+use Rattle.couch_journal.specs.Status.{unflushed, wrong_or}
+use Rattle.couch_journal.specs.Tasks.{IsTaskOf, IsTaskless}
+use Rattle.couch_journal.specs.declared.options.NoTask.{NoTask}
+use Rattle.couch_journal.specs.declared.options.NoTask.TheVariants.{Words, Unknown, Memory}
+
+-- ---- the tasks on responses
+
+-- A JSON value is the response that a task reads. The further arguments of `Shows` are the task's output, and whether
+-- the response says that a document was rejected.
+abbrev pub Shows : Response → Json → List ℕ → Bool → Type 0
+Shows (Page several) j text refused = (page_in several j ≡ Some text) × (refused ≡ false)
+Shows Refused j text refused =
+    (entries : Items) × (as_array j ≡ Some entries) × (text ≡ refused_text entries) × (refused ≡ any_refused entries)
+Shows Info j text refused = (is_info j ≡ true) × (text ≡ info_text j) × (refused ≡ false)
+
+-- A JSON value is not the response that a task reads.
+abbrev pub ShowsNothing : Response → Json → Type 0
+ShowsNothing (Page several) j = page_in several j ≡ None
+ShowsNothing Refused j = as_array j ≡ None
+ShowsNothing Info j = is_info j ≡ false
+
+-- The input is the response that a task reads. The further arguments of `IsShown` are the task's output, and whether
+-- the response says that a document was rejected.
+abbrev pub IsShown : Response → List ℕ → List ℕ → Bool → Type 0
+IsShown response input text refused = (j : Json) × (response_in input ≡ Some j) × Shows response j text refused
+
+-- The reason why the input is not the response that a task reads.
+abbrev pub IsNotShown : Response → List ℕ → Said → Type 0
+IsNotShown response input said =
+    IsUnread (response_in input) said
+    ⊎ ((j : Json) × (response_in input ≡ Some j) × IsSaid j said × (IsOther said → ShowsNothing response j))
+
+-- The output and the outcome of a task for a response that is read completely.
+abbrev pub Prints : Response → List ℕ → List ℕ → Outcome → Type 0
+Prints response input text outcomes.Done = IsShown response input text false
+Prints response input text outcomes.Missing = IsShown response input text true
+Prints response input text (outcomes.Wrong line) = ⊥
+Prints response input text (outcomes.Damaged lines) = ⊥
+Prints response input text outcomes.NoSums = ⊥
+Prints response input text outcomes.Differs = ⊥
+Prints response input text (outcomes.Said said) = (text ≡ []) × IsNotShown response input said
+
+-- A task on a response was run. After an error, the output is empty, or it is a prefix of the output for the complete
+-- input. The statement `ended` says that the input was read to its end.
+abbrev pub RunsResponse : Response → Type 0 → List ℕ → List ℕ → Result Outcome ScriptFault → Type 0
+RunsResponse response ended input text (Ok outcome) = ended × Prints response input text outcome
+RunsResponse response ended input text (Err fault) =
+    (text ≡ []) ⊎ (ended × ((rest : List ℕ) × (refused : Bool) × IsShown response input (text ++ rest) refused))
+
+-- ---- `seal`
+
+-- The task `seal` was run. A block that can contain every line of the input is sealed. Otherwise the outcome has the
+-- number, from 1, of the first line that a block cannot contain, and the output is empty.
+abbrev pub Seals : List ℕ → List ℕ → List ℕ → List ℕ → Outcome → Type 0
+Seals chain seq input text outcomes.Done = IsSeal chain seq input text
+Seals chain seq input text (outcomes.Wrong line) =
+    (text ≡ []) × ((lines : List (List ℕ)) × (rest : List ℕ) × AreLines input lines rest
+    × (option_map suc (wrong_at is_sum lines rest) ≡ Some line))
+Seals chain seq input text other = ⊥
+
+-- The input, the output and the result of the task `seal`. After an error, the output is empty, or it is a prefix of the
+-- output for the complete input.
+abbrev pub RunsSeal : List ℕ → List ℕ → Type 0 → List ℕ → List ℕ → Result Outcome ScriptFault → Type 0
+RunsSeal chain seq ended input text (Ok outcome) = ended × Seals chain seq input text outcome
+RunsSeal chain seq ended input text (Err fault) = (text ≡ []) ⊎ (ended × IsSealedPart chain seq input text)
+
+-- ---- the tasks on lines
+
+-- A task on lines was run. The functions `prints`, `output` and `outcome` give the text that is printed before the end
+-- of the input, the complete output, and the outcome. After an error, the output is a prefix of the text for the first
+-- lines of the input. If the input was read to its end, the output can be a prefix of the complete output.
+abbrev pub RunsLines : (List (List ℕ) → List ℕ) → (List (List ℕ) → List ℕ → List ℕ) → (List (List ℕ) → List ℕ → Outcome)
+    → Type 0 → List ℕ → List ℕ → Result Outcome ScriptFault → Type 0
+RunsLines prints output outcome ended input text (Ok result) =
+    ended × ((lines : List (List ℕ)) × (rest : List ℕ) × AreLines input lines rest × (text ≡ output lines rest)
+    × (result ≡ outcome lines rest))
+RunsLines prints output outcome ended input text (Err fault) =
+    ((lines : List (List ℕ)) × (rest back : List ℕ) × (input ≡ joined lines ++ rest)
+    × All (λ line. has_line_end line ≡ false) lines × (text ++ back ≡ prints lines))
+    ⊎ (ended × ((lines : List (List ℕ)) × (rest back : List ℕ) × AreLines input lines rest × (text ++ back ≡ output lines rest)))
+
+-- The task `ask` was run: the output is the request for the leaves of the input's list.
+abbrev pub RunsAsk : Type 0 → List ℕ → List ℕ → Result Outcome ScriptFault → Type 0
+RunsAsk ended input text result =
+    RunsLines (λ lines. asked_items false (leaves_in lines)) (λ lines rest. ask_body (leaves_in lines))
+    (λ lines rest. wrong_or (wrong_line is_wrong lines rest) outcomes.Done) ended input text result
+
+-- ---- the tasks
+
+-- The input, the output and the result of a task. The results of the tasks in the last case have no contract.
+abbrev pub RunsTask : Task → Options → Type 0 → List ℕ → List ℕ → Result Outcome ScriptFault → Type 0
+RunsTask (tasks.Page several) o ended input text result = RunsResponse (Page several) ended input text result
+RunsTask tasks.Refused o ended input text result = RunsResponse Refused ended input text result
+RunsTask tasks.Info o ended input text result = RunsResponse Info ended input text result
+RunsTask (tasks.Seal chain seq) o ended input text result = RunsSeal chain.now seq.now ended input text result
+RunsTask tasks.Ask o ended input text result = RunsAsk ended input text result
+RunsTask other o ended input text result = Unit {0}
+
+-- ---- the program
+
+-- The reason why the arguments name no task.
+abbrev pub NamesNoTask : List (List ℕ) → NoTask → Type 0
+NamesNoTask words (Words error) = Refuses words (Words error)
+NamesNoTask words Unknown = (o : Options) × Says words o × IsTaskless o
+NamesNoTask words Memory = Unit {0}
+
+-- The input and the output of the program for its arguments, of which the first is the program's name. If the arguments
+-- name no task, the program reads and writes no byte.
+abbrev pub RunsWords : List (List ℕ) → Type 0 → List ℕ → List ℕ → Ended → Type 0
+RunsWords words ended input text (NotRun why) = (input ≡ []) × (text ≡ []) × NamesNoTask words why
+RunsWords words ended input text (Ran result) =
+    (o : Options) × (task : Task) × Says words o × IsTaskOf o task × RunsTask task o ended input text result
+
+-- A run of the program on its standard streams. The arguments of `RunsStandard` are the command line, and whether the
+-- reads reached the end of the input. Further arguments of `RunsStandard` are the bytes that the reads returned, the
+-- bytes that the output has accepted, and how the run ended. If the last output of a run cannot be flushed, a part of
+-- this output is missing, and the run ends as `unflushed` says.
+abbrev pub RunsStandard : List (List ℕ) → Type 0 → List ℕ → List ℕ → Ended → Type 0
+RunsStandard words all input text ended =
+    (first : Ended) × (rest : List ℕ) × RunsWords words all input (text ++ rest) first
+    × (((rest ≡ []) × (ended ≡ first)) ⊎ (ended ≡ unflushed first))

@@ -1,0 +1,50 @@
+-- The outcome of a task, and the exit status of the program `couch_journal`.
+use Rattle.std.specs.Prelude.{ℕ, Bool, true, false, Option, None, Some, Result, Ok, Err}
+use Rattle.clap.specs.Words.{kind_of}
+use Rattle.cli_common.specs.Status.{kind_status}
+use Rattle.script_engine.specs.declared.fault.ScriptFault.{ScriptFault}
+use Rattle.script_engine.specs.declared.fault.ScriptFault.TheVariants as faults
+use Rattle.couch_journal.specs.declared.options.NoTask.{NoTask}
+use Rattle.couch_journal.specs.declared.options.NoTask.TheVariants.{Words, Unknown, Memory}
+use Rattle.couch_journal.specs.declared.ended.Outcome.{Outcome}
+use Rattle.couch_journal.specs.declared.ended.Outcome.TheVariants.{Done, Missing, Wrong}
+use Rattle.couch_journal.specs.declared.ended.Ended.{Ended}
+use Rattle.couch_journal.specs.declared.ended.Ended.TheVariants.{NotRun, Ran}
+
+-- The outcome `Wrong` for the first wrong line, or `otherwise` if no line is wrong.
+abbrev pub wrong_or : Option ℕ → Outcome → Outcome
+wrong_or (Some line) otherwise = Wrong line
+wrong_or None otherwise = otherwise
+
+-- The outcome of a task, by whether it found that something is missing.
+abbrev pub missing_or_done : Bool → Outcome
+missing_or_done true = Missing
+missing_or_done false = Done
+
+-- The exit status after a task: 0 on success, 1 if something is missing, otherwise 3.
+abbrev pub status_of : Result Outcome ScriptFault → ℕ
+status_of (Ok Done) = 0
+status_of (Ok Missing) = 1
+status_of (Ok other) = 3
+status_of (Err fault) = 3
+
+-- The exit status if the arguments name no task.
+abbrev pub words_status : NoTask → ℕ
+words_status (Words error) = kind_status (kind_of error)
+words_status Unknown = 2
+words_status Memory = 3
+
+abbrev pub ended_status : Ended → ℕ
+ended_status (NotRun why) = words_status why
+ended_status (Ran result) = status_of result
+
+-- The result of a task whose last output could not be flushed, which is `Write`, unless the task failed before.
+abbrev pub unwritten : Result Outcome ScriptFault → Result Outcome ScriptFault
+unwritten (Ok Done) = Err faults.Write
+unwritten (Ok Missing) = Err faults.Write
+unwritten (Ok other) = Ok other
+unwritten (Err fault) = Err fault
+
+abbrev pub unflushed : Ended → Ended
+unflushed (NotRun why) = NotRun why
+unflushed (Ran result) = Ran (unwritten result)
