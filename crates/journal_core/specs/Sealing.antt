@@ -52,7 +52,7 @@ pub record IsSealedOn (chain seq : List ℕ) (given : List ℕ → Type 0) (held
   pub continues : (before : List (List ℕ)) (seq' : List ℕ) → Confirmed before chain seq'
       → Confirmed (before ++ (lines ++ sum_line (length lines) (block_hash chain seq (joined lines)) seq ∷ [])) (block_hash chain seq (joined lines)) seq
 
--- The input is not the lines of a block, and nothing is written. The argument `count` is the number of lines before the
+-- The input is not the lines of a block, and no byte is written. The argument `count` is the number of lines before the
 -- first line that a block cannot contain.
 pub record IsUnsealedOn (count : ℕ) (given : List ℕ → Type 0) (held held' : Option (List ℕ)) : Type 0 where
   pub input : List ℕ
@@ -87,7 +87,7 @@ IsSeal chain seq input text =
 abbrev pub IsSealedPart : List ℕ → List ℕ → List ℕ → List ℕ → Type 0
 IsSealedPart chain seq input text = (back : List ℕ) × IsSeal chain seq input (text ++ back)
 
--- An error stopped the sealing of a block. Nothing is written, or a prefix of the line that ends the block. The
+-- An error stopped the sealing of a block. The output is empty, or a prefix of the line that ends the block. The
 -- statement `ended` says that the input was read to its end.
 abbrev pub HasSealedPart : List ℕ → List ℕ → Type 0 → Option (List ℕ) → Option (List ℕ) → Option (List ℕ) → Option (List ℕ)
     → Type 0

@@ -55,7 +55,7 @@ abbrev pub HasDone : {S : Type 0} → Steps S → Steps S → S → Option (List
 HasDone steps ends start taken taken' held state held' = IsDoneOn steps ends start (Appends taken taken') held state held'
 
 -- The bytes `front` are a prefix of the text that comes next. If the flag `at_end` is true, the next text is the text of
--- the input's end. Otherwise the next text is the text of the next line, or nothing. The bytes `rest` are the input after
+-- the input's end. Otherwise the next text is the text of the next line, or empty. The bytes `rest` are the input after
 -- the lines that were run.
 abbrev pub IsFront : {S : Type 0} → Bool → Steps S → Steps S → S → List ℕ → List ℕ → Type 0
 IsFront {S} true steps ends state rest front =
