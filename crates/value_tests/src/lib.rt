@@ -1,4 +1,4 @@
-//! Tests of revisions, JSON values, fronts, logs and boards.
+//! Tests of revisions, JSON values, envelopes, fronts, logs and boards.
 #![tactic(auto)]
 
 #[cfg(test)]

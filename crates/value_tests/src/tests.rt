@@ -1,4 +1,4 @@
-//! Tests of revisions, JSON values, fronts, logs and boards. Each test is a table of calls, each with its expected
+//! Tests of revisions, JSON values, envelopes, fronts, logs and boards. Each test is a table of calls, each with its expected
 //! result as a string. The tables have worked examples, and use each public call at least once, without failed
 //! allocations. The tests are in a separate crate, because a crate that contains tests is proved twice. Revision trees
 //! and documents are tested by scripts of the program, and in other crates.
@@ -11,6 +11,9 @@ mod revisions;
 
 // JSON values.
 mod values;
+
+// Envelopes.
+mod envelopes;
 
 // Fronts and logs.
 mod fronts;

@@ -1,0 +1,118 @@
+//! Worked examples of envelopes, and of the beginnings of envelopes after which a run may follow.
+use doc_envelope::Envelope;
+use std::alloc::Global;
+use std::process::Abort;
+
+/// A call on a document or on a part of a document.
+#[derive(Clone, Copy)]
+enum Call {
+    /// Wrap a document.
+    Put,
+    /// Unwrap an envelope.
+    Take,
+    /// Wrap the beginning of a document.
+    BeginPut,
+    /// Unwrap the beginning of an envelope.
+    BeginTake,
+}
+
+/// A call, its text, and the text that it makes if it returns `true`.
+type Row = (Call, &'static str, Option<&'static str>);
+
+/// Asserts that each call returns `true` exactly if its row has a text, and that the call makes that text.
+fn run(rt: &impl Abort, envelope: &mut Envelope, rows: &[Row]) {
+    for (i, (call, text, wanted)) in rows.iter().enumerate() {
+        let returned = match *call {
+            Call::Put => envelope.put(text.as_bytes()),
+            Call::Take => envelope.take(text.as_bytes()),
+            Call::BeginPut => envelope.begin_put(text.as_bytes()),
+            Call::BeginTake => envelope.begin_take(text.as_bytes()),
+        };
+        let is_wanted = match (returned, wanted) {
+            (Ok(true), Some(made)) => envelope.text() == made.as_bytes(),
+            (Ok(false), None) => true,
+            _ => false,
+        };
+        assert!(rt; is_wanted, "row {i}");
+    }
+}
+
+/// Documents whose last member is `_attachments`, as CouchDB prints them, and their beginnings.
+static WRAPPED: &[Row] = &[
+    (
+        Call::Put,
+        r#"{"_id":"a","_rev":"2-b","x":"y","_revisions":{"start":2,"ids":["b","c"]},"_attachments":{"f":{"data":"QUJDREVGRw=="}}}"#,
+        Some(
+            r#"{"_id":"a","_rev":"2-b","_revisions":{"start":2,"ids":["b","c"]},"whole":"\"x\":\"y\",\"_attachments\":{\"f\":{\"data\":\"QUJDREVGRw==\"}}"}"#,
+        ),
+    ),
+    (
+        Call::BeginPut,
+        r#"{"_id":"a","_rev":"2-b","x":"y","_revisions":{"start":2,"ids":["b","c"]},"_attachments":{"f":{"data":"QUJDREVGRw"#,
+        Some(
+            r#"{"_id":"a","_rev":"2-b","_revisions":{"start":2,"ids":["b","c"]},"whole":"\"x\":\"y\",\"_attachments\":{\"f\":{\"data\":\"QUJDREVGRw"#,
+        ),
+    ),
+    // The member `_revisions` may follow.
+    (
+        Call::BeginPut,
+        r#"{"_id":"a","_rev":"2-b","_attachments":{"f":{"data":"QUJDREVGRw"#,
+        None,
+    ),
+    // The text ends in another member, outside of strings, or soon after a quotation mark.
+    (
+        Call::BeginPut,
+        r#"{"_id":"a","_revisions":{"start":1,"ids":["b"]},"x":{"f":{"data":"QUJDREVGRw"#,
+        None,
+    ),
+    (
+        Call::BeginPut,
+        r#"{"_id":"a","_revisions":{"start":1,"ids":["b"]},"_attachments":{"f":{"length":1234567890"#,
+        None,
+    ),
+    (
+        Call::BeginPut,
+        r#"{"_id":"a","_revisions":{"start":1,"ids":["b"]},"_attachments":{"f":{"data":"QUJDREV"#,
+        None,
+    ),
+];
+
+#[test]
+fn wraps_beginnings(rt: HostRuntime) {
+    run(&rt, &mut Envelope::new(rt.alloc()), WRAPPED);
+}
+
+/// Envelopes and their beginnings.
+static UNWRAPPED: &[Row] = &[
+    (
+        Call::Take,
+        r#"{"_id":"a","_rev":"2-b","whole":"\"x\":\"y\",\"_attachments\":{\"f\":{\"data\":\"QUJDREVGRw==\"}}"}"#,
+        Some(r#"{"_id":"a","_rev":"2-b","x":"y","_attachments":{"f":{"data":"QUJDREVGRw=="}}}"#),
+    ),
+    (
+        Call::BeginTake,
+        r#"{"_id":"a","_rev":"2-b","whole":"\"x\":\"y\",\"_attachments\":{\"f\":{\"data\":\"QUJDREVGRw"#,
+        Some(r#"{"_id":"a","_rev":"2-b","x":"y","_attachments":{"f":{"data":"QUJDREVGRw"#),
+    ),
+    // The text ends outside of the string's strings, in another member, or soon after an escape.
+    (
+        Call::BeginTake,
+        r#"{"_id":"a","_rev":"2-b","whole":"\"x\":1234567890"#,
+        None,
+    ),
+    (
+        Call::BeginTake,
+        r#"{"_id":"a","_rev":"2-b","x":"QUJDREVGRw"#,
+        None,
+    ),
+    (
+        Call::BeginTake,
+        r#"{"_id":"a","_rev":"2-b","whole":"\"x\":\"QUJDREV"#,
+        None,
+    ),
+];
+
+#[test]
+fn unwraps_beginnings(rt: HostRuntime) {
+    run(&rt, &mut Envelope::new(rt.alloc()), UNWRAPPED);
+}
