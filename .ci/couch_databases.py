@@ -94,6 +94,7 @@ class Database:
     def __init__(self):
         self.documents = {}
         self.changed = {}       # the sequence of each document's latest change, in order of the sequences
+        self.purged = {}        # the sequence at which each document was removed by a purge
         self.sequence = 0
         self.given = {"0": 0}   # each text of a sequence that the server has returned
         self.locals = {}        # the _local documents
@@ -115,14 +116,14 @@ class Database:
 
     def copy(self):
         """Returns what a copy of the database's files would hold."""
-        return ({name: document.copy() for name, document in self.documents.items()}, dict(self.changed), self.sequence,
-                dict(self.locals))
+        return ({name: document.copy() for name, document in self.documents.items()}, dict(self.changed), dict(self.purged),
+                self.sequence, dict(self.locals))
 
     def set_back(self, copy):
         """Replaces the files by a copy."""
-        documents, changed, self.sequence, local = copy
+        documents, changed, purged, self.sequence, local = copy
         self.documents = {name: document.copy() for name, document in documents.items()}
-        self.changed, self.locals = dict(changed), dict(local)
+        self.changed, self.purged, self.locals = dict(changed), dict(purged), dict(local)
 
     def spelled_sequence(self, number):
         """Returns a sequence as CouchDB 3 writes it: the sum of the shards' numbers, and an opaque rest that differs each time."""
@@ -135,17 +136,16 @@ class Database:
         return zlib.crc32(name.encode(errors="surrogatepass")) % self.shards
 
     def position(self):
-        """Returns the update sequence: a number, or a number for each shard."""
+        """Returns the update sequence: a number, or a number for each shard. A purge increases it, too."""
         if self.shards == 1:
             return self.sequence
-        return tuple(max([0, *(number for name, number in self.changed.items() if self.shard(name) == shard)])
-                     for shard in range(self.shards))
+        numbers = [*self.changed.items(), *self.purged.items()]
+        return tuple(max([0, *(number for name, number in numbers if self.shard(name) == shard)]) for shard in range(self.shards))
 
     def touch(self, name):
         self.sequence += 1
         self.changed.pop(name, None)
-        if name in self.documents:
-            self.changed[name] = self.sequence
+        (self.changed if name in self.documents else self.purged)[name] = self.sequence
 
     def put(self, name, revs, deleted, body):
         if self.documents.setdefault(name, Document()).merge(revs, deleted, body, self.revs_limit):
