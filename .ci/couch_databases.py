@@ -1,6 +1,7 @@
 """The databases of the test server (.ci/stand-in): revision trees, merged by CouchDB's rules, changes feeds, and what CouchDB
 returns for requests to a database. It shares no code with the product."""
 import base64
+import collections
 import hashlib
 import json
 import random
@@ -90,6 +91,11 @@ class Document:
         return [leaf for leaf in self.leaves() if rev in self.ancestry(leaf)]
 
 
+# A copy of a database's files. The fields are those of `Database`.
+Copy = collections.namedtuple("Copy", ["documents", "changed", "purged", "sequence", "locals"])
+NO_FILES = Copy({}, {}, {}, 0, {})
+
+
 class Database:
     def __init__(self):
         self.documents = {}
@@ -116,14 +122,13 @@ class Database:
 
     def copy(self):
         """Returns what a copy of the database's files would hold."""
-        return ({name: document.copy() for name, document in self.documents.items()}, dict(self.changed), dict(self.purged),
-                self.sequence, dict(self.locals))
+        return Copy({name: document.copy() for name, document in self.documents.items()}, dict(self.changed), dict(self.purged),
+                    self.sequence, dict(self.locals))
 
     def set_back(self, copy):
         """Replaces the files by a copy."""
-        documents, changed, purged, self.sequence, local = copy
-        self.documents = {name: document.copy() for name, document in documents.items()}
-        self.changed, self.purged, self.locals = dict(changed), dict(purged), dict(local)
+        self.documents = {name: document.copy() for name, document in copy.documents.items()}
+        self.changed, self.purged, self.sequence, self.locals = dict(copy.changed), dict(copy.purged), copy.sequence, dict(copy.locals)
 
     def spelled_sequence(self, number):
         """Returns a sequence as CouchDB 3 writes it: the sum of the shards' numbers, and an opaque rest that differs each time."""

@@ -36,6 +36,7 @@ def check(holds, text):
 def finish():
     """Ends the tests: the status is 0 only if no check failed."""
     shutil.rmtree(work)
+    check(not server.errors, f"the test server failed: {server.errors}")
     print(f"{len(checks)} checks under {', '.join(pathlib.Path(shell).name for shell in SHELLS)}, {checks.count(False)} failed")
     sys.exit(not all(checks))
 
