@@ -195,7 +195,7 @@ pub fn push_last(text: &mut Vec<u8>, last: u64) -> Result<(), AllocError>
     Ok(())
 }
 
-/// Clears the output if the program is quiet.
+/// Clears the output buffer if `quiet` is true.
 pub fn hush(text: &mut Vec<u8>, quiet: bool)
     ensures { text.new.items ≡ hushed quiet text.old.items }
 {
