@@ -141,8 +141,8 @@ pub record IsChoice (input : List ℕ) (choice : Text) (rest : List ℕ) : Type 
   pub text : IsUtf8 body
   pub choice_is : choice ≡ on_one_line body
 
--- The given bytes do not begin with a complete response, or the body of the response is not UTF-8. No selection of
--- documents is therefore read.
+-- No selection of documents is read, because the given bytes do not begin with a complete response, or because the body
+-- of the response is not UTF-8.
 abbrev pub NoChoice : Type 0 → List ℕ → Type 0
 NoChoice ended input =
     NoFrame ended input
