@@ -97,7 +97,7 @@ impl Log {
         ensures err { OnErr result (self.new ≡ self.old) }
         ensures log { IsLog self.new }
     {
-        // The call of `len` makes the fact that no session id occurs twice available to proofs. The length is not used.
+        // The call of `len`, whose result is not used, gives proofs the fact that no session id occurs twice.
         let _len = self.entries.len();
         self.entries.insert(entry.session, entry)?;
         Ok(())
@@ -134,7 +134,7 @@ impl Log {
     pub fn recorded_of(&self, session: SessionId) -> Option<u64>
         ensures { result ≡ recorded_of self.now session }
     {
-        // The call of `len` makes the fact that no session id occurs twice available to proofs. The length is not used.
+        // The call of `len`, whose result is not used, gives proofs the fact that no session id occurs twice.
         let _len = self.entries.len();
         let entry = self.entries.get(&session)?;
         Some(entry.recorded)
