@@ -26,18 +26,18 @@ number_option name =
 abbrev pub text_option : Text → Rule
 text_option name = record (new_rule name) { long = Some name; action = Some Set; value_names = 1 }
 
--- A command line with the three positional arguments.
+-- The given command line, to which the three positional arguments are added.
 abbrev pub with_arguments : App → App
 with_arguments app =
     with_rule (with_rule (with_rule app (argument (codes "SOURCE"))) (argument (codes "TARGET"))) (argument (codes "SESSION"))
 
--- A command line with the three numeric options.
+-- The given command line, to which the three numeric options are added.
 abbrev pub with_numbers : App → App
 with_numbers app =
     with_rule (with_rule (with_rule app (number_option (codes "batch"))) (number_option (codes "carry")))
     (number_option (codes "every"))
 
--- A command line with the options for the feed, the filter and the selection.
+-- The given command line, to which the options for the feed, the filter and the selection are added.
 abbrev pub with_options : App → App
 with_options app = with_rule (with_rule (with_rule (with_rule (with_rule (with_rule
     app (flag_option (codes "continuous"))) (flag_option (codes "progress"))) (text_option (codes "filter")))
