@@ -22,7 +22,7 @@ fn wrong_after(before: Option<u64>, wrong: bool, count: u64) -> Option<u64>
     }
 }
 
-/// A task that computes the line that ends a block from the block's lines.
+/// A task that reads the lines of a block, and computes the line that ends the block.
 #[derive(Drop)]
 pub struct Seal {
     alloc: Global,
