@@ -70,7 +70,7 @@ pub struct Row {
     pub numbers: Vec<u64>,
 }
 
-/// The command that printed a line of numbers.
+/// The kind of a line of numbers, which depends on the command that printed the line.
 #[derive(Clone, Copy, Debug, PartialEq, Eq)]
 pub enum Table {
     /// The counts of `compare`.
@@ -198,7 +198,7 @@ pub struct Entry {
     pub failed: u64,
 }
 
-/// A member of a session in a printed log, in the order of printing.
+/// A member of a session in a printed log. The variants have the order of the members in the log.
 #[derive(Clone, Copy, Debug, PartialEq, Eq)]
 pub enum Member {
     Failed,
