@@ -22,8 +22,8 @@ told_of (Err refusal) = Err (name_of refusal)
 abbrev pub Refuses : Refusal → State → Told → State → Type 0
 Refuses refusal old told new = (told ≡ Err (name_of refusal)) × (new ≡ old)
 
--- The results that a line may have, for a valid or an invalid request. If the request is invalid, the line fails and
--- leaves the state unchanged.
+-- The results that the relation `answers` allows for a line's parsed request. If parsing the line gave an error, the
+-- line fails with this error and leaves the state unchanged.
 abbrev pub AnswersIn : {L : Type 0} → Answering State L → Answering State (Result L Refusal)
 AnswersIn answers old (Ok ask) told new = answers old ask told new
 AnswersIn answers old (Err refusal) told new = Refuses refusal old told new
@@ -45,12 +45,12 @@ abbrev pub told_hushed : Bool → Told → Told
 told_hushed quiet (Ok text) = Ok (hushed quiet text)
 told_hushed quiet (Err name) = Err name
 
--- A request has one of the results that it may have. If the program is quiet, the result has no output.
+-- The result of a request is a result that the relation `answers` allows, but without output if the program is quiet.
 abbrev pub UnlessQuiet : {L : Type 0} → Answering State L → Answering State L
 UnlessQuiet answers old ask told new =
     (loud : Told) × answers old ask loud new × (told ≡ told_hushed old.program.quiet loud)
 
--- The result of a line whose call writes its output into a buffer.
+-- The result of a line, given the result of the line's call and the text that the call has written into a buffer.
 abbrev pub told_by : {A : Type 0} → Result A Refusal → List ℕ → Told
 told_by (Ok done) text = Ok text
 told_by (Err refusal) text = Err (name_of refusal)

@@ -30,16 +30,18 @@ pub trait Command<L>: Sized + Drop {
     // The parameters that a JSON object gives, if each of its members belongs to the command and has the right type.
     ghost asked_in: { Data → Result Ask Refusal };
 
-    // The results that the command may have, each with the state after the command.
+    // The relation between the state before the command, the command's parameters, its possible results, and the state
+    // after the command.
     ghost answers: { Answering State Ask };
 
-    /// Reads the parameters from an object. If the object does not have the form of the command, the call returns
-    /// `None`, and the line fails with `BadCommand`.
+    /// Reads the command's parameters from the object of a line. Returns `None` if the object is not a valid command,
+    /// and the line then fails with `BadCommand`.
     fn read(line: L) -> Option<Self>
         ensures { needed (option_map asked result) ≡ asked_in (seen line) };
 
-    /// Runs the command, and writes its output into the buffer. Every line may fail with `Memory`. If a line fails with
-    /// `Memory`, the line's command had its complete effect or no effect.
+    /// Runs the command, and writes its output into the buffer. The relation `answers` allows the result. Every command
+    /// may also fail with `Memory`, either without an effect, or with the effect of a success whose output could not be
+    /// stored.
     fn serve<H: Threads + Wait + Sync>(
         &self,
         rt: &H,

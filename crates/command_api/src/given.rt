@@ -56,8 +56,8 @@ fn choose(ids: Vec<DocId>) -> Result<Option<Chosen>, Refusal>
 ///
 /// # Errors
 ///
-/// The call returns `NoId` or `ReservedId` for the first invalid id. If all ids are valid, it may return `NoneChosen`
-/// or `TooManyChosen`.
+/// The call returns `NoId` or `ReservedId` for the first invalid id. If all ids are valid, the call may return
+/// `NoneChosen` or `TooManyChosen`.
 pub fn read_choice(
     alloc: Global,
     ids: Option<&Vec<LineValue<'_>>>,

@@ -10,8 +10,7 @@ use itoa::Buffer;
 use rev_core::Rev;
 use std::alloc::{AllocError, Global};
 
-/// Appends a number. If the buffer has enough capacity, the call copies a number of four digits, the usual case, in one
-/// step.
+/// Appends a number. A number of four digits, which is usual, is copied in one step if the buffer has enough capacity.
 #[inline(never)]
 pub fn push_number(text: &mut Vec<u8>, number: u64) -> Result<(), AllocError>
     ensures { OnOk result (text.new.items ≡ text.old.items ++ decimal number) }
@@ -47,7 +46,7 @@ fn push_any_number(text: &mut Vec<u8>, number: u64) -> Result<(), AllocError>
     text.extend_from_slice(digits.format(number).as_bytes())
 }
 
-/// Appends a count. The call handles a count of one digit, the usual case, on a fast path.
+/// Appends a count, with a fast path for counts of one digit, which are usual.
 #[inline(always)]
 pub fn push_count(text: &mut Vec<u8>, count: usize) -> Result<(), AllocError>
     ensures { OnOk result (text.new.items ≡ text.old.items ++ decimal count) }
@@ -59,8 +58,8 @@ pub fn push_count(text: &mut Vec<u8>, count: usize) -> Result<(), AllocError>
     push_number(text, count as u64)
 }
 
-/// Appends a revision. If the buffer has enough capacity, the call copies a usual revision (a signature of 32 bytes, a
-/// generation of one or three digits) in one step.
+/// Appends a revision. A revision with a signature of 32 bytes and a generation of one or three digits is copied in one
+/// step if the buffer has enough capacity.
 #[inline(never)]
 pub fn push_rev(text: &mut Vec<u8>, rev: &Rev) -> Result<(), AllocError>
     ensures { OnOk result (text.new.items ≡ text.old.items ++ rev_text rev.now) }
@@ -119,7 +118,7 @@ fn push_parts(text: &mut Vec<u8>, generation: u32, sig: &[u8]) -> Result<(), All
     text.extend_from_slice(sig)
 }
 
-/// Appends a generation. The call handles a generation of one digit, the usual case, on a fast path.
+/// Appends a generation, with a fast path for generations of one digit, which are usual.
 #[inline(always)]
 fn push_generation(text: &mut Vec<u8>, generation: u32) -> Result<(), AllocError>
     ensures { OnOk result (text.new.items ≡ text.old.items ++ decimal generation) }
@@ -195,7 +194,7 @@ pub fn push_last(text: &mut Vec<u8>, last: u64) -> Result<(), AllocError>
     Ok(())
 }
 
-/// Clears the output if the program is quiet.
+/// Clears the output buffer if `quiet` is true.
 pub fn hush(text: &mut Vec<u8>, quiet: bool)
     ensures { text.new.items ≡ hushed quiet text.old.items }
 {

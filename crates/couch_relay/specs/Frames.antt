@@ -50,7 +50,7 @@ pub record IsHead (line : Text) (head : HeadView) : Type 0 where
 
 -- ---- a response
 
--- The given bytes are a line, a line feed, and further bytes `rest`.
+-- The bytes `bytes` are the line `line` without a line feed, then a line feed, and then the bytes `rest`.
 pub record IsLine (bytes line rest : List ℕ) : Type 0 where
   pub is : bytes ≡ line ++ 10 ∷ rest
   pub one : has_line_end line ≡ false
@@ -62,8 +62,8 @@ pub record IsFrame (bytes : List ℕ) (head : HeadView) (body : List ℕ) : Type
   pub head_is : IsHead line head
   pub size_is : length body ≡ head.size
 
--- No response is read from the given bytes, because the input ended in a head or in a body, or the first line is not a
--- head.
+-- The given bytes do not begin with a complete response. Either the input ended within a head or a body, or the first
+-- line is not a head.
 pub data NoFrame (ended : Type 0) (bytes : List ℕ) : Type 0 where
   cut_head : ended → has_line_end bytes ≡ false → NoFrame ended bytes
   bad_head : (line rest : List ℕ) → IsLine bytes line rest → ((head : HeadView) → ¬ IsHead line head) → NoFrame ended bytes

@@ -1,4 +1,4 @@
--- The bytes that the relay has read and not yet used, as specified in docs/PROFILE.md, "Responses to the relay".
+-- Bytes that the relay has read and not yet used, as specified in docs/PROFILE.md, "Responses to the relay".
 use Rattle.std.specs.Prelude.{◌≡◌, ◌+◌, ◌<◌, ◌≤◌, ℕ, false, List, ◌∷◌, ◌++◌, Option, length, take, drop, string_bytes, MatchOption}
 use Rattle.std.specs.Io.KnownBytes.{Appends}
 use Rattle.script_engine.specs.Lines.{has_line_end}
@@ -6,21 +6,22 @@ use Rattle.couch_relay.specs.declared.inbox.Inbox.{Inbox}
 use Rattle.couch_relay.specs.declared.inbox.Head.{Head}
 use Rattle.couch_relay.specs.Frames.{HeadView, IsHead, IsLine, NoFrame}
 
--- The bytes that the relay has read and not yet used.
+-- The bytes of an inbox that the relay has not yet used.
 abbrev pub pending : Inbox → List ℕ
 pending inbox = drop inbox.at inbox.held.items
 
--- The invariant of the stored input: the unused bytes begin within the stored bytes, and the buffer for a read is not
--- empty.
+-- The invariant of an inbox. The index of the first unused byte is at most the number of stored bytes, and the read
+-- buffer is not empty.
 pub record IsInbox (inbox : Inbox) : Type 0 where
   pub within : inbox.at ≤ length inbox.held.items
   pub some : 0 < length inbox.buffer.items
 
--- A reader returned bytes, which were appended to the history of the bytes that the reader has returned.
+-- A reader has returned bytes, which changed the reader's history of returned bytes from `old` to `new`.
 abbrev pub Took : Option (List ℕ) → Option (List ℕ) → Type 0
 Took old new = (bytes : List ℕ) × Appends old new bytes
 
--- The bytes that a reader returned were appended to the pending bytes.
+-- A reader has returned bytes, which changed the reader's history from `old` to `new`. The returned bytes were appended
+-- to the pending bytes.
 abbrev pub Filled : Option (List ℕ) → Option (List ℕ) → List ℕ → List ℕ → Type 0
 Filled old new before after = (bytes : List ℕ) × Appends old new bytes × (after ≡ before ++ bytes)
 
@@ -31,12 +32,14 @@ HasLine bytes size = IsLine bytes (take size bytes) (drop (size + 1) bytes) × (
 abbrev pub head_view : Head → HeadView
 head_view head = record { status = head.status; size = head.size; who = head.who; date = string_bytes head.date }
 
--- The given bytes are the line of a response's head, and then further bytes `rest`.
+-- The given bytes begin with a line that is the head `head` of a response, and `rest` has the bytes after the line
+-- feed.
 abbrev pub BeginsWithHead : List ℕ → HeadView → List ℕ → Type 0
 BeginsWithHead bytes head rest = (line : List ℕ) × IsLine bytes line rest × IsHead line head
 
--- The bytes that the reads returned, and the head of a response, if the pending bytes and the returned bytes begin with
--- a head.
+-- The result of reading the head of a response. The call appends the bytes that it reads to the pending bytes. If the
+-- call returns a head, the pending bytes began with this head, and the bytes after the head's line remain pending. If
+-- the call returns no head, the pending bytes did not begin with a complete response.
 abbrev pub ReadsHead : Option (List ℕ) → Option (List ℕ) → Type 0 → List ℕ → List ℕ → Option Head → Type 0
 ReadsHead old new ended before after head =
     (bytes : List ℕ) × Appends old new bytes

@@ -26,18 +26,18 @@ number_option name =
 abbrev pub text_option : Text → Rule
 text_option name = record (new_rule name) { long = Some name; action = Some Set; value_names = 1 }
 
--- A command line with the three positional arguments.
+-- The given command line, to which the three positional arguments are added.
 abbrev pub with_arguments : App → App
 with_arguments app =
     with_rule (with_rule (with_rule app (argument (codes "SOURCE"))) (argument (codes "TARGET"))) (argument (codes "SESSION"))
 
--- A command line with the three numeric options.
+-- The given command line, to which the three numeric options are added.
 abbrev pub with_numbers : App → App
 with_numbers app =
     with_rule (with_rule (with_rule app (number_option (codes "batch"))) (number_option (codes "carry")))
     (number_option (codes "every"))
 
--- A command line with the options for the feed, the filter and the selection.
+-- The given command line, to which the options for the feed, the filter and the selection are added.
 abbrev pub with_options : App → App
 with_options app = with_rule (with_rule (with_rule (with_rule (with_rule (with_rule
     app (flag_option (codes "continuous"))) (flag_option (codes "progress"))) (text_option (codes "filter")))
@@ -47,15 +47,15 @@ with_options app = with_rule (with_rule (with_rule (with_rule (with_rule (with_r
 abbrev pub command_line : App
 command_line = with_options (with_numbers (with_arguments (program_app (codes "couch_relay"))))
 
--- ---- the values of the options
+-- ---- option values
 
 -- The text of an option is the decimal numeral of `n`, or n is `default` if the option has no text.
 abbrev pub IsValue : Option Text → ℕ → ℕ → Type 0
 IsValue None default n = n ≡ default
 IsValue (Some text) default n = IsNumber 64 text n
 
--- Each option has the value that its text gives. The functions `text` and `number` give the text of an option by its
--- name.
+-- Each option in o has the value that the text of the option gives. The functions `text` and `number` return the text
+-- of an option, given the option's name.
 pub record AreGiven (text number : Text → Option Text) (o : Options) : Type 0 where
   pub source : o.source.now ≡ unwrap_or (text (codes "SOURCE")) []
   pub target : o.target.now ≡ unwrap_or (text (codes "TARGET")) []
@@ -74,8 +74,8 @@ pub record AreGiven (text number : Text → Option Text) (o : Options) : Type 0 
 abbrev pub Says : List Text → Options → Type 0
 Says words o = AreGiven (λ id. first_of id (matches_of command_line words)) (λ id. one_of id (matches_of command_line words)) o
 
--- The reason why the arguments give no options: `clap`'s error, no options that have the arguments' values, or a failed
--- allocation.
+-- The reason why the arguments give no options is `clap`'s error, that no options have the arguments' values, or a
+-- failed allocation.
 abbrev pub Refuses : List Text → NoOptions → Type 0
 Refuses words (Words error) = HasKind (fault_of command_line words) error
 Refuses words NoNumber = (o : Options) → Says words o → ⊥

@@ -28,19 +28,21 @@ pub record IsResponse (q : RequestView) (bytes : List ℕ) (response : ResponseV
   pub response_is : response ≡ response_in q head.status head.who body
   pub date_is : date ≡ head.date
 
--- The given bytes are the response to request q, and then further bytes `rest`.
+-- The given bytes begin with the response d to request q, and `rest` has the bytes after the response.
 abbrev pub BeginsWithResponse : RequestView → List ℕ → List ℕ → Dated → Type 0
 BeginsWithResponse q bytes rest d =
     (frame : List ℕ) × (bytes ≡ frame ++ rest) × IsResponse q frame (response_view d.response) (string_bytes d.date)
 
--- The bytes that the reads returned, and a response, if the pending bytes and the returned bytes begin with a response.
+-- The result of receiving the response to request q. The call appends the bytes that it reads to the pending bytes. If
+-- the call returns a response, the pending bytes began with this response, and the bytes after the response remain
+-- pending. If the call returns no response, the pending bytes did not begin with a complete response.
 abbrev pub Receives : RequestView → Option (List ℕ) → Option (List ℕ) → Type 0 → List ℕ → List ℕ → Option Dated → Type 0
 Receives q old new ended before after dated =
     (bytes : List ℕ) × Appends old new bytes
     × MatchOption dated (NoFrame ended (before ++ bytes)) (λ d. BeginsWithResponse q (before ++ bytes) after d)
 
--- The exchange e follows the earlier exchanges of a run. The request of e was written after the earlier requests, and
--- the response to e was read after the earlier responses.
+-- The exchange e is the next exchange of a run after the earlier exchanges. The request of e was written after the
+-- earlier requests, and the response of e was read after the earlier responses.
 pub record IsNext (o : RequestOptions) (e : Exchange) (earlier : List ℕ → List ℕ → Type 0) (read written : List ℕ) : Type 0 where
   pub read_before : List ℕ
   pub written_before : List ℕ
@@ -51,13 +53,14 @@ pub record IsNext (o : RequestOptions) (e : Exchange) (earlier : List ℕ → Li
   pub read_is : read ≡ read_before ++ frame
   pub written_is : written ≡ written_before ++ request_text o e.request
 
--- The bytes that were read and written in a list of exchanges. The list has the last exchange first.
+-- In a list of exchanges, the bytes `read` are the responses, and the bytes `written` are the requests. The list has
+-- the last exchange first.
 abbrev pub Exchanged : RequestOptions → List Exchange → List ℕ → List ℕ → Type 0
 Exchanged o [] read written = (read ≡ []) × (written ≡ [])
 Exchanged o (e ∷ h) read written = IsNext o e (Exchanged o h) read written
 
--- The bytes `read` and `written` are the bytes of a list of exchanges. The request of each exchange, and the request
--- that follows the list, are allowed.
+-- The run has read the bytes `read` and written the bytes `written` in a list of exchanges. The relay's rules allow
+-- each request of the list, and the request `next` after the list.
 pub record IsRun (o : RequestOptions) (read written : List ℕ) (next : RequestView) : Type 0 where
   pub history : List Exchange
   pub exchanged : Exchanged o history read written
@@ -66,7 +69,7 @@ pub record IsRun (o : RequestOptions) (read written : List ℕ) (next : RequestV
 
 -- ---- end of a run
 
--- The exit status of a run that ends after a request without a response.
+-- The exit status of a run that ends after the given request, or `None` if the request does not end a run.
 abbrev pub status_after : RequestView → Option ℕ
 status_after (get_log side) = None
 status_after (get_changes since wait) = None
@@ -77,8 +80,8 @@ status_after (tell notice) = None
 status_after (done None counts recorded) = Some (if counts.doc_write_failures == 0 then 0 else 1)
 status_after (done (Some fault) counts recorded) = Some 3
 
--- A run of the relay has ended with the given status. The last request was `done`, or the remaining bytes have no
--- response to the last request.
+-- A run of the relay has ended with the given status. Either the last request was `done`, or the status is 3 and the
+-- input bytes `left` do not begin with a complete response to the last request.
 abbrev pub EndsWith : Type 0 → RequestView → List ℕ → ℕ → Type 0
 EndsWith ended next left status =
     (status_after next ≡ Some status) ⊎ ((status_after next ≡ None) × NoFrame ended left × (status ≡ 3))
@@ -94,7 +97,8 @@ pub record Ran (o : RequestOptions) (ended : Type 0) (input text : List ℕ) (st
   pub text_is : text ≡ written ++ request_text o next
   pub ends : EndsWith ended next left status
 
--- A run of the relay that a fault stopped, in which a prefix of one more request was written.
+-- A run of the relay that a fault stopped. The output has the requests of the complete exchanges, and a prefix of one
+-- more request.
 pub record RanUntil (o : RequestOptions) (input text : List ℕ) : Type 0 where
   pub read : List ℕ
   pub left : List ℕ
@@ -137,40 +141,48 @@ pub record IsChoice (input : List ℕ) (choice : Text) (rest : List ℕ) : Type 
   pub text : IsUtf8 body
   pub choice_is : choice ≡ on_one_line body
 
--- No selection of documents is read from the given bytes.
+-- No selection of documents is read, because the given bytes do not begin with a complete response, or because the body
+-- of the response is not UTF-8.
 abbrev pub NoChoice : Type 0 → List ℕ → Type 0
 NoChoice ended input =
     NoFrame ended input
     ⊎ ((frame body rest : List ℕ) × (head : HeadView) × (input ≡ frame ++ rest) × IsFrame frame head body × ¬ IsUtf8 body)
 
--- The bytes that the reads returned, and a selection, if the pending bytes and the returned bytes begin with a
--- selection.
+-- The result of reading a selection of documents. The call appends the bytes that it reads to the pending bytes. If the
+-- call returns a selection, the pending bytes began with this selection, and the bytes after the selection remain
+-- pending. If the call returns no selection, the pending bytes did not begin with a selection.
 abbrev pub ReadsChoice : Option (List ℕ) → Option (List ℕ) → Type 0 → List ℕ → List ℕ → Option Text → Type 0
 ReadsChoice old new ended before after choice =
     (bytes : List ℕ) × Appends old new bytes
     × MatchOption choice (NoChoice ended (before ++ bytes)) (λ text. IsChoice (before ++ bytes) text after)
 
--- The selection at the beginning of the input, if the options require a selection.
+-- If the options require a selection, the input begins with the selection `choice`, and `rest` has the bytes after the
+-- selection. If the options require no selection, `choice` is empty, and `rest` is the input.
 abbrev pub TakesChoice : Options → List ℕ → Text → List ℕ → Type 0
 TakesChoice options input choice rest =
     (options.choice ≡ true → IsChoice input choice rest) × (options.choice ≡ false → (choice ≡ []) × (rest ≡ input))
 
--- The bytes that the reads returned, and the selection that is read from the input, if the options require a selection.
+-- The result of reading the selection that the options may require. The call appends the bytes that it reads to the
+-- pending bytes. If the call returns a text, it is the selection at the beginning of the pending bytes, or the empty
+-- text if the options require no selection. If the call returns no text, the options require a selection, and the
+-- pending bytes did not begin with a selection.
 abbrev pub FindsChoice : Options → Option (List ℕ) → Option (List ℕ) → Type 0 → List ℕ → List ℕ → Option Text → Type 0
 FindsChoice options old new ended before after choice =
     (bytes : List ℕ) × Appends old new bytes
     × MatchOption choice ((options.choice ≡ true) × NoChoice ended (before ++ bytes))
     (λ text. TakesChoice options (before ++ bytes) text after)
 
--- A run of the program with the given options: the requests, the responses, and the exit status. If a run could not
--- read a selection of documents, its output is empty. The statement `ended` says that the input of a run has ended.
+-- The input, the output and the exit status of a run with the given options. If the options require a selection and the
+-- input does not begin with one, the output is empty, and the exit status is 3. The statement `ended` says that the
+-- input has ended.
 abbrev pub Runs : Options → Type 0 → List ℕ → List ℕ → ℕ → Type 0
 Runs options ended input text status =
     ((choice rest : List ℕ) × (o : RequestOptions) × TakesChoice options input choice rest × AreOptions options choice o
     × Ran o ended rest text status)
     ⊎ ((options.choice ≡ true) × NoChoice ended input × (text ≡ []) × (status ≡ 3))
 
--- A run of the relay that a fault stopped, in which at most a prefix of a request was written after the exchanges.
+-- The input and the output of a run that a fault stopped. The output is empty, or has the requests of the complete
+-- exchanges and a prefix of one more request.
 abbrev pub RunsUntil : Options → List ℕ → List ℕ → Type 0
 RunsUntil options input text =
     (text ≡ [])
@@ -179,19 +191,20 @@ RunsUntil options input text =
 
 -- ---- the program
 
--- The input and the output of a run with the given options, which ended with an exit status or was stopped by a fault.
+-- The input and the output of a run with the given options. The result of the run is an exit status, or the fault that
+-- stopped the run.
 abbrev pub RunsOptions : Options → Type 0 → List ℕ → List ℕ → Result ℕ ScriptFault → Type 0
 RunsOptions options ended input text (Ok status) = Runs options ended input text status
 RunsOptions options ended input text (Err fault) = RunsUntil options input text
 
--- The input and the output of the program for its arguments. The first argument is the program's name. If the arguments
--- give no options, the program reads and writes nothing.
+-- The input and the output of the program, given the program's arguments. The first argument is the program's name. If
+-- the arguments give no options, the program reads and writes nothing.
 abbrev pub RunsWords : List Text → Type 0 → List ℕ → List ℕ → Ended → Type 0
 RunsWords words ended input text (end.NotRun why) = (input ≡ []) × (text ≡ []) × Refuses words why
 RunsWords words ended input text (end.Ran ran) =
     (options : Options) × Says words options × RunsOptions options ended input text ran
 
--- If the program ended with the exit status of a run, the given statement is true.
+-- The statement p is true if the program made a run that ended with an exit status.
 abbrev pub IfRan : Ended → Type 0 → Type 0
 IfRan (end.NotRun why) p = Unit {0}
 IfRan (end.Ran (Ok status)) p = p

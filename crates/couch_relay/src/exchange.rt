@@ -21,7 +21,7 @@ pub(crate) struct Dated {
     pub(crate) date: String,
 }
 
-/// Flushes a writer, which passes on all bytes that it has accepted.
+/// Flushes a writer, so that the writer passes on all bytes that it has accepted.
 ///
 /// # Errors
 ///

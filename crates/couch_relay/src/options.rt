@@ -55,7 +55,7 @@ pub(crate) struct Options<'a> {
 pub(crate) enum NoOptions {
     /// `clap`'s error, which includes requests for help.
     Words(Error),
-    /// The value of an option is not a number. `clap` has already checked that the value is a number.
+    /// The value of an option is not a number, although `clap` has already checked that the value is a number.
     NoNumber,
     /// An allocation failed.
     Memory,

@@ -29,8 +29,8 @@ fn usage_status(status: u8) -> u8
     if status == 0 { 0 } else { 3 }
 }
 
-/// Runs the program on standard input and standard output. Returns how the run ended, and both streams. The contract
-/// names the bytes that went through the streams.
+/// Runs the program on standard input and standard output. Returns how the run ended, the reader and the writer. The
+/// contract says which bytes the call read and wrote.
 ///
 /// # Errors
 ///

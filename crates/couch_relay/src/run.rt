@@ -134,7 +134,7 @@ fn request_options(
     })
 }
 
-/// Returns the exit status after a request, if it is the last request of the run.
+/// Returns the exit status after a request, if the request is the last request of the run.
 fn status_of(request: &Request<'_>) -> Option<u8>
     ensures { result ≡ status_after (request_view request.now) }
 {

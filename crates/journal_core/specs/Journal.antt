@@ -30,8 +30,8 @@ first_chain = codes "start"
 unfoldable pub first_seq : List ℕ
 first_seq = codes "0"
 
--- The lines of a journal are blocks with right checksums. The last arguments of `Confirmed` are the hash and the
--- sequence of the last block.
+-- The lines of a journal are blocks with right checksums. The second and third arguments of `Confirmed` are the hash
+-- and the sequence of the last block, or `first_chain` and `first_seq` if there are no blocks.
 pub data Confirmed : List (List ℕ) → List ℕ → List ℕ → Type 0 where
   nothing : Confirmed [] first_chain first_seq
   block : {lines : List (List ℕ)} {chain seq : List ℕ} (body : List (List ℕ)) (next : List ℕ) → Confirmed lines chain seq

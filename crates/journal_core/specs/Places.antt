@@ -7,7 +7,7 @@ use Rattle.journal_core.specs.declared.blocks.Took.{Took}
 use Rattle.journal_core.specs.declared.blocks.Took.TheVariants.{Held, Closed, Damaged}
 
 -- The place of a reader in a journal: the hash and the sequence of the last confirmed block, the confirmed lines, and
--- the lines after them. The place of a reader is complete (`whole`) if no wrong checksum was read.
+-- the lines of the current block. The place of a reader is complete (`whole`) if no wrong checksum was read.
 pub record Place : Type 0 where
   pub chain : List ℕ
   pub seq : List ℕ
@@ -18,23 +18,24 @@ pub record Place : Type 0 where
 abbrev pub start : Place
 start = record { chain = first_chain; seq = first_seq; confirmed = []; held = []; whole = true }
 
--- The sequence that a line names if the line ends a block of `count` lines.
+-- The sequence in a line, if the line ends a block of `count` lines.
 unfoldable pub seq_of : ℕ → List ℕ → List ℕ
 seq_of count line = drop (length (sum_head count) + 65) line
 
--- The hash of the lines after the last confirmed block, with the sequence of the given line.
+-- The hash of the current block, if the block's sequence is the sequence in the given line.
 unfoldable pub hash_at : Place → List ℕ → List ℕ
 hash_at place line = block_hash place.chain (seq_of (length place.held) line) (joined place.held)
 
--- The line that would rightly end the lines after the last confirmed block, with the sequence of the given line.
+-- The line that ends the current block with a right checksum, if the block's sequence is the sequence in the given
+-- line.
 unfoldable pub right_end : Place → List ℕ → List ℕ
 right_end place line = sum_line (length place.held) (hash_at place line) (seq_of (length place.held) line)
 
--- The hash of a block, if the given line rightly ends the block.
+-- The hash of the current block, or `None` if the given line does not end the block with a right checksum.
 unfoldable pub end_in : Place → List ℕ → Option (List ℕ)
 end_in place line = if bytes_eq line (right_end place line) then Some (hash_at place line) else None
 
--- The place of a journal reader after a line that rightly ends a block, which has the given hash.
+-- The place of a journal reader after a line that ends the current block with a right checksum, given the block's hash.
 abbrev pub closed : Place → List ℕ → List ℕ → Place
 closed place line hash = record {
   chain = hash;

@@ -8,13 +8,14 @@ use Rattle.journal_core.specs.Journal.{Confirmed, block_hash, is_sum, sum_line}
 use Rattle.journal_core.specs.Wrong.{first_index, wrong_at}
 use Rattle.journal_core.specs.declared.seal.Seal.{Seal}
 
--- The number of lines before the first wrong line of a block, after one more line that is wrong or not.
+-- The number of lines before the first wrong line of a block, if there is one. The argument `wrong` says whether the
+-- newest line, which follows `count` lines, is wrong.
 abbrev pub wrong_after : Option ℕ → Bool → ℕ → Option ℕ
 wrong_after (Some n) wrong count = Some n
 wrong_after None true count = Some count
 wrong_after None false count = None
 
--- What is stored after the given lines of a block were read.
+-- The stored state of a `Seal` that has read the given lines of a block.
 pub record IsSealing (chain seq : List ℕ) (lines : List (List ℕ)) (seal : Seal) : Type 0 where
   pub hashed : Holds256 seal.hasher ((chain ++ codes " " ++ seq ++ codes "\n") ++ joined lines)
   pub seq_is : seal.seq.items ≡ seq
@@ -26,14 +27,14 @@ pub record IsSealing (chain seq : List ℕ) (lines : List (List ℕ)) (seal : Se
 abbrev pub Seals : Seal → List ℕ → List ℕ → Seal → Type 0
 Seals old line text new = (text ≡ []) × ((chain seq : List ℕ) (lines : List (List ℕ)) → IsSealing chain seq lines old → IsSealing chain seq (lines ++ line ∷ []) new)
 
--- At the end of a block, the line that ends it is written. If nothing is wrong with the block, no line of it is a sum
--- line, and its last line has a line end.
+-- The input has no bytes after its last line end, no line of the input is a sum line, and the line that ends the block
+-- is written.
 abbrev pub EndsRight : Seal → List ℕ → List ℕ → Type 0
 EndsRight old rest text = (rest ≡ []) × ((chain seq : List ℕ) (lines : List (List ℕ)) → IsSealing chain seq lines old
     → All (λ line. is_sum line ≡ false) lines × (text ≡ sum_line (length lines) (block_hash chain seq (joined lines)) seq ++ codes "\n"))
 
--- At the end of a block with a wrong line, no text is written. The last argument of `EndsWrong` is the number of lines
--- before the first wrong line.
+-- At the end of a block with a wrong line, no text is written. The argument `count` is the number of lines before the
+-- first wrong line.
 abbrev pub EndsWrong : Seal → List ℕ → List ℕ → ℕ → Type 0
 EndsWrong old rest text count = (text ≡ []) × ((chain seq : List ℕ) (lines : List (List ℕ)) → IsSealing chain seq lines old
     → wrong_at is_sum lines rest ≡ Some count)
@@ -42,8 +43,8 @@ abbrev pub EndsSeal : Seal → List ℕ → List ℕ → Seal → Type 0
 EndsSeal old rest text new =
     (new.wrong ≡ None → EndsRight old rest text) × ((count : ℕ) → new.wrong ≡ Some count → EndsWrong old rest text count)
 
--- The input consists of the lines of a block, and the line that ends the block is written. With its last line, the
--- block continues every journal that ends with the hash `chain`. The statement `given` holds for the input.
+-- The input satisfies the predicate `given` and consists of the lines of a block, and the line that ends the block is
+-- written. With the written line, the block continues every confirmed journal that ends with the hash `chain`.
 pub record IsSealedOn (chain seq : List ℕ) (given : List ℕ → Type 0) (held held' : Option (List ℕ)) : Type 0 where
   pub lines : List (List ℕ)
   pub gives : given (joined lines)
@@ -52,8 +53,8 @@ pub record IsSealedOn (chain seq : List ℕ) (given : List ℕ → Type 0) (held
   pub continues : (before : List (List ℕ)) (seq' : List ℕ) → Confirmed before chain seq'
       → Confirmed (before ++ (lines ++ sum_line (length lines) (block_hash chain seq (joined lines)) seq ∷ [])) (block_hash chain seq (joined lines)) seq
 
--- The input is not the lines of a block, and no byte is written. The argument `count` is the number of lines before the
--- first line that a block cannot contain.
+-- The input satisfies the predicate `given` but has a line that a block cannot contain, and no byte is written. The
+-- argument `count` is the number of lines before the first line that a block cannot contain.
 pub record IsUnsealedOn (count : ℕ) (given : List ℕ → Type 0) (held held' : Option (List ℕ)) : Type 0 where
   pub input : List ℕ
   pub lines : List (List ℕ)
@@ -63,21 +64,22 @@ pub record IsUnsealedOn (count : ℕ) (given : List ℕ → Type 0) (held held' 
   pub wrong : wrong_at is_sum lines rest ≡ Some count
   pub nothing : Appends held held' []
 
--- A block was sealed from the input, unless the block has a wrong line. The statement `given` holds for the input.
+-- The result of sealing a block from an input that satisfies the predicate `given`. The last argument is `None` if the
+-- block was sealed, and otherwise the number of lines before the first wrong line.
 abbrev pub SealsOn : List ℕ → List ℕ → (List ℕ → Type 0) → Option (List ℕ) → Option (List ℕ) → Option ℕ → Type 0
 SealsOn chain seq given held held' None = IsSealedOn chain seq given held held'
 SealsOn chain seq given held held' (Some count) = IsUnsealedOn count given held held'
 
--- A block was sealed from the bytes `left` that the reader had left before the call, unless the block has a wrong line.
+-- The result of sealing a block from the bytes `left`, which the reader had left before the call.
 abbrev pub SealsBlock : List ℕ → List ℕ → Option (List ℕ) → Option (List ℕ) → Option (List ℕ) → Option ℕ → Type 0
 SealsBlock chain seq left held held' wrong = SealsOn chain seq (Gives left) held held' wrong
 
--- A block was sealed from the bytes that the reads of the call returned, unless the block has a wrong line. The
--- arguments `taken` and `taken'` are the bytes that all reads returned before and after the call.
+-- The result of sealing a block from the bytes that the reads of the call returned. The arguments `taken` and `taken'`
+-- are the reader's histories of returned bytes before and after the call.
 abbrev pub HasSealed : List ℕ → List ℕ → Option (List ℕ) → Option (List ℕ) → Option (List ℕ) → Option (List ℕ) → Option ℕ → Type 0
 HasSealed chain seq taken taken' held held' wrong = SealsOn chain seq (Appends taken taken') held held' wrong
 
--- The input is the lines of a block, and the output is the line that ends the block.
+-- The input consists of the lines of a block, and the text is the line that ends the block.
 abbrev pub IsSeal : List ℕ → List ℕ → List ℕ → List ℕ → Type 0
 IsSeal chain seq input text =
     (lines : List (List ℕ)) × (input ≡ joined lines) × All (λ line. is_sum line ≡ false) lines
@@ -87,8 +89,8 @@ IsSeal chain seq input text =
 abbrev pub IsSealedPart : List ℕ → List ℕ → List ℕ → List ℕ → Type 0
 IsSealedPart chain seq input text = (back : List ℕ) × IsSeal chain seq input (text ++ back)
 
--- An error stopped the sealing of a block. The output is empty, or a prefix of the line that ends the block. The
--- statement `ended` says that the input was read to its end.
+-- An error stopped the sealing of a block. The output is empty, or the input was read to its end (`ended`) and the
+-- output is a prefix of the line that ends the block.
 abbrev pub HasSealedPart : List ℕ → List ℕ → Type 0 → Option (List ℕ) → Option (List ℕ) → Option (List ℕ) → Option (List ℕ)
     → Type 0
 HasSealedPart chain seq ended taken taken' held held' =

@@ -7,7 +7,8 @@ abbrev pub first_index : {A : Type 0} → (A → Bool) → List A → Option ℕ
 first_index test [] = None
 first_index test (x ∷ xs) = if test x then Some 0 else option_map suc (first_index test xs)
 
--- The number of lines before the first wrong line, if there is one. The bytes after the last line end are a wrong line.
+-- The number of lines before the first wrong line, if there is one. If there are bytes `rest` after the last line end,
+-- these bytes are a wrong line.
 abbrev pub wrong_at : (List ℕ → Bool) → List (List ℕ) → List ℕ → Option ℕ
 wrong_at is_wrong lines rest =
     option_or (first_index is_wrong lines) (if nat_eq (length rest) 0 then None else Some (length lines))

@@ -7,19 +7,19 @@ use crate::sums::{added, hash_of, is_same, is_sum, seq_in, sum_head, sum_line};
 use std::alloc::{AllocError, Global};
 use std::mem;
 
-/// The effect of a line on a journal that is read line by line.
+/// The effect of reading a line of a journal.
 #[derive(Drop)]
 pub enum Took {
     /// The line belongs to the current block of the journal.
     Held,
-    /// The line ends a block of the journal with a right checksum, which confirms the block. The variant has the bytes
-    /// of the block's lines.
+    /// The line ends a block of the journal with a right checksum, which confirms the block. `Closed` has the bytes of
+    /// the block's lines.
     Closed(Vec<u8>),
-    /// The line is the wrong last line of a block, or a line after a wrong last line.
+    /// The line ends a block with a wrong checksum, or follows a line with a wrong checksum.
     Damaged,
 }
 
-/// The confirmed part of a journal, and the current block, whose last line is not read.
+/// The state of reading a journal, which has the confirmed part and the lines of the current block.
 #[derive(Drop)]
 pub struct Blocks {
     alloc: Global,
@@ -116,7 +116,7 @@ impl Blocks {
         Ok(())
     }
 
-    /// Returns the sequence that a line names if it ends the current block.
+    /// Returns the sequence in a line, if the line ends the current block.
     fn seq_in(&self, line: &[u8]) -> Result<Vec<u8>, AllocError>
         ensures { IfOk result (λ seq. seq.items ≡ seq_of self.now.count line.now) }
     {

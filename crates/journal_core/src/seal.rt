@@ -10,7 +10,8 @@ use sha2::{Digest, Sha256};
 use std::alloc::{AllocError, Global};
 use std::mem;
 
-/// Returns the number of lines before the first wrong line, if an earlier line or the next line is wrong.
+/// Returns the number of lines before the first wrong line, if there is one. The argument `before` is this number for
+/// the earlier lines, and `wrong` says whether the line after `count` lines is wrong.
 fn wrong_after(before: Option<u64>, wrong: bool, count: u64) -> Option<u64>
     ensures { result ≡ wrong_after before wrong count }
 {
@@ -21,7 +22,7 @@ fn wrong_after(before: Option<u64>, wrong: bool, count: u64) -> Option<u64>
     }
 }
 
-/// A task that computes the line that ends a block from the block's lines.
+/// A task that reads the lines of a block, and computes the line that ends the block.
 #[derive(Drop)]
 pub struct Seal {
     alloc: Global,
@@ -83,10 +84,10 @@ impl LineTask for Seal {
     }
 }
 
-/// Seals the block of lines that a reader has by writing the line that ends the block. The argument `chain` is the hash
-/// of the previous block. Returns `None` if a block can contain all lines, or else the number of lines before the first
-/// line that a block cannot contain. A block can contain neither a line that ends a block, nor a last line without a
-/// line end. If a block cannot contain one of the lines, nothing is written.
+/// Reads the lines of a block up to the end of the input, and writes the line that ends the block. The argument `chain`
+/// is the hash of the previous block. Returns `None` if a block can contain all input lines, and otherwise the number
+/// of lines before the first line that a block cannot contain. A block can contain neither a line that ends a block,
+/// nor a last line without a line end. If a block cannot contain one of the lines, nothing is written.
 ///
 /// # Errors
 ///

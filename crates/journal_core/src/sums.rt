@@ -101,7 +101,7 @@ pub(crate) fn sum_line(
     Ok(line)
 }
 
-/// Returns the part of a line after a head of the given length and a hash.
+/// Returns the part of a line after a head of `head` bytes, a hash and a blank.
 pub(crate) fn seq_in(head: usize, line: &[u8]) -> &[u8]
     ensures { result.now ≡ drop (head + 65) line.now }
 {

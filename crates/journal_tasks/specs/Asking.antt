@@ -21,7 +21,7 @@ abbrev pub has_begun : Bool → List (List ℕ × List ℕ) → Bool
 has_begun begun [] = begun
 has_begun begun (leaf ∷ leaves) = true
 
--- The body of a `_bulk_get` request for the given leaves. There is no request for no leaf.
+-- The body of a `_bulk_get` request for the given leaves. The body is empty if there are no leaves.
 abbrev pub ask_body : List (List ℕ × List ℕ) → List ℕ
 ask_body leaves = asked_items false leaves ++ (if has_begun false leaves then codes "]}\n" else [])
 

@@ -1,4 +1,4 @@
--- The received part of a request for revisions.
+-- Definitions that say which requested revisions were received.
 use Rattle.std.specs.Prelude.{ℕ, Bool, ◌||◌, List, string_bytes}
 use Rattle.journal_lines.specs.Leafs.{LeafView, knows_rev}
 use Rattle.journal_tasks.specs.declared.received.Wanted.{Wanted}

@@ -30,7 +30,7 @@ pub fn run(rt: &HostRuntime) -> Result<()> {
     Ok(())
 }
 
-/// Each laptop writes a document.
+/// Lets each laptop write a document.
 fn first_day(alloc: Global, net: &mut Net<Rules>) -> Result<Rev> {
     let milk = edit(alloc, net, 1, "milk", None, r#"{"litres":1}"#)?;
     edit(alloc, net, 2, "bread", None, r#"{"loaves":1}"#)?;
@@ -38,7 +38,7 @@ fn first_day(alloc: Global, net: &mut Net<Rules>) -> Result<Rev> {
     Ok(milk)
 }
 
-/// Two laptops change the same document independently.
+/// Lets two laptops change the same document independently.
 fn second_day(alloc: Global, net: &mut Net<Rules>, milk: Rev) -> Result<()> {
     edit(alloc, net, 1, "milk", Some(milk), r#"{"litres":2}"#)?;
     edit(alloc, net, 3, "milk", Some(milk), r#"{"litres":3}"#)?;

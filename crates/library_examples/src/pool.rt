@@ -26,7 +26,7 @@ const ORDERS: u64 = 1_000;
 /// The number of fetcher threads, and the number of writer threads.
 const WORKERS: usize = 4;
 
-/// The maximum number of times the viewer reads the board.
+/// The maximum number of times that the viewer reads the board.
 const LOOKS: u64 = 10_000_000;
 
 /// Replicates the shop into its copy while a viewer reads the progress.

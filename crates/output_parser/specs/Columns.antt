@@ -7,7 +7,7 @@ use Rattle.output_parser.specs.declared.told.Column.TheVariants as columns
 use Rattle.output_parser.specs.declared.told.Table.{Table}
 use Rattle.output_parser.specs.declared.told.Table.TheVariants as tables
 
--- The caption before the number of a column in a line of numbers, without the blank.
+-- The text before a column's number in a line of numbers, without the blank directly before the number.
 abbrev pub column_text : Column → List ℕ
 column_text columns.ComparedDocuments = codes "compared"
 column_text columns.ComparedLeaves = codes " documents"
@@ -40,7 +40,7 @@ columns_of tables.Info =
 columns_of tables.Session =
     columns.From ∷ columns.To ∷ columns.Checked ∷ columns.Found ∷ columns.Read ∷ columns.Written ∷ columns.Failed ∷ []
 
--- The text ends with a column of number n, and `front` is the text before this column.
+-- The text ends with the given column, which has the number n, and `front` is the text before this column.
 pub record EndsIn (column : Column) (n : ℕ) (front text : List ℕ) : Type 0 where
   pub word : List ℕ
   pub lacks_blank : lacks 32 word ≡ true

@@ -84,12 +84,14 @@ abbrev pub AreEntries : List Logged → List ℕ → List ℕ → Type 0
 AreEntries [] rest text = ⊥
 AreEntries (e ∷ es) rest text = (after : List ℕ) × IsEntry e after text × AreFurther es rest after
 
--- The list of sessions of a log, after the list's opening bracket.
+-- The text follows the opening bracket of a log's list of sessions, and begins with the given sessions, the closing
+-- bracket, and the text up to the value of `session_id`.
 pub record IsHistory (text : List ℕ) (entries : List Logged) : Type 0 where
   pub tail : List ℕ
   pub listed : AreEntries entries (codes "],\"replication_id_version\":3,\"session_id\":\"" ++ tail) text
 
--- The start of a log, up to the opening bracket of the list of sessions.
+-- The line begins as a log of the replication `id`, and `text` follows the opening bracket of the log's list of
+-- sessions.
 pub record IsHead (line id text : List ℕ) : Type 0 where
   pub form : line ≡ codes "{\"_id\":\"_local/" ++ (id ++ 34 ∷ (codes ",\"history\":[" ++ text))
   pub lacks_mark : lacks 34 id ≡ true

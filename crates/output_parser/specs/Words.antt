@@ -8,7 +8,7 @@ use Rattle.rev_core.specs.Text.{rev_text}
 abbrev pub lacks : ℕ → List ℕ → Bool
 lacks b text = list_all (λ x. not (x == b)) text
 
--- The text of a name, a blank, and a further part.
+-- The text `name`, then a blank, then the text `word`.
 abbrev pub named : List ℕ → List ℕ → List ℕ
 named name word = name ++ 32 ∷ word
 
@@ -21,8 +21,8 @@ pub record IsRevs (text : List ℕ) (revs : List RevId) : Type 0 where
   pub listed : slice_split (λ b. b == 44) text ≡ map rev_text revs
   pub each : AllByRecursion IsRev revs
 
--- A text consists of items in order, each with its value, and of further text `rest`. The relation `Step` connects an
--- item and its value with the text that follows the item.
+-- A text consists of the given items with the given values, in order, and then of the text `rest`. The relation `Step`
+-- says that a text begins with an item that has a value, and which text follows the item.
 abbrev pub InTurn : {T V : Type 0} → (T → V → List ℕ → List ℕ → Type 0) → List T → List V → List ℕ → List ℕ → Type 0
 InTurn Step [] [] rest text = text ≡ rest
 InTurn Step [] (v ∷ vs) rest text = ⊥

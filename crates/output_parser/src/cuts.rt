@@ -1,4 +1,4 @@
-//! Splits a text at a byte, or before its last part without spaces.
+//! Functions that split a text at a byte, or remove a part at its start or end.
 ghost use Rattle.std.specs.Prelude.{◌≡◌, ◌++◌, ◌∷◌, List, ℕ, [], IfSome, IfNone, true};
 ghost use Rattle.output_parser.specs.Words.{lacks};
 

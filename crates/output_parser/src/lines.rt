@@ -14,8 +14,8 @@ use rev_core::Rev;
 use std::alloc::{AllocError, Global};
 use std::str;
 
-/// Parses a line of a script's output (docs/PROFILE.md, "Answers" and "Pictures"). The result is a line of a given kind
-/// exactly if the line has the format of this kind.
+/// Parses a line of a script's output (docs/PROFILE.md, "Answers" and "Pictures"). The call returns a variant of `Told`
+/// exactly if the line has the variant's format.
 pub fn read_line(alloc: Global, line: &[u8]) -> Result<Told, AllocError>
     ensures { IfOk result (λ told. Tells line.now told) }
 {
@@ -75,7 +75,7 @@ fn read_found(alloc: Global, line: &[u8], finding: Finding) -> Result<Option<Fou
     Ok(Some(Found { finding, id, revs }))
 }
 
-/// Parses the id and the number of leaves of a `doc` line.
+/// Parses a `doc` line, and returns the document's id and number of leaves.
 fn read_doc(line: &[u8]) -> Option<(&str, u64)>
     ensures some { IfSome result (λ x. IsDocLine line.now x.0.now x.1) }
     ensures none { IfNone result ((id : List ℕ) (count : ℕ) → IsDocLine line.now id count → ⊥) }
@@ -139,8 +139,8 @@ fn begins_with(revs: &[Rev], own: &[u8]) -> bool
     revs[0] == own
 }
 
-/// Parses a line that has a given first word, a document id and revisions. Returns `None` if the line does not begin
-/// with the given word.
+/// Parses a line that has a given first word, a document id and revisions. Returns `None` if the line does not have
+/// this form.
 fn read_listed<'a>(
     alloc: Global,
     line: &'a [u8],

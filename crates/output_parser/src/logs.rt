@@ -27,8 +27,8 @@ pub fn read_log(alloc: Global, line: &[u8]) -> Result<Option<Log>, AllocError>
     }))
 }
 
-/// Parses the replication id of a log, and returns it with the text after the start of the list of sessions. Returns
-/// `None` if the line is not a log.
+/// Parses the start of a log. Returns the replication id, and the text after the opening bracket of the list of
+/// sessions. Returns `None` if the line does not begin as a log.
 fn log_head(line: &[u8]) -> Option<(&str, &[u8])>
     ensures some { IfSome result (λ x. IsHead line.now x.0.now x.1.now) }
     ensures none { IfNone result ((id text : List ℕ) → IsHead line.now id text → ⊥) }
@@ -65,8 +65,8 @@ fn read_entries(alloc: Global, text: &[u8]) -> Result<Option<Vec<Entry>>, AllocE
     }
 }
 
-/// Parses a session at the start of a text, and returns it with the text after its closing brace. Returns `None` if the
-/// text does not start with a session.
+/// Parses a session at the start of a text. Returns the session, and the text after the session's closing brace.
+/// Returns `None` if the text does not start with a session.
 fn read_entry(alloc: Global, text: &[u8]) -> Result<Option<(Entry, &[u8])>, AllocError>
     ensures some { IfOk result (λ o. IfSome o (λ x. IsEntry (logged x.0) x.1.now text.now)) }
     ensures none { IfOk result (λ o. IfNone o ((e : Logged) (after : List ℕ) → IsEntry e after text.now → ⊥)) }
@@ -83,8 +83,8 @@ fn read_entry(alloc: Global, text: &[u8]) -> Result<Option<(Entry, &[u8])>, Allo
     }
 }
 
-/// Parses the values of members at the start of a text, and returns them with the text after the members. Returns
-/// `None` if the text does not start with the members of a session.
+/// Parses the members of a session at the start of a text. Returns the members' values, and the text after the members.
+/// Returns `None` if the text does not start with the members of a session.
 fn read_values<'a>(
     alloc: Global,
     text: &'a [u8],
@@ -106,8 +106,8 @@ fn read_values<'a>(
     Ok(Some((values, rest)))
 }
 
-/// Parses the value of a member at the start of a text, and returns it with the text after the member. Returns `None`
-/// if the text does not start with the given member.
+/// Parses a given member at the start of a text. Returns the member's value, and the text after the member. Returns
+/// `None` if the text does not start with the given member.
 fn cut_member(text: &[u8], member: Member) -> Option<(&[u8], &[u8])>
     ensures some { IfSome result (λ x. IsMember member x.0.now x.1.now text.now) }
     ensures none { IfNone result ((value after : List ℕ) → IsMember member value after text.now → ⊥) }
@@ -135,7 +135,7 @@ fn members() -> &'static [Member]
     ]
 }
 
-/// Builds a session from the values of its members. Returns `None` if a value is invalid.
+/// Builds a session from the values of the session's members. Returns `None` if a value is invalid.
 fn read_told(alloc: Global, values: &[&[u8]]) -> Result<Option<Entry>, AllocError>
     ensures some { IfOk result (λ o. IfSome o (λ e. Values (texts_of values.now) (logged e))) }
     ensures none { IfOk result (λ o. IfNone o ((e : Logged) → Values (texts_of values.now) e → ⊥)) }

@@ -30,7 +30,7 @@ pub fn read_row(alloc: Global, line: &[u8], table: Table) -> Result<Option<Row>,
     }))
 }
 
-/// Returns the columns of a table, the last column first.
+/// Returns the columns of a kind of line with numbers, the last column first.
 fn columns_back(table: Table) -> &'static [Column]
     ensures { result.now ≡ reverse (columns_of table) }
 {
@@ -99,7 +99,8 @@ fn cut_column(text: &[u8], column: Column) -> Option<(&[u8], u64)>
     }
 }
 
-/// Parses the name at the start of a line of numbers. Returns `None` if the name is invalid.
+/// Parses the text before the columns of a line of numbers, and returns the name in this text. Returns `None` if the
+/// text has another form, or if the name is not UTF-8.
 fn name_of(front: &[u8], table: Table) -> Option<&str>
     ensures some { IfSome result (λ name. IsFront table name.now front.now × IsUtf8 name.now) }
     ensures none { IfNone result ((name : List ℕ) → IsFront table name front.now → IsUtf8 name → ⊥) }
@@ -111,7 +112,7 @@ fn name_of(front: &[u8], table: Table) -> Option<&str>
     }
 }
 
-/// Returns the bytes of a line of numbers before its first column, which are the line's name.
+/// Returns the bytes of the name in the text before the columns of a line of numbers.
 fn name_in(front: &[u8], table: Table) -> Option<&[u8]>
     ensures some { IfSome result (λ name. IsFront table name.now front.now) }
     ensures none { IfNone result ((name : List ℕ) → IsFront table name front.now → ⊥) }
@@ -123,7 +124,7 @@ fn name_in(front: &[u8], table: Table) -> Option<&[u8]>
     }
 }
 
-/// Returns the empty name if the line has no text before its columns.
+/// Returns the empty name if there is no text before the columns of the line.
 fn empty_name(front: &[u8]) -> Option<&[u8]>
     ensures some { IfSome result (λ name. IsFront tables.Compared name.now front.now) }
     ensures none { IfNone result ((name : List ℕ) → IsFront tables.Compared name front.now → ⊥) }

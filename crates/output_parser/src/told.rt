@@ -29,9 +29,9 @@ pub enum Told {
 #[derive(Drop)]
 pub struct Found {
     pub finding: Finding,
-    /// The id of the document as a JSON string.
+    /// The id of the compared document as a JSON string.
     pub id: String,
-    /// The revisions that the line of `compare` lists.
+    /// The revisions in the line of `compare`.
     pub revs: Vec<Rev>,
 }
 
@@ -63,13 +63,14 @@ impl Finding {
 #[derive(Drop)]
 pub struct Row {
     pub table: Table,
-    /// The database's name, or the session's id, or an empty text for a line of `compare`.
+    /// The name of the database for a line of `info`, the id of the session for a line of `replicate`, or the empty
+    /// text for a line of `compare`.
     pub name: String,
-    /// The numbers of the line, one for each column of the table, in order.
+    /// The numbers of the line in the order of the columns, one for each column.
     pub numbers: Vec<u64>,
 }
 
-/// The command that printed a line of numbers.
+/// The kind of a line of numbers, which depends on the command that printed the line.
 #[derive(Clone, Copy, Debug, PartialEq, Eq)]
 pub enum Table {
     /// The counts of `compare`.
@@ -116,7 +117,7 @@ impl Table {
     }
 }
 
-/// A column of a table.
+/// A column of a line of numbers.
 #[derive(Clone, Copy, Debug, PartialEq, Eq)]
 pub enum Column {
     /// The counts of `compare`: the source's documents and leaves, the leaves that the target lacks, contradicting
@@ -146,7 +147,7 @@ pub enum Column {
 }
 
 impl Column {
-    /// Returns the text before a column's number in a line of numbers, without the blank.
+    /// Returns the text before a column's number in a line of numbers, without the blank directly before the number.
     pub fn text(self) -> &'static str
         ensures { result.now ≡ column_text self }
     {
@@ -197,7 +198,7 @@ pub struct Entry {
     pub failed: u64,
 }
 
-/// A member of a session in a printed log, in the order of printing.
+/// A member of a session in a printed log. The variants have the order of the members in the log.
 #[derive(Clone, Copy, Debug, PartialEq, Eq)]
 pub enum Member {
     Failed,
@@ -214,7 +215,7 @@ pub enum Member {
 }
 
 impl Member {
-    /// Returns the text that a log has before the member's value.
+    /// Returns the text before the member's value in a log.
     pub fn text(self) -> &'static str
         ensures { result.now ≡ member_text self }
     {

@@ -26,7 +26,7 @@ recorded_of log s = option_map (λ e. e.recorded) (entry_for log s)
 
 -- ---- the effect of `put`
 
--- A log after entry e has replaced the log's entry of the same session.
+-- The given log, in which entry e replaces the entry of e's session.
 abbrev pub replaced : List EntryValue → EntryValue → List EntryValue
 replaced log e = map (λ x. if is_of e.session x then e else x) log
 
@@ -35,8 +35,8 @@ replaced log e = map (λ x. if is_of e.session x then e else x) log
 abbrev pub with_entry : List EntryValue → EntryValue → List EntryValue
 with_entry log e = if holds log e.session then replaced log e else e ∷ log
 
--- The result of a put of entry e into a log, given the log's entry of the same session, if there is one. In a log, the
--- recorded sequence of a session must not fall.
+-- The result of a put of entry e into a log, given the log's entry of e's session, if the log has one. The put fails
+-- with `Older` if the log's entry has a greater recorded sequence.
 abbrev pub put_beside : EntryValue → Option EntryValue → Result (Unit {0}) LogFault
 put_beside e None = Ok tt
 put_beside e (Some stored) = if nat_lt e.recorded stored.recorded then Err (faults.Older stored.recorded) else Ok tt
@@ -55,7 +55,7 @@ ChangesOnly old new e = (s : SessionId) → entry_for new s ≡ (if is_of s e th
 abbrev pub shared : List EntryValue → List EntryValue → Option EntryValue
 shared source target = find (λ t. holds source t.session) target
 
--- The session of the entries t and s, with the lesser of the recorded sequences of t and s.
+-- The session of the target's entry t, with the lesser of the recorded sequences of t and of the source's entry s.
 abbrev pub lesser_of : EntryValue → EntryValue → SessionId × ℕ
 lesser_of t s = (t.session, min s.recorded t.recorded)
 

@@ -11,7 +11,8 @@ abbrev pub log_in : List (RepId × List EntryValue) → RepId → List EntryValu
 log_in [] rep = []
 log_in (l ∷ logs) rep = if same_rep rep l.0 then l.1 else log_in logs rep
 
--- The logs after entry e was stored in the log of e's replication. If the log is new, the log becomes the last log.
+-- The logs after entry e was stored in the log of the replication `rep`. If there is no such log, a new log is added at
+-- the end.
 abbrev pub logs_with : List (RepId × List EntryValue) → RepId → EntryValue → List (RepId × List EntryValue)
 logs_with [] rep e = (rep, with_entry [] e) ∷ []
 logs_with (l ∷ logs) rep e = if same_rep rep l.0 then (l.0, with_entry l.1 e) ∷ logs else l ∷ logs_with logs rep e

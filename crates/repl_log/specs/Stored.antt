@@ -1,4 +1,4 @@
--- Values stored by session, oldest first, and the list of the values that contracts use, newest first.
+-- Tables that store values by session, oldest first, and the lists of values that contracts use, newest first.
 use Rattle.std.specs.Prelude.{◌≡◌, ◌==◌, Bool, List, map, reverse}
 use Rattle.std.specs.List.{AllByRecursion}
 use Rattle.rev_tree.specs.declared.origin.SessionId.{SessionId}

@@ -1,4 +1,4 @@
--- Lemmas about values stored by session, for dependent crates.
+-- Lemmas for dependent crates about tables that store values by session.
 use Rattle.std.proofs.Common.{◌≡◌, ◌==◌, ◌&&◌, ◌||◌, Bool, true, false, cond, if◌then◌else◌, List, [], ◌∷◌, ◌++◌, map, Option, Some, None, is_some, reverse, refl, sym, ap, ◌∙◌, subst}
 use Rattle.std.specs.List.{find, list_any, IsDistinct, AllByRecursion}
 use Rattle.std.specs.Option.{option_map, option_or}
@@ -34,7 +34,7 @@ absent-lookup : {X : Type 0} (s : SessionId) (es : List (SessionId × X)) → Al
 absent-lookup s [] none = refl
 absent-lookup s (e ∷ es) none = ap (λ b. cond b (Some e.1) (lookup (at_session s) es)) none.0 ∙ absent-lookup s es none.1
 
--- If a table has a session, inserting a value for the session replaces the session's value.
+-- If a table has a value for a session, inserting another value for the session replaces the value.
 pub insert_entry-present : {X : Type 0} (s : SessionId) (es : List (SessionId × X)) (x y : X) → lookup (at_session s) es ≡ Some y → insert_entry at_session es s x ≡ set_value (at_session s) es x
 insert_entry-present s [] x y is = cc is
 insert_entry-present s (e ∷ es) x y is =
@@ -43,8 +43,8 @@ insert_entry-present s (e ∷ es) x y is =
       | false ↦ λ rest. ap (λ l. e ∷ l) (insert_entry-present s es x y rest)
     ] is
 
--- Theorems about stored values. The parameter `value` maps stored values to values of contracts, and `session` maps
--- values of contracts to sessions.
+-- Theorems about stored values. The parameter `value` maps a stored value to the value that contracts use, and
+-- `session` maps the latter to its session.
 module _ {X V : Type 0} (value : X → V) (session : V → SessionId) where
   abbrev named : SessionId → V → Bool
   named s v = (session v).0 == s.0
@@ -67,7 +67,7 @@ module _ {X V : Type 0} (value : X → V) (session : V → SessionId) where
 
   -- ---- lookups
 
-  -- The value that a table has for a session, if this value passes a given test.
+  -- A stored value as contracts use it, or `None` if there is no value or the value does not pass the test q.
   abbrev pub chosen : (V → Bool) → Option X → Option V
   chosen q None = None
   chosen q (Some x) = if q (value x) then Some (value x) else None
@@ -97,7 +97,7 @@ module _ {X V : Type 0} (value : X → V) (session : V → SessionId) where
   chosen-always None = refl
   chosen-always (Some x) = refl
 
-  -- Searching the list of values for a session finds the value that the table has for the session.
+  -- Searching a table's values, newest first, for a session finds the value that the table stores for the session.
   pub find-lookup : (s : SessionId) (es : List (SessionId × X)) → IsKeyed own es → EachSessionOnce es → find (named s) (newest_first value es) ≡ option_map value (lookup (at_session s) es)
   find-lookup s es keyed once =
       find-chosen (λ _. true) (named s) s (λ v. sym (and-true (named s v))) es keyed once ∙ chosen-always (lookup (at_session s) es)
@@ -130,7 +130,8 @@ module _ {X V : Type 0} (value : X → V) (session : V → SessionId) where
   put_over-set s x [] keyed once = refl
   put_over-set s x (e ∷ es) keyed once = put_step s x e es keyed once.0 (put_over-set s x es keyed.1 once.1) (at_session s e.0) refl
 
-  -- If a table has a session, a write for the session replaces the session's value.
+  -- If a table has a value for a session, a write for the session replaces exactly this value in the list of the
+  -- table's values.
   pub newest_first-set : (s : SessionId) (x : X) (es : List (SessionId × X)) → IsKeyed own es → EachSessionOnce es → newest_first value (set_value (at_session s) es x) ≡ map (put_over s x) (newest_first value es)
   newest_first-set s x es keyed once = ap reverse (put_over-set s x es keyed once) ∙ sym (map-reverse (put_over s x) (map (λ e. value e.1) es))
 

@@ -5,7 +5,7 @@
 pub struct Counts {
     /// The number of leaves in the rows of done windows.
     pub checked: u64,
-    /// The number of leaves in the rows of done windows that the target lacked.
+    /// The number of revisions that the target requested for done windows.
     pub found: u64,
     /// The number of documents that the session has read from the source.
     pub read: u64,

@@ -97,7 +97,7 @@ impl Log {
         ensures err { OnErr result (self.new ≡ self.old) }
         ensures log { IsLog self.new }
     {
-        // The result of this call is not used. The call only gives proofs the fact that no session id occurs twice.
+        // The call of `len`, whose result is not used, gives proofs the fact that no session id occurs twice.
         let _len = self.entries.len();
         self.entries.insert(entry.session, entry)?;
         Ok(())
@@ -110,7 +110,7 @@ impl Log {
         self.entries.shrink_to_fit();
     }
 
-    /// Returns the number of sessions.
+    /// Returns the number of sessions in the log.
     pub fn len(&self) -> usize
         ensures len { result ≡ length self.now }
         ensures log { IsLog self.now }
@@ -134,7 +134,7 @@ impl Log {
     pub fn recorded_of(&self, session: SessionId) -> Option<u64>
         ensures { result ≡ recorded_of self.now session }
     {
-        // The result of this call is not used. The call only gives proofs the fact that no session id occurs twice.
+        // The call of `len`, whose result is not used, gives proofs the fact that no session id occurs twice.
         let _len = self.entries.len();
         let entry = self.entries.get(&session)?;
         Some(entry.recorded)

@@ -111,7 +111,7 @@ impl Logs {
     }
 }
 
-/// Releases the capacity that the first log does not use, because most sources have one target.
+/// Releases the unused capacity of a table that has one log, because most sources have one target.
 fn fit(logs: &mut IndexMap<RepId, Log>)
     ensures { logs.new.entries ≡ logs.old.entries }
 {

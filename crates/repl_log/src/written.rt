@@ -99,7 +99,7 @@ fn push_entry(alloc: Global, out: &mut Vec<u8>, entry: Entry) -> Result<(), Allo
     push_members(out, entry, session.as_str(), start.as_str(), end.as_str())
 }
 
-/// Appends the members of an entry, given the entry's strings.
+/// Appends the members of an entry, given the strings of the session id and of the two timestamps.
 fn push_members(
     out: &mut Vec<u8>,
     entry: Entry,

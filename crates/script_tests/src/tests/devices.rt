@@ -36,11 +36,11 @@ impl ScriptRead for NarrowReader<'_> {
     }
 }
 
-/// Each line has 16 bytes including the line end, and one call of the reader returns 16 bytes.
+/// Each line of this script has 16 bytes including the line end, and each call of the reader returns 16 bytes.
 const SIXTEEN: &str = "a line of these\na line of these\na line of these\n";
 
-/// Each test row has lines, the number of successful reads, and the output up to the failure. The engine handles every
-/// complete line before the next read.
+/// Each row of the test has a script, the number of successful reads, and the output before the failed read. The engine
+/// handles every complete line before the next read.
 static READS: &[(&str, u64, &str)] = &[
     (SIXTEEN, 0, ""),
     (SIXTEEN, 1, "0\n"),
@@ -104,8 +104,8 @@ impl ScriptWrite for NarrowWriter {
     }
 }
 
-/// The test makes one run for each write, and lets this write fail. The written text is a prefix of the output, and has
-/// one byte for each write before the failed write.
+/// For each write of the output, the test makes a run in which this write fails. In a last run, no write fails. The
+/// written text is a prefix of the expected output, with one byte for each successful write.
 #[test]
 fn stops_at_a_failed_write(rt: HostRuntime) -> Result<(), Fail> {
     let writes = ANSWERS.len() as u64;
@@ -163,8 +163,8 @@ impl ScriptWrite for GatheringWriter {
     }
 }
 
-/// Each test row has the number of successful flushes and the flushed text. The engine flushes before the first read,
-/// before the read that finds the end, and after the last line, which has no line end.
+/// Each row of the test has the number of flushes that succeed, and the flushed text. The engine flushes before the
+/// first read, before the read that finds the end, and after the last line, which has no line end.
 static FLUSHES: &[(u64, &str)] = &[
     (0, ""),
     (1, ""),

@@ -7,7 +7,7 @@ use script_engine::{NoRest, OverRead, OverWrite, Serve, run_lines};
 use std::alloc::AllocError;
 use std::test::Fail;
 
-/// A server that prints for each line the length of the previous line.
+/// A server that prints, for each line of at most 40 bytes, the length of the previous successful line.
 #[derive(Drop)]
 pub(crate) struct Lengths {
     pub(crate) before: usize,

@@ -5,11 +5,12 @@ use script_engine::{OverRead, OverWrite, ScriptFault, Serve, run_lines};
 use std::alloc::{AllocError, Global};
 use std::test::Fail;
 
-/// The rest of a line's output, which is only the line end.
+/// The second piece of a line's output, which is only the line end.
 #[derive(Drop)]
 pub(crate) struct LineEnd;
 
-/// A server that prints each line after a `>`, and then the line end, for which an allocation may fail.
+/// A server that prints `>` and the line as a first piece, and the line end as a second piece. An allocation for the
+/// second piece may fail.
 #[derive(Drop)]
 pub(crate) struct Echo {
     alloc: Global,
