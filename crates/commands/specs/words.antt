@@ -47,7 +47,7 @@ pub data Asked : Type 0 where
   ledger : LedgerAsk → Asked
   sync : SyncAsk → Asked
 
--- The request that a JSON object gives for a command, or the error.
+-- The request of a JSON object that is a line with the given command, or the error of the line.
 abbrev pub asked_as : CommandName → Data → Result Asked Refusal
 asked_as word.Load d = seen_as load (load_in d)
 asked_as word.Edit d = seen_as edit (edit_in d)
@@ -66,12 +66,12 @@ asked_as word.Info d = seen_as info (info_in d)
 asked_as word.Ledger d = seen_as ledger (ledger_in d)
 asked_as word.Sync d = seen_as sync (sync_in d)
 
--- The request of a JSON object for a command, if the command is known, otherwise `BadCommand`.
+-- The request of a JSON object that is a line with the given command, or `BadCommand` if no command is given.
 abbrev pub asked_if : Option CommandName → Data → Result Asked Refusal
 asked_if (Some w) d = asked_as w d
 asked_if None d = Err why.BadCommand
 
--- The request of a JSON object for the command with the given name, or the error.
+-- The request of a JSON object that is a line with the command of the given name, or the error of the line.
 abbrev pub asked_by : List ℕ → Data → Result Asked Refusal
 asked_by name d =
     if bytes_eq name (codes "load") then asked_as word.Load d
@@ -92,13 +92,14 @@ asked_by name d =
     else (if bytes_eq name (codes "sync") then asked_as word.Sync d
     else Err why.BadCommand)))))))))))))))
 
--- The request of a JSON object, or the error. The member `do` of the object names the command.
+-- The request of a JSON object that is a line, or the error of the line. The member `do` of the object names the
+-- command.
 abbrev pub asked_in : Data → Result Asked Refusal
 asked_in d = do
   name ← needed (text_at (codes "do") d)
   asked_by name d
 
--- A request may have the given result and lead from the first given state to the second.
+-- A request that runs in the state `old` may have the result `told`, and leave the state `new`.
 abbrev pub WordsAnswer : Answering State Asked
 WordsAnswer old (load ask) told new = Loads old ask told new
 WordsAnswer old (edit ask) told new = Edits old ask told new

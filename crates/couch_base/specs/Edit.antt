@@ -47,7 +47,7 @@ edit_answer db id parent deleted body = do
   room ← refused_if (nat_le most db.update_seq) faults.SeqFull
   Ok e.0
 
--- The document that an edit with revision and parent e stores.
+-- The document that an edit stores, given the pair e of the edit's new revision and parent.
 abbrev pub edit_document : Id → (RevId × Option RevId) → Bool → List ℕ → Document
 edit_document id e deleted body =
     record { id = id; ancestry = e.0 ∷ option_to_list e.1; deleted = deleted; body = body }

@@ -32,7 +32,7 @@ coded_table =
     (coded× (coded_list (coded× coded_id coded_kept)) (coded× (coded_list (coded× coded_ℕ coded_ℕ)) coded_ℕ))
     (λ t. (t.entries, (t.rows, t.last))) (λ p. record { entries = p.0; rows = p.1.0; last = p.1.1 }) (λ _. refl)
 
--- The id at position i of a list, or the empty id if there is none.
+-- The id at position i of a list, or the empty id if the list has no position i.
 abbrev pub id_at : List Id → ℕ → Id
 id_at ids i = unwrap_or (slice_get ids i) []
 
@@ -151,7 +151,7 @@ pub record IsPlace (docs : List (Id × Kept)) (id : Id) (place : Option ℕ) : T
 abbrev pub Sets : (Id → Option Kept) → (Id → Option Kept) → Id → Kept → Type 0
 Sets g h id k = (q : Id) → h q ≡ cond (bytes_eq id q) (Some k) (g q)
 
--- The feed's entries except the entry of document `id`.
+-- The entries of a feed, each with a sequence and an id, without the entries of document `id`.
 abbrev pub feed_without : Id → List (ℕ × Id) → List (ℕ × Id)
 feed_without id index = filter (λ e. not (bytes_eq e.1 id)) index
 

@@ -95,7 +95,8 @@ fn ancestry_of(alloc: Global, rev: Rev, parent: Option<Rev>) -> Result<Ancestry,
     ensures ancestry { IfOk result (λ a. a ≡ rev ∷ option_to_list parent) }
 {
     let mut revs = Vec::with_capacity(alloc, 2)?;
-    // The result of this call is not used. The call only gives proofs the fact that both values are revisions.
+    // The calls of `generation` have no effect at run time: their contract gives proofs the fact that `rev` and
+    // `parent` are revisions.
     let _generation = rev.generation();
     revs.push(rev)?;
     let Some(parent) = parent else {

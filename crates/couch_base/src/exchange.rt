@@ -165,7 +165,7 @@ impl Database {
     }
 }
 
-/// Appends the documents of leaves.
+/// Appends the document of each given leaf of a document to a list.
 fn add_documents(
     alloc: Global,
     id: &DocId,

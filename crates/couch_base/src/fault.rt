@@ -17,7 +17,7 @@ pub type Listed = Result<Window, BaseFault>;
 /// What a put changed.
 #[derive(Clone, Copy, Debug, PartialEq, Eq)]
 pub enum Put {
-    /// The put changed the document, at this update sequence.
+    /// The put changed the document, and took the update sequence `seq`.
     Changed { seq: u64 },
     /// The database already had the document. No sequence was taken.
     Same,

@@ -139,8 +139,8 @@ impl Parcel {
     }
 
     /// Builds the trees that the documents would have as new documents. The origin of each tree is a session and the
-    /// sequence of the document's row. Preparing a parcel does not change its value. The call `Database::put_prepared`
-    /// can store the prepared trees.
+    /// sequence of the document's row. Preparing a parcel does not change the parcel's value in contracts. The call
+    /// `Database::put_prepared` can store the prepared trees.
     pub fn prepare(
         &mut self,
         alloc: Global,

@@ -28,8 +28,8 @@ impl PreparedTree {
         ensures { IfOk result (IsMadeOf doc.now) }
     {
         let ancestry = doc.ancestry();
-        // The result of this call is not used. The call only gives proofs the fact that an ancestry has at least one
-        // revision.
+        // The call of `revs` has no effect at run time: its contract gives proofs the fact that an ancestry has at
+        // least one revision.
         let _revs = ancestry.revs();
         let content = content_of(doc.deleted(), doc.body())?;
         let mut tree = Tree::new(alloc);

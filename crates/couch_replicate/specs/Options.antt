@@ -27,7 +27,7 @@ options = with_rule (with_rule (with_rule (with_rule (with_rule (with_rule (with
     (number_option (codes "batch"))) (flag_option (codes "quiet"))) (flag_option (codes "explain")))
     (flag_option (codes "progress"))) (hidden_option (codes "file"))
 
--- The text of an option is the number n, or n is the option's default if there is no text.
+-- The number n is the value of the option's text, or the option's default if the option is absent.
 abbrev pub IsNumber : Option (List ℕ) → ℕ → ℕ → Type 0
 IsNumber None default n = n ≡ default
 IsNumber (Some text) default n =
@@ -53,15 +53,16 @@ Says words o = AreOptions (λ id. first_of id (matches_of options words)) (λ id
 
 -- ---- arguments without settings
 
--- The options' texts give no settings, for example because there is a positional argument, or an allocation failed.
+-- Why the texts of the options give no settings: no settings match the texts, there is a positional argument, or an
+-- allocation failed.
 abbrev pub SetNothing : (List ℕ → Option (List ℕ)) → (List ℕ → Option (List ℕ)) → NoSettings → Type 0
 SetNothing text number (Words error) = ⊥
 SetNothing text number NoNumber = (s : Settings) → AreSettings text number s → ⊥
 SetNothing text number File = text (codes "file") ≡ None → ⊥
 SetNothing text number Memory = Unit {0}
 
--- The reason why the arguments give no options: `clap`'s error for the arguments, no options that match the arguments,
--- or a failed allocation.
+-- Why the arguments give no options: they cause an error of `clap`, no options match the arguments, there is a
+-- positional argument, or an allocation failed.
 abbrev pub Refuses : List (List ℕ) → NoSettings → Type 0
 Refuses words (Words error) = HasKind (fault_of options words) error
 Refuses words NoNumber = (o : Options) → Says words o → ⊥

@@ -19,8 +19,9 @@ use Rattle.couch_replicate.specs.declared.run.Ended.TheVariants.{NotRun, Ran}
 -- The output of a script with the given settings, and the output's guarantees. After an error the program's output is a
 -- prefix of the script's complete output. After the errors `Read` and `Memory`, the program's output ends between the
 -- outputs of two lines. After the error `Read`, the program's output is the output of all lines that were read. The
--- argument `given` says which bytes the script has, and `taken` says which of these bytes were read. The other
--- arguments of `Answered` are the bytes that the writer was given before and after the run.
+-- argument `given` of `Answered` is a predicate of the script's bytes, and `taken` is a predicate of the bytes that
+-- were read. The arguments `held` and `held'` of `Answered` are the bytes that the writer was given before and after
+-- the run.
 abbrev pub Answered : Program → (List ℕ → Type 0) → (List ℕ → Type 0) → Option (List ℕ) → Option (List ℕ)
     → Result Bool ScriptFault → Type 0
 Answered program given taken held held' (Ok clean) =
@@ -33,12 +34,13 @@ Answered program given taken held held' (Err fault) =
     × Appends held held' text × AnswersEnded TrustedLines (no_databases program) input text state)
 
 -- The effect of a run of `couch_replicate` with the given command line. If the command line gives no settings, no byte
--- is read or written. If the command line gives settings, a script is run with these settings. The script's output has
--- been passed on, unless a write failed. The guarantees of a run are about the reader's remaining bytes, and about the
--- bytes that the reads returned. If a run of a script succeeded, its input has ended. The arguments of `RunsWords`
--- about the reader are the remaining bytes and the bytes that the reads returned, each before and after the run. A
--- further argument of `RunsWords` says whether the reads reached the input's end. The arguments of `RunsWords` about
--- the writer are the bytes that the writer was given before and after the run, and the bytes that the writer passed on.
+-- is read or written. If the command line gives settings, a script is run with these settings. The writer has passed on
+-- the script's output, unless a write failed. `Answered` is true for the reader's remaining bytes as the script's
+-- input, and also for the bytes that the reads returned. If a run of a script succeeded, its input has ended. The
+-- arguments of `RunsWords` about the reader are the remaining bytes and the bytes that the reads returned, each before
+-- and after the run. A further argument of `RunsWords` says whether the reads reached the input's end. The arguments of
+-- `RunsWords` about the writer are the bytes that the writer was given before and after the run, and the bytes that the
+-- writer passed on.
 abbrev pub RunsWords : List (List ℕ) → Option (List ℕ) → Option (List ℕ) → Option (List ℕ) → Option (List ℕ) → Type 0
     → Option (List ℕ) → Option (List ℕ) → Option (List ℕ) → Ended → Type 0
 RunsWords words left left' took took' at_end held held' sent (NotRun why) =

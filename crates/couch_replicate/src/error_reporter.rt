@@ -101,8 +101,8 @@ impl<'a, H: Eprint + Clock> ErrorReporter<'a, H> {
         }
     }
 
-    /// Warns before the first line about options whose values make `replicate` commands fail (docs/PROFILE.md,
-    /// "Limits").
+    /// If errors are explained, warns about options whose values make `replicate` and `sync` commands fail
+    /// (docs/PROFILE.md, "Limits").
     pub(crate) fn warn(&self, settings: &Settings) {
         if !self.explains {
             return;

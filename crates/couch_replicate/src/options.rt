@@ -88,7 +88,7 @@ pub struct Options {
 pub enum NoSettings {
     /// `clap`'s error, which includes requests for help.
     Words(Error),
-    /// The value of an option is not a number. `clap` has already checked that the value is a number.
+    /// The value of an option is not a number, although `clap` has checked that the value is a number.
     NoNumber,
     /// The command line has a positional argument.
     File,

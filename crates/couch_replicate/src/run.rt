@@ -16,7 +16,7 @@ use std::thread::Threads;
 pub enum Ended {
     /// No script was run, because the arguments give no settings.
     NotRun(NoSettings),
-    /// A script was run. The variant says whether no line failed, or why the script stopped early.
+    /// A script was run. The result is whether no line failed, or the fault that stopped the script early.
     Ran(Result<bool, ScriptFault>),
 }
 

@@ -25,8 +25,9 @@ pub record InAttachments (s : List ℕ) : Type 0 where
   pub quoted : mode_after Outside member ≡ Quoted
   pub named : has_name member (codes "\"_attachments\"") ≡ true
 
--- A run may follow the beginning s of a document, and S has a complete member. The envelope of each document that begins
--- with s begins with S, if all later members are wrapped.
+-- A run of string bytes (`IsRun`) may follow the beginning s of a document. The text S is the beginning of an envelope,
+-- and has a complete member. If all later members are wrapped, the envelope of each document that begins with s begins
+-- with S.
 pub record IsPutStart (s S : List ℕ) : Type 0 where
   pub may : MayStream s
   pub inside : InAttachments s

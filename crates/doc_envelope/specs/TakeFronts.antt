@@ -9,8 +9,8 @@ use Rattle.doc_envelope.specs.Streams.{Front, MayStream}
 abbrev pub whole_before : List ℕ → List ℕ
 whole_before t = codes "\"whole\":\"" ++ t
 
--- The part q of a JSON string, which begins with the quotation mark, has content that is not blank. The text S is `made`
--- with the content appended as members.
+-- The text q is the beginning of a JSON string, from the opening quotation mark, and has content that is not blank. The
+-- text S is the text `made` of an object, followed by this content as further members.
 pub record AppendsOpen (q made S : List ℕ) : Type 0 where
   pub content : List ℕ
   pub says : string_of (q ++ 34 ∷ []) ≡ Some content

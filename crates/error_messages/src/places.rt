@@ -128,8 +128,8 @@ fn is_at_fault(name: &str, member: &str, value: &LineValue<'_>) -> bool {
     false
 }
 
-/// Whether a document must not have a given member. A document must not have a member `_deleted` that is not a Boolean,
-/// or a member with an initial `_` that is not one of the four known members.
+/// Whether a member is reported as the cause of `SpecialMember`. This is a member `_deleted` that is not a Boolean, or
+/// another member with an initial `_` except `_id`, `_rev` and `_revisions`.
 fn is_odd(member: &str, value: &LineValue<'_>) -> bool {
     if is_same_text("_deleted", member) {
         return value.as_bool().is_none();

@@ -47,8 +47,8 @@ fault_of halts.BoardFull = faults.BoardFull
 fault_of halts.Memory = faults.Memory
 fault_of halts.Lost = faults.Memory
 
--- The reasons for which a worker may halt: the gate allows the halt, a call of the worker failed, or the board is full.
--- The board may be full only if `may_fill` is true.
+-- The reasons for which a worker may halt. A worker halts with `Stopped` only if the gate may stop it, and with
+-- `BoardFull` only if `may_fill` is true. If a call on the target failed, the error satisfies `IsStepFault`.
 abbrev pub AllowsOn : Type 0 → (Place → Type 0) → Halt → Type 0
 AllowsOn may_fill may_stop (halts.Stopped place) = may_stop place
 AllowsOn may_fill may_stop (halts.Refused fault) = IsStepFault fault
@@ -59,7 +59,7 @@ AllowsOn may_fill may_stop halt = Unit {0}
 abbrev pub Allows : (Place → Type 0) → Halt → Type 0
 Allows may_stop halt = AllowsOn ⊥ may_stop halt
 
--- A halt is `CountFull` only if the first condition is true, and `BoardFull` only if the second condition is true.
+-- A halt is `CountFull` only if `count` is true, and `BoardFull` only if `board` is true.
 abbrev pub SaysFull : Type 0 → Type 0 → Halt → Type 0
 SaysFull count board halts.CountFull = count
 SaysFull count board halts.BoardFull = board

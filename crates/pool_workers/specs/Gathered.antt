@@ -12,14 +12,14 @@ use Rattle.pool_workers.specs.declared.gather.WrittenAll.{WrittenAll}
 use Rattle.pool_workers.specs.declared.parcels.ParcelView.{ParcelView}
 use Rattle.pool_workers.specs.declared.windows.WindowView.{WindowView}
 
--- What is known of the fetchers after they have ended. If no fetcher was stopped, the fetchers' counts are the counts
--- of the sent parcels, and the sent parcels are for the taken windows.
+-- What is known of the fetchers after they have ended. If no fetcher was stopped, the fetchers' counts are the numbers
+-- of sent parcels and of the parcels' documents. The sent parcels then have the numbers of the taken windows.
 abbrev pub FetchedKnows : WindowView → ParcelView → FetchedAll → Type 0
 FetchedKnows w p t =
     t.stopped ≡ None → (sum t.counts.items ≡ amounts p.sent) × (t.sent ≡ length p.sent) × (w.taken ≡ names p.sent)
 
--- What is known of the writers after they have ended. If no writer was stopped, the writers' counts are the counts of
--- the received parcels.
+-- What is known of the writers after they have ended. If no writer was stopped, the writers' counts are the numbers of
+-- received parcels and of the parcels' documents.
 abbrev pub WrittenKnows : ParcelView → ℕ → WrittenAll → Type 0
 WrittenKnows p amount t = t.stopped ≡ None → (amount ≡ amounts p.got) × (t.got ≡ length p.got)
 
@@ -28,18 +28,19 @@ abbrev pub IsOneOf : Option Halt → Option Halt → Halt → Type 0
 IsOneOf a b h = (a ≡ Some h) ⊎ ((b ≡ Some h) ⊎ (h ≡ CountFull))
 
 module _ {S L : Type 0} where
-  -- After all workers have ended, the caller's thread has the complete pass (the ghost right to use a channel) of each
-  -- channel, and each writer's part of the ledger.
+  -- After all workers have ended, the caller's thread has the complete pass of each channel, and each writer's part of
+  -- the ledger. A pass is the ghost right to use a channel.
   abbrev pub IsWhole : ℕ → Ended S L → Type 0
   IsWhole workers e = ((view e.windows).parts ≡ 1024) × ((view e.parcels).parts ≡ 1024) × (e.all.parts ≡ workers)
 
-  -- If no worker was stopped, the counts are the counts of the sent and the received parcels.
+  -- The counts of the fetchers and writers agree with the sent and received parcels, as `FetchedKnows` and
+  -- `WrittenKnows` state.
   abbrev pub Tells : Ended S L → Type 0
   Tells e =
       FetchedKnows (view e.windows) (view e.parcels) e.fetched × WrittenKnows (view e.parcels) e.all.amount e.written
 
-  -- A worker halted only because the gate allows the halt, because a board is full, or because a call of the worker
-  -- failed.
+  -- The reader, a fetcher or a writer halted only for a reason that `AllowsOn` lists. Only a writer halts because a
+  -- board is full.
   abbrev pub StopsWhere : Type 0 → (Place → Type 0) → Ended S L → Type 0
   StopsWhere may_fill may_stop e =
       IfSome e.read (Allows may_stop) × IfSome e.fetched.stopped (Allows may_stop)

@@ -22,14 +22,14 @@ HasRun source run sessions =
     (s : SessionValue) × (session_in sessions run ≡ Some s) × (s.life ≡ source.life) × (s.goal ≡ source.update_seq)
 
 module _ {F : Type 0} (refuses : F → Document → Bool) where
-  -- The filter is the given filter, and the peer has grown from the given peer by a run's calls with messages of the
-  -- source.
+  -- The target `now` has the filter of the target `given`. Only calls of the run with messages of the source have
+  -- changed the peer `given` into the peer `now`.
   abbrev pub GrownPeer : DatabaseValue → Choice → SessionId → F × PeerValue → F × PeerValue → Type 0
   GrownPeer source chosen run given now = (now.0 ≡ given.0) × IsGrown (refuses given.0) source chosen run given.1 now.1
 
-  -- The target while a run is in progress. During a run, the target has grown from the given peer by calls of the run,
-  -- and has the run's session. The session has read `total` documents, the session's windows are pages of the source,
-  -- and the plan allows `more` windows.
+  -- The target while a run is in progress. During a run, only calls of the run have changed the given peer, and the
+  -- target has the run's session. The session has read `total` documents, the session's windows are pages of the
+  -- source, and the plan allows `more` windows.
   abbrev pub TargetKeeps : DatabaseValue → Plan → Option ((F × PeerValue) × SessionId) → SessionId → ℕ → Option ℕ
       → F × PeerValue → Type 0
   TargetKeeps source plan given session total more now =

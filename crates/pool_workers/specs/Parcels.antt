@@ -10,8 +10,8 @@ use Rattle.pool_workers.specs.declared.parcels.ParcelMessage.TheVariants.{Parcel
 abbrev pub parcel_view : ℕ → List (ℕ × ℕ) → List (ℕ × ℕ) → ParcelView
 parcel_view parts sent got = record { parts = parts; sent = sent; got = got }
 
--- A thread without a part of the parcel channel's pass (the ghost right to use the channel) has sent and received no
--- parcels.
+-- A thread that has no part of the parcel channel's pass has sent and received no parcels. The pass is the ghost right
+-- to use the channel.
 abbrev pub IdleIsEmpty : List ParcelView → Type 0
 IdleIsEmpty views =
     (port : ℕ) (v : ParcelView) → get_elem? views port ≡ some v → v.parts ≡ 0 → (v.sent ≡ []) × (v.got ≡ [])
@@ -29,8 +29,8 @@ module _ {S : Type 0} where
   abbrev pub has_got : ParcelView → ParcelMessage S → ParcelView
   has_got v x = parcel_view v.parts v.sent (v.got ++ parcels (x ∷ []))
 
-  -- The sent parcels are the received and the queued parcels. Each pair of a parcel's number and its number of
-  -- documents occurs equally often among the sent parcels and among the received and queued parcels.
+  -- The sent parcels are the received and the queued parcels. Each parcel, with its number and its number of documents,
+  -- occurs among the sent parcels exactly as often as among the received and queued parcels.
   abbrev pub Balanced : List (ParcelMessage S) → List ParcelView → Type 0
   Balanced items views =
       (total (λ (v : ParcelView). v.parts) views ≡ 1024)
@@ -38,7 +38,7 @@ module _ {S : Type 0} where
       ≡ total (λ (v : ParcelView). weigh h v.got) views + weigh h (parcels items))
       × IdleIsEmpty views
 
-  -- The fact about the parcel channel that a thread knows if it has the channel's complete pass (the ghost right to use
-  -- the channel).
+  -- What a thread with the complete pass of the parcel channel knows: the sent parcels are the received and the queued
+  -- parcels.
   abbrev pub Accounts : ParcelView → List (ParcelMessage S) → Type 0
   Accounts v items = (h : ℕ → ℕ → ℕ) → weigh h v.sent ≡ weigh h v.got + weigh h (parcels items)

@@ -29,8 +29,8 @@ pub record IsReady {S L : Type 0} (channels : Channels S) (board : Option Board)
     pub seats : AreSeats board 0 workers o.seats.items
 
 -- What the caller's thread has after the workers have ended. After the workers have ended, the caller's thread has the
--- seats. If all workers were started, the caller's thread has the complete passes of both channels and all parts of the
--- ledger, and knows what the workers did.
+-- board's seats again. If all workers were started, the caller's thread has the complete passes of both channels, and
+-- all parts of the ledger. The caller's thread then also knows the workers' counts, and the reasons why workers halted.
 pub record HaveEnded {S L : Type 0} (channels : Channels S) (board : Option Board) (may_stop : Place → Type 0)
     (workers : ℕ) (given : List BoardSeat) (ended : Option (Ended S L)) (seats : List BoardSeat) : Type 0 where
   pub window_seat : IfSome ended (λ e. IsSeatAt (sends_on channels.to_fetchers) e.windows)
@@ -42,7 +42,7 @@ pub record HaveEnded {S L : Type 0} (channels : Channels S) (board : Option Boar
   pub shown : IfSome ended (λ e. HaveShown board e.all.amount e.written.stopped given seats)
 
 -- A fetcher and a writer that share a thread have no window or parcel in progress. If the fetcher or the writer was
--- stopped, the gate allows the halt.
+-- stopped, the reason is one that `AllowsOn` lists.
 pub record StandBy {S L : Type 0} (channels : Channels S) (board : Option Board) (may_stop : Place → Type 0)
     (p : Pair S L) : Type 0 where
   pub window_seat : IsSeatAt (sends_on channels.to_fetchers) p.fetcher.windows

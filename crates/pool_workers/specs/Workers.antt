@@ -39,8 +39,9 @@ HasCounted x f =
     × (f.fetched ≡ amounts (view f.parcels).sent + x.1)
     × ((view f.windows).taken ≡ names (view f.parcels).sent ++ x.0 ∷ [])
 
--- What a writer knows between two messages. If a writer was not stopped, its count and its share count the parcels that
--- it received, except for parcels in progress.
+-- What a writer knows between two messages. If a writer was not stopped, its count is the number of received parcels,
+-- and its share of the ledger is the number of the parcels' documents. The count and the share do not include parcels
+-- in progress.
 abbrev pub WriterKnows : {S L : Type 0} → List (ℕ × ℕ) → Writer S L → Type 0
 WriterKnows in_hand w =
     (view w.parcels ≡ parcel_view 1 [] (view w.parcels).got)
@@ -48,7 +49,8 @@ WriterKnows in_hand w =
     × (w.stopped ≡ None → (w.got + length in_hand ≡ length (view w.parcels).got)
     × (w.share.amount + amounts in_hand ≡ amounts (view w.parcels).got))
 
--- What a writer's seat shows on the board: the growth of the writer's share since the seat was given.
+-- The writer's seat shows the documents of the writer's share of the ledger, in addition to the documents that the seat
+-- `given` shows (`HaveShown`).
 abbrev pub WriterShows : {S L : Type 0} → Option Board → Option BoardSeat → Writer S L → Type 0
 WriterShows board given w =
     AreBack board (option_to_list given) (option_to_list w.seat)

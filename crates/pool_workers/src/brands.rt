@@ -1,11 +1,11 @@
-//! Brands are type parameters whose ghost members state facts about the source and the target of a run. One call
-//! chooses the brands.
+//! Brands are type parameters whose ghost members state facts about the source and the target of a run. The call of
+//! `repl_pool` that starts a run chooses the brands of the run.
 //!
 //! About a value that a lock protects or a channel carries, a contract knows only the invariant of the value's type.
 //! The invariant of a type may refer to a brand's ghost members.
 use std::marker::Brand;
 
-/// The brand for the source's database, and for the plan by which the run reads this database.
+/// The brand whose ghost members are the source's database, and the plan by which the run reads this database.
 pub trait SourceBrand {
     ghost use Rattle.couch_base.specs.Database.{DatabaseValue};
     ghost use Rattle.repl_target.specs.declared.replication.Plan.{Plan};
@@ -31,7 +31,7 @@ impl SourceBrand for Brand {
     } };
 }
 
-/// The brand for the given target and the run's session.
+/// The brand whose ghost member is the given target with the run's session.
 pub trait TargetBrand<F> {
     ghost use Rattle.std.specs.Prelude.{Option};
     ghost use Rattle.repl_peer.specs.peer.Peer.{PeerValue};

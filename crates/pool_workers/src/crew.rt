@@ -24,7 +24,7 @@ use std::sync::Wait;
 use std::sync::ledger::{Ledger, Share};
 use std::thread::{Promise, PromisedHandle, Scope};
 
-/// The guarantee of a fetcher.
+/// The guarantee of a fetcher whose thread has ended.
 #[derive(Drop)]
 pub struct FetcherPromise<'a, S: SourceBrand, G: Gate> {
     pub channels: &'a Channels<S>,
@@ -37,7 +37,7 @@ impl<'a, S: SourceBrand, G: Gate> Promise<Fetcher<S>> for FetcherPromise<'a, S, 
         × IfSome r.stopped (Allows (G.may_stop p.gate.now)) };
 }
 
-/// The guarantee of a writer that was started with a given seat of the board.
+/// The guarantee of a writer whose thread has ended, and which was started with a given seat of the board.
 #[derive(Drop)]
 pub struct WriterPromise<'a, S: SourceBrand, G: Gate> {
     pub channels: &'a Channels<S>,
@@ -97,8 +97,8 @@ impl<
         scope.spawn_with(promise, work).ok()
     }
 
-    /// Starts a writer, if `others` writers already run. If a thread cannot be created, the call sends an end message
-    /// to each writer, receives one end message, and returns the seat as an error.
+    /// Starts a writer. The argument `others` is the number of writers that already run. If a thread cannot be created,
+    /// the call sends an end message to each writer, receives one end message, and returns the seat as an error.
     pub fn start_writer<'s, E>(
         &'e self,
         scope: &Scope<'s, E>,

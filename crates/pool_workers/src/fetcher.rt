@@ -143,7 +143,7 @@ impl<S: SourceBrand> Fetcher<S> {
         self.hand_over(rt, parcels, number, fetched);
     }
 
-    /// Sends the end of the parcels to one writer.
+    /// Sends the end message of the channel of parcels to one writer.
     fn tell_end<R: Wait>(&mut self, rt: &R, parcels: &ParcelSender<S>)
         requires seat { IsSeatAt (sends_on parcels.now) self.old.parcels }
         requires knows { FetcherKnows [] self.old }
@@ -213,7 +213,7 @@ impl<F: WriteFilter, S: SourceBrand, T: TargetBrand<F>, L: Ledger, G: Gate, R: W
         }
     }
 
-    /// Receives one message. Returns false if the fetcher received the end of the windows.
+    /// Receives one message. Returns false if the fetcher received the end message of the channel of windows.
     pub fn take_window(&self, fetcher: &mut Fetcher<S>) -> bool
         requires source { S.source ≡ self.now.source.now.1.db }
         requires window_seat { IsSeatAt (receives_on self.now.channels.now.from_reader) fetcher.old.windows }
@@ -241,8 +241,8 @@ impl<F: WriteFilter, S: SourceBrand, T: TargetBrand<F>, L: Ledger, G: Gate, R: W
         }
     }
 
-    /// Receives windows until the end of the windows, fetches each window, and sends the window's parcel. After the
-    /// last window, the call sends the end of the parcels.
+    /// Receives windows until the end message of the channel of windows, fetches each window, and sends the window's
+    /// parcel. After the last window, the call sends the end message of the channel of parcels.
     pub fn fetch_all(&self, windows: WindowPass<S>, parcels: ParcelPass<S>) -> Fetcher<S>
         requires source { S.source ≡ self.now.source.now.1.db }
         requires windows { IsSeatAt (receives_on self.now.channels.now.from_reader) windows

@@ -12,7 +12,8 @@ use rev_tree::SessionId;
 use std::alloc::{AllocError, Global};
 use std::marker::PhantomData;
 
-/// An empty database if the given target has no documents, and `None` if the target has documents.
+/// An empty database if the update sequence of the given target was 0, so that the target had no documents. Otherwise
+/// `None`.
 #[derive(Drop)]
 pub struct GivenTarget<F: WriteFilter, T: TargetBrand<F>> {
     none: Option<Database>,
@@ -39,8 +40,8 @@ impl<F: WriteFilter, T: TargetBrand<F>> GivenTarget<F, T> {
         }
     }
 
-    /// Returns the request for the leaves of a page that the target lacks. If the given target had no documents, the
-    /// request has all leaves of the rows, and no lock is needed.
+    /// Returns the request for the leaves of a page that the given target lacked, if the update sequence of the given
+    /// target was 0. The request then has all leaves of the page's rows, and needs no lock. Otherwise returns `None`.
     pub fn diff<S: SourceBrand>(
         &self,
         alloc: Global,

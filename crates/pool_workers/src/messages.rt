@@ -258,7 +258,7 @@ fn prepare(
     }
 }
 
-/// Returns the number of leaves in the rows.
+/// Returns the number of leaves in the given feed rows.
 fn leaf_count(rows: &[Row]) -> u128
     ensures { result ≡ sum_by (λ row. length row.leaves) rows.now }
 {
@@ -283,8 +283,8 @@ fn grow_heap(alloc: Global) {
 /// Makes the heap of each thread keep freed memory of the size of a parcel.
 ///
 /// The C library releases the free memory at the end of a heap if it exceeds 128 KiB. The C library allocates large
-/// blocks directly from the system. After a large block was freed, each heap keeps up to twice the block's size of free
-/// memory.
+/// blocks directly from the system. After a large block was freed, each heap keeps free memory of up to twice the size
+/// of that block.
 pub fn keep_heaps(alloc: Global) {
     if let Ok(room) = Vec::<u8>::with_capacity(alloc, HEAP_KEPT) {
         drop(room);

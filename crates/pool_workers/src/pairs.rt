@@ -59,8 +59,8 @@ impl<
     G: Gate + Sync,
     R: Wait + Sync,
 > Context<'e, F, S, T, L, G, R> {
-    /// Starts a pair, if `others` pairs already run. If a thread cannot be created, the call sends an end message to
-    /// each pair, receives one end message, and returns the seat as an error.
+    /// Starts a pair. The argument `others` is the number of pairs that already run. If a thread cannot be created, the
+    /// call sends an end message to each pair, receives one end message, and returns the seat as an error.
     fn start_pair<'s, E>(
         &'e self,
         scope: &Scope<'s, E>,
@@ -166,8 +166,8 @@ impl<
     }
 
     /// Starts the pairs. If there is a board, each pair gets a seat, and the first pair gets the last seat. If a thread
-    /// cannot be created or an allocation fails, the call starts fewer pairs than requested, and sends the end of the
-    /// windows to the started pairs.
+    /// cannot be created or an allocation fails, the call starts fewer pairs than requested, and sends end messages of
+    /// the channel of windows to the started pairs.
     fn start_pairs<'s, E>(
         &'e self,
         scope: &Scope<'s, E>,
@@ -290,7 +290,7 @@ impl<
     }
 
     /// Runs the pairs while the caller's thread reads the windows, and returns the seats of the board. Returns `None`,
-    /// and reads no window, if a thread cannot be created.
+    /// and reads no window, if a thread cannot be created or an allocation fails before all pairs are started.
     pub fn pairs_in_scope<'s, E>(
         &'e self,
         scope: &Scope<'s, E>,

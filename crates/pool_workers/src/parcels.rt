@@ -11,7 +11,7 @@ pub enum ParcelMessage<S: SourceBrand> {
     /// A window's documents at the source, with the number of the window. The documents were counted by the fetcher,
     /// and will be read by the writer.
     Parcel { number: u64, fetched: Found<S> },
-    /// The end of the parcels.
+    /// The end message of the channel of parcels.
     End,
 }
 

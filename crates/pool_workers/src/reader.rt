@@ -21,8 +21,8 @@ use std::sync::ledger::Ledger;
 /// The maximum number of pages that the reader reads before it stores these pages at the target.
 const MOST_AHEAD: u64 = 8;
 
-/// Pages that were read in order and must be sent, and copies of these pages that must be stored. The value has the end
-/// of the last page and, if reading failed, the reason.
+/// Pages that were read in order and must be sent, and copies of these pages that must be stored. The field `hi` is the
+/// end of the last page, and the field `stopped` is the reason if reading failed.
 #[derive(Drop)]
 struct Ahead<S: SourceBrand> {
     pages: Vec<Paged<S>>,

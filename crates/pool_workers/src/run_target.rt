@@ -73,8 +73,8 @@ pub fn taken_of(answer: &Result<Settled, TargetFault>, documents: u64) -> u64
 }
 
 impl<F: WriteFilter, S: SourceBrand, T: TargetBrand<F>, L: Ledger> RunTarget<F, S, T, L> {
-    /// Wraps the given target and the number of windows that the plan allows. The target's session must not have read a
-    /// document.
+    /// Wraps the given target and the number of windows that the plan allows. The target's session must have no
+    /// windows, and must not have read a document.
     pub fn open(
         target: Peer<F>,
         session: SessionId,

@@ -25,8 +25,8 @@ use std::sync::ledger::{Ledger, Share};
 use std::thread;
 use std::thread::{Scope, Threads};
 
-/// The values that the caller's thread owns before the workers start. The values are the complete passes of both
-/// channels, the complete share of the ledger, the seats of the board, and space for each fetcher's count.
+/// What the caller's thread owns before the workers start: the complete passes of both channels, the complete share of
+/// the ledger, the board's seats, and space for each fetcher's count.
 #[derive(Drop)]
 pub struct Owned<S: SourceBrand, L: Ledger> {
     pub counts: Vec<u64>,
@@ -36,8 +36,8 @@ pub struct Owned<S: SourceBrand, L: Ledger> {
     pub seats: Vec<BoardSeat>,
 }
 
-/// The values that the caller's thread owns after all workers have ended. The values are the complete passes of both
-/// channels, the complete share of the ledger, the reason if reading ended early, and the results of both groups.
+/// What the caller's thread owns after all workers have ended: the complete passes of both channels, the complete share
+/// of the ledger, and the workers' results. If reading ended early, the caller's thread also owns the reason.
 #[derive(Drop)]
 pub struct Ended<S: SourceBrand, L: Ledger> {
     pub windows: WindowPass<S>,
@@ -59,7 +59,7 @@ impl<
 > Context<'e, F, S, T, L, G, R> {
     /// Starts the fetchers, reads the windows, and joins the fetchers. Returns the fetchers' results, and the reason if
     /// reading the windows ended early. If a thread cannot be created, the call returns `None`, reads no window, and
-    /// sends the writers the end of the parcels.
+    /// sends end messages of the channel of parcels to the writers.
     fn fetch_in_scope<'s, E>(
         &'e self,
         scope: &Scope<'s, E>,
@@ -157,8 +157,8 @@ impl<
     }
 
     /// Runs the workers as threads of one thread scope (`in_scope`). If the gate never blocks, each thread runs a
-    /// fetcher and a writer in turn (`pairs_in_scope`). If there is only one such thread, the caller's thread does its
-    /// work instead (`in_turn`).
+    /// fetcher and a writer in turn (`pairs_in_scope`). If the gate never blocks and there is only one fetcher and one
+    /// writer, both run on the caller's thread (`in_turn`).
     pub fn with_workers(
         &'e self,
         workers: usize,

@@ -73,8 +73,7 @@ impl<F: WriteFilter, S: SourceBrand, T: TargetBrand<F>, L: Ledger, G: Gate, R: W
         Fetcher::new(its_windows, its_parcels)
     }
 
-    /// Splits off a pass and a part of the ledger of counts for a writer on this thread, and takes a seat if there is a
-    /// board.
+    /// Splits off a pass and a part of the ledger for a writer on this thread, and takes a seat if there is a board.
     pub fn writer_here(
         &self,
         parcels: &mut ParcelPass<S>,
@@ -125,7 +124,7 @@ impl<F: WriteFilter, S: SourceBrand, T: TargetBrand<F>, L: Ledger, G: Gate, R: W
         more
     }
 
-    /// Processes one window after another until the end of the windows.
+    /// Processes one window after another until the end message of the channel of windows.
     pub fn take_turns(&self, pair: Pair<S, L>) -> Pair<S, L>
         requires source { S.source ≡ self.now.source.now.1.db }
         requires stand { StandBy self.now.channels.now (option_copied self.now.board) (G.may_stop self.now.gate.now)

@@ -10,7 +10,7 @@ use std::collections::LinkedList;
 pub enum WindowMessage<S: SourceBrand> {
     /// The next window, with its number.
     Window { number: u64, page: Paged<S> },
-    /// The end of the windows.
+    /// The end message of the channel of windows.
     End,
 }
 

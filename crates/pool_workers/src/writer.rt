@@ -199,7 +199,7 @@ impl<F: WriteFilter, S: SourceBrand, T: TargetBrand<F>, L: Ledger, G: Gate, R: W
         }
     }
 
-    /// Receives one message. Returns false if the writer received the end of the parcels.
+    /// Receives one message. Returns false if the writer received the end message of the channel of parcels.
     pub fn take_parcel(&self, writer: &mut Writer<S, L>) -> bool
         requires source { S.source ≡ self.now.source.now.1.db }
         requires seat { IsSeatAt (receives_on self.now.channels.now.from_fetchers) writer.old.parcels }

@@ -13,11 +13,12 @@ abbrev pub seat_view : Bool → Bool → ℕ → List ℕ → List ℕ → SeatV
 seat_view deals works number reads settles =
     record { deals = deals; works = works; number = number; reads = reads; settles = settles }
 
--- The knowledge of the seat that creates the seats of k workers, before it creates the seat of worker n.
+-- The knowledge of the dealer (the seat that creates all other seats) about a board of k workers, before the dealer
+-- creates the seat of worker n.
 abbrev pub dealer : ℕ → ℕ → SeatView
 dealer k n = seat_view true false n (replicate k 0) (replicate k 0)
 
--- The knowledge of the seat that creates the other seats, after it created a worker's seat.
+-- The knowledge of the dealer (the seat that creates all other seats) after the dealer has created a worker's seat.
 abbrev pub dealt : SeatView → SeatView
 dealt v = seat_view v.deals v.works (v.number + 1) v.reads v.settles
 
@@ -38,16 +39,16 @@ abbrev pub added_settled : SeatView → ℕ → SeatView
 added_settled v n =
     seat_view v.deals v.works v.number v.reads (slice_set v.settles v.number (slice_index v.settles v.number + n))
 
--- A seat loaded n from worker i's read counter. The number n is the seat's new lower bound of this counter, and is at
--- least the old bound. If worker i itself loaded the counter, n equals the old bound.
+-- A seat loaded n from worker i's read counter. The seat's lower bound of worker i's read counter rises to n, or was n
+-- already. If the seat is worker i's own seat, the bound was n already.
 abbrev pub SeesRead : SeatView → ℕ → ℕ → SeatView → Type 0
 SeesRead v i n w =
     (w ≡ seat_view v.deals v.works v.number (slice_set v.reads i n) v.settles)
     × (slice_index v.reads i ≤ n) × (n ≤ most) × (v.works ≡ true → v.number ≡ i → n ≡ slice_index v.reads i)
 
--- A seat loaded n from worker i's settled counter. The number n is the seat's new lower bound of this counter, and is
--- at least the old bound. Worker i has read at least n documents. If worker i itself loaded the counter, n equals the
--- old bound.
+-- A seat loaded n from worker i's settled counter. The seat's lower bound of worker i's settled counter rises to n, or
+-- was n already. The seat's lower bound of worker i's read counter is then at least n. If the seat is worker i's own
+-- seat, the bound of the settled counter was n already.
 abbrev pub SeesSettled : SeatView → ℕ → ℕ → SeatView → Type 0
 SeesSettled v i n w =
     (w ≡ seat_view v.deals v.works v.number (slice_set v.reads i (max (slice_index v.reads i) n))

@@ -6,8 +6,8 @@ use crate::steps::Place;
 
 /// A seat of a board, which belongs to a viewer, or to a worker with a number and two counters.
 ///
-/// For each counter of the board, a seat knows a lower bound, which is the value that the seat loaded last. Only the
-/// holder of a worker's seat can change that worker's counters.
+/// For each counter of the board, a seat knows a lower bound: the greatest value that the seat knows to have been in
+/// the counter. Only the holder of a worker's seat can change that worker's counters.
 #[derive(Drop)]
 pub struct BoardSeat {
     pub(crate) place: Place,

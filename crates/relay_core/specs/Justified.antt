@@ -15,13 +15,13 @@ abbrev pub finds : RequestView → ResponseView → Text → Text → Bool
 finds (revs_diff docs) (missing_response missing) id leaf = are_distinct docs && (names docs id leaf && not (names missing id leaf))
 finds q r id leaf = false
 
--- Whether the target refused a request that transfers one document as too large.
+-- Whether the server that rejected a request is the target, and rejected the request as too large (status 413).
 abbrev pub is_too_large : Side → ℕ → Bool
 is_too_large Target status = status == 413
 is_too_large Source status = false
 
--- Whether the target's response to a `carry` request refuses the given leaf, or rejects as too large a `carry` request
--- for only the leaf's document. A `carry` request transfers documents to the target.
+-- Whether a response to a `carry` request refuses the given leaf. A rejection by the target as too large refuses the
+-- leaf if the request has only the leaf's document. A `carry` request transfers documents to the target.
 abbrev pub rejects : RequestView → ResponseView → Text → Text → Bool
 rejects (carry_docs docs) (row_errors_response rows) id leaf = refuses rows id leaf
 rejects (carry_docs docs) (rejected_response side status words) id leaf = is_too_large side status && is_alone docs id
@@ -76,8 +76,9 @@ seq_of (Some pair) = pair.1
 
 -- ---- progress of a run
 
--- Pages lead from sequence `begin` to sequence s. After each page of a run, the target had, or refused, each leaf of
--- the page. The number n counts the leaves of the pages up to s that the target refused and does not have.
+-- Consecutive pages of changes lead from the sequence `begin` to the sequence s. After each page of a run, the target
+-- had, or refused, each leaf of the page. The number n counts the leaves of the pages up to s that the target refused
+-- and does not have.
 pub data Reached : Text → List Exchange → Text → ℕ → Type 0 where
   begun : {begin : Text} {h : List Exchange} {s : Text} {n : ℕ} → begin ≡ s → n ≡ 0 → Reached begin h s n
   paged : {begin : Text} {h : List Exchange} {s : Text} {n : ℕ} (before after rest : List Exchange) (since : Text) (wait : Option ℕ) (page : PageView) (m : ℕ) → h ≡ rest ++ (after ++ exchange_of (get_changes since wait) (page_response page) ∷ before) → Reached begin before since m → AreSettled after page.rows → page.last_seq ≡ s → n ≡ m + leaf_count (not_found after page.rows) → Reached begin h s n
@@ -100,8 +101,8 @@ pub record AreReady (h : List Exchange) (target source : LogView) (s : Text) (fa
   pub reached : Reached (seq_of (newest_common target.history source.history)) before s rejected
   pub counted : min rejected (2 ^ 64 - 1) ≤ failures
 
--- The relay may request that a server's log record sequence s, which the pages have reached. The history of a written
--- log is the new entry, followed by the history of the log that was last read.
+-- The relay may request that a server's log record the sequence s, because pages of changes have reached s. The history
+-- of a written log is the new entry, followed by the history of the log that was last read.
 pub record IsReady (h : List Exchange) (side : Side) (log : LogView) (s : Text) (failures : ℕ) : Type 0 where
   pub target : LogView
   pub source : LogView
@@ -120,7 +121,7 @@ abbrev pub IsStored : List Exchange → Text → Type 0
 IsStored [] s = ⊥
 IsStored (e ∷ h) s = IsStoring e.request e.response s (IsStored h s)
 
--- The source's log is written only after the target's log.
+-- The relay requests that the source's log record a sequence only after the target's log has recorded this sequence.
 abbrev pub IsInOrder : List Exchange → Side → Text → Type 0
 IsInOrder h Target s = Unit {0}
 IsInOrder h Source s = IsStored h s

@@ -74,11 +74,11 @@ refusals_in rows = filter (λ r. is_refusal r) rows
 abbrev pub refuses : List RowErrorView → Text → Text → Bool
 refuses rows id leaf = are_about (refusals_in rows) id leaf
 
--- Whether the error rows are about each of the given leaves of document `id`.
+-- Whether each given leaf of document `id` has an error row in the list `rows`.
 abbrev pub are_all_about : List RowErrorView → Text → List Text → Bool
 are_all_about rows id revs = list_all (λ r. are_about rows id r) revs
 
--- Whether the error rows are about each leaf of the documents.
+-- Whether each leaf of the documents has an error row in the list `rows`.
 abbrev pub cover : List RowErrorView → List DocView → Bool
 cover rows docs = list_all (λ d. are_all_about rows d.0 d.1) docs
 

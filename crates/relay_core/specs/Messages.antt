@@ -41,8 +41,9 @@ pub data FaultView : Type 0 where
   bad_answer : Operation → FaultView
   bad_log : Side → FaultView
   refused : Text → Side → ℕ → Text → FaultView
-  -- The fault that leaves are still missing at the target, although the target has not refused them. The fault has the
-  -- id and revision of one such leaf, the error and reason of its row if there is one, and the number of such leaves.
+  -- The fault of missing leaves that the target has not refused. The fault has the id and revision of one of the
+  -- leaves, and the number of the leaves. If an error row of the transfer is about the leaf's document, the fault also
+  -- has the row's error and reason.
   unaccounted : Text → Text → Option (Text × Text) → ℕ → FaultView
   log_changed : FaultView
 

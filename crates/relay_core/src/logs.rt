@@ -206,9 +206,8 @@ pub(crate) fn after_target_log(alloc: Global, run: Run, response: Response) -> P
     }
 }
 
-/// Continues a run after both logs were read. If the newest entry that both logs have is still the entry at which the
-/// window began, the run stores both logs. If the newest entry that both logs have is another entry, a new window
-/// begins.
+/// Continues a run after both logs were read. If the window is open, and the newest entry that both logs have is still
+/// the entry at which the window began, the run stores both logs. Otherwise a new window begins.
 pub(crate) fn after_source_log(
     alloc: Global,
     run: Run,

@@ -74,7 +74,7 @@ pub enum Fault {
     BadFeed,
     /// A response to `_revs_diff` is not an object of missing revisions, or names a leaf that was not requested.
     BadDiff,
-    /// A response does not have the form that a request of this kind requires.
+    /// A response does not have the form that the given kind of request requires.
     BadAnswer(Operation),
     /// The replication log of a server has no `_rev`, or its history is not a list.
     BadLog(Side),
@@ -92,7 +92,8 @@ pub enum Fault {
 pub struct Unaccounted {
     pub id: String,
     pub rev: String,
-    /// The error and the reason of the first `_bulk_docs` row that names the document.
+    /// The error and the reason of the document's first `_bulk_docs` row that has another error than `forbidden` and
+    /// `unauthorized`.
     pub error: Option<(String, String)>,
     /// The number of leaves of the page that the target lacks and has not refused.
     pub count: u64,

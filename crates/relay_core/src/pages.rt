@@ -132,7 +132,7 @@ fn ask_carry(alloc: Global, run: Run, mut transfer: Transfer) -> Phase
     quiet(alloc, run, Stage::Carry(transfer))
 }
 
-/// Continues a run after a successful transfer, with up to twice as many documents in the next transfer.
+/// Continues a run after a part of a transfer is done, with at most twice the number of documents in the next part.
 fn advance(alloc: Global, settings: &Settings, mut run: Run, mut transfer: Transfer) -> Phase
     ensures { (h : List Exchange) → IsOpenAt h run transfer → Knows h result }
 {

@@ -45,26 +45,25 @@ IsOneOf among peers place id parent deleted body =
     (p : PeerValue) → IsAt peers place p → (e : RevId × Option RevId) → edited p.db id parent deleted body ≡ Ok e
     → among (record { before = e.1; deleted = deleted; body = body }) ≡ true
 
--- If a document was made only by edits of a set in which no two edits have the same MD5, the document's trees agree at
--- all peers. These trees also have complete histories.
+-- If only edits of a set made a document, and no two edits have the same MD5, the document's trees at all peers agree
+-- and have complete histories.
 abbrev pub MadeAgree : List PeerValue → Type 0
 MadeAgree peers =
     (among : EditValue → Bool) → HaveNoCollision among → (id : Id) → AllMadeBy among peers id
     → AllAgree peers id × AllWhole peers id
 
--- If a document was made only by edits of a set before a call, this is still true after the call, unless the document's
--- id is `id`.
+-- If only edits of a set made a document, this is still true after the call, unless the document's id is `id`.
 abbrev pub StaysMadeExcept : Id → List PeerValue → List PeerValue → Type 0
 StaysMadeExcept id peers peers' =
     (among : EditValue → Bool) (other : Id) → other ≢ id → AllMadeBy among peers other → AllMadeBy among peers' other
 
--- If a document was made only by edits of a set before an edit of document `id`, this is still true after the edit. If
--- the document's id is `id`, the set must contain the edit.
+-- If only edits of a set made a document, this is still true after an edit of document `id`. If the document's id is
+-- `id`, the set must contain the edit of document `id`.
 abbrev pub StaysMadeByEdit : ℕ → Id → Option RevId → Bool → List ℕ → List PeerValue → List PeerValue → Type 0
 StaysMadeByEdit place id parent deleted body peers peers' =
     (among : EditValue → Bool) (at : Id) → (at ≡ id → IsOneOf among peers place id parent deleted body)
     → AllMadeBy among peers at → AllMadeBy among peers' at
 
--- If a document was made only by edits of a set before a call, this is still true after the call.
+-- If only edits of a set made a document, this is still true after the call.
 abbrev pub StaysMade : List PeerValue → List PeerValue → Type 0
 StaysMade peers peers' = (among : EditValue → Bool) (id : Id) → AllMadeBy among peers id → AllMadeBy among peers' id

@@ -122,7 +122,8 @@ Spread peers hops peers' =
 abbrev pub tree_alone : Document → TreeValue
 tree_alone d = merged no_revisions d.ancestry (content_of d.deleted d.body) (Local 0)
 
--- No revision has one parent or content in document d, and another in a peer's tree.
+-- No revision has a parent or content in document d that differs from the revision's parent or content in a peer's
+-- tree.
 abbrev pub FitsIn : List PeerValue → Document → Type 0
 FitsIn peers d = (n : ℕ) (p : PeerValue) → IsAt peers n p → Agree (tree_of p.db.docs d.id) (tree_alone d)
 
@@ -134,8 +135,9 @@ IsRooted db d =
 abbrev pub IsRootedAt : List PeerValue → ℕ → Document → Type 0
 IsRootedAt peers place d = (p : PeerValue) → IsAt peers place p → IsRooted p.db d
 
--- No revision has one parent or content in the document that an edit stores, and another in a peer's tree. Every edit
--- satisfies `EditFits` if no two different edits have the same MD5.
+-- No revision has a parent or content in the edited document that differs from the revision's parent or content in a
+-- peer's tree. If only edits made the document, an edit violates `EditFits` only if two different edits have the same
+-- MD5.
 abbrev pub EditFits : List PeerValue → ℕ → Id → Option RevId → Bool → List ℕ → Type 0
 EditFits peers place id parent deleted body =
     (p : PeerValue) → IsAt peers place p → (e : RevId × Option RevId) → edited p.db id parent deleted body ≡ Ok e

@@ -54,8 +54,9 @@ pub fn replicate_along<F: WriteFilter>(
 ///
 /// If every two peers are consistent, they stay consistent, even if the call fails. If the document's trees agreed and
 /// had complete histories before the call, the trees still agree and have complete histories after the call under two
-/// conditions. First, no revision has one parent or content in the stored document, and another in a peer's tree.
-/// Second, the ancestry of the stored document is complete, or the peer's tree has the ancestry's oldest revision.
+/// conditions. First, no revision has a parent or content in the stored document that differs from the revision's
+/// parent or content in a peer's tree. Second, the ancestry of the stored document is complete, or the peer's tree has
+/// the ancestry's oldest revision.
 pub fn load_at<F: WriteFilter>(
     peers: &mut [Peer<F>],
     place: usize,
@@ -83,8 +84,9 @@ pub fn load_at<F: WriteFilter>(
 /// Edits a document at one peer of a network (`Peer::edit`).
 ///
 /// If every two peers are consistent, they stay consistent, even if the call fails. If the document's trees agreed and
-/// had complete histories, they still do, unless a peer has the new revision with another parent or content. A peer has
-/// the new revision with another parent or content only if two different edits have the same MD5.
+/// had complete histories, they still agree and have complete histories, unless a peer has the new revision with
+/// another parent or content. If only edits made the document, a peer has the new revision with another parent or
+/// content only if two different edits have the same MD5.
 pub fn edit_at<F: WriteFilter>(
     peers: &mut [Peer<F>],
     place: usize,

@@ -22,6 +22,7 @@ use std::alloc::{AllocError, Global};
 /// # Errors
 ///
 /// - `Plans`: there is not exactly one plan in each direction for each peer other than the hub.
+/// - `Memory`: an allocation failed before the first replication.
 /// - The errors of `replicate_along`.
 pub fn sync_by_hub<F: WriteFilter>(
     alloc: Global,

@@ -25,8 +25,8 @@ FailsInPool progress why.AlreadyDone = Unit {0}
 FailsInPool progress why.Uncovered = Unit {0}
 FailsInPool progress refusal = FailsAlone refusal
 
--- The errors with which a replication may fail. If the first argument is true, one thread replicates, otherwise the
--- pool replicates.
+-- The errors with which a replication may fail. If the first argument of `Fails` is true, one thread replicates,
+-- otherwise the pool replicates.
 abbrev pub Fails : Bool → Bool → Refusal → Type 0
 Fails true progress refusal = FailsAlone refusal
 Fails false progress refusal = FailsInPool progress refusal

@@ -177,8 +177,8 @@ abbrev pub ending_of_watched : Result Watched PoolFault → Result Ending Refusa
 ending_of_watched (Ok watched) = Ok (Shown watched)
 ending_of_watched (Err fault) = ending_of_run (Err fault)
 
--- The ending of a replication. One thread replicates if the first argument is true. If the first argument is false, the
--- pool replicates, with a board if the second argument is true.
+-- The ending of a replication. One thread replicates if the first argument of `EndsBy` is true. If the first argument
+-- of `EndsBy` is false, the pool replicates, with a board if the second argument is true.
 abbrev pub EndsBy : Bool → Bool → State → List ℕ → List ℕ → PeerValue → PeerValue → Plan → Result Ending Refusal → State
     → Type 0
 EndsBy true progress old source target s t plan ending new =
@@ -248,8 +248,8 @@ MayFail ask refusal =
     (refusal ≡ why.NoDatabase) ⊎ (refusal ≡ why.BadMoment) ⊎ (choice_given ask.doc_ids ≡ Err refusal)
     ⊎ Fails ask.options.alone ask.options.progress refusal
 
--- The guarantee for a `replicate` line. The output of the line reports an ending that satisfies `CoversIfDone` and
--- `StopsIfAsked`, or the line fails with an error that `MayFail` lists.
+-- The guarantee for a `replicate` line. A `replicate` line that succeeds prints an ending that satisfies `CoversIfDone`
+-- and `StopsIfAsked`. A `replicate` line that fails has an error that `MayFail` lists.
 abbrev pub IsCovered : State → ReplicateAsk → Told → Type 0
 IsCovered s ask (Ok text) =
     (session : SessionId) × (ending : Ending) × (chosen : Choice) × (text ≡ ending_line session ending)

@@ -49,10 +49,9 @@ restore_done s ask = do
 abbrev pub Restores : Answering State RestoreAsk
 Restores old ask told new = Does (restore_done old ask) old told new
 
--- ---- its guarantee: docs/PROFILE.md, "Tied databases"
+-- ---- the guarantee of `restore`, as specified in docs/PROFILE.md, "Tied databases"
 
--- The guarantee for a `restore` line. The database is restored, or the line fails with an error that `FailsRestoring`
--- lists.
+-- The guarantee for a `restore` line. A `restore` line that fails has an error that `FailsRestoring` lists.
 abbrev pub IsRestored : Told → Type 0
 IsRestored (Ok text) = Unit {0}
 IsRestored (Err name) = (refusal : Refusal) × (name ≡ name_of refusal) × FailsRestoring refusal

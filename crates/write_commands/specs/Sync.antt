@@ -17,7 +17,7 @@ use Rattle.write_commands.specs.declared.sync.Shared.{Shared}
 
 -- ---- its parameters
 
--- The parameters of `sync`, which replicates in each direction.
+-- The parameters of `sync`, which replicates in both directions between two databases.
 pub record SyncAsk : Type 0 where
   pub there : ReplicateAsk
   pub back : ReplicateAsk
@@ -35,7 +35,8 @@ shared_in d = do
   alone ← needed (optional as_bool (codes "alone") d)
   Ok (record { workers = workers; batch = batch; at = at; alone = unwrap_or alone false })
 
--- The parameters of one direction of `sync`. A direction has no limit on its number of windows, and prints no progress.
+-- The parameters of one direction of `sync`. Each direction of `sync` has no limit on its number of windows, and prints
+-- no progress.
 abbrev pub way_options : Shared → Option ℕ → Options
 way_options shared session = record {
   session = session;

@@ -110,7 +110,8 @@ fn load_given(
     }
 }
 
-/// Loads a document into an existing or a new database. The call parses the document before it looks up the database.
+/// Performs a `load` line without a UUID. If the line has a document, the call parses it before it looks up the
+/// database.
 fn load_named(
     alloc: Global,
     databases: &mut Databases,

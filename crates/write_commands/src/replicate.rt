@@ -29,7 +29,8 @@ use std::thread::Threads;
 pub struct Replicate<'v, 'a> {
     pub source: &'v str,
     pub target: &'v str,
-    /// The ids of the selected documents, which are strings. If the line gives no ids, all documents are selected.
+    /// The ids of the selected documents, which are strings. If the line has no member `doc_ids`, all documents are
+    /// selected.
     pub doc_ids: Option<&'v Vec<LineValue<'a>>>,
     pub options: Options,
 }
@@ -50,7 +51,7 @@ pub struct Options {
     pub at: Option<u64>,
     /// The number of windows after which the replication stops.
     pub stop_after: Option<u64>,
-    /// Whether the command prints the counters of the run. The option has no effect with one thread.
+    /// Whether the command prints the counts of the progress board. The option has no effect with one thread.
     pub progress: bool,
 }
 
