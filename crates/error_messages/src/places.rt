@@ -102,20 +102,20 @@ fn text_of<'v>(object: &'v LineValue<'_>, name: &str) -> Option<&'v str> {
 
 /// Returns the member of the line's document or body that caused the error, if this member is known.
 fn member_at_fault<'v>(name: &str, object: &'v LineValue<'_>) -> Option<&'v str> {
-    let document = match object.get("doc") {
-        Some(doc) => doc,
-        None => object.get("body")?,
+    let (value, is_body) = match object.get("doc") {
+        Some(document) => (document, false),
+        None => (object.get("body")?, true),
     };
-    for entry in document.as_object()? {
-        if is_at_fault(name, entry.0, &entry.1) {
+    for entry in value.as_object()? {
+        if is_at_fault(name, entry.0, &entry.1, is_body) {
             return Some(entry.0);
         }
     }
     None
 }
 
-/// Whether a member of a document causes a given error.
-fn is_at_fault(name: &str, member: &str, value: &LineValue<'_>) -> bool {
+/// Whether a member of a document, or of a body without a document, causes a given error.
+fn is_at_fault(name: &str, member: &str, value: &LineValue<'_>, is_body: bool) -> bool {
     if is_same_text("Fraction", name) {
         return has_fraction(value);
     }
@@ -123,19 +123,27 @@ fn is_at_fault(name: &str, member: &str, value: &LineValue<'_>) -> bool {
         return is_same_text("_attachments", member);
     }
     if is_same_text("SpecialMember", name) {
-        return is_odd(member, value);
+        return is_special(member) && (is_body || is_odd(member, value));
     }
     false
 }
 
-/// Whether a member is reported as the cause of `SpecialMember`. This is a member `_deleted` that is not a Boolean, or
-/// another member with an initial `_` except `_id`, `_rev` and `_revisions`.
+/// Whether the name of a member begins with `_`.
+fn is_special(member: &str) -> bool {
+    member.as_bytes().first() == Some(&b'_')
+}
+
+/// Whether a document with this special member is rejected: a member `_deleted` that is not a Boolean, or a member whose
+/// name is not in the list of docs/PROFILE.md, "What `read_doc` accepts".
 fn is_odd(member: &str, value: &LineValue<'_>) -> bool {
     if is_same_text("_deleted", member) {
         return value.as_bool().is_none();
     }
-    member.as_bytes().first() == Some(&b'_')
-        && !is_same_text("_id", member)
+    !is_same_text("_id", member)
         && !is_same_text("_rev", member)
         && !is_same_text("_revisions", member)
+        && !is_same_text("_conflicts", member)
+        && !is_same_text("_deleted_conflicts", member)
+        && !is_same_text("_revs_info", member)
+        && !is_same_text("_local_seq", member)
 }
