@@ -15,8 +15,8 @@ pub struct Row {
     pub parent: usize,
     /// The generation of the leaf's oldest known ancestor.
     pub first: u32,
-    /// The generations, in rising order, at which vertical edges continue below the row. These edges start in this row
-    /// or in an earlier row, and lead to later rows.
+    /// The generations, in rising order, at which vertical edges continue below the row. The vertical edges below a row
+    /// start in this row or in an earlier row, and lead to later rows.
     pub below: Vec<u32>,
 }
 

@@ -16,7 +16,7 @@ abbrev pub has_window : ℕ → List ℕ → ℕ → ℕ → Bool
 has_window from [] lo hi = false
 has_window from (e ∷ es) lo hi = ((from == lo) && (e == hi)) || has_window e es lo hi
 
--- The sequence x is a bound of a window: `from`, or one of the windows' ends `es`.
+-- The sequence x is a bound of a window, that is, `from` or one of the windows' ends `es`.
 abbrev pub IsBound : ℕ → List ℕ → ℕ → Type 0
 IsBound from [] x = from ≡ x
 IsBound from (e ∷ es) x = (from ≡ x) ⊎ IsBound e es x
@@ -56,7 +56,8 @@ abbrev pub put_in : List DoneRange → ℕ → ℕ → List DoneRange
 put_in [] lo hi = record { lo = lo; hi = hi } ∷ []
 put_in (r ∷ rs) lo hi = if nat_le lo r.hi then put_at r rs lo hi else r ∷ put_in rs lo hi
 
--- The low water and the ranges of done windows after adding the done window (lo, hi]. Before, the low water was `mark`.
+-- The low water and the ranges of done windows after adding the done window (lo, hi]. The low water was `mark` before
+-- the window was added.
 abbrev pub joined : ℕ → List DoneRange → ℕ → ℕ → ℕ × List DoneRange
 joined mark rs lo hi = if mark == lo then absorbed hi rs else (mark, put_in rs lo hi)
 

@@ -219,7 +219,7 @@ fn put_older(
     Ok(())
 }
 
-/// Returns the JSON text of the log that a server last returned, with a new entry before its history.
+/// Returns the JSON text of the log that a server last returned, with a new entry before the log's history.
 pub(crate) fn log_body(
     alloc: Global,
     session_id: &str,

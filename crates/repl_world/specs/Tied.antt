@@ -20,8 +20,7 @@ use Rattle.repl_peer.specs.declared.fault.TargetFault.{TargetFault}
 use Rattle.repl_world.specs.Bags.{IsBag}
 use Rattle.repl_world.specs.Worlds.{WorldValue, rep_of}
 
--- The invariants of the source's database, of the target and of the bag of world w. The types of these parts guarantee
--- the invariants.
+-- The invariants of the source's database, the target and the bag of world w, which the types of these parts guarantee.
 pub record IsWorld (refuses : Document → Bool) (w : WorldValue) : Type 0 where
   pub source : LawfulDatabase w.source.db
   pub target : Lawful refuses w.target
@@ -66,8 +65,8 @@ pub record HoldNone (source target : PeerValue) (chosen : Choice) : Type 0 where
 
 -- ---- guarantees of tied worlds
 
--- Consider a parcel of the bag whose window has the source's current life. If a session of the target has this window,
--- settling the parcel for the session never returns `Uncovered`.
+-- Settling a parcel of the bag never returns `Uncovered` if the session has the parcel's window, and this window has
+-- the source's current life.
 abbrev pub NeverUncovered : (Document → Bool) → WorldValue → Type 0
 NeverUncovered refuses w =
     (p : ℕ × ParcelValue) → Among p w.bag.parcels

@@ -136,8 +136,8 @@ impl<F: WriteFilter> World<F> {
     /// message bag changes nothing. If an allocation fails, the failed step changes nothing, except that a step that
     /// settles a parcel may have settled a part of the parcel's documents (`Stopped`).
     ///
-    /// If the world was consistent, it stays consistent. The target of a consistent world covers the source's current
-    /// feed up to the sequences that both logs claim.
+    /// A consistent world stays consistent. The target of a consistent world covers the source's current feed up to the
+    /// sequences that both logs claim.
     pub fn run(&mut self, alloc: Global, steps: &[Step]) -> Result<(), AllocError>
         ensures filters { self.new.0 ≡ self.old.0 }
         ensures ok { OnOk result (self.new.1 ≡ run (F.refuses self.old.0.1) self.old.1 steps.now) }

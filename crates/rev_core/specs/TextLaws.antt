@@ -87,6 +87,6 @@ cut_told true text r is e =
     ∙ sym (split_at_first is_dash text 0 within)
 cut_told false text r is e = cc
 
--- If a string parses as a revision, it is the string of this revision.
+-- If a string parses as a revision, formatting this revision gives the string.
 pub rev_text-read : (text : List ℕ) (r : RevId) → rev_read text ≡ Ok r → rev_text r ≡ text
 rev_text-read text r e = cut_told _ text r refl e
