@@ -355,7 +355,7 @@ impl<F: WriteFilter> World<F> {
         unless_memory(self.target.append(session, window))
     }
 
-    /// Puts the target's request for the missing leaves of one of the bag's windows into the message bag.
+    /// For a window of the message bag, puts the target's request for the missing leaves into the message bag.
     fn diff(&mut self, alloc: Global, place: usize) -> Result<(), AllocError>
         ensures filters { self.new.0 ≡ self.old.0 }
         ensures ok { OnOk result (self.new.1 ≡ differs self.old.1 place (slice_get self.old.1.bag.windows place)) }
@@ -368,7 +368,7 @@ impl<F: WriteFilter> World<F> {
         self.bag.put_asked(place, asked)
     }
 
-    /// Puts the source's parcel for one of the bag's requests into the message bag.
+    /// For a request of the message bag, puts the source's parcel into the message bag.
     fn fetch(&mut self, alloc: Global, place: usize) -> Result<(), AllocError>
         ensures filters { self.new.0 ≡ self.old.0 }
         ensures ok { OnOk result (self.new.1 ≡ fetches self.old.1 (slice_get self.old.1.bag.asked place)) }
@@ -399,7 +399,7 @@ impl<F: WriteFilter> World<F> {
         found_memory(self.target.settle(session, parcel))
     }
 
-    /// Records a session, and puts its entry into the message bag.
+    /// Records a session, and puts the session's entry into the message bag.
     fn record(&mut self, session: SessionId, at: Moment) -> Result<(), AllocError>
         ensures filters { self.new.0 ≡ self.old.0 }
         ensures ok { OnOk result (self.new.1 ≡ records self.old.1 session at) }
@@ -408,7 +408,7 @@ impl<F: WriteFilter> World<F> {
         self.bag.record(&mut self.target, session, at)
     }
 
-    /// Concludes a session, and puts its entry into the message bag if concluding succeeds.
+    /// Concludes a session, and puts the session's entry into the message bag if concluding succeeds.
     fn conclude(&mut self, session: SessionId, at: Moment) -> Result<(), AllocError>
         ensures filters { self.new.0 ≡ self.old.0 }
         ensures ok { OnOk result (self.new.1 ≡ concludes self.old.1 session at) }
