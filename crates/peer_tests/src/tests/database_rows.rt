@@ -232,8 +232,8 @@ fn at_the_last_sequences(rt: HostRuntime) {
         (Call::Numbers(B), "8 at 9007199254740991"),
         (Call::Tree(A, "d"), "no document"),
         (Call::Put(A, LAST), "Changed { seq: 9007199254740991 }"),
-        // A put that changes nothing uses no update sequence. A put with a contradicting ancestry returns that error
-        // even if the database has no sequence left.
+        // A put that changes nothing uses no update sequence. A put with a contradicting ancestry returns
+        // `Contradiction` even if the database has no sequence left.
         (Call::Put(A, LAST), "Same"),
         (Call::Put(A, OTHER), "Contradiction 2-b,1-a,1-x"),
         (Call::Put(A, r#"{"_id":"e","_rev":"1-a"}"#), "SeqFull"),

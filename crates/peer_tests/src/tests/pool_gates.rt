@@ -176,8 +176,8 @@ impl Gate for CountsRecordings {
     }
 }
 
-// The contract of a writer allows a writer that records only every second window, or that returns another low water
-// than it recorded. This test detects such writers.
+// This test detects a writer that records only every second window, or that returns another low water than it recorded.
+// No contract excludes such a writer.
 #[test]
 fn each_recording_tells_the_low_water(rt: HostRuntime) {
     const ONE_BY_ONE: How = How {
