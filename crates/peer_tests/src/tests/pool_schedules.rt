@@ -97,9 +97,9 @@ impl Turns {
     /// gate.
     ///
     /// A fetcher has a window until it has passed the place `Fetched`. A writer has a parcel until it has passed the
-    /// place `Recorded`. A fetcher that finds no further window sends an end message to a writer. This message may
-    /// arrive before the last parcel of the other fetcher. If all three windows are fetched and one window is recorded,
-    /// perhaps only one writer is left for the other two windows. A stopped worker drops all messages.
+    /// place `Recorded`. A fetcher that finds no further window sends an end message to a writer. The fetcher may send
+    /// this message before the other fetcher sends its last parcel. If all three windows are fetched and one window is
+    /// recorded, perhaps only one writer is left for the other two windows. A stopped worker drops all messages.
     fn awaited(&self) -> (u64, u64) {
         let fetched = bits(self.left & FETCHED);
         let recorded = bits(self.left & RECORDED);
