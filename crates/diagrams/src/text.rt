@@ -161,7 +161,7 @@ fn edge_of(leaf: &Leaf, row: &Row, low: u32) -> Markup {
     if open { Markup::Bar } else { Markup::Blank }
 }
 
-/// Draws the contents of a column that is before the leaf's column.
+/// Draws the contents of one of the columns before the leaf's column.
 fn draw_cell(
     out: &mut Vec<u8>,
     cell: &Cell,
