@@ -47,13 +47,13 @@ abbrev pub with_all : List State → List RevId → List State
 with_all leaves [] = leaves
 with_all leaves (r ∷ revs) = with_all (with_leaf leaves r true) revs
 
--- Document d has the id `id` and the leaves `leaves`.
+-- The id of document `d` is `id`, and the leaves of `d` that were read so far are `leaves`.
 pub record Holds (d : Document) (id : List ℕ) (leaves : List State) : Type 0 where
   pub named : string_bytes d.id ≡ id
   pub read : states d ≡ leaves
 
--- The effect of one line of a script's output. The effect is the open document after the line, and the picture's item
--- that the line completes, if any.
+-- The effect of one line of a script's output: the document that is open after the line, and the picture's item that
+-- the line completes, if there is one.
 pub data IsNext : Option Document → Told → Option Document → Option Whole → Type 0 where
   -- A line of a script's output that begins a document.
   opened : {old : Option Document} {id : String Global} {count : ℕ} {d : Document} → Holds d (string_bytes id) [] → d.count ≡ count
@@ -68,7 +68,7 @@ pub data IsNext : Option Document → Told → Option Document → Option Whole 
       → IsNext (Some d) (told.Leaf live revs) None (Some (wholes.Tree e))
   -- A line of a script's output with a leaf, if no document is open.
   loose : {live : Bool} {revs : Vec RevId Global} → IsNext None (told.Leaf live revs) None None
-  -- A line of a script's output with a leaf and an empty list of revisions. Parsing a line never gives an empty list.
+  -- A line of a script's output with a leaf and an empty list of revisions, which parsing never produces.
   empty : {old : Option Document} {live : Bool} {revs : Vec RevId Global} → head_of revs.items ≡ None → IsNext old (told.Leaf live revs) None None
   -- A line of a script's output with a document and its live leaves.
   conflict : {old : Option Document} {id : String Global} {revs : Vec RevId Global} {e : Document} → Holds e (string_bytes id) (with_all [] revs.items)
@@ -131,8 +131,8 @@ abbrev pub first_sketch : Form → Option (List ℕ) → Sketch
 first_sketch form db = record { form = form; db = db; begun = None }
 
 -- A picture of a script's output, which has a start, the drawings for the output's lines, and an end. The Boolean
--- `clean` says whether memory was sufficient for every line. In the picture, input texts have no hidden characters. In
--- SVG, input texts have no markup either.
+-- `clean` says whether memory was sufficient for drawing every line of the script's output. In the picture, input texts
+-- have no hidden characters. In SVG, input texts have no markup either.
 pub record IsPictureOf (form : Form) (db : Option (List ℕ)) (input : List ℕ) (clean : Bool) (picture : List ℕ) : Type 0 where
   pub head : List ℕ
   pub head_drawn : Draws [] head []
@@ -144,8 +144,8 @@ pub record IsPictureOf (form : Form) (db : Option (List ℕ)) (input : List ℕ)
   pub parts : picture ≡ (head ++ text) ++ tail
   pub safe : (shows : List ℕ) → IsSafe form (shown form (chars shows))
 
--- A picture of the reader's remaining bytes is written. The last arguments of `IsPictured` are the reader's remaining
--- bytes, and the bytes that the writer has accepted before and after the call.
+-- The call wrote a picture whose input is all remaining bytes of the reader (`left`). The writer had accepted the bytes
+-- `held` before the call, and the bytes `held'` after the call.
 pub record IsPictured (form : Form) (db : Option (List ℕ)) (clean : Bool) (left held held' : Option (List ℕ)) : Type 0 where
   pub input : List ℕ
   pub gives : Gives left input
@@ -153,7 +153,7 @@ pub record IsPictured (form : Form) (db : Option (List ℕ)) (clean : Bool) (lef
   pub pictured : IsPictureOf form db input clean picture
   pub written : Appends held held' picture
 
--- A text that is the start of a picture, followed by drawings that satisfy `holds`.
+-- A text is the start of a picture, followed by drawings for which the condition `holds` is true.
 abbrev pub BeginsPicture : (List ℕ → Type 0) → List ℕ → Type 0
 BeginsPicture holds text = (head : List ℕ) × Draws [] head [] × (drawn : List ℕ) × holds drawn × (text ≡ head ++ drawn)
 
@@ -165,9 +165,8 @@ IsDrawnUntil Write form db input text = ⊤
 IsDrawnUntil Memory form db input text = BeginsPicture (AnswersFirst Pictures (first_sketch form db) input) text
 IsDrawnUntil Cut form db input text = BeginsPicture (AnswersCut Pictures (first_sketch form db) input) text
 
--- After an error, a prefix of a picture of the reader's remaining bytes is written. The last arguments of
--- `IsPicturedUntil` are the reader's remaining bytes, and the bytes that the writer has accepted before and after the
--- call.
+-- After an error, the call has written a prefix of a picture whose input is all remaining bytes of the reader (`left`).
+-- The writer had accepted the bytes `held` before the call, and the bytes `held'` after the call.
 pub record IsPicturedUntil (fault : ScriptFault) (form : Form) (db : Option (List ℕ)) (left held held' : Option (List ℕ)) : Type 0 where
   pub input : List ℕ
   pub gives : Gives left input

@@ -102,8 +102,8 @@ pub data Sign : Type 0 where
   log : Form → List ℕ → Sign
   -- A piece of a picture that shows the start time of a session.
   moment : Form → List ℕ → Sign
-  -- A piece of a picture that shows the numbers of documents that a session wrote and read, and the largest number read
-  -- in the log.
+  -- A piece of a picture that shows the bar of a session in a log. The numbers are the documents that the session
+  -- wrote, the documents that it read, and the most documents that a session of the log read.
   chart : Form → ℕ → ℕ → ℕ → Sign
 
 abbrev pub leaf_ink : Form → RevId → Bool → Bool → List ℕ
@@ -228,8 +228,8 @@ pub record Draws (old new : List ℕ) (signs : List Sign) : Type 0 where
 abbrev pub leaf_sign : Form → Leaf → Sign
 leaf_sign form l = leaf form l.rev l.wins l.live
 
--- The command that resolves the conflict of a leaf, if the database is named. A leaf has a command only if the leaf is
--- live and not the winner.
+-- The command that resolves the conflict of a leaf, if the database is named. A picture has a command only for a leaf
+-- that is live and not the winner.
 abbrev pub edit_of : List ℕ → List ℕ → Leaf → List Sign
 edit_of db id l = if not l.wins && l.live then edit db id l.rev ∷ [] else []
 
@@ -248,14 +248,14 @@ signs_of forms.Svg db id leaves = title forms.Svg id ∷ map (leaf_sign forms.Sv
 abbrev pub signs_of_found : Form → Finding → List ℕ → List RevId → List Sign
 signs_of_found form finding id revs = found form finding id ∷ map listed revs
 
--- The signs (pieces of a picture) for the numbers of a line. Each sign shows a number with its column.
+-- The signs (pieces of a picture) for the numbers of a line, each with a number and the number's column.
 abbrev pub counts_of : List Column → List ℕ → List Sign
 counts_of (c ∷ cs) (n ∷ ns) = count c n ∷ counts_of cs ns
 counts_of cs ns = []
 
--- The bar that a picture shows after the numbers of a line, if there is one. For a line of `compare`, the bar shows
--- which part of the compared leaves the target has. For a line of a session, the bar shows which part of the documents
--- read were written. A line of `info` has no bar.
+-- The bar that a picture shows after the numbers of a line, if there is one. For a line of `compare`, the filled part
+-- of the bar represents the compared leaves that the target has. For a line of a session, the filled part of the bar
+-- represents the documents written, of all documents read. A line of `info` has no bar.
 abbrev pub bars_of : Form → Table → List ℕ → List Sign
 bars_of form tables.Compared ns = bar form (get_or ns 1 0 - get_or ns 2 0) (get_or ns 1 0) ∷ []
 bars_of form tables.Info ns = []
@@ -265,7 +265,7 @@ bars_of form tables.Session ns = bar form (get_or ns 5 0) (get_or ns 4 0) ∷ []
 abbrev pub signs_of_row : Form → Table → List ℕ → List ℕ → List Sign
 signs_of_row form table name ns = heading form table name ∷ (counts_of (columns_of table) ns ++ bars_of form table ns)
 
--- The largest number of documents that one of the given sessions read, but at least `most`.
+-- The greatest of `most` and the numbers of documents that the given sessions read.
 abbrev pub most_from : ℕ → List Entry → ℕ
 most_from most [] = most
 most_from most (e ∷ es) = most_from (max most e.read) es

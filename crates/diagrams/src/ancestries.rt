@@ -6,12 +6,12 @@ use rev_core::Rev;
 use std::alloc::{AllocError, Global};
 use std::cmp::Ordering;
 
-/// The last revision of an ancestry, given by its branch and its position in the branch.
+/// A revision in an ancestry, given by a branch and by the revision's position in the branch.
 #[derive(Clone, Copy, Debug, PartialEq, Eq, Hash)]
 pub struct Point {
     /// The index of the revision's branch.
     branch: usize,
-    /// The number of the branch's revisions up to this revision.
+    /// The position of this revision in its branch, counted from 1.
     count: usize,
 }
 
@@ -36,7 +36,7 @@ struct Start {
 #[derive(Drop)]
 pub struct Ancestries {
     branches: Vec<Branch>,
-    /// The indices of all branches except the first, by the start of the branch.
+    /// The index of each branch except the first, by the parent and the first revision of the branch.
     starts: Option<Box<IndexMap<Start, usize>>>,
 }
 
@@ -50,7 +50,7 @@ struct Climb {
 }
 
 impl Climb {
-    /// The number of branches up to the branch of the reached revision.
+    /// The number of branches up to the branch of the revision that the path has reached, or 0 at the path's end.
     fn height(&self) -> usize {
         match self.at {
             Some(point) => point.branch.saturating_add(1),
@@ -66,7 +66,7 @@ impl Climb {
         }
     }
 
-    /// The number of the branch's revisions up to the reached revision.
+    /// The position of the reached revision in its branch, counted from 1, or 0 at the path's end.
     fn count(&self) -> usize {
         match self.at {
             Some(point) => point.count,
@@ -97,7 +97,7 @@ impl Ancestries {
         Ok(at)
     }
 
-    /// Returns the point that follows the given point, if a stored ancestry continues there with the given revision.
+    /// Returns the position after the given position in a stored ancestry, if the given revision is stored there.
     fn after(&self, at: Option<Point>, rev: &Rev) -> Option<Point> {
         let (branch, count) = match at {
             Some(point) => (point.branch, point.count),
@@ -159,7 +159,7 @@ impl Ancestries {
         }
     }
 
-    /// Returns the ancestor with the given generation, in the ancestry that ends at a point.
+    /// Returns the revision of the given generation in the ancestry that ends at the position `last`.
     pub fn ancestor(&self, last: Option<Point>, generation: u32) -> Option<&Rev> {
         let mut next = last;
         for _ in 0..self.branches.len() {
@@ -185,8 +185,8 @@ impl Ancestries {
         }
     }
 
-    /// Returns the number of revisions that two ancestries share at their oldest end. One of the two ancestries must be
-    /// the ancestry that was added first.
+    /// Returns the number of revisions that two ancestries share at their oldest end. The revision `one` or the
+    /// revision `other` must be in the ancestry that was added first.
     pub fn shared(&self, one: Option<Point>, other: Option<Point>) -> usize {
         let (one, other) = self.fork(one, other);
         one.count().min(other.count())
@@ -215,8 +215,8 @@ impl Ancestries {
         self.next(one, count).cmp(&self.next(other, count))
     }
 
-    /// Follows two ancestries to the last branch that both have. Each step leaves the later of the two reached
-    /// branches, because a branch is added after the branch from which it branches off.
+    /// Follows two ancestries to the last branch that both have. Each step leaves the branch of one of the two paths,
+    /// namely the branch that was added later. A branch is always added after the branch from which it branches off.
     fn fork(&self, one: Option<Point>, other: Option<Point>) -> (Climb, Climb) {
         let mut one = Climb {
             at: one,
@@ -239,7 +239,7 @@ impl Ancestries {
         (one, other)
     }
 
-    /// Returns the path after the branch of the reached revision.
+    /// Moves the path from its branch to the branch from which this branch branches off.
     fn climbed(&self, climb: Climb) -> Climb {
         match climb.at {
             Some(point) => Climb {
@@ -250,7 +250,7 @@ impl Ancestries {
         }
     }
 
-    /// Returns the next revision of an ancestry, after the first `count` revisions of the reached branch.
+    /// Returns the revision that follows the first `count` revisions of the reached branch in the ancestry of the path.
     fn next(&self, climb: Climb, count: usize) -> Option<&Rev> {
         if climb.count() > count {
             return self.rev_at(climb.branch(), count);

@@ -1,5 +1,5 @@
-//! Computes the columns of a diagram of a revision tree. A generation in which a row forks or ends has a separate
-//! column. All generations between two separate columns share one column.
+//! Computes the columns of a diagram of a revision tree. A generation at which a row begins, ends or forks has a column
+//! of its own. All generations between two neighbouring columns of single generations share one column.
 
 use crate::ancestries::Ancestries;
 use crate::document::Leaf;
@@ -55,8 +55,8 @@ pub fn start_of(leaf: &Leaf, row: &Row) -> u32 {
     row.hang + 1
 }
 
-/// Builds a column for each listed generation, and one column for all generations between two neighbouring listed
-/// generations.
+/// Builds a column for each generation in `kept`, and one column for all generations between two neighbouring
+/// generations of `kept`.
 fn cells_of(alloc: Global, kept: &[u32]) -> Result<Vec<Cell>, AllocError> {
     let mut cells = Vec::new(alloc);
     let mut next = kept.first().copied().unwrap_or(0);
@@ -98,7 +98,7 @@ pub fn folded(low: u32, high: u32) -> u64 {
     u64::from(high).saturating_sub(u64::from(low)) + 1
 }
 
-/// Returns the number of characters of the text in a column that several generations share.
+/// Returns the number of characters of the text in a column that `count` generations share.
 pub fn folded_len(count: u64) -> usize {
     digits(count) + 5
 }

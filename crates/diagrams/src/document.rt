@@ -33,9 +33,9 @@ impl Leaf {
     }
 }
 
-/// Compares two leaves in the order of drawing. Leaves that share more revisions with the winner come first. If two
-/// leaves share equally many, their ancestors are compared, oldest first. In this order, all leaves that share a
-/// revision are adjacent.
+/// Compares two leaves in the order of drawing. Leaves that share more revisions with the winner come first. Leaves
+/// that share the same number of revisions with the winner are ordered by their ancestors, compared from the oldest
+/// ancestor on. In this order, all leaves that share a revision are adjacent.
 fn order_of(ancestries: &Ancestries, one: &Leaf, other: &Leaf) -> Ordering {
     if one.apart != other.apart {
         return one.apart.cmp(&other.apart);
@@ -53,7 +53,8 @@ pub struct Document {
     pub id: String,
     /// The number of leaves.
     pub count: u64,
-    /// The leaves that were read, in the order of reading (winner first) or sorted for drawing.
+    /// The leaves that were read, in the order of reading (winner first), or in the order of drawing after they were
+    /// sorted.
     pub leaves: Vec<Leaf>,
     /// The known ancestries of the leaves.
     pub ancestries: Ancestries,

@@ -169,8 +169,8 @@ impl Drawer<'_> {
 ///
 /// # Errors
 ///
-/// - `Read`: the reader failed in this call, or 4,294,967,295 reads were made. - `Write`: the writer failed in this
-///   call.
+/// - `Read`: the reader failed in this call, or 4,294,967,295 reads were made.
+/// - `Write`: the writer failed in this call.
 /// - `Memory`: an allocation failed between lines, or for the end of the picture.
 ///
 /// If the call returns an error, the writer got a prefix of the picture. Unless a write failed, the written prefix of
@@ -186,7 +186,7 @@ pub fn draw_answers<R: ScriptRead, W: ScriptWrite>(
     ensures pictured { PicturedBy result form (option_map (λ s. s.now) db.entry)
         (R.left reader.old) (W.held writer.old) (W.held writer.new) }
     ensures end { OnOk result (IsAtEnd (R.left reader.new)) }
-    // The clause `pictured` describes the picture by the bytes that the reads returned. If the call succeeds, the reads
+    // The clause `took` describes the picture of the bytes that the reads returned. If the call succeeds, the reads
     // returned the complete input.
     ensures took { (input : List ℕ) × Appends (R.taken reader.old) (R.taken reader.new) input
         × PicturedBy result form (option_map (λ s. s.now) db.entry) (Some input) (W.held writer.old) (W.held writer.new) }

@@ -11,7 +11,7 @@ pub enum Markup {
     LineEnd,
     /// The indentation of a row of text.
     Indent,
-    /// The space that a text picture has if there is no edge.
+    /// The blank space of a text picture at a position without an edge.
     Blank,
     /// A vertical edge in a text picture that passes a row.
     Bar,
@@ -23,7 +23,7 @@ pub enum Markup {
     Branch,
     /// An edge in a text picture that comes from above and does not continue below the row.
     Corner,
-    /// The text after the number of revisions that a shared column hides.
+    /// The text that follows the number of hidden revisions in a shared column.
     More,
     /// The start of an SVG picture.
     Head,
@@ -50,7 +50,7 @@ pub enum Markup {
     /// The markup between the full id and the short id of an ancestor.
     Ancestor,
     Folded,
-    /// The markup of a position without a known revision.
+    /// The SVG markup for a position of a row whose revision is unknown.
     NodeNone,
     /// The markup after the short id of a revision.
     NodeEnd,

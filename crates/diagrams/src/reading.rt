@@ -9,7 +9,8 @@ use output_parser::{Found, Log, Row, Told};
 use rev_core::Rev;
 use std::alloc::{AllocError, Global};
 
-/// A complete item of the output (a document, line of `compare`, line of numbers, or log), which is drawn at once.
+/// A complete item of a script's output, which is drawn at once: a document, a line of `compare`, a line of numbers, or
+/// a log.
 #[derive(Drop)]
 pub enum Whole {
     /// A document with all its leaves.
@@ -22,7 +23,7 @@ pub enum Whole {
     Log(Log),
 }
 
-/// The document whose lines are being read after a line, and the item that the line completes.
+/// Returns the document whose lines are still being read after the line `told`, and the item that the line completes.
 pub fn next(
     alloc: Global,
     begun: Option<Document>,
@@ -47,7 +48,7 @@ pub fn next(
     }
 }
 
-/// Returns the document whose lines are being read after a `leaf` line, and the item that the line completes.
+/// Returns the document if its lines are still being read after a `leaf` line, and the item that the line completes.
 fn read_leaf(
     alloc: Global,
     mut document: Document,

@@ -15,8 +15,8 @@ pub struct Row {
     pub parent: usize,
     /// The generation of the leaf's oldest known ancestor.
     pub first: u32,
-    /// The generations at which branches continue below the row, in rising order. The branches below a row start in
-    /// this row or in earlier rows.
+    /// The generations, in rising order, at which vertical edges continue below the row. The vertical edges below a row
+    /// start in this row or in an earlier row, and lead to later rows.
     pub below: Vec<u32>,
 }
 
@@ -66,7 +66,7 @@ pub fn rows_of(
 }
 
 /// Returns the last row in which a revision of a given generation is drawn. The call drops the rows after the returned
-/// row, because later leaves never branch off a dropped row.
+/// row from `branches`, because later leaves never branch off a dropped row.
 fn parent_of(branches: &mut Vec<Branch>, hang: u32) -> usize {
     for _ in 0..branches.len() {
         match branches.last() {
@@ -78,7 +78,7 @@ fn parent_of(branches: &mut Vec<Branch>, hang: u32) -> usize {
     0
 }
 
-/// Computes the branches below each row.
+/// Computes, for each row, the generations at which vertical edges continue below the row.
 fn open_below(alloc: Global, rows: &mut [Row]) -> Result<(), AllocError> {
     let mut open: Vec<u32> = Vec::new(alloc);
     for i in (0..rows.len()).rev() {
@@ -88,7 +88,8 @@ fn open_below(alloc: Global, rows: &mut [Row]) -> Result<(), AllocError> {
     Ok(())
 }
 
-/// Updates the list of branches that pass the rows above, for a row that branches off at a generation.
+/// Given the generations `open` at which vertical edges continue below a row, computes these generations for the
+/// previous row. The row branches off at the generation `hang`, or does not branch off if `hang` is 0.
 fn close(open: &mut Vec<u32>, hang: u32) -> Result<(), AllocError> {
     open.retain(|generation| *generation < hang);
     if hang > 0 {

@@ -14,7 +14,8 @@ use crate::sheet::{leaf_node, mark, number, short_rev, title, whole_rev};
 use rev_core::Rev;
 use std::alloc::{AllocError, Global};
 
-/// The distances between columns and between rows, and the distances to the first column and the first row.
+/// The distance between columns, the distance between rows, and the coordinates of the centers of the first column and
+/// the first row.
 const COLUMN: u64 = 110;
 
 const ROW: u64 = 44;
@@ -40,7 +41,7 @@ impl Extent {
     }
 }
 
-/// Returns the maximum width that a text of a given length may have in the picture.
+/// Returns the width that the picture reserves for a text.
 pub fn width_of(text: &str) -> u64 {
     (text.len() as u64).min(1 << 32) * 9
 }
@@ -147,8 +148,8 @@ fn draw_cells(
     Ok(())
 }
 
-/// Draws a row's part in a column, unless the column is after the column of the leaf. The part is the edge to the
-/// column and, if the column is before the leaf's column, the column's contents.
+/// Draws the part of a row in a column, if the column is between the start of the row and the leaf. The part is the
+/// edge to the column, and the contents of a column that is before the leaf's column.
 fn draw_column(
     out: &mut Vec<u8>,
     cell: &Cell,
@@ -170,8 +171,8 @@ fn draw_column(
     Ok(())
 }
 
-/// Draws the edge to the column whose first generation is given. The edge starts at the previous column of the row, or
-/// of the row from which the row branches off.
+/// Draws the edge to the column whose first generation is given. The edge starts in the column before, in this row or
+/// in the row from which this row branches off.
 fn draw_edge(
     out: &mut Vec<u8>,
     low: u32,
@@ -216,7 +217,7 @@ fn draw_point(out: &mut Vec<u8>, x: u64, y: u64) -> Result<(), AllocError>
     number(out, y)
 }
 
-/// Draws the contents of a column that is before the leaf's column.
+/// Draws the contents of one of the columns before the leaf's column.
 fn draw_cell(
     out: &mut Vec<u8>,
     cell: &Cell,

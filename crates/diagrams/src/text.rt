@@ -110,8 +110,8 @@ fn draw_cells(
     Ok(())
 }
 
-/// Draws a row's part in a column, unless the column is after the column of the leaf. The part is the edge to the
-/// column and, if the column is before the leaf's column, the column's contents.
+/// Draws the part of a row in a column, unless the column is after the column of the leaf. The part is the edge to the
+/// column, and the contents of a column that is before the leaf's column.
 fn draw_column(
     out: &mut Vec<u8>,
     cell: &Cell,
@@ -161,7 +161,7 @@ fn edge_of(leaf: &Leaf, row: &Row, low: u32) -> Markup {
     if open { Markup::Bar } else { Markup::Blank }
 }
 
-/// Draws the contents of a column that is before the leaf's column.
+/// Draws the contents of one of the columns before the leaf's column.
 fn draw_cell(
     out: &mut Vec<u8>,
     cell: &Cell,

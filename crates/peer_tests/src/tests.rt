@@ -1,8 +1,8 @@
 //! Tests of databases and peers. Each test is a table of calls, each with its expected result as a string.
 //!
-//! A bench holds the databases or peers of a test, and the values that were read and fetched from them. Each kind of
-//! call is a variant of an enum. The prover therefore handles each kind of call once, and a test is a table that needs
-//! no proof.
+//! A bench, which is a test fixture, holds the databases or peers of a test, and the values that these databases or
+//! peers returned. Each kind of call is a variant of an enum. The prover handles each variant once, and a test is a
+//! table that needs no proof.
 
 // Calls on databases.
 mod database_rows;

@@ -26,7 +26,7 @@ coded_front =
     code_by (ℕ × List FrontWindow) (coded× coded_ℕ (coded_list coded_front_window)) (λ f. (f.start, f.windows))
     (λ p. record { start = p.0; windows = p.1 }) (λ _. refl)
 
--- A front as contracts use it, with the number of calls of `finish` for which space is reserved.
+-- The value that contracts use for a front: the front, and the number of calls of `finish` for which space is reserved.
 pub record FrontWithRoom : Type 0 where
   pub front : FrontValue
   pub room : ℕ
@@ -82,8 +82,8 @@ abbrev pub above_low_water : List FrontWindow → List FrontWindow
 above_low_water [] = []
 above_low_water (w ∷ ws) = if w.done then above_low_water ws else w ∷ ws
 
--- The number of maximal runs of adjacent done windows that begin in the list, given whether the window before the list
--- is done.
+-- The number of maximal runs of adjacent done windows that begin in a list of windows. The Boolean `before` says
+-- whether the window before the list is done.
 abbrev pub run_count : Bool → List FrontWindow → ℕ
 run_count before [] = 0
 run_count before (w ∷ ws) = (if w.done then (if before then 0 else 1) else 0) + run_count w.done ws

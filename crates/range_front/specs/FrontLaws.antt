@@ -109,5 +109,3 @@ finish_answer-done f lo hi done = rw (is_window-is_done f lo hi done, done)
 
 pub finish_answer-ok : (f : FrontValue) (lo hi : ℕ) → is_window f lo hi ≡ true → is_done f lo hi ≡ false → finish_answer f lo hi ≡ Ok tt
 finish_answer-ok f lo hi window open_yet = rw (window, open_yet)
-
--- ---- theorems about the meaning of a front, which no proof cites

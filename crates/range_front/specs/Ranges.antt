@@ -16,7 +16,7 @@ abbrev pub has_window : ℕ → List ℕ → ℕ → ℕ → Bool
 has_window from [] lo hi = false
 has_window from (e ∷ es) lo hi = ((from == lo) && (e == hi)) || has_window e es lo hi
 
--- The bound x is `from` or one of the windows' ends.
+-- The sequence x is a bound of a window, that is, `from` or one of the windows' ends `es`.
 abbrev pub IsBound : ℕ → List ℕ → ℕ → Type 0
 IsBound from [] x = from ≡ x
 IsBound from (e ∷ es) x = (from ≡ x) ⊎ IsBound e es x
@@ -38,31 +38,32 @@ abbrev pub covers : ℕ → List DoneRange → ℕ → Bool
 covers mark [] x = nat_le x mark
 covers mark (r ∷ rs) x = if nat_le x r.lo then nat_le x mark else covers r.hi rs x
 
--- The end of the done windows that follow the bound `hi` without a gap, and the ranges of done windows after this end.
--- If the first range does not begin at `hi`, the end is `hi`.
+-- A range of done windows that ends at `hi` is joined with the first of the given ranges if that range begins at `hi`.
+-- The result is the end of the range after joining, and the given ranges that were not joined.
 abbrev pub absorbed : ℕ → List DoneRange → ℕ × List DoneRange
 absorbed hi [] = (hi, [])
 absorbed hi (r ∷ rs) = if r.lo == hi then (r.hi, rs) else (hi, r ∷ rs)
 
--- The ranges of done windows after adding (lo, hi] at r, the first range that ends at or above `lo`. If range r ends at
--- `lo` or begins at `hi`, r grows, otherwise r is unchanged.
+-- The ranges of done windows after adding the window (lo, hi] at the range r, which is the first range that ends at or
+-- above `lo`. If r ends at `lo` or begins at `hi`, the window extends r. Otherwise the window becomes a range before r.
 abbrev pub put_at : DoneRange → List DoneRange → ℕ → ℕ → List DoneRange
 put_at r rs lo hi =
     if r.hi == lo then record { lo = r.lo; hi = (absorbed hi rs).0 } ∷ (absorbed hi rs).1
     else (if r.lo == hi then record { lo = lo; hi = r.hi } ∷ rs else record { lo = lo; hi = hi } ∷ (r ∷ rs))
 
--- The ranges of done windows after adding (lo, hi].
+-- The ranges of done windows after adding the window (lo, hi].
 abbrev pub put_in : List DoneRange → ℕ → ℕ → List DoneRange
 put_in [] lo hi = record { lo = lo; hi = hi } ∷ []
 put_in (r ∷ rs) lo hi = if nat_le lo r.hi then put_at r rs lo hi else r ∷ put_in rs lo hi
 
--- The low water `mark` and the ranges of done windows after adding (lo, hi].
+-- The low water and the ranges of done windows after adding the done window (lo, hi]. The low water was `mark` before
+-- the window was added.
 abbrev pub joined : ℕ → List DoneRange → ℕ → ℕ → ℕ × List DoneRange
 joined mark rs lo hi = if mark == lo then absorbed hi rs else (mark, put_in rs lo hi)
 
 -- ---- the front
 
--- The windows with the ends `es`, each of which is done if the test `done` is true of its end.
+-- The windows with the ends `es`. The window that ends at `hi` is done if `done hi` is true.
 abbrev pub marked : (ℕ → Bool) → List ℕ → List FrontWindow
 marked done es = map (λ hi. record { hi = hi; done = done hi }) es
 

@@ -10,7 +10,7 @@ use std::marker::Model;
 /// A front is a list of adjacent windows `(lo, hi]` of sequences. Each window is done or not done.
 ///
 /// Windows are appended in order and finished in any order. The low water is the sequence up to which all windows are
-/// done. The done windows above the low water are stored as ranges that touch neither each other nor the low water.
+/// done. The done windows above the low water are stored as ranges. No range touches another range or the low water.
 pub struct Front {
     start: u64,
     /// The upper bounds of the front's windows, in rising order.
@@ -21,7 +21,7 @@ pub struct Front {
     ranges: Vec<DoneRange>,
 }
 
-// `Drop` is implemented by hand because its derived code would be proved again in each crate that owns such a value
+// `Drop` is implemented by hand, because derived code would be proved again in each crate that owns a `Front`
 // (docs/DECISIONS.md, "Letting values go").
 impl Drop for Front {
     fn drop(self) {
@@ -91,9 +91,9 @@ impl Front {
     ///
     /// # Errors
     ///
-    /// The call returns the first of these errors whose condition holds, and an error changes nothing:
+    /// Checked in this order; after an error the front is unchanged:
     ///
-    /// - `NotRising`: the bound `hi` is not above the end.
+    /// - `NotRising`: the bound `hi` is not above the front's end.
     /// - `Memory`: an allocation failed.
     pub fn append(&mut self, hi: u64) -> Result<(), FrontFault>
         ensures answer { GivesUnlessMemory result (append_answer self.old.front hi) }
@@ -110,7 +110,8 @@ impl Front {
         Ok(())
     }
 
-    /// Reserves space, so that the next `finish` does not return `Memory`, even if windows are appended before it.
+    /// Reserves space for a call of `finish`. The next call of `finish` then does not return `Memory`, even if windows
+    /// are appended before that call.
     ///
     /// The call never changes the windows, even if the allocation fails.
     pub fn reserve(&mut self) -> Result<(), AllocError>
@@ -125,7 +126,7 @@ impl Front {
     ///
     /// # Errors
     ///
-    /// Checked in this order; an error changes nothing:
+    /// Checked in this order; after an error the front is unchanged:
     ///
     /// - `NoSuchWindow`: there is no such window.
     /// - `AlreadyDone`: the window is already done.

@@ -6,7 +6,7 @@ ghost use Rattle.range_front.specs.Ranges.{Apart, covers, absorbed, joined};
 
 use std::alloc::AllocError;
 
-/// A range of adjacent done windows, in which each sequence of `(lo, hi]` is done.
+/// A range `(lo, hi]` of sequences that consists of adjacent done windows.
 #[derive(Clone, Copy)]
 pub(crate) struct DoneRange {
     pub(crate) lo: u64,
@@ -53,8 +53,8 @@ fn absorb(ranges: &mut Vec<DoneRange>, place: usize, hi: u64) -> u64
     }
 }
 
-/// Marks the window `(lo, hi]` as done. The window is above the low water and in no range. The call merges the new
-/// range with the ranges that it touches.
+/// Marks the window `(lo, hi]` as done. The window is above the low water `mark`, and in no range of done windows. The
+/// call merges the window with the low water and with the ranges that the window touches.
 ///
 /// An error changes nothing.
 pub(crate) fn join(

@@ -15,7 +15,8 @@ abbrev pub docs_tokens : List DocView → List Token
 docs_tokens [] = []
 docs_tokens (d ∷ ds) = doc_tokens d ++ docs_tokens ds
 
--- The body of a `_revs_diff` request. The response to the request says which of the given leaves are missing.
+-- The body of a `_revs_diff` request. The response to a `_revs_diff` request says which of the given leaves are
+-- missing.
 abbrev pub diff_tokens : List DocView → List Token
 diff_tokens docs = begin_object ∷ (docs_tokens docs ++ end_object ∷ [])
 

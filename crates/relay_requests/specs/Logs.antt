@@ -51,18 +51,19 @@ is_of_session session r = bytes_eq r.0 session
 abbrev pub is_recorded : Text → Text → Recorded → Bool
 is_recorded session seq r = bytes_eq r.0 session && bytes_eq r.1 seq
 
--- Whether an entry of a log's history is kept, given the kept entries before this entry. A history keeps at most 50
+-- Whether a log keeps an entry of its history, if the newer entries in `kept` are kept. A history keeps at most 50
 -- entries, and at most two entries of a session. Entries of one session that are kept have different sequences.
 abbrev pub may_keep : List Recorded → EntryView → Bool
 may_keep kept e =
     nat_lt (length kept) 50 && nat_lt (count_by (is_of_session e.session) kept) 2 && not (list_any (is_recorded e.session e.seq) kept)
 
--- The entries of a log's history that are kept, newest first, if the entries in `kept` are kept before them.
+-- The entries of a log's history that are kept, newest first. The list `kept` has newer entries, which are kept
+-- already.
 abbrev pub thinned : List Recorded → List EntryView → List EntryView
 thinned kept [] = []
 thinned kept (e ∷ es) = if may_keep kept e then e ∷ thinned (kept ++ recorded_of e ∷ []) es else thinned kept es
 
--- The JSON texts of the entries of a history, each after a comma.
+-- The JSON texts of the entries of a history, with a comma before each text.
 abbrev pub older_text : List EntryView → Text
 older_text [] = []
 older_text (e ∷ es) = (44 ∷ e.json) ++ older_text es
@@ -78,7 +79,8 @@ abbrev pub head_tokens : Option Text → Text → Text → List Token
 head_tokens rev session seq =
     begin_object ∷ (rev_tokens rev ++ position_tokens session seq ++ key (codes "history") ∷ begin_array ∷ [])
 
--- The log that a server last returned, with a new entry before its history.
+-- The text of a log that records checkpoint c. A new entry is followed by the kept entries of the log that the same
+-- server last returned.
 abbrev pub log_text : Text → LogView → CheckpointView → Text
 log_text session log c =
     print (head_tokens log.rev session c.seq) ++ print (entry_tokens session c)

@@ -33,8 +33,7 @@ abbrev pub changes_method : Text → Text
 changes_method [] = codes "GET"
 changes_method (c ∷ cs) = codes "POST"
 
--- The path of a `_changes` request. Each of the last three parameters is a text that begins with `&`, or the empty
--- text.
+-- The path of a `_changes` request. The parameters `wait`, `filter` and `query` are empty, or begin with `&`.
 abbrev pub path_with : ℕ → Text → Text → Text → Text → Text
 path_with batch since wait filter query =
     codes "/_changes?style=all_docs&limit=" ++ decimal batch ++ codes "&seq_interval=" ++ decimal batch

@@ -139,7 +139,7 @@ fn count_of_session(kept: &[Recorded<'_>], session_id: &str) -> usize
     kept.iter().filter(|r| r.session_id == session_id).count()
 }
 
-/// Whether one of the entries that a log keeps has the given session id and recorded sequence.
+/// Whether one of the entries that a log keeps has the given session id and the given recorded sequence.
 fn has_entry(kept: &[Recorded<'_>], session_id: &str, seq: &str) -> bool
     ensures { result ≡ list_any (λ r. is_recorded session_id.now seq.now (recorded_view r)) kept.now }
 {
@@ -168,7 +168,7 @@ fn has_space_for(kept: &[Recorded<'_>], session_id: &str) -> bool
     count_of_session(kept, session_id) < 2
 }
 
-/// Whether a log that keeps the given entries also keeps a given older entry.
+/// Whether a log also keeps the older entry `entry`, if the log keeps the newer entries `kept`.
 fn may_keep(kept: &[Recorded<'_>], entry: &LogEntry) -> bool
     ensures { result ≡ may_keep (kept_view kept.now) (entry_view entry.now) }
 {
@@ -219,7 +219,7 @@ fn put_older(
     Ok(())
 }
 
-/// Returns the JSON text of the log that a server last returned, with a new entry before its history.
+/// Returns the JSON text of the log that a server last returned, with a new entry before the log's history.
 pub(crate) fn log_body(
     alloc: Global,
     session_id: &str,

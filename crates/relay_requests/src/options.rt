@@ -1,11 +1,11 @@
-//! The options for writing the requests of a run.
+//! The options of a run that determine the text of its requests.
 ghost use Rattle.std.specs.Prelude.{◌≡◌, IfOk, string_bytes};
 ghost use Rattle.relay_requests.specs.Logs.{log_path as log_path_of};
 
 use md5::{Digest, Md5};
 use std::alloc::{AllocError, Global};
 
-/// The options for writing the requests of a run. An empty string means that the option is absent.
+/// The options of a run that determine the text of its requests. An empty string means that the option is absent.
 #[derive(Drop)]
 pub struct RequestOptions {
     /// The path of both replication logs.
@@ -21,7 +21,8 @@ pub struct RequestOptions {
     pub choice: String,
 }
 
-/// Returns the path of both replication logs, which depends on the source, the target and the selection.
+/// Returns the path of both replication logs, which depends on the source, the target, the filter, the query, the
+/// selection and the salt.
 pub fn log_path(
     alloc: Global,
     source: &str,

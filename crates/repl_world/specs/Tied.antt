@@ -20,7 +20,7 @@ use Rattle.repl_peer.specs.declared.fault.TargetFault.{TargetFault}
 use Rattle.repl_world.specs.Bags.{IsBag}
 use Rattle.repl_world.specs.Worlds.{WorldValue, rep_of}
 
--- The invariants that the parts of world w satisfy by their types.
+-- The invariants of the source's database, the target and the bag of world w, which the types of these parts guarantee.
 pub record IsWorld (refuses : Document → Bool) (w : WorldValue) : Type 0 where
   pub source : LawfulDatabase w.source.db
   pub target : Lawful refuses w.target
@@ -28,8 +28,8 @@ pub record IsWorld (refuses : Document → Bool) (w : WorldValue) : Type 0 where
 
 -- ---- tied worlds
 
--- The bag has a window at index `place`. If this window has the source's current life, the request or the parcel is
--- consistent with the window.
+-- The bag has a window at index `place`. If the window at `place` has the source's current life, the request `a`, or
+-- the parcel `p`, is consistent with the window.
 pub record OwnAsked (w : WorldValue) (place : ℕ) (a : AskedValue) : Type 0 where
   pub window : WindowValue
   pub own : slice_get w.bag.windows place ≡ Some window
@@ -46,8 +46,8 @@ pub record Tied (w : WorldValue) : Type 0 where
   -- The life of each window or log in the bag is at most the life of the source's database.
   pub window_lives : (x : WindowValue) → Among x w.bag.windows → x.life ≤ w.source.db.life
   pub log_lives : (g : ℕ × List EntryValue) → Among g w.bag.logs → g.0 ≤ w.source.db.life
-  -- A window of the bag that has the source's current life is consistent with the source's database. The requests and
-  -- parcels of a window with the source's current life are consistent with the window.
+  -- A window of the bag that has the source's current life is consistent with the source's database. Each request or
+  -- parcel in the bag is consistent with its window, if the window has the source's current life.
   pub windows : (x : WindowValue) → Among x w.bag.windows → x.life ≡ w.source.db.life
       → IsTiedWindow w.source.db w.chosen x
   pub asked : (a : ℕ × AskedValue) → Among a w.bag.asked → OwnAsked w a.0 a.1
@@ -57,16 +57,16 @@ pub record Tied (w : WorldValue) : Type 0 where
   -- Each log entry in the bag comes from a session of the target.
   pub entries : (e : EntryValue) → Among e w.bag.entries → IsSentEntry w.target e
 
--- The target has no session of the replication, and the source has no log entry of the replication. The two peers may
--- have sessions and log entries of other selections.
+-- The target has no session of the replication from the source for the selection `chosen`, and the source has no log
+-- entry of this replication. The two peers may have sessions and log entries of other selections.
 pub record HoldNone (source target : PeerValue) (chosen : Choice) : Type 0 where
   pub sessions : (s : SessionValue) → Among s target.sessions → s.rep ≡ rep_between source target chosen → ⊥
   pub log : source_log source (rep_between source target chosen) ≡ []
 
 -- ---- guarantees of tied worlds
 
--- Settling a parcel of the bag never returns `Uncovered` if the session has the parcel's window and the window has the
--- source's current life.
+-- Settling a parcel of the bag never returns `Uncovered` if the session has the parcel's window, and this window has
+-- the source's current life.
 abbrev pub NeverUncovered : (Document → Bool) → WorldValue → Type 0
 NeverUncovered refuses w =
     (p : ℕ × ParcelValue) → Among p w.bag.parcels
@@ -75,9 +75,9 @@ NeverUncovered refuses w =
     → (result : Result Settled TargetFault) (now : PeerValue) → SettleGives refuses w.target s.id p.1 result now
     → is_uncovered result ≡ false
 
--- The guarantees of a consistent world. In a consistent world, the target covers the source's feed up to the sequences
+-- The guarantees of a consistent world. In a consistent world, the target covers the source's feed up to each sequence
 -- that both logs claim, and up to the common checkpoint. An audit in a consistent world finds no leaf that is not
--- covered. In a consistent world, settling a parcel for the parcel's window never returns `Uncovered`.
+-- covered. The clause `covered` says when settling a parcel never returns `Uncovered`.
 pub record IsTrustworthy (refuses : Document → Bool) (w : WorldValue) : Type 0 where
   pub tied : Tied w
   pub honest : LogsAreHonest w.source w.target w.chosen

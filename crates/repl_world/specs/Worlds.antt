@@ -85,8 +85,8 @@ abbrev pub settles : (Document → Bool) → WorldValue → SessionId → Option
 settles refuses w session None = w
 settles refuses w session (Some p) = record w { target = after_settle refuses w.target session p.1 }
 
--- The world after settling ran out of memory after n documents. If fewer than n documents can be settled, all of these
--- documents are settled.
+-- The world after a step settled n documents of a parcel, and then ran out of memory. If settling without a failure
+-- would settle fewer than n documents, the step has settled all of these documents.
 abbrev pub stops : (Document → Bool) → WorldValue → SessionId → ℕ → Option (ℕ × ParcelValue) → WorldValue
 stops refuses w session n None = w
 stops refuses w session n (Some p) = record w { target = after_some refuses w.target session p.1 n }
@@ -125,8 +125,8 @@ reads_log w = record w { bag = with_log w.bag (log_of_source w) }
 abbrev pub agreed : WorldValue → List EntryValue → Option (SessionId × ℕ)
 agreed w log = common log (target_log w.target (rep_of w))
 
--- The parameters of a new session of the target. The session begins at the common checkpoint of the target's log and a
--- log of the bag, and has the life of the bag's log.
+-- The parameters of a new session of the target. A new session begins at the common checkpoint of the target's log and
+-- a log of the bag, and has the life of the bag's log.
 abbrev pub beginning_in : WorldValue → ℕ → ℕ × List EntryValue → Beginning
 beginning_in w goal log = record {
   scope = record { rep = rep_of w; life = log.0; base = base_at (agreed w log.1); goal = goal };
@@ -172,8 +172,8 @@ run refuses w (step ∷ steps) = run refuses (happens refuses w step) steps
 
 -- ---- failed allocations
 
--- The effect of a step that ran out of memory. A step that runs out of memory changes the world only if the step
--- settles a parcel. The step may then have settled a part of the parcel's documents.
+-- The effect of a step that ran out of memory. A step that runs out of memory changes nothing, except that a step that
+-- settles a parcel may have settled a part of the parcel's documents.
 abbrev pub IsStopped : (Document → Bool) → WorldValue → SessionId → Option (ℕ × ParcelValue) → WorldValue → Type 0
 IsStopped refuses w session parcel now =
     (now ≡ w)
@@ -184,8 +184,8 @@ abbrev pub CutShort : (Document → Bool) → WorldValue → Step → WorldValue
 CutShort refuses w (Settle session parcel) now = IsStopped refuses w session (slice_get w.bag.parcels parcel) now
 CutShort refuses w step now = now ≡ w
 
--- The effect of a run that ran out of memory in one of its steps. The earlier steps have their complete effects, and
--- the step in which memory ran out may have a part of its effect.
+-- The effect of a run that ran out of memory in one of its steps. The steps before the failed step have their complete
+-- effects, and the failed step has an effect that `CutShort` allows.
 abbrev pub StoppedIn : (Document → Bool) → WorldValue → List Step → WorldValue → Type 0
 StoppedIn refuses w steps now =
     (k : ℕ) × (step : Step) × (slice_get steps k ≡ Some step) × CutShort refuses (run refuses w (take k steps)) step now

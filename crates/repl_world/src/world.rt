@@ -121,7 +121,7 @@ impl<F: WriteFilter> World<F> {
         self.bag.sizes()
     }
 
-    /// Has no effect at run time, but gives proofs the invariant of the world.
+    /// Gives proofs the invariant of the world. The call has no effect at run time.
     fn law(&self)
         ensures { IsWorld (F.refuses self.now.0.1) self.now.1 }
     {
@@ -132,12 +132,12 @@ impl<F: WriteFilter> World<F> {
 
     /// Takes steps in order.
     ///
-    /// If the call of a step fails, the step has the effect of the failed call. A step whose index is not in the
-    /// message bag changes nothing. If an allocation fails in a step, the step changes nothing, except that a settling
-    /// step may have settled a part of its parcel (`Stopped`).
+    /// If a peer's call fails in a step, the step has the effects of the failed call. A step whose index is not in the
+    /// message bag changes nothing. If an allocation fails, the failed step changes nothing, except that a step that
+    /// settles a parcel may have settled a part of the parcel's documents (`Stopped`).
     ///
-    /// If the world was consistent, it stays consistent. The target of a consistent world covers the source's current
-    /// feed up to the sequences that both logs claim.
+    /// A consistent world stays consistent. The target of a consistent world covers the source's current feed up to the
+    /// sequences that both logs claim.
     pub fn run(&mut self, alloc: Global, steps: &[Step]) -> Result<(), AllocError>
         ensures filters { self.new.0 ≡ self.old.0 }
         ensures ok { OnOk result (self.new.1 ≡ run (F.refuses self.old.0.1) self.old.1 steps.now) }
@@ -355,7 +355,7 @@ impl<F: WriteFilter> World<F> {
         unless_memory(self.target.append(session, window))
     }
 
-    /// Puts the target's request for the missing leaves of one of the bag's windows into the message bag.
+    /// For a window of the message bag, puts the target's request for the missing leaves into the message bag.
     fn diff(&mut self, alloc: Global, place: usize) -> Result<(), AllocError>
         ensures filters { self.new.0 ≡ self.old.0 }
         ensures ok { OnOk result (self.new.1 ≡ differs self.old.1 place (slice_get self.old.1.bag.windows place)) }
@@ -368,7 +368,7 @@ impl<F: WriteFilter> World<F> {
         self.bag.put_asked(place, asked)
     }
 
-    /// Puts the source's parcel for one of the bag's requests into the message bag.
+    /// For a request of the message bag, puts the source's parcel into the message bag.
     fn fetch(&mut self, alloc: Global, place: usize) -> Result<(), AllocError>
         ensures filters { self.new.0 ≡ self.old.0 }
         ensures ok { OnOk result (self.new.1 ≡ fetches self.old.1 (slice_get self.old.1.bag.asked place)) }
@@ -399,7 +399,7 @@ impl<F: WriteFilter> World<F> {
         found_memory(self.target.settle(session, parcel))
     }
 
-    /// Records a session, and puts its entry into the message bag.
+    /// Records a session, and puts the session's entry into the message bag.
     fn record(&mut self, session: SessionId, at: Moment) -> Result<(), AllocError>
         ensures filters { self.new.0 ≡ self.old.0 }
         ensures ok { OnOk result (self.new.1 ≡ records self.old.1 session at) }
@@ -408,7 +408,7 @@ impl<F: WriteFilter> World<F> {
         self.bag.record(&mut self.target, session, at)
     }
 
-    /// Concludes a session, and puts its entry into the message bag if concluding succeeds.
+    /// Concludes a session, and puts the session's entry into the message bag if concluding succeeds.
     fn conclude(&mut self, session: SessionId, at: Moment) -> Result<(), AllocError>
         ensures filters { self.new.0 ≡ self.old.0 }
         ensures ok { OnOk result (self.new.1 ≡ concludes self.old.1 session at) }
@@ -458,7 +458,7 @@ impl<F: WriteFilter> World<F> {
     }
 }
 
-/// Converts a database error. Only the error `Memory` ends the run of a list of steps.
+/// Returns an error exactly if the database's error is `Memory`, because only a failed allocation ends a run of steps.
 fn passed(fault: BaseFault) -> Result<(), AllocError>
     ensures ok { OnOk result (fault ≡ base_faults.Memory → ⊥) }
     ensures err { OnErr result (fault ≡ base_faults.Memory) }
@@ -469,7 +469,7 @@ fn passed(fault: BaseFault) -> Result<(), AllocError>
     }
 }
 
-/// Returns an error only if the result is `Memory`.
+/// Returns an error exactly if the result of a peer's call is `Memory`.
 fn unless_memory(answer: Result<(), TargetFault>) -> Result<(), AllocError>
     ensures ok { OnOk result (answer ≡ Err faults.Memory → ⊥) }
     ensures err { OnErr result (answer ≡ Err faults.Memory) }
@@ -480,7 +480,7 @@ fn unless_memory(answer: Result<(), TargetFault>) -> Result<(), AllocError>
     }
 }
 
-/// Returns an error only if settling ran out of memory.
+/// Returns an error exactly if an allocation failed while a parcel was settled.
 fn found_memory(answer: Result<Settled, TargetFault>) -> Result<(), AllocError>
     ensures ok { OnOk result (stopped_at answer ≡ None) }
     ensures err { OnErr result ((n : ℕ) × (stopped_at answer ≡ Some n)) }

@@ -45,8 +45,9 @@ pub data WritesInPart (fault : ScriptFault) (made : List ℕ) (held held' : Opti
   in_part : (text missing : List ℕ) → made ≡ text ++ missing → Appends held held' text → fault ≡ Write → WritesInPart fault made held held'
   nothing : Appends held held' [] → IsWhole fault [] → WritesInPart fault made held held'
 
--- The rest of a document was not written completely, or the document's text does not begin with the front. The state s
--- is the parser's at the document's end.
+-- An error at the end of a document, after the part `front` of the document's text was written. The error is
+-- `LateMember` if the document's text does not begin with `front`. Otherwise a device or an allocation failed, and the
+-- rest of the document was not written completely. The parser has the state s at the document's end.
 abbrev pub RestBreaks : AnswerFault → State → Words → List ℕ → Option (List ℕ) → Option (List ℕ) → Type 0
 RestBreaks (Refused why at) s w front held held' = ⊥
 RestBreaks (LateMember at) s w front held held' =
@@ -54,9 +55,9 @@ RestBreaks (LateMember at) s w front held held' =
 RestBreaks (Device fault) s w front held held' =
     (starts_with nat_eq s.text front ≡ true) × WritesInPart fault (rest_text w s.text (length front)) held held'
 
--- A device or an allocation failed after the bytes `before`. The texts of the items in these bytes were written, and the
--- beginning of the next item, but a failed write has not written `missing`. The text `part` was written before the given
--- bytes.
+-- A device or an allocation failed after `before`, a prefix of the given bytes. The output for this prefix is the texts
+-- of the items in it, and then the beginning `last` of the next item. The text `part` of this output was written before
+-- the given bytes were read, and `text` after that. The remaining text `missing` is empty, unless a write failed.
 pub record Begins (fault : ScriptFault) (s : State) (w : Words) (part bytes : List ℕ) (held held' : Option (List ℕ)) : Type 0 where
   pub before : List ℕ
   pub behind : List ℕ
@@ -69,9 +70,10 @@ pub record Begins (fault : ScriptFault) (s : State) (w : Words) (part bytes : Li
   pub written : Appends held held' text
   pub complete : IsWhole fault missing
 
--- The last byte of the given bytes up to `behind` ends a document whose output has begun in another way. The items
--- before this document were written, and the beginning of the document. The text `part` was written before the given
--- bytes, and `at` is the number of bytes up to the document's end.
+-- Of the given bytes, the byte `last` after the bytes `front` ends a long document. The output `begun`, which was
+-- written for the beginning of this document, is not the beginning of the document's output (`IsLate`). The items in
+-- `front` were written, and then `begun`. The text `part` was written before the given bytes were read. The parser has
+-- read `at` bytes up to the document's end.
 pub record IsLateAt (at : ℕ) (s : State) (w : Words) (part bytes : List ℕ) (held held' : Option (List ℕ)) : Type 0 where
   pub front : List ℕ
   pub last : ℕ
@@ -92,9 +94,10 @@ Breaks (Device fault) s w part bytes held held' = Begins fault s w part bytes he
 
 -- ---- the stored parser
 
--- The parser that stores each byte has the state s, and the program's parser has the state r. The output has begun the
--- next item with the text `part`. The program has a front of the current document, with the number of stored bytes when
--- the front was built.
+-- The state s is of a parser that stores each byte, and r is the state of the program's parser. The output has begun
+-- the next item with the text `part`. If the current document is long, `front` is the output for its beginning without
+-- the bytes that the program's parser did not store. The program's parser had stored `at` bytes of the document when
+-- `front` was built.
 pub data Tracks (s r : State) (front : List ℕ) (at : ℕ) (w : Words) (part : List ℕ) : Type 0 where
   tracks_whole : Like s r → front ≡ [] → part ≡ [] → Tracks s r front at w part
   tracks_long : (cut : LongCut) (name : Name) → Mirrors cut name s r → front ≡ cut.front → at ≡ length cut.stored → (length front == 0) ≡ false
@@ -176,9 +179,9 @@ Answered wanted w left held held' passed =
     × (end_of (after (start wanted) read).place ≡ Ok tt) × (passed ≡ (after (start wanted) read).passed)
 
 -- The effect of a run that failed. If the input of a run is invalid at its last byte, the items before that byte are
--- written. If a device or an allocation failed, the written text is a prefix of the output for the complete input. In a
--- long document, the beginning of the document's item is written, too. The item of the document may be different only
--- if an unwrapped member follows, which is the error `LateMember` at the document's end.
+-- written. If a device or an allocation failed, the written text is a prefix of the output for the complete input. If
+-- the run failed in a long document, the beginning of the document's output is written, too. After the error
+-- `LateMember`, this beginning is not the beginning of the document's complete output.
 abbrev pub Stopped : Wanted → Words → Option (List ℕ) → Option (List ℕ) → Option (List ℕ) → AnswerFault → Type 0
 Stopped wanted w left held held' (Refused why at) =
     (read : List ℕ) × (IsFront wanted left read ⊎ IsAll wanted left read)

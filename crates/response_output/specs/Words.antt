@@ -47,12 +47,12 @@ id_kept w id = record w { id = id; listed = false }
 abbrev pub document_text : Words → List ℕ → List ℕ
 document_text w text = before w ++ (text ++ behind w)
 
--- A part of a document's text: what the text `front` has after its first `told` bytes, and then the given bytes. The
--- part begins with the text before the document if `told` is 0.
+-- The output for a part of a document. The part has the text `front` without its first `told` bytes, and then the given
+-- bytes. If `told` is 0, the output begins with the text that the formatter writes before a document.
 abbrev pub part_text : Words → List ℕ → ℕ → List ℕ → List ℕ
 part_text w front told bytes = cond (told == 0) (before w) [] ++ (drop told front ++ bytes)
 
--- What the formatter writes for a document after the document's first `told` bytes.
+-- The output for the rest of a document whose first `told` bytes were written.
 abbrev pub rest_text : Words → List ℕ → ℕ → List ℕ
 rest_text w text told = drop told text ++ behind w
 

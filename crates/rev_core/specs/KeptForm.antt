@@ -1,4 +1,4 @@
--- How a compact revision is stored, in definitions that no public contract uses.
+-- The stored form of a compact revision. No public contract uses the definitions of this file.
 use Rattle.rev_core.specs.Rev.{RevId}
 use Rattle.rev_core.specs.ShortSig.{text_in}
 use Rattle.rev_core.specs.declared.kept_rev.Form.{Form}

@@ -23,7 +23,7 @@ is_short text = if length text == 32 then list_all is_hex_digit text else nat_le
 unfoldable pub bytes_in : ℕ → ℕ → List ℕ
 bytes_in front back = to_le_bytes w64 front ++ to_le_bytes w64 back
 
--- The signature that two integers encode, given its length `len`. If `len` is 0, the signature is the 32 hexadecimal
--- digits of the integers' bytes.
+-- The signature that the integers `front` and `back` encode. The signature has the first `len` bytes of the two
+-- integers, or, if `len` is 0, the 32 hexadecimal digits of their 16 bytes.
 abbrev pub text_in : ℕ → ℕ → ℕ → List ℕ
 text_in len front back = if len == 0 then digits_of (bytes_in front back) else take len (bytes_in front back)

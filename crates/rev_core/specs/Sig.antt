@@ -18,11 +18,11 @@ is_sig text = nat_le 1 (length text) && nat_le (length text) 64 && list_all is_s
 abbrev pub sig_read : List ℕ → Result (List ℕ) RevFault
 sig_read text = if is_sig text then Ok text else Err faults.BadSig
 
--- A string, followed by zeros up to 64 bytes.
+-- A string, to which zeros are appended up to a length of 64 bytes.
 abbrev pub padded : List ℕ → List ℕ
 padded text = text ++ replicate (64 - length text) 0
 
--- The first `len` bytes of the stored array are a signature, and its other bytes are zero.
+-- The first `len` bytes of an array of 64 bytes are a signature, and all other bytes of the array are zero.
 pub record IsStored (bytes : List ℕ) (len : ℕ) : Type 0 where
   pub size : length bytes ≡ 64
   pub fits : len ≤ 64

@@ -1,4 +1,4 @@
--- A signature's array and length can be recovered from its string.
+-- The string of a stored signature determines the stored array and the stored length.
 use Rattle.std.specs.Prelude.{◌≡◌, take, length}
 use Rattle.std.proofs.Common.{arith, sym}
 use Rattle.std.proofs.lemmas.List.{length-take-le}

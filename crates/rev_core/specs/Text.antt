@@ -22,7 +22,7 @@ value_of digits = fold with_digit 0 digits
 abbrev pub is_generation : List ℕ → Bool
 is_generation text = nat_le 49 (slice_index text 0) && list_all is_digit text && nat_lt (value_of text) (2 ^ 32)
 
--- The generation that a string denotes, if it denotes one.
+-- The generation that a string denotes, or `None` if the string is not a generation.
 abbrev pub generation_read : List ℕ → Option ℕ
 generation_read text = if is_generation text then Some (value_of text) else None
 

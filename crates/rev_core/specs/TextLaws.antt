@@ -14,7 +14,7 @@ use Rattle.rev_core.specs.Rev.{RevId, IsRev}
 use Rattle.rev_core.specs.Text.{is_digit, with_digit, value_of, is_generation, generation_read, is_dash, with_sig, cut_at, rev_read, rev_text}
 use Rattle.rev_core.specs.declared.fault.RevFault.TheVariants as faults
 
--- The function `value_of` satisfies the standard library's definition of a numeral's value.
+-- The function `value_of` computes the value of a numeral as the standard library defines it.
 decimals : IsNumeralModel (λ ds. list_all is_digit ds ≡ true) value_of
 decimals = numerals_by_fold _ (search rules) (fold with_digit) (search rules)
 
@@ -66,7 +66,7 @@ nonempty : (ds : List ℕ) → nat_le 49 (get_or ds 0 0) ≡ true → 0 < length
 nonempty [] h = absurd (false≢true h)
 nonempty (c ∷ ds) h = omega arith
 
--- If a string parses as a generation, it is the generation's decimal string.
+-- If a string parses as a generation, the string is the decimal form of this generation.
 generation_told : (b : Bool) (ds rest : List ℕ) (r : RevId) → b ≡ is_generation ds → with_sig (cond b (Some (value_of ds)) None) rest ≡ Ok r → rev_text r ≡ ds ++ 45 ∷ rest
 generation_told true ds rest r is e =
     let parts = and_parts _ _ (sym is) in
@@ -87,6 +87,6 @@ cut_told true text r is e =
     ∙ sym (split_at_first is_dash text 0 within)
 cut_told false text r is e = cc
 
--- If a string parses as a revision, it is the string of this revision.
+-- If a string parses as a revision, formatting this revision gives the string.
 pub rev_text-read : (text : List ℕ) (r : RevId) → rev_read text ≡ Ok r → rev_text r ≡ text
 rev_text-read text r e = cut_told _ text r refl e

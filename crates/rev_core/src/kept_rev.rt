@@ -10,15 +10,15 @@ use std::marker::Model;
 
 /// A compact revision, which takes 24 bytes instead of the 72 bytes of a `Rev`, for lists of many revisions.
 ///
-/// The value itself stores a revision with a short signature. A revision with another signature is stored in a heap
-/// block. A signature is short if it has at most 16 bytes, or consists of the 32 lower-case hexadecimal digits of a
-/// digest. Most signatures are digests.
+/// A revision with a short signature is stored in the `KeptRev` itself. A revision with another signature is stored in
+/// a heap block. A signature is short if it has at most 16 bytes, or consists of the 32 lower-case hexadecimal digits
+/// of a digest. Most signatures are digests.
 #[derive(Debug)]
 pub struct KeptRev {
     form: Form,
 }
 
-// `Drop` is implemented by hand because its derived code would be proved again in each crate that owns such a value
+// `Drop` is implemented by hand, because derived code would be proved again in each crate that owns a `KeptRev`
 // (docs/DECISIONS.md, "Letting values go").
 impl Drop for KeptRev {
     fn drop(self) {
@@ -52,7 +52,7 @@ impl Model for KeptRev {
 impl KeptRev {
     ghost use Rattle.std.specs.Prelude.{IfOk};
 
-    /// Converts a revision. The call allocates only if the signature is not short.
+    /// Converts a revision to a compact revision. The call allocates only if the revision's signature is not short.
     pub fn keep(alloc: Global, rev: &Rev) -> Result<KeptRev, AllocError>
         ensures { IfOk result (λ k. k ≡ rev.now) }
     {
@@ -62,8 +62,9 @@ impl KeptRev {
         }
     }
 
-    /// Converts a revision with a short signature, without allocating. Returns `None` if the signature is not short.
-    // The function is not inlined, because inlining it increases the number of instructions of an edit.
+    /// Converts a revision with a short signature to a compact revision, without allocating. Returns `None` if the
+    /// revision's signature is not short.
+    // The function `short` is not inlined, because an edit executes more instructions if `short` is inlined.
     #[inline(never)]
     pub fn short(rev: &Rev) -> Option<KeptRev>
         ensures { result ≡ short_of rev.now }

@@ -119,7 +119,8 @@ impl PartialEq for Rev {
     ghost laws = { Cmp.partial_equiv_from_equiv (eq_by_cmp_equiv rev_cmp_total) };
 
     fn eq(&self, other: &Rev) -> bool {
-        // The comparison begins with the generation, because most compared revisions differ in it.
+        // The comparison begins with the generations, because most pairs of compared revisions have different
+        // generations.
         if self.generation != other.generation {
             return false;
         }

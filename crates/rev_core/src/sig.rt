@@ -115,7 +115,8 @@ impl Ord for Sig {
     ghost matches_eq = { Prim.search (comparing, rules) };
 
     fn cmp(&self, other: &Sig) -> Ordering {
-        // The comparison begins with the first byte, because most compared signatures differ in it.
+        // The comparison begins with the first byte, because most pairs of compared signatures have different first
+        // bytes.
         let (first, against) = (self.bytes[0], other.bytes[0]);
         if first != against {
             return first.cmp(&against);

@@ -8,7 +8,7 @@ use Rattle.script_engine.specs.declared.chunks.Chunks.{Chunks}
 abbrev pub max_reads : ℕ
 max_reads = 4294967295
 
--- The invariant of a chunk reader: its buffer is not empty, the last chunk is within the buffer, and at most
+-- The invariant of a chunk reader: the buffer has 1 to 65,536 bytes, the last chunk is within the buffer, and at most
 -- `max_reads` reads were made.
 pub record AreChunks (c : Chunks) : Type 0 where
   pub some : 0 < length c.room.items
@@ -16,20 +16,20 @@ pub record AreChunks (c : Chunks) : Type 0 where
   pub fits : c.count ≤ length c.room.items
   pub few : c.turns ≤ max_reads
 
--- The result of reading a chunk, which says whether a chunk was read. The second and third argument of `ReadsChunk` are
--- the reader's remaining bytes before and after the call.
+-- The result of reading a chunk, which says whether a chunk was read. The reader's remaining bytes are `left` before
+-- the call, and `left'` after the call.
 abbrev pub ReadsChunk : Bool → Option (List ℕ) → Option (List ℕ) → List ℕ → Type 0
 ReadsChunk true left left' chunk = Consumes left left' chunk × (0 < length chunk) × (length chunk ≤ 65536)
 ReadsChunk false left left' chunk = Keeps left left' × IsAtEnd left' × (chunk ≡ [])
 
--- A reader made `turns` reads, and no read failed. The further arguments of `HasRead` are the reader's counts of reads
--- and of failures before and after the call.
+-- A reader made `turns` reads, and no read failed. The reader's counts of reads and of failures are `reads` and
+-- `failures` before the calls, and `reads'` and `failures'` after the calls.
 pub record HasRead (turns reads reads' failures failures' : ℕ) : Type 0 where
   pub made : counted reads' 0 ≡ counted reads turns
   pub unfailing : failures' ≡ failures
 
--- The reader failed, or the maximum number of reads was reached. The arguments of `StopsReading` are the reader's
--- counts of reads and of failures before and after the call.
+-- The reader failed, or the maximum number of reads was reached. The reader's counts of reads and of failures are
+-- `reads` and `failures` before the call, and `reads'` and `failures'` after the call.
 abbrev pub StopsReading : ℕ → ℕ → ℕ → ℕ → Type 0
 StopsReading reads reads' failures failures' =
     FailsOnce failures failures' ⊎ ((counted reads' 0 ≡ counted reads max_reads) × (failures' ≡ failures))

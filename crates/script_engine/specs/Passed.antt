@@ -3,7 +3,8 @@ use Rattle.std.specs.Prelude.{ℕ, List, [], ◌++◌}
 use Rattle.script_engine.specs.declared.passed.Pass.{Pass}
 use Rattle.script_engine.specs.declared.passed.Pass.TheVariants as pass
 
--- The bytes of a stream's history after a step that may add bytes.
+-- The bytes of a stream's history after a step. The start of the history (`Nothing`) has no bytes, and the step `More`
+-- appends bytes to the earlier bytes.
 abbrev pub passed_bytes : Pass → List ℕ
 passed_bytes pass.Nothing = []
 passed_bytes (pass.More before bytes) = before.now.bytes ++ bytes.now

@@ -15,7 +15,7 @@ const MAX_READS: u32 = 4294967295;
 /// The maximum number of bytes that one read requests.
 const CHUNK: usize = 65536;
 
-/// Reads the input of a reader in chunks, into one buffer.
+/// The state of reading a reader's input in chunks, with the buffer for a chunk.
 #[derive(Drop)]
 pub struct Chunks {
     /// The buffer for a chunk.

@@ -27,7 +27,7 @@ pub(crate) enum Pass<'a> {
 impl Passed {
     ghost use Rattle.script_engine.specs.Passed.{passed_bytes};
 
-    /// Returns a stream's history after the step `_pass`.
+    /// Returns the history of a stream after the step `_pass`.
     #[inline(always)]
     pub(crate) fn of(_pass: &Pass<'_>) -> Passed
         ensures { result.bytes ≡ passed_bytes _pass.now }

@@ -5,7 +5,8 @@ use crate::passed::{Pass, Passed};
 use std::io;
 use std::io::Write;
 
-/// Records the bytes that a `std` writer accepts. Contracts can name all accepted bytes of any writer.
+/// Records the bytes that a `std` writer accepts. The wrapper keeps a history, so contracts can name all bytes that the
+/// inner writer accepted.
 #[derive(Drop)]
 pub struct Recorder<W> {
     inner: W,

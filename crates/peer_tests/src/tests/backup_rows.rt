@@ -1,16 +1,16 @@
-//! Test rows for backups. A source is restored, and calls receive data from other lives of the source. No allocation
-//! fails in the test rows.
+//! Test rows for backups. In these tests, a source is restored from a backup, and calls get data from other lives of
+//! the source. No allocation fails in the test rows.
 use crate::tests::peers::{Call, Lists, Rep, Rows, expect};
 use rev_tree::SessionId;
 
-/// The indices at which a bench has the source, the target, and a third peer.
+/// The indices of the source, the target and a third peer in a bench.
 const SOURCE: usize = 0;
 
 const TARGET: usize = 1;
 
 const OTHER: usize = 2;
 
-/// The indices of the first, the second, and later backups or windows of a bench.
+/// The indices of the first, the second and the third backup or window of a bench.
 const FIRST: usize = 0;
 
 const SECOND: usize = 1;
@@ -32,7 +32,8 @@ const REP: Rep = Rep {
     target: 2,
 };
 
-/// A source of three documents, which the first session replicates into an empty target, is backed up.
+/// Calls that replicate a source of three documents into an empty target in a first session, and then back up the
+/// source.
 const COPIED: Rows = &[
     (Call::Peer(1, None), "made"),
     (Call::Peer(2, None), "made"),
@@ -56,7 +57,7 @@ const COPIED: Rows = &[
     (Call::Backup(SOURCE), "1 at 3"),
 ];
 
-/// The second session replicates three more documents.
+/// Calls that load three more documents into the source, and replicate these documents in a second session.
 const AHEAD: Rows = &[
     (
         Call::Load(SOURCE, r#"{"_id":"d4","_rev":"1-a"}"#),
@@ -82,8 +83,8 @@ const AHEAD: Rows = &[
     ),
 ];
 
-/// After the restore, the source has the documents, local writes and log of the backup. After the restore, another
-/// document gets the sequence that the document d4 had.
+/// Calls that restore the source, which then has the documents, local writes and log of the backup. Another document
+/// then gets the sequence that the document d4 had before the restore.
 const PUT_BACK: Rows = &[
     (Call::Restore(SOURCE, FIRST), "restored"),
     (Call::Life(SOURCE), "1"),
@@ -108,12 +109,12 @@ fn other_life_refused(rt: HostRuntime) {
             Call::PutEntryOf(SOURCE, REP, TARGET, S2),
             "OtherLife { now: 1 }",
         ),
-        // The condition of the error `Older` is true, but the call checks that condition later.
+        // The condition of `Older` is true, too, but `PutEntry` checks the condition of `OtherLife` first.
         (Call::PutEntry(SOURCE, REP, S1, 1), "OtherLife { now: 1 }"),
         (Call::SourceLog(SOURCE, REP), "1 at 3;"),
         (Call::Page(SOURCE, 3, 4), "3 to 4: 4 e 1-a;"),
-        // The second session's windows end at 6, and the third session is missing, but the call checks both conditions
-        // later.
+        // The second session's windows end at 6, but `Append` checks the life of the window before the window's bounds.
+        // The third session does not exist yet.
         (Call::Append(TARGET, S2, SECOND), "OtherLife { now: 0 }"),
         (Call::Append(TARGET, S3, SECOND), "NoSuchSession"),
         (
@@ -124,7 +125,7 @@ fn other_life_refused(rt: HostRuntime) {
         (Call::SourceLog(SOURCE, REP), "3 at 4;1 at 3;"),
         (Call::Audit(SOURCE, TARGET), "clean"),
         (Call::Tree(TARGET, "d4"), "1-a of 1"),
-        // The third session is from the source's new life.
+        // The third session has the new life of the source, so its entry is accepted.
         (Call::PutEntryOf(SOURCE, REP, TARGET, S3), "put"),
     ];
     static LISTS: Lists = &[COPIED, AHEAD, PUT_BACK, ROWS];
@@ -135,7 +136,7 @@ fn other_life_refused(rt: HostRuntime) {
 fn copies_are_refused_by_name(rt: HostRuntime) {
     const ROWS: Rows = &[
         (Call::Backup(TARGET), "IsTarget"),
-        // The condition of the error `ForeignBackup` is true, but the call checks that condition later.
+        // The condition of `ForeignBackup` is true, too, but `Restore` checks the condition of `IsTarget` first.
         (Call::Restore(TARGET, FIRST), "IsTarget"),
         (Call::Peer(3, None), "made"),
         (Call::Restore(OTHER, FIRST), "ForeignBackup"),

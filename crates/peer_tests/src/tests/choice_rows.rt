@@ -121,8 +121,8 @@ fn pages_under_a_choice(rt: HostRuntime) {
     expect(&rt, rt.alloc(), LISTS);
 }
 
-/// The rows `chosen_copied` have three replications. The first replication copies two selected documents, the second
-/// copies all documents, and the third has the selection of the first.
+/// The rows `chosen_copied` have three replications. The first replication selects two documents, the second
+/// replication selects all documents, and the third replication selects the same two documents as the first.
 const COPIED: Rows = &[
     (Call::Choose(&["d4", "d2", "d2"]), "2 d2 d4"),
     (Call::Choose(&["d2", "d4"]), "2 d2 d4"),

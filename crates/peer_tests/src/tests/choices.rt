@@ -15,7 +15,7 @@ use test_support::shown;
 /// The index of a selection, or `None` for all documents.
 pub(crate) type Under = Option<usize>;
 
-/// A call on the source, the target, or the selections, which are named by index.
+/// A call on the source, on the target, or on a selection that is given by its index.
 #[derive(Clone, Copy)]
 pub(crate) enum Call<'a> {
     /// Load a document into the source.
@@ -34,14 +34,16 @@ pub(crate) enum Call<'a> {
     Has(Under, &'a str),
     /// Read the text of the id of the replication from the source into the target.
     Text(Under),
-    /// Read a page of the source above a sequence and up to a goal by scanning a given number of the feed's rows.
+    /// Read a page of the source, given the sequence before the page, the goal, and the number of the feed's rows to
+    /// scan.
     Page(u64, u64, u64, Under),
     /// Replicate the source into the target with one thread, given the session id and the number of feed rows that each
     /// window scans.
     Replicate(SessionId, u64, Under),
     /// Begin a session at the target.
     Begin(SessionId, Under),
-    /// Read a page of the source above a sequence and up to a goal, and append the page to a session at the target.
+    /// Read a page of the source, given the sequence before the page and the goal, and append the page to a session at
+    /// the target.
     Append(SessionId, u64, u64, Under),
     /// Audit the target.
     Audit(Under),
@@ -198,8 +200,8 @@ fn rep_text(alloc: Global, rep: &RepId) -> Option<String> {
     }
 }
 
-/// Returns the selection at an index. The result is `Some(None)` if the call is for all documents, and `None` if no
-/// selection has the given index.
+/// Returns the selection at an index. Returns `Some(None)` for a call on all documents, and `None` if no selection has
+/// the given index.
 fn chosen(choices: &[Chosen], under: Under) -> Option<Option<&Chosen>> {
     match under {
         Some(at) => choices.get(at).map(Some),
@@ -350,7 +352,7 @@ fn store(
     }
 }
 
-/// Returns a copy of the plan of a session with a selection.
+/// Returns the plan of a session with a selection.
 fn plan_under(session: SessionId, batch: u64, chosen: Option<&Chosen>) -> Option<Plan> {
     let Some(mut plan) = plan(session, batch, 0) else {
         return None;

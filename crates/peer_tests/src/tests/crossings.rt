@@ -14,7 +14,7 @@ const DOCUMENT: &str = r#"{"_id":"d","_revisions":{"start":2,"ids":["b","a"]},"v
 
 const LATER: &str = r#"{"_id":"d","_revisions":{"start":3,"ids":["c","b","a"]},"v":2}"#;
 
-/// Returns an empty database's request for the leaves of a database that has the document.
+/// Returns the parcel that a database with one document returns for the request of an empty database.
 fn parcel(alloc: Global) -> Option<Parcel> {
     let mut source = Database::new(alloc, 1);
     let Some(document) = doc(alloc, DOCUMENT) else {
@@ -32,7 +32,7 @@ fn parcel(alloc: Global) -> Option<Parcel> {
     source.open_revs(alloc, &asked).ok()
 }
 
-/// Moves a parcel into a thread, and returns the parcel and the text that the thread read from it.
+/// Moves a parcel into a thread. Returns the parcel, and the text that the thread made from the parcel.
 fn read_parcel<R: Threads>(
     rt: &R,
     alloc: Global,

@@ -7,7 +7,7 @@ const A: usize = 0;
 /// The index of the second database of a bench, which requests the leaves that it lacks.
 const B: usize = 1;
 
-/// The index of the first value that was read or fetched.
+/// The index of the first window, request or parcel that was read or fetched.
 const FIRST: usize = 0;
 
 /// Calls that store three documents, whose sequences are 1, 2 and 5.
@@ -50,7 +50,8 @@ static BOTH: Rows = &[
     ),
 ];
 
-/// Calls that read the complete feed of `BOTH`, and the request of the empty database B for the feed's leaves.
+/// Calls that read the complete feed of `BOTH`, and compute the request of the empty database B for the leaves in this
+/// feed.
 static BOTH_ASKED: Rows = &[
     (Call::Page(A, 0, 2, 10), "0 to 2: 2 d 2-b,2-a;"),
     (Call::Diff(B, FIRST), "0 to 2: d 2-b,2-a;"),
@@ -92,10 +93,10 @@ fn a_changed_document_moves_in_the_feed(rt: HostRuntime) {
 #[test]
 fn puts_as_given(rt: HostRuntime) {
     const GROWN: &str = r#"{"_id":"d","_revisions":{"start":3,"ids":["c","b"]}}"#;
-    // A longer ancestry adds a missing ancestor, and storing the ancestor's first content is a change.
+    // Storing `LONGER` adds a missing ancestor, and storing `ANCESTOR` adds the first content of 2-b. Both are changes.
     const LONGER: &str = r#"{"_id":"d","_revisions":{"start":3,"ids":["c","b","a"]}}"#;
     const ANCESTOR: &str = r#"{"_id":"d","_rev":"2-b","n":1}"#;
-    // The first content of a revision stays.
+    // Storing `AGAIN` changes nothing, because a revision keeps its first content.
     const AGAIN: &str = r#"{"_id":"d","_rev":"2-b","n":2}"#;
     const OTHER: &str = r#"{"_id":"d","_revisions":{"start":4,"ids":["d","c","x"]}}"#;
     static ROWS: Rows = &[
@@ -111,8 +112,8 @@ fn puts_as_given(rt: HostRuntime) {
         (Call::Tree(A, "e"), "no document"),
         (Call::Document(A, "d", "2-b"), r#" d 2-b,1-a live {"n":1};"#),
         (Call::Document(A, "d", "3-c"), " d 3-c,2-b,1-a live {};"),
-        // Calls that read an ancestor of which only the id is known, a revision that does not exist, and a document
-        // that does not exist.
+        // These calls read a revision without a content, a revision that does not exist, and a document that does not
+        // exist.
         (Call::Document(A, "d", "1-a"), "no content"),
         (Call::Document(A, "d", "2-x"), "no content"),
         (Call::Document(A, "e", "2-b"), "no content"),
@@ -122,7 +123,7 @@ fn puts_as_given(rt: HostRuntime) {
 
 #[test]
 fn edits_of_each_kind(rt: HostRuntime) {
-    // The signature of each new revision is the MD5 of its parent, its kind (live or deleted) and its body.
+    // The signature of each new revision is the MD5 of three parts: the parent, `live` or `deleted`, and the body.
     const FIRST_EDIT: &str = "1-a7b2c897c2eeb544e2e818194f53a9e3";
     const SECOND_EDIT: &str = "2-cb54dc74c0a7939aa02f5c29b5058e05";
     const GONE: &str = "3-5978dd13991326701fd91ce8b9f1cd04";
@@ -130,14 +131,14 @@ fn edits_of_each_kind(rt: HostRuntime) {
     const DEAD: &str = "1-e2ee0f94de389cef87fb74faf99cc2e1";
     const LIVE: &str = "2-e7915e5a79f14ff8d97a52f9ef488bbf";
     static ROWS: Rows = &[
-        // The first edit creates a document, and the second edit changes its leaf.
+        // The first edit creates the document d, and the second edit changes the document's leaf.
         (Call::Edit(A, "d", "", false, "{}", 0), FIRST_EDIT),
         (
             Call::Edit(A, "d", FIRST_EDIT, false, r#"{"n":1}"#, 1),
             SECOND_EDIT,
         ),
-        // The first edit deletes the document. The second edit names no parent, and its revision becomes a child of the
-        // deleted winner.
+        // The third edit deletes the document d. The fourth edit names no parent, and creates a child of the deleted
+        // winner of d.
         (Call::Edit(A, "d", SECOND_EDIT, true, "{}", 2), GONE),
         (
             Call::Tree(A, "d"),
@@ -180,8 +181,8 @@ fn edits_refused_by_name(rt: HostRuntime) {
     static ROWS: Rows = &[
         (Call::Edit(A, "d", "1-a", false, "{}", 0), "NoSuchDocument"),
         (Call::Put(A, TWO), "Changed { seq: 1 }"),
-        // The first edit names a parent that is not a leaf. The second edit names a parent that is not in the tree. The
-        // third edit names no parent, although the document has a live leaf.
+        // Three edits fail with `Conflict`. The first of them names a parent that is not a leaf, and the second names a
+        // parent that is not in the tree. The third edit names no parent, although the document has a live leaf.
         (Call::Edit(A, "d", "1-a", false, "{}", 0), "Conflict"),
         (Call::Edit(A, "d", "2-x", false, "{}", 0), "Conflict"),
         (Call::Edit(A, "d", "", false, "{}", 0), "Conflict"),
@@ -197,7 +198,7 @@ fn edits_refused_by_name(rt: HostRuntime) {
 
 #[test]
 fn an_edit_that_is_there(rt: HostRuntime) {
-    // A put stores, without its parent, the revision that the edit would create.
+    // The document `THERE` has the revision that the edit would create, but not the parent of this revision.
     const THERE: &str = r#"{"_id":"d","_rev":"2-1c600d37126a8e6d3c67d6f7a6a5c299"}"#;
     static ROWS: Rows = &[
         (
@@ -231,8 +232,8 @@ fn at_the_last_sequences(rt: HostRuntime) {
         (Call::Numbers(B), "8 at 9007199254740991"),
         (Call::Tree(A, "d"), "no document"),
         (Call::Put(A, LAST), "Changed { seq: 9007199254740991 }"),
-        // A put that changes nothing uses no update sequence. A put with a contradicting ancestry returns that error
-        // even if the database has no sequence left.
+        // A put that changes nothing uses no update sequence. A put with a contradicting ancestry returns
+        // `Contradiction` even if the database has no sequence left.
         (Call::Put(A, LAST), "Same"),
         (Call::Put(A, OTHER), "Contradiction 2-b,1-a,1-x"),
         (Call::Put(A, r#"{"_id":"e","_rev":"1-a"}"#), "SeqFull"),
@@ -266,8 +267,8 @@ fn a_fetched_document_has_its_ancestry_and_content(rt: HostRuntime) {
         (Call::Put(A, DELETED), "Changed { seq: 3 }"),
         (Call::Page(A, 0, 3, 10), "0 to 3: 3 d 2-a,3-c;"),
         (Call::Diff(B, FIRST), "0 to 3: d 2-a,3-c;"),
-        // A request or fetch lists the live leaf before the deleted leaf. The tree knows a longer ancestry of the
-        // deleted leaf than the ancestry that was put.
+        // A request or fetch lists the live leaf before the deleted leaf. The fetched ancestry of the deleted leaf is
+        // longer than the ancestry in `DELETED`, because the tree has an older ancestor.
         (
             Call::Fetch(A, FIRST),
             r#"0 to 3: d 2-a,1-r live {"n":1}; d 3-c,2-b,1-r deleted {};"#,
@@ -341,8 +342,8 @@ fn pages_of_few_documents_with_high_sequences(rt: HostRuntime) {
 fn copies_of_a_database(rt: HostRuntime) {
     /// The greatest life.
     const LAST: u64 = 9_007_199_254_740_991;
-    // The second database is a copy of the first database in the same life, and the third database is a copy of the
-    // first database in another life.
+    // The database at `SAME` is a copy of the first database in the same life, and the database at `OTHER` is a copy in
+    // another life.
     const SAME: usize = 1;
     const OTHER: usize = 2;
     const LATEST: usize = 3;
@@ -360,8 +361,7 @@ fn copies_of_a_database(rt: HostRuntime) {
         (Call::WindowLife(0), "0"),
         (Call::WindowLife(1), "9"),
         (Call::Document(OTHER, "c", "1-d"), " c 1-d live {};"),
-        // A document that is written into one copy does not appear in other copies, and the life of the written copy
-        // stays the same.
+        // Writing a document into one copy changes neither the other copies nor the life of the written copy.
         (
             Call::Put(OTHER, r#"{"_id":"a","_rev":"1-b"}"#),
             "Changed { seq: 6 }",

@@ -11,7 +11,7 @@ use std::alloc::Global;
 use std::process::Abort;
 use test_support::{rev, rev_text, shown};
 
-/// A call on a database. The index of an item names the database, the window, the request or the parcel.
+/// A call on a database. A call gives each database, window, request or parcel by its index.
 #[derive(Clone, Copy)]
 pub(crate) enum Call<'a> {
     /// Create the bench's next database with a UUID and an update sequence.
@@ -38,7 +38,8 @@ pub(crate) enum Call<'a> {
     /// Read a page of at most a given number of rows, above a sequence and up to a goal, and store the page as the next
     /// window.
     Page(usize, u64, u64, u64),
-    /// Compute the request for the leaves of a window that a database lacks, and store the request as the next request.
+    /// Compute a database's request for the leaves of a window that the database lacks, and store the request as the
+    /// next request.
     Diff(usize, usize),
     /// Fetch the documents for a request from a database, and store the documents as the next parcel.
     Fetch(usize, usize),
@@ -249,7 +250,7 @@ fn fetched(alloc: Global, db: &Database, asked: &Asked) -> Option<Parcel> {
     db.open_revs(alloc, asked).ok()
 }
 
-/// Returns the string that says whether a value was created.
+/// Returns the string `made` if a value was created, and otherwise `None`.
 pub(crate) fn made_text(alloc: Global, kept: Option<()>) -> Option<String> {
     match kept {
         Some(()) => "made".to_string(alloc).ok(),
@@ -327,7 +328,8 @@ pub(crate) fn edit_text(alloc: Global, answer: Result<Rev, BaseFault>) -> Option
     }
 }
 
-/// Parses a parent. The result is `Some(None)` for an empty string, and `None` for a string that is not a revision.
+/// Parses a parent. Returns `Some(None)` for an empty string (no parent), and `None` for a string that is not a
+/// revision.
 pub(crate) fn parent_of(text: &str) -> Option<Option<Rev>> {
     if text.is_empty() {
         return Some(None);

@@ -50,8 +50,8 @@ fn a_tree_of_1_001_leaves(rt: HostRuntime) {
 #[test]
 fn a_body_of_100_kb(rt: HostRuntime) {
     const ROWS: Rows = &[
-        // The expected signature is the MD5 of a line feed, the kind, a line feed and the body, and was computed by
-        // another program.
+        // The expected signature, which another program computed, is the MD5 of a line feed, the kind, a line feed and
+        // the body.
         (
             Call::EditLarge(SOURCE, 100_000),
             "1-e92068c18fcfcf8724b9bb33e1f43cca",

@@ -1,5 +1,5 @@
-//! Test rows for networks. Documents spread through a hub, a chain of hops is broken, a document is refused, a history
-//! is incomplete, and each error occurs.
+//! Test rows for networks. The tests spread documents through a hub, break a chain of hops, refuse a document, load an
+//! incomplete history, and cause each error.
 use crate::tests::nets::{Call, Lists, Rows, expect, of_slice};
 
 /// Four peers.
@@ -10,7 +10,8 @@ const FOUR: Rows = &[
     (Call::Add(4, None), "3"),
 ];
 
-/// The revisions that edits with the body {"v":1} create as a document's first revision and as a child of 1-a.
+/// The revisions that edits with the body {"v":1} create. `FIRST` is the first revision of a document, and `SECOND` is
+/// a child of 1-a.
 const FIRST: &str = "1-125e243b9a90308f8be767a220f77ae9";
 
 const SECOND: &str = "2-04e04b58ba493e5eb3fd86e7cf77b40e";
@@ -75,7 +76,7 @@ fn a_broken_chain_brings_nothing_to_its_end(rt: HostRuntime) {
             Call::Load(0, r#"{"_id":"d","_rev":"1-a"}"#),
             "Changed { seq: 1 }",
         ),
-        // The second hop of the chain from peer 0 to peer 2 is replicated before the first hop.
+        // In this list, the second hop of the chain from peer 0 to peer 2 is before the chain's first hop.
         (Call::Along(&[(1, 2), (0, 1), (3, 2)]), "done"),
         (Call::Tree(1, "d"), "1-a of 1"),
         (Call::Tree(2, "d"), "no document"),
@@ -104,13 +105,13 @@ fn a_refused_document_stays_away_and_others_go_on(rt: HostRuntime) {
             Call::Load(1, r#"{"_id":"d","_rev":"1-a"}"#),
             "Changed { seq: 2 }",
         ),
-        // The call returns no error although a filter excludes a document, and all peers have the document d.
+        // The call succeeds although a filter refuses the document x1, and all peers get the document d.
         (Call::Hub(2, 2), "done"),
         (Call::Tree(0, "x1"), "no document"),
         (Call::Tree(2, "x1"), "no document"),
         (Call::Tree(0, "d"), "1-a of 1"),
         (Call::Tree(2, "d"), "1-a of 1"),
-        // The next replication through the hub refuses the document a second time.
+        // The next replication through the hub refuses the document x1 a second time.
         (Call::Edit(2, "d", "1-a", r#"{"v":1}"#), SECOND),
         (Call::Edit(1, "x1", "1-a", r#"{"v":1}"#), SECOND),
         (Call::Hub(2, 2), "done"),
@@ -124,7 +125,7 @@ fn a_refused_document_stays_away_and_others_go_on(rt: HostRuntime) {
         ),
         (Call::Tree(2, "x1"), "no document"),
         (Call::Audit(1, 0), "clean"),
-        // The peer gets the document x1 through another chain of hops.
+        // Peer 2 gets the document x1 by a hop from peer 1, without the hub.
         (Call::Along(&[(1, 2)]), "done"),
         (
             Call::Tree(2, "x1"),
@@ -203,7 +204,7 @@ fn hops_that_are_refused(rt: HostRuntime) {
             Call::Load(0, r#"{"_id":"d","_rev":"1-a"}"#),
             "Changed { seq: 1 }",
         ),
-        // The hops before the failed hop keep their effect, and the hops after the failed hop are not replicated.
+        // The hops before the failed hop keep their effects, and the hops after the failed hop are not made.
         (Call::Along(&[(0, 1), (1, 1), (1, 2)]), "hop 1: SamePeer"),
         (Call::Tree(1, "d"), "1-a of 1"),
         (Call::Tree(2, "d"), "no document"),

@@ -17,7 +17,8 @@ use test_support::{rev_text, shown};
 /// The indices of a hop's source and target peer.
 type Places = (usize, usize);
 
-/// A call on a network. Peers are named by index. Each replication in a test has the next session number.
+/// A call on a network. Peers are named by index. The sessions of the replications in a test are numbered
+/// consecutively.
 #[derive(Clone, Copy)]
 pub(crate) enum Call<'a> {
     /// Add a peer with a UUID and the prefix that its filter refuses.

@@ -2,14 +2,14 @@
 use crate::tests::peers::{Beginning, Call, Lists, Rep, Rows, expect};
 use rev_tree::SessionId;
 
-/// The indices that the source, the target and a third peer have in most rows.
+/// The indices of the source, the target and a third peer in most tests.
 const SOURCE: usize = 0;
 
 const TARGET: usize = 1;
 
 const OTHER: usize = 2;
 
-/// The indices of the first values that were read or fetched.
+/// The indices of the first, the second and the third window, request or parcel that was read or fetched.
 const FIRST: usize = 0;
 
 const SECOND: usize = 1;
@@ -74,7 +74,8 @@ const THREE: Rows = &[
     (Call::Load(SOURCE, D), "Changed { seq: 1 }"),
 ];
 
-/// The first session of the target stores the source's feed and requests its document.
+/// Calls that begin the first session of the target, store the source's feed in the session, and request the feed's
+/// document.
 const ASKED: Rows = &[
     (Call::Begin(TARGET, S1, TO_ONE, 10), "begun"),
     (Call::Page(SOURCE, 0, 1), "0 to 1: 1 d 1-a;"),
@@ -82,7 +83,8 @@ const ASKED: Rows = &[
     (Call::Diff(TARGET, FIRST), "0 to 1: d 1-a;"),
 ];
 
-/// The source edits d, and a fetch of the requested revision then returns the descendant of that revision.
+/// Calls that edit d at the source, and then fetch the requested revision. The fetch returns the new descendant of the
+/// requested revision.
 const MOVED: Rows = &[
     (Call::Edit(SOURCE, "d", "1-a", false, "{}"), NEXT),
     (Call::Numbers(SOURCE), "1 at 2"),
@@ -92,7 +94,7 @@ const MOVED: Rows = &[
     ),
 ];
 
-/// The second session of the target stores the rest of the source's feed.
+/// Calls that begin the second session of the target, and store the rest of the source's feed in this session.
 const SECOND_SESSION: Rows = &[
     (Call::Begin(TARGET, S2, FROM_ONE, 12), "begun"),
     (
@@ -109,7 +111,7 @@ fn fetch_brings_descendant(rt: HostRuntime) {
         (Call::Covered(TARGET, "d", "1-a"), "true"),
         (Call::Record(TARGET, S1, 11), "1"),
     ];
-    // The next session has nothing to request.
+    // The second session has nothing to request, because the target has the source's leaf already.
     const THEN: Rows = &[
         (Call::Diff(TARGET, SECOND), "1 to 2:"),
         (Call::Fetch(SOURCE, SECOND), "1 to 2:"),
@@ -135,7 +137,7 @@ fn a_refused_descendant_covers(rt: HostRuntime) {
         (Call::Covered(TARGET, "d", "1-a"), "true"),
         (Call::Record(TARGET, S1, 11), "1"),
     ];
-    // The target's tree does not have the refused document, so a later session also requests and refuses the document.
+    // The target has no tree of the refused document d, so the second session also requests and refuses d.
     const LAST: Rows = &[
         (
             Call::Diff(TARGET, SECOND),
@@ -180,8 +182,8 @@ fn sequences_run_out(rt: HostRuntime) {
         (Call::Diff(TARGET, FIRST), "0 to 2: d 1-a; e 1-a;"),
         (Call::Fetch(SOURCE, FIRST), FETCHED),
     ];
-    // The first document of the parcel gets the last update sequence, and the second document gets no sequence. If the
-    // parcel is settled a second time, its first document is recorded as an arrival a second time.
+    // The parcel's first document gets the last update sequence, and the parcel's second document gets no sequence. If
+    // the parcel is settled a second time, the first document is recorded as an arrival a second time.
     const STOPPED: &str = "Stopped 1, rest e, SeqFull";
     const TWICE: &str =
         "session 1 from 0 to 0 checked 0 found 0 read 2 written 2 failed 0, 10 to 11";
@@ -301,8 +303,8 @@ fn a_session_from_beginning_to_end(rt: HostRuntime) {
         ),
     ];
     const THEN: Rows = &[
-        // The filter refuses one document, and the ancestry of d contradicts the tree of d, in which 2-c has the parent
-        // 1-b.
+        // The filter refuses the document `secret`. The document d is refused because its ancestry contradicts the
+        // target's tree of d, in which 2-c has the parent 1-b.
         (Call::Settle(TARGET, S1, FIRST), "written 1 failed 2"),
         (Call::Covered(TARGET, "secret", "1-a"), "true"),
         (Call::Covered(TARGET, "d", "3-d"), "true"),
@@ -495,8 +497,8 @@ fn a_session_that_is_not_there_is_refused(rt: HostRuntime) {
 fn a_foreign_document_is_refused(rt: HostRuntime) {
     const E: &str = r#"{"_id":"e","_rev":"1-a"}"#;
     const ROWS: Rows = &[
-        // The other source's window has the bounds of the stored window, but the other source's document has no row in
-        // the stored window.
+        // The window of the peer `OTHER` has the bounds of the stored window, but the document e has no row in the
+        // stored window.
         (Call::Load(OTHER, E), "Changed { seq: 1 }"),
         (Call::Page(OTHER, 0, 1), "0 to 1: 1 e 1-a;"),
         (Call::Diff(TARGET, SECOND), "0 to 1: e 1-a;"),
@@ -518,7 +520,7 @@ fn a_foreign_document_is_refused_before_a_done_window(rt: HostRuntime) {
     const ROWS: Rows = &[
         (Call::Fetch(SOURCE, FIRST), "0 to 1: d 1-a live {};"),
         (Call::Settle(TARGET, S1, FIRST), "written 1 failed 0"),
-        // The call returns an error for a done window if the other source's document has no row in the window.
+        // For a done window, settling returns `ForeignParcel` if the parcel's document has no row in the window.
         (Call::Load(OTHER, E), "Changed { seq: 1 }"),
         (Call::Page(OTHER, 0, 1), "0 to 1: 1 e 1-a;"),
         (Call::Diff(TARGET, SECOND), "0 to 1: e 1-a;"),
@@ -549,8 +551,8 @@ fn the_leaves_of_a_done_window_are_let_go(rt: HostRuntime) {
     expect(&rt, rt.alloc(), LISTS);
 }
 
-// A parcel of a hostile source has a document without a row in the window. The parcel was fetched before another client
-// wrote.
+// The parcel of the peer `OTHER` has the leaf 1-b of d, which the window does not list. The window's leaf 1-a therefore
+// stays uncovered.
 #[test]
 fn a_parcel_of_another_leaf_leaves_its_window_uncovered(rt: HostRuntime) {
     const ROWS: Rows = &[
@@ -573,6 +575,7 @@ fn a_parcel_of_another_leaf_leaves_its_window_uncovered(rt: HostRuntime) {
     expect(&rt, rt.alloc(), LISTS);
 }
 
+// After the parcel was fetched, another client loads the same document into the target.
 #[test]
 fn a_parcel_of_what_a_third_party_wrote_counts(rt: HostRuntime) {
     const ROWS: Rows = &[
@@ -641,7 +644,8 @@ const TWELVE: Rows = &[
     ),
 ];
 
-/// Sessions at the target that recorded the sequences 9 and 5. The feed has no row below sequence 12.
+/// Calls that make two sessions at the target, which record the sequences 9 and 5. The source's feed has no row below
+/// sequence 12.
 const RECORDED: Rows = &[
     (Call::Begin(TARGET, S1, TO_NINE, 10), "begun"),
     (Call::Page(SOURCE, 0, 9), "0 to 9:"),
@@ -666,7 +670,7 @@ const RECORDED: Rows = &[
 #[test]
 fn common_session(rt: HostRuntime) {
     const ROWS: Rows = &[
-        // The source's log has no entry of the target's third session.
+        // The source's log gets no entry of the target's third session.
         (
             Call::Begin(TARGET, S3, Beginning { goal: 12, ..TO_ONE }, 10),
             "begun",
@@ -722,12 +726,12 @@ fn an_audit_is_clean(rt: HostRuntime) {
             Call::Conclude(TARGET, S1, 11),
             "session 1 from 0 to 1 checked 1 found 1 read 1 written 1 failed 0",
         ),
-        // The logs of source and target have no common session at first, and one common session later.
+        // Before `PutEntryOf`, the logs of source and target have no common session, and after this call they have one.
         (Call::Audit(SOURCE, TARGET), "clean"),
         (Call::PutEntryOf(SOURCE, REP, TARGET, S1), "put"),
         (Call::Common(SOURCE, TARGET, REP), "1 at 1"),
         (Call::Audit(SOURCE, TARGET), "clean"),
-        // Rows above the checkpoint are not audited.
+        // An audit does not check rows above the common checkpoint.
         (Call::Load(SOURCE, E), "Changed { seq: 2 }"),
         (Call::Audit(SOURCE, TARGET), "clean"),
     ];
@@ -739,7 +743,7 @@ fn an_audit_is_clean(rt: HostRuntime) {
 fn an_audit_finds_a_hole(rt: HostRuntime) {
     const E: &str = r#"{"_id":"e","_rev":"1-a"}"#;
     const ROWS: Rows = &[
-        // The session stores windows of a source that is not the source of its replication.
+        // The session stores a window of the peer `OTHER`, which is not the source of the session's replication.
         (Call::Load(OTHER, E), "Changed { seq: 1 }"),
         (Call::Begin(TARGET, S1, TO_ONE, 10), "begun"),
         (Call::Page(OTHER, 0, 1), "0 to 1: 1 e 1-a;"),

@@ -46,7 +46,7 @@ pub(crate) struct Beginning {
     pub(crate) goal: u64,
 }
 
-/// A call on a peer. The index of an item names the peer, the window, the request or the parcel.
+/// A call on a peer. A call gives each peer, window, request or parcel by its index.
 #[derive(Clone, Copy)]
 pub(crate) enum Call<'a> {
     /// Create the next peer with a UUID and the prefix that its filter refuses.
@@ -98,8 +98,8 @@ pub(crate) enum Call<'a> {
     PutEntry(usize, Rep, SessionId, u64),
     /// Store the target's entry of a session in the source's log of a replication.
     PutEntryOf(usize, Rep, usize, SessionId),
-    /// Back up a peer, and store the backup as the bench's next backup. The result of the call is the UUID and the
-    /// update sequence of the backed-up database.
+    /// Back up a peer, and store the backup as the bench's next backup. The call returns the UUID and the update
+    /// sequence of the backed-up database.
     Backup(usize),
     /// Restore a peer from a backup.
     Restore(usize, usize),
@@ -133,7 +133,8 @@ pub(crate) type Rows = &'static [(Call<'static>, &'static str)];
 
 /// Lists of calls that are performed in order.
 ///
-/// A test has all its lists in one static, because the prover separately processes each list that a test names.
+/// A test names one static that has all lists of the test, because the prover processes each list that a test names
+/// separately.
 pub(crate) type Lists = &'static [Rows];
 
 /// Peers, their backups, and the values that were read and fetched from them.
@@ -509,7 +510,7 @@ fn rules(alloc: Global, deny: Option<&str>) -> Option<Rules> {
     }
 }
 
-/// Returns the result of an audit, unless an allocation failed.
+/// Returns the result of an audit as a string, or `None` if an allocation failed.
 pub(crate) fn found_text(alloc: Global, found: Result<Audit, AllocError>) -> Option<String> {
     match found {
         Ok(Audit::Clean) => "clean".to_string(alloc).ok(),

@@ -1,16 +1,16 @@
-//! Test rows for plans. Errors occur, a session begins, the session's entry is stored at the source, and a scan looks
+//! Test rows for plans. The tests cause errors, begin a session, store the session's entry at the source, and search
 //! for uncovered leaves.
 use crate::tests::peers::{Call, Lists, Rep, Rows, expect};
 use rev_tree::SessionId;
 
-/// The indices at which a bench has the source, the target, and a peer that refuses the document d.
+/// The indices of the source, the target, and a peer that refuses the document d in a bench.
 const SOURCE: usize = 0;
 
 const TARGET: usize = 1;
 
 const REFUSING: usize = 2;
 
-/// The indices of the first and the second value that were read or fetched.
+/// The indices of the first and the second window, request or parcel that was read or fetched.
 const FIRST: usize = 0;
 
 const SECOND: usize = 1;
@@ -48,7 +48,7 @@ fn plans_refused(rt: HostRuntime) {
         (Call::CheckPlan(SOURCE, TARGET, 10_001), "BadBatch"),
         (Call::CheckPlan(SOURCE, TARGET, 1), "can begin"),
         (Call::CheckPlan(SOURCE, TARGET, 10_000), "can begin"),
-        // The call checks the plan's window size before it compares the UUIDs.
+        // `check_plan` checks the plan's window size before it compares the UUIDs of the peers.
         (Call::CheckPlan(SOURCE, SOURCE, 0), "BadBatch"),
         (Call::CheckPlan(SOURCE, SOURCE, 500), "SamePeer"),
     ];
@@ -56,7 +56,8 @@ fn plans_refused(rt: HostRuntime) {
     expect(&rt, rt.alloc(), LISTS);
 }
 
-/// The first session of the target begins, replicates the feed up to 1, and is recorded on both sides.
+/// Calls that begin the first session of the target, replicate the feed up to sequence 1, and record the session on
+/// both sides.
 const FIRST_SESSION: Rows = &[
     (Call::BeginPlan(S1, 10), "0"),
     (
@@ -112,7 +113,7 @@ fn an_older_entry_is_passed_over(rt: HostRuntime) {
         (Call::SourceLog(SOURCE, REP), "1 at 9;"),
         (Call::RecordAtSource(S1), "recorded"),
         (Call::SourceLog(SOURCE, REP), "1 at 9;"),
-        // The next session begins at the lesser of the sequences that source and target recorded.
+        // The next session begins at the lesser of the sequences that source and target recorded for the first session.
         (Call::BeginPlan(S2, 13), "1"),
     ];
     static LISTS: Lists = &[THREE, FIRST_SESSION, ROWS];
@@ -125,7 +126,7 @@ fn a_walk_above_a_sequence(rt: HostRuntime) {
         (Call::HoleAbove(SOURCE, TARGET, 0), "hole 1 d 1-a"),
         (Call::HoleAbove(SOURCE, TARGET, 1), "hole 2 e 1-b"),
         (Call::HoleAbove(SOURCE, TARGET, 2), "clean"),
-        // The feed has no rows above the update sequence.
+        // No leaf is uncovered above the update sequence, because the feed has no rows there.
         (Call::HoleAbove(SOURCE, TARGET, 9), "clean"),
         (Call::HoleAbove(SOURCE, SOURCE, 0), "clean"),
     ];

@@ -65,7 +65,7 @@ pub(crate) fn record(
     let Some(plan) = plan(session, 500, 0) else {
         return None;
     };
-    // The call requires a session that the target has.
+    // `record_at_source` requires a session that the target has.
     let Some(_windows) = target.windows(plan.session) else {
         return None;
     };

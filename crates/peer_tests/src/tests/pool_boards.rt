@@ -16,7 +16,7 @@ use std::sync::atomic::{AtomicBool, Ordering};
 use std::thread;
 use std::thread::{Threads, yield_now};
 
-/// The indices at which a bench has the source and the target.
+/// The indices of the source and the target in a bench.
 const A: usize = 0;
 
 const B: usize = 1;
@@ -195,8 +195,8 @@ fn board_for_four(alloc: Global, workers: usize) -> Option<(Board, Vec<BoardSeat
     Some((board, seats, (a, b, c, d)))
 }
 
-/// Reads the board repeatedly. Returns whether no total of the board decreased, and the total of settled documents
-/// never exceeded the total of read documents.
+/// Reads the board repeatedly. Returns true if no total of the board decreased between two readings, and the total of
+/// settled documents never exceeded the total of read documents.
 fn sees_no_fall(board: &Board, viewer: BoardSeat) -> bool
     requires { CameWith board.now viewer }
 {
@@ -287,7 +287,8 @@ fn progress_shown(rt: HostRuntime) {
     assert_eq!(rt; board.read(&mut viewer), (2, 2));
 }
 
-// A board that is updated only at the end of a run would show nothing while the writer is blocked.
+// If the pool updated the board only at the end of a run, the viewer of this test would see no progress while the
+// writer is blocked.
 #[test]
 fn progress_seen_beside_a_held_writer(rt: HostRuntime) {
     let Some((board, seats, viewer)) = board_for(rt.alloc(), 2) else {

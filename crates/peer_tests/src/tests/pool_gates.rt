@@ -11,7 +11,7 @@ use std::sync::Wait;
 use std::sync::atomic::{AtomicBool, AtomicU64, Ordering};
 use std::thread::{Threads, yield_now};
 
-/// The indices at which a bench has the source and the target.
+/// The indices of the source and the target in a bench.
 const A: usize = 0;
 
 const B: usize = 1;
@@ -107,8 +107,8 @@ impl Gate for HoldsFetched {
 struct StopsOnce {
     kind: u64,
     window: u64,
-    /// The result of `Gate::may_block`, although the gate never blocks a worker. If `may_block` returns true, each
-    /// worker is a separate thread, even if there are few workers.
+    /// The value that `Gate::may_block` returns, although the gate never blocks a worker. If `may_block` returns true,
+    /// each worker is a separate thread, even if there are few workers.
     may_block: bool,
     stopped: AtomicBool,
 }
@@ -154,8 +154,8 @@ impl Gate for StopsOnce {
     }
 }
 
-/// A gate that counts the recordings in a run with windows of one row. The gate notes whether a recording's low water
-/// differs from its window's end.
+/// A gate that counts the recordings in a run with windows of one row. The gate also notes whether a worker recorded a
+/// low water that is not the end of the worker's window.
 #[derive(Drop)]
 struct CountsRecordings {
     count: AtomicU64,
@@ -176,8 +176,8 @@ impl Gate for CountsRecordings {
     }
 }
 
-// A writer that recorded only every second window, or returned another low water than it recorded, would satisfy its
-// contract.
+// This test detects a writer that records only every second window, or that returns another low water than it recorded.
+// No contract excludes such a writer.
 #[test]
 fn each_recording_tells_the_low_water(rt: HostRuntime) {
     const ONE_BY_ONE: How = How {
@@ -208,7 +208,7 @@ fn windows_done_out_of_order(rt: HostRuntime) {
     assert_eq!(rt; gate.at_first.load(Ordering::SeqCst), 4);
 }
 
-// If a run copied the count of fetched documents from the report, the count would be 0 in this test.
+// This test detects a run that takes the count of fetched documents from the report, which has the count 0.
 #[test]
 fn fetched_is_counted_where_a_run_stops(rt: HostRuntime) {
     const HALTED: &str = "Halted(Fetched(0)), fetched 2";
@@ -277,8 +277,8 @@ pub(crate) fn go_on<R: Abort + Threads + Wait + Sync>(rt: &R, alloc: Global, ben
     bench.run(rt, AT_GOAL);
 }
 
-/// Performs a run with a given number of workers that stops, and a further run that completes the copy. A parameter is
-/// the result of `Gate::may_block`.
+/// Performs a run with a given number of workers that stops, and a further run that completes the copy. The parameter
+/// `may_block` is the value that `Gate::may_block` returns.
 fn stop_and_go_on<R: Abort + Threads + Wait + Sync>(
     rt: &R,
     alloc: Global,

@@ -11,12 +11,12 @@ use std::sync::Wait;
 use std::sync::atomic::{AtomicBool, AtomicU64, Ordering};
 use std::thread::{Threads, yield_now};
 
-/// The indices at which a bench has the source and the target.
+/// The indices of the source and the target in a bench.
 const A: usize = 0;
 
 const B: usize = 1;
 
-/// Returns a run in windows of a given number of rows.
+/// Returns the parameters of a run whose windows have a given number of rows.
 const fn in_windows_of(batch: u64) -> How {
     How {
         session: SessionId(1),
@@ -26,13 +26,13 @@ const fn in_windows_of(batch: u64) -> How {
     }
 }
 
-/// For each window, the number of stages at which the gate was called in order, and the number of calls out of order.
+/// Counts the calls of the gate for each window, and all calls that are out of order.
 #[derive(Drop)]
 struct Counts {
     places: Vec<AtomicU64>,
     strays: AtomicU64,
-    /// The result of `Gate::may_block`, although the gate never blocks a worker. If `may_block` returns true, each
-    /// worker is a separate thread, even if there are few workers.
+    /// The value that `Gate::may_block` returns, although the gate never blocks a worker. If `may_block` returns true,
+    /// each worker is a separate thread, even if there are few workers.
     may_block: bool,
 }
 
@@ -50,7 +50,7 @@ impl Counts {
         }
     }
 
-    /// Returns the number of windows that have passed all five stages.
+    /// Returns the number of windows for which the gate was called five times.
     fn gone_through(&self) -> usize {
         let mut windows = 0usize;
         for places in &self.places {
@@ -111,8 +111,9 @@ fn expect_in_order<R: Abort + Threads + Wait + Sync>(
     assert_eq!(rt; bench.fetchers() as u64, workers);
 }
 
-// A window's count reaches a stage only if the gate was called exactly once at each earlier stage. The test makes runs
-// with separate fetchers and writers, with pairs of a fetcher and a writer, and with one worker on the caller's thread.
+// A call at a stage of a window is in order if the gate was called exactly once for each earlier stage of the window.
+// The test makes runs with separate fetchers and writers, with pairs of a fetcher and a writer, and with one worker on
+// the caller's thread.
 #[test]
 fn each_place_once_and_in_order(rt: HostRuntime) {
     expect_in_order(&rt, rt.alloc(), 4, true);
@@ -120,13 +121,14 @@ fn each_place_once_and_in_order(rt: HostRuntime) {
     expect_in_order(&rt, rt.alloc(), 1, false);
 }
 
-/// A spot, which is the number of a stage from 0, and the number of a window.
+/// A spot is the number of a stage, from 0, and the number of a window.
 type Spot = (u64, u64);
 
-/// A worker at the first spot (stage of a window) waits until a worker has reached the second spot.
+/// Pairs of spots (stages of windows). A worker at the first spot of a pair waits until a worker has reached the second
+/// spot.
 type Holds = &'static [(Spot, Spot)];
 
-/// Returns the bit of a spot, which is a stage of one of the first twelve windows.
+/// Returns the bit that represents a spot, that is, a stage of one of the first twelve windows.
 pub(crate) fn bit_of(spot: Spot) -> u64 {
     let place = spot.0 % 5 + 5 * (spot.1 % 12);
     1 << place
@@ -136,7 +138,7 @@ pub(crate) fn bit_of(spot: Spot) -> u64 {
 const TURNS: u32 = 1_000_000;
 
 /// A gate that blocks workers at the spots in a table. Each worker is blocked until another worker has reached the
-/// second spot of the table's row.
+/// second spot of the pair.
 #[derive(Drop)]
 struct Orders {
     holds: Holds,
@@ -145,7 +147,7 @@ struct Orders {
 }
 
 impl Orders {
-    /// Creates the gate before any worker has come.
+    /// Creates the gate in its state before the first call.
     fn new(holds: Holds) -> Orders {
         Orders {
             holds,
@@ -182,7 +184,8 @@ impl Gate for Orders {
     }
 }
 
-/// Performs a run of eight documents in windows of two rows with one fetcher and one writer, which the table blocks.
+/// Performs a run of eight documents in windows of two rows, with one fetcher and one writer. The gate blocks these
+/// workers at the spots in `holds`.
 fn run_held<R: Abort + Threads + Wait + Sync>(rt: &R, alloc: Global, holds: Holds) {
     const WELL: &str =
         "session 1 from 0 to 8 checked 8 found 8 read 8 written 8 failed 0, fetched 8";
@@ -190,7 +193,8 @@ fn run_held<R: Abort + Threads + Wait + Sync>(rt: &R, alloc: Global, holds: Hold
         (Call::Peer(1, None), "made"),
         (Call::Peer(2, None), "made"),
         (Call::Fill(A, 8), "Changed { seq: 8 }"),
-        // If the target had no documents, the pool would compute requests without holding the target's lock.
+        // The target has a document of its own, because the pool takes no lock for requests of a target without
+        // documents.
         (
             Call::Load(B, r#"{"_id":"own","_rev":"1-a"}"#),
             "Changed { seq: 1 }",
@@ -219,29 +223,29 @@ const SETTLED: u64 = 3;
 
 const RECORDED: u64 = 4;
 
-// Requesting, settling and recording each take the lock, so the lock must be free while the other worker is blocked.
+// Requesting, settling and recording take the target's lock. The run can end only if no blocked worker holds the lock.
 #[test]
 fn no_lock_is_held_at_any_place(rt: HostRuntime) {
     static HOLDS: Holds = &[
-        // The second window is requested while a writer is at `Settled`.
+        // The fetcher requests the second window while the gate blocks the writer at `Settled`.
         ((TOOK, 1), (SETTLED, 0)),
         ((SETTLED, 0), (ASKED, 1)),
-        // The first window is recorded while a fetcher is at `Asked`.
+        // The writer records the first window while the gate blocks the fetcher at `Asked`.
         ((ASKED, 1), (RECORDED, 0)),
-        // The second window is settled while a fetcher is at `Took`, because the writer is blocked until the fetcher
-        // has reached `Took`.
+        // The writer settles the second window while the gate blocks the fetcher at `Took`. Before, the gate blocks the
+        // writer until the fetcher has reached `Took`.
         ((RECORDED, 0), (TOOK, 2)),
         ((TOOK, 2), (SETTLED, 1)),
-        // The second window is recorded while a fetcher is at `Fetched`.
+        // The writer records the second window while the gate blocks the fetcher at `Fetched`.
         ((SETTLED, 1), (FETCHED, 2)),
         ((FETCHED, 2), (RECORDED, 1)),
-        // The last window is requested while a writer is at `Recorded`.
+        // The fetcher requests the last window while the gate blocks the writer at `Recorded`.
         ((RECORDED, 1), (ASKED, 3)),
     ];
     run_held(&rt, rt.alloc(), HOLDS);
 }
 
-// A worker does not wait for a worker whose work it does not need.
+// The fetcher fetches further windows while the gate blocks the writer, because fetching needs no work of the writer.
 #[test]
 fn fetching_goes_on_beside_a_held_writer(rt: HostRuntime) {
     static HOLDS: Holds = &[((SETTLED, 0), (FETCHED, 2))];

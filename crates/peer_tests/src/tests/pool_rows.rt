@@ -3,7 +3,7 @@ use crate::tests::peers::Rep;
 use crate::tests::pools::{Call, Rows};
 use rev_tree::SessionId;
 
-/// The indices at which a bench has the source and the target.
+/// The indices of the source and the target in a bench.
 const A: usize = 0;
 
 const B: usize = 1;
@@ -104,8 +104,8 @@ const LEAVES_X1: &str = r#" x1 1-q live {"v":10}; x1 1-p live {"v":4};"#;
 
 const LEAVES_X2: &str = r#" x2 1-a live {"v":6};"#;
 
-/// The result of the run into a target that refuses no document. Each document has the same leaves, ancestries and
-/// contents at both peers.
+/// Calls that read the result of a run into a target that refuses no document. Each document has the same leaves,
+/// ancestries and contents at both peers.
 pub(crate) static CARRIED: Rows = &[
     (Call::Audit(A, B), "clean"),
     (Call::Leaves(A, "a"), LEAVES_A),
@@ -122,8 +122,8 @@ pub(crate) static CARRIED: Rows = &[
     (Call::Leaves(B, "x2"), LEAVES_X2),
 ];
 
-/// The effect of the first session at a target that refuses two documents. The effect is the same for each order in
-/// which the session's windows may be done.
+/// Calls that read the effect of the first session at a target that refuses two documents. The results are the same for
+/// every order in which the session's windows become done.
 pub(crate) static SIFTED: Rows = &[
     (
         Call::Entry(B, S1),

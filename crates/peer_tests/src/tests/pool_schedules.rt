@@ -14,12 +14,12 @@ use std::sync::{Mutex, Wait};
 use std::thread::Threads;
 use std::time::Duration;
 
-/// The indices at which a bench has the source and the target.
+/// The indices of the source and the target in a bench.
 const A: usize = 0;
 
 const B: usize = 1;
 
-/// A run in windows of two rows. The run has three windows.
+/// The parameters of a run of three windows, which have two rows each.
 const TWO_ROWS: How = How {
     session: SessionId(1),
     workers: None,
@@ -35,12 +35,13 @@ const WORKERS: u64 = 2;
 /// The number of places at which a run calls the gate (five for each window).
 const PLACES: u64 = 15;
 
-/// Masks with the bits of all places `Fetched` and of all places `Recorded`, two stages of each window.
+/// Bit masks. `FETCHED` has the bit of the place `Fetched` of each window, and `RECORDED` has the bit of the place
+/// `Recorded` of each window.
 const FETCHED: u64 = 0b001_0000_1000_0100;
 
 const RECORDED: u64 = 0b100_0010_0001_0000;
 
-/// The number of naps after which the gate releases a worker, even if an expected worker has not called the gate.
+/// After this number of naps, the gate releases a worker even if an expected worker has not called the gate.
 const SURE_NAPS: u32 = 20_000;
 
 /// The maximum number of times a worker checks whether its turn has come.
@@ -82,24 +83,23 @@ struct Turns {
     left: u64,
     /// The place whose worker may run, or 0 if no worker is chosen.
     chosen: u64,
-    /// The number of naps of blocked workers since a worker was last blocked or released.
+    /// The number of times that blocked workers slept since a worker was last blocked or released.
     naps: u32,
     /// The place at which the gate stops a worker, or 0 if the gate stops no worker.
     stop_at: u64,
-    /// The places in the order in which workers left them. Each left place takes four bits, which have the place's
-    /// number plus 1.
+    /// The numbers of the places that workers have left, in the order of leaving. Each number plus 1 takes four bits.
     order: u64,
     ran_out: bool,
 }
 
 impl Turns {
-    /// Returns two numbers of workers: the workers that will call the gate in any case, and the workers that may call
-    /// the gate.
+    /// Returns the number of workers that will certainly call the gate, and the number of workers that may call the
+    /// gate.
     ///
-    /// A fetcher has a window until it has passed the place `Fetched`, and a writer has a parcel until it has passed
-    /// `Recorded`. The fetcher that finds no further window sends the end message to a writer, perhaps before the other
-    /// fetcher sends its last parcel. If all three windows are fetched and one is recorded, only one writer may be left
-    /// for the other two windows. A stopped worker drops all messages.
+    /// A fetcher has a window until it has passed the place `Fetched`. A writer has a parcel until it has passed the
+    /// place `Recorded`. A fetcher that finds no further window sends an end message to a writer. The fetcher may send
+    /// this message before the other fetcher sends its last parcel. If all three windows are fetched and one window is
+    /// recorded, perhaps only one writer is left for the other two windows. A stopped worker drops all messages.
     fn awaited(&self) -> (u64, u64) {
         let fetched = bits(self.left & FETCHED);
         let recorded = bits(self.left & RECORDED);
@@ -156,7 +156,7 @@ impl Turns {
         self.naps = 0;
     }
 
-    /// Records that a blocked worker slept while no worker was chosen.
+    /// Counts a nap of a blocked worker while no worker is chosen.
     fn nap(&mut self) {
         self.naps = self.naps.saturating_add(1);
     }
@@ -173,7 +173,7 @@ struct Drawn {
 }
 
 impl Drawn {
-    /// Creates the gate before any worker has called it.
+    /// Creates the gate in its state before the first call.
     fn new(seed: u64, stop_at: u64) -> Drawn {
         Drawn {
             stop_at,
@@ -283,8 +283,8 @@ fn different(sorted: &[u64]) -> u64 {
 const SEEDS: u64 = 250;
 
 /// Performs runs in the orders of `SEEDS` seeds. More than half of the orders must be different.
-// Only the target's sequences depend on the order of the run. All other values that the test reads after a run are the
-// same for every order.
+// The order of a run affects only the target's sequences. All other values that the test reads after a run are the same
+// for every order.
 fn run_orders<R: Abort + Threads + Wait + Sync>(rt: &R, alloc: Global, first: u64) {
     let mut orders = Vec::new(alloc);
     for number in 0..SEEDS {

@@ -260,8 +260,8 @@ fn compare(
     }
 }
 
-/// Runs the pool. This code is a separate function, because the proof grows with each variable that is live together
-/// with the peers.
+/// Runs the pool. The call of `run` is in a separate function, because the proof grows with each variable that is live
+/// together with the peers.
 fn ran<G: Gate + Sync, R: Threads + Wait + Sync>(
     rt: &R,
     alloc: Global,
@@ -360,7 +360,7 @@ fn agreed(
     recorded_text(alloc, common(&outgoing, &incoming))
 }
 
-/// Returns the recorded sequence of the newest session that both logs have, or 0 if there is none.
+/// Returns the recorded sequence of the newest common session of two logs, or 0 if the logs have no common session.
 fn recorded_text(alloc: Global, found: Option<(SessionId, u64)>) -> Option<String> {
     match found {
         Some((_, recorded)) => shown(alloc, &recorded),

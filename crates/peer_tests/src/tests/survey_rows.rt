@@ -22,8 +22,8 @@ fn what_a_target_misses(rt: HostRuntime) {
         (Call::Compare("e"), "1 missing 1-a differing"),
         // Neither peer has the document f.
         (Call::Compare("f"), "0 missing differing"),
-        // The revision 2-b has different parents at the source and the target, and the revision 2-c has different
-        // bodies.
+        // The source and the target have different parents of the revision 2-b, and different bodies of the revision
+        // 2-c.
         (
             Call::Target(r#"{"_id":"d","_revisions":{"start":2,"ids":["b","x"]}}"#),
             "Changed { seq: 1 }",
@@ -65,7 +65,7 @@ fn a_gap_is_neither_missing_nor_other(rt: HostRuntime) {
             Call::Source(r#"{"_id":"d","_revisions":{"start":3,"ids":["c","b","a"]}}"#),
             "Changed { seq: 1 }",
         ),
-        // The target knows the source's leaf, without the leaf's parent, and a child of this leaf.
+        // The target has the source's leaf 3-c without the leaf's parent, and a child of 3-c.
         (
             Call::Target(r#"{"_id":"d","_revisions":{"start":4,"ids":["d","c"]}}"#),
             "Changed { seq: 1 }",

@@ -32,7 +32,7 @@ pub(crate) enum Call<'a> {
     Replicate,
     /// Compare a document of the source with the target's document.
     Compare(&'a str),
-    /// Add up the differences of all documents in the source's feed, or of one selected document, and read the totals.
+    /// Read the totals of the differences of all documents in the source's feed, or of one selected document.
     Total(Option<&'a str>),
     /// Read the leaves of a document of the source that are in conflict.
     Conflict(&'a str),

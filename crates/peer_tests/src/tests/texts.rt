@@ -9,8 +9,8 @@ use std::alloc::Global;
 use std::process::Abort;
 use test_support::{rev_text, revs_text, shown};
 
-/// Asserts that the test could perform a call, and that the call returned the expected string. The argument `None`
-/// means that the test could not perform the call.
+/// Asserts that the test could perform a call, and that the call returned the expected string. If `answer` is `None`,
+/// the test could not perform the call.
 pub(crate) fn expect_answer(rt: &impl Abort, number: usize, answer: Option<String>, wanted: &str) {
     let is_wanted = match &answer {
         Some(text) => text.as_str() == wanted,
@@ -35,8 +35,8 @@ pub(crate) fn body(alloc: Global, text: &str) -> Option<Body> {
     read_body(alloc, &value).ok()
 }
 
-/// Concatenates two strings, or returns `None` if a string is missing. Callers that join many strings check for a
-/// missing string only at the end.
+/// Concatenates two strings, or returns `None` if a string is missing. A caller that joins many strings can therefore
+/// check for a missing string once, at the end.
 pub(crate) fn joined(all: Option<String>, text: Option<String>) -> Option<String> {
     let (Some(mut all), Some(text)) = (all, text) else {
         return None;
@@ -205,7 +205,7 @@ pub(crate) fn base_fault_text(alloc: Global, fault: BaseFault) -> Option<String>
     }
 }
 
-/// Returns a text of a name, a sequence, an id and a revision.
+/// Returns a string with a name, a sequence, a document id and a revision.
 pub(crate) fn place_text(
     alloc: Global,
     name: &str,
@@ -219,7 +219,7 @@ pub(crate) fn place_text(
     format!(in alloc; "{name} {seq} {} {rev}", id.text()).ok()
 }
 
-/// Returns a text of a name and revisions.
+/// Returns a string with a name and a list of revisions.
 fn named_text(alloc: Global, name: &str, revs: &[Rev]) -> Option<String> {
     let Some(revs) = revs_text(alloc, revs) else {
         return None;

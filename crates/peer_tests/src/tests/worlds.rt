@@ -73,7 +73,7 @@ fn at_0() -> Option<Moment> {
     Moment::new(0).ok()
 }
 
-/// Returns the step of an act.
+/// Returns the step of a world that an act describes.
 fn step(alloc: Global, act: Act) -> Option<Step> {
     match act {
         Act::EditSource(id, parent, text) => edit_source(alloc, id, parent, text),
@@ -116,7 +116,7 @@ fn edit_target(alloc: Global, id: &str, parent: &str, text: &str) -> Option<Step
     })
 }
 
-/// Returns the step of an act without a document.
+/// Returns the step that an act without a document describes.
 fn plain_step(act: Act) -> Option<Step> {
     let Some(at) = at_0() else {
         return None;
@@ -143,7 +143,7 @@ fn plain_step(act: Act) -> Option<Step> {
     }
 }
 
-/// Returns the steps that a list of acts names.
+/// Returns the steps that a list of acts describes.
 fn steps(alloc: Global, acts: &[Act]) -> Option<Vec<Step>> {
     let mut all = Vec::new(alloc);
     for act in acts {
@@ -162,7 +162,7 @@ fn push_step(all: &mut Vec<Step>, step: Option<Step>) -> Option<()> {
     }
 }
 
-/// Takes the steps that a list of acts names.
+/// Takes the steps that a list of acts describes.
 fn take(alloc: Global, world: &mut World<Rules>, acts: &[Act]) -> Option<()> {
     let Some(steps) = steps(alloc, acts) else {
         return None;
@@ -179,7 +179,7 @@ fn side_log(alloc: Global, world: &World<Rules>, side: u128) -> Option<String> {
     }
 }
 
-/// Returns the result of an audit, unless an allocation failed.
+/// Returns the result of an audit as a string, or `None` if an allocation failed.
 fn audit_text(alloc: Global, world: &World<Rules>) -> Option<String> {
     match audit(alloc, world.source(), world.target(), None) {
         Ok(Audit::Clean) => "clean".to_string(alloc).ok(),
