@@ -359,7 +359,7 @@ impl Tree {
         Ok(Merged::Changed)
     }
 
-    /// Merges an ancestry for which `merge_answer` has returned `Changed`, without checking again.
+    /// Merges an ancestry for which `merge_answer` has returned `Changed`, without checking the ancestry again.
     pub fn merge_change(
         &mut self,
         ancestry: &Ancestry,
