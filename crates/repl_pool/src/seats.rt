@@ -7,7 +7,8 @@ ghost use Rattle.pool_workers.specs.Boards.{HasNothing, WorksAt};
 use progress_board::{Board, BoardFault, BoardSeat};
 use std::alloc::Global;
 
-/// A new board, with the workers' seats for `run_on`, and the seats of viewers, which may call `read` during the run.
+/// A new board with its seats. The workers' seats are for `run_on`. A viewer may call `read` with its seat during the
+/// run.
 #[derive(Drop)]
 pub struct Seats {
     /// The board.
