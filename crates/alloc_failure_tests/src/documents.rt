@@ -46,7 +46,7 @@ fn id(alloc: Global) -> Result<DocId, DocFault> {
     }
 }
 
-/// Reads the document body that a JSON value has.
+/// Reads a JSON value as a document body.
 fn body(alloc: Global, members: &Value) -> Result<Body, DocFault> {
     match read_body(alloc, members) {
         Err(DocFault::Memory) => read_body(alloc, members),

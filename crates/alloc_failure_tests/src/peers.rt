@@ -13,7 +13,7 @@ use std::alloc::{AllocError, Global};
 /// The only session.
 const SESSION: SessionId = SessionId(1);
 
-/// The replication from the peer 1 to the peer 2.
+/// The id of the replication from the peer with UUID 1 to the peer with UUID 2.
 const REP: RepId = RepId {
     source: 1,
     target: 2,
