@@ -49,7 +49,7 @@ merged rows = fold add_row [] rows
 -- ---- the page
 
 -- The value of a page's member `pending`, which is the number of documents after the page. The result is `Some None` if
--- the member is missing or null, and `None` if the member is not a number.
+-- the member is missing or null, and `None` if the member has a value other than a number or null.
 abbrev pub pending_of : Option Json → Option (Option Text)
 pending_of None = Some None
 pending_of (Some null) = Some None

@@ -181,7 +181,7 @@ fn pending_of(alloc: Global, value: &Value<'_>) -> Result<Option<Option<String>>
     }
 }
 
-/// Whether a page's number of remaining documents is given and zero.
+/// Whether a page gives the number of remaining documents, and the number is zero.
 fn is_zero(pending: &Option<String>) -> bool
     ensures { result ≡ is_zero (option_map string_bytes pending.now) }
 {
