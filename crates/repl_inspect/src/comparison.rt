@@ -18,8 +18,8 @@ pub struct Comparison {
     differing: Vec<Rev>,
 }
 
-// `Drop` is implemented by hand because its derived code would be proved again in each crate that owns such a value
-// (docs/DECISIONS.md, "Letting values go").
+// `Drop` is implemented by hand, because derived code would be proved again in each crate that owns a value of this
+// type (docs/DECISIONS.md, "Letting values go").
 impl Drop for Comparison {
     fn drop(self) {
         let Comparison {
