@@ -8,6 +8,6 @@ abbrev pub most_windows : Plan → ℕ → ℕ → ℕ
 most_windows plan start goal = (goal - start - 1) / plan.batch + 1
 
 -- The number of fetchers of a run, which is also the number of writers: the plan's number of workers, but at most the
--- maximum number of windows. If the run has no window to read, the number is 1.
+-- maximum number of windows. If the run has no window to read, the number of fetchers is 1.
 abbrev pub crew_of : Plan → ℕ → ℕ → ℕ
 crew_of plan start goal = if nat_le goal start then 1 else min (most_windows plan start goal) plan.workers

@@ -39,8 +39,8 @@ pub record IsConcluded (plan : Plan) (fault : Option PoolFault) (complete : Bool
   pub answer : conclude_answer before plan.session ≡ Ok report
   pub peer : after ≡ after_conclude before plan.session plan.at
 
--- The error of a run whose session was recorded instead of concluded: `Unfinished` with the session's low water, or the
--- error of recording the session.
+-- The error of a run whose session was recorded instead of concluded. The error is `Unfinished` with the session's low
+-- water, or the error of recording the session.
 abbrev pub unfinished_at : Result ℕ TargetFault → PoolFault
 unfinished_at (Ok low_water) = faults.Refused (refusals.Unfinished low_water)
 unfinished_at (Err why) = faults.Refused why

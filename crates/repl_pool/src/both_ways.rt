@@ -39,10 +39,10 @@ pub struct SyncRan<F: WriteFilter> {
 /// Replicates in both directions with a pool of threads. The first `run` replicates `a` into `b`. If the first run
 /// succeeds, a second `run` replicates `b` into `a`. Each run has a separate plan. Both runs use the same gate.
 ///
-/// If the call succeeds, it has all guarantees of `sync_alone`. Suppose that the peers are consistent in both
-/// directions (docs/PROFILE.md, "Tied peers"). Consider a document that both plans select and neither side has refused.
-/// After a successful call, each side has the other side's leaves of the document. If the document's two trees agreed
-/// before the call and had complete histories, both sides have the same document. If the peers are consistent in both
+/// A successful call has all guarantees of `sync_alone`. Suppose that the peers are consistent in both directions
+/// (docs/PROFILE.md, "Tied peers"). Consider a document that both plans select and neither side has refused. After a
+/// successful call, each side has the other side's leaves of the document. If the document's two trees agreed before
+/// the call and had complete histories, both sides have the same document. If the peers are consistent in both
 /// directions, they stay consistent for every result of the call. `a` stays consistent with third peers that do not
 /// have `b`'s UUID, and `b` stays consistent with third peers that do not have `a`'s UUID.
 ///

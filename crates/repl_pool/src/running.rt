@@ -295,8 +295,8 @@ fn run_with<F: WriteFilter + Send + Sync, G: Gate + Sync, R: Threads + Wait + Sy
 /// contents of leaves. If the peers were consistent (docs/PROFILE.md, "Tied peers"), each leaf of the source's complete
 /// selected feed is covered, including leaves below the start.
 ///
-/// For every result, the run changes only the log of the source. The target is unchanged, or has changed only by
-/// beginning the session and by calls with messages of the source. The target keeps all its documents, sessions and
+/// For every result, the run changes only the outgoing logs of the source. The target is unchanged, or has changed only
+/// by beginning the session and by calls with messages of the source. The target keeps all its documents, sessions and
 /// logs. If the peers were consistent, they stay consistent. A third peer that was consistent with the source or the
 /// target stays consistent with that peer, under two conditions (`KeepsOthersTied`). A third peer that is another
 /// source of the target must not have the source's UUID. A third peer that is another target of the source must not
