@@ -101,7 +101,7 @@ nothing_is_part s = record {
     none : (r : RevId) → has no_revisions r ≡ true → ⊥
     none r h = false≢true (sym (ap is_some (get-empty rev_cmp r)) ∙ h)
 
--- The content of a leaf of tree s as replication sends it.
+-- The content that replication sends for a leaf of tree s.
 abbrev pub given : TreeValue → RevId → ContentValue
 given s leaf = record {
   deleted = is_deleted s leaf;

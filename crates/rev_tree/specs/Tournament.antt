@@ -36,8 +36,8 @@ abbrev pub leaf_key : Option NodeValue → Option Key
 leaf_key None = None
 leaf_key (Some n) = cond n.has_child None (Some (key_of n))
 
--- The key of the player at index k of the tournament. The parameters are the nodes, the stored winners of the matches,
--- the number of nodes that take part, and k.
+-- The key of the player at index k of the tournament. The parameters of `under` are the nodes, the stored winners of
+-- the matches, the number of nodes that take part, and k.
 abbrev pub under : List NodeValue → List ℕ → ℕ → ℕ → Option Key
 under nodes winners entered k =
     cond (nat_lt k (length winners)) (entry nodes (get_or winners k 0))

@@ -17,7 +17,8 @@ use std::alloc::{AllocError, Global};
 use std::hash::{FoldHasher, Hasher};
 use std::marker::Model;
 
-/// The maximum number of nodes that a lookup scans. A tree with more nodes has an index.
+/// The maximum number of nodes that a lookup scans. A tree with more nodes has an index, unless each node is one
+/// generation below the previous node.
 pub(crate) const MOST_WALKED: usize = 8;
 
 /// The maximum sum of the number of nodes and the number of given revisions for which a merge counts the missing

@@ -133,7 +133,7 @@ impl Places {
         Ok(())
     }
 
-    /// Returns the node index of the winner among the leaves, as the tournament says.
+    /// Returns the node index of the winner among the leaves, which the tournament finds.
     ///
     /// Returns `None` if the table takes no memory, or if the tournament has no result.
     pub(crate) fn first_leaf(&mut self, nodes: &[Node]) -> Option<usize>

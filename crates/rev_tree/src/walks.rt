@@ -17,7 +17,7 @@ impl Nodes {
         requires tree { IsTree (tree_of self.now.items) }
         ensures { IfOk result (λ v. v.items ≡ ancestors_at self.now.items start) }
     {
-        // The number of elements, a revision and its ancestors, is at most the number of nodes and at most the
+        // The list has a revision and its ancestors. Its length is at most the number of nodes, and at most the
         // revision's generation.
         let most = self
             .all()
