@@ -13,12 +13,12 @@ enum Call<'a> {
     Make,
     /// Copy a log, and append the copy to the list of logs.
     Copy(usize),
-    /// Store in a log the entry of a session that read nothing. The call has the log, the session id and the recorded
+    /// Store in a log the entry of a session that read nothing. The fields are the log, the session id and the recorded
     /// sequence.
     Put(usize, u128, u64),
-    /// Store in a log the entry of session 1, which read one document. The call has the log and a timestamp.
+    /// Store in a log the entry of session 1, which read one document. The fields are the log and a timestamp.
     PutOne(usize, u64),
-    /// Store the entry of a session in the log of the replication from database 1 into another database. The call has
+    /// Store the entry of a session in the log of the replication from database 1 into another database. The fields are
     /// the other database, the session id and the recorded sequence.
     PutInto(u128, u128, u64),
     /// Copy the logs of all replications. Append the copied log of the replication from database 1 into another
@@ -194,7 +194,7 @@ fn entry(session: u128, recorded: u64) -> Option<Entry> {
     Some(bare_entry(SessionId(session), recorded, at))
 }
 
-/// Creates the entry of session 1 that read one document and recorded 1, with a timestamp.
+/// Creates the entry of session 1, which read one document and recorded sequence 1, with the given timestamp.
 fn one_document(moment: u64) -> Option<Entry> {
     let Ok(at) = Moment::new(moment) else {
         return None;

@@ -198,7 +198,7 @@ fn kept_text(alloc: Global, text: &str) -> Option<String> {
     }
 }
 
-/// Returns whether a revision has a short signature, followed by a space.
+/// Returns the string `short ` or `long `, which says whether a revision's signature is short.
 fn form_text(alloc: Global, rev: &Rev) -> Option<String> {
     match KeptRev::short(rev) {
         Some(_) => "short ".to_string(alloc).ok(),
