@@ -65,8 +65,8 @@ IsFront {S} false steps ends state rest front =
     ⊎ ((line after back : List ℕ) × (new : S) × (rest ≡ line ++ 10 ∷ after) × (has_line_end line ≡ false)
     × steps state line (front ++ back) new)
 
--- An error stopped a task. The writer has the text of the input's first lines, and then a prefix of the next text
--- (`IsFront`). The predicate `given` is true of the input that was read.
+-- An error stopped a task. After the error, the writer has the text of the input's first lines, and then a prefix of
+-- the next text (`IsFront`). The predicate `given` is true of the input that was read.
 pub record IsStoppedOn {S : Type 0} (at_end : Bool) (steps ends : Steps S) (start : S) (given : List ℕ → Type 0)
     (held held' : Option (List ℕ)) : Type 0 where
   pub input : List ℕ
@@ -117,8 +117,8 @@ HasPrinted {S} ended input text state =
     (lines : List (List ℕ)) × (rest : List ℕ) × AreLines input lines rest × ended lines rest text state
 
 -- The output `text` of a task that an error stopped is a prefix of the output for the input's first lines, or of the
--- output for the complete input. The second case requires the statement `all`, which says that the input was read to
--- its end.
+-- output for the complete input. The text can be a prefix of the output for the complete input only if the statement
+-- `all` is true, which says that the input was read to its end.
 abbrev pub HasPrintedPart : {S : Type 0} → Kept S → Ended S → Type 0 → List ℕ → List ℕ → Type 0
 HasPrintedPart {S} kept ended all input text =
     ((lines : List (List ℕ)) × (rest back : List ℕ) × (state : S) × (input ≡ joined lines ++ rest)
