@@ -71,7 +71,8 @@ pub record InDocument (name : Name) (s : State) : Type 0 where
   pub nested : is_plain name ≡ true → (s.nesting == 0) ≡ false
   pub found : s.found ≡ Nothing
 
--- The full state and the stored state of a parser in a document, whose runs end before `cut` ends.
+-- The full state and the stored state of a parser in a document. The states differ only in their texts, and the texts
+-- differ only in the beginning `cut`, which has all runs.
 pub record Mirrors (cut : Cut) (name : Name) (full stored : State) : Type 0 where
   pub place : IsWithin name stored.place
   pub same : full ≡ record stored { text = full.text }
