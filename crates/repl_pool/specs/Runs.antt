@@ -185,7 +185,8 @@ pub record RunsOn {F : Type 0} (refuses : F → Document → Bool) (may_fill : T
   pub later : IsLaterPeer target.1 target'.1
   pub tied : (chosen : Choice) (backups : List BackupValue) → IsTiedWith backups source.1 target.1 chosen
       → IsTiedWith backups source'.1 target'.1 chosen
-  -- A third peer stays tied to the source and to the target of a run, under the conditions of `KeepsOthersTied`.
+  -- A third peer that was consistent with the source or the target of a run stays consistent, under the conditions of
+  -- `KeepsOthersTied`.
   pub others : KeepsOthersTied source.1 target.1 source'.1 target'.1
   -- An audit of the peers that a run returns is clean if the peers were consistent before the run.
   pub audited : (chosen : Choice) → IsTiedPair source.1 target.1 chosen

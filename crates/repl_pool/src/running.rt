@@ -36,8 +36,8 @@ pub struct Ran<F: WriteFilter> {
     pub target: Peer<F>,
     /// The number of documents that each fetcher fetched. The list is empty if no fetcher was started.
     pub fetched: Vec<u64>,
-    /// The board seats that the caller gave to the writers, in the given order. After `run`, which has no board, the
-    /// list of seats is empty.
+    /// The board seats that the caller gave to the writers, in the given order. The list is empty after `run`, because
+    /// `run` has no board.
     pub seats: Vec<BoardSeat>,
     /// The report of the plan's session, or the error.
     pub outcome: Result<Report, PoolFault>,

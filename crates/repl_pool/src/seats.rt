@@ -13,9 +13,9 @@ use std::alloc::Global;
 pub struct Seats {
     /// The board.
     pub board: Board,
-    /// The seats of the board's workers, in the order of their numbers.
+    /// A seat for each worker of the board, in the order of the workers' numbers.
     pub workers: Vec<BoardSeat>,
-    /// The seats of the board's viewers.
+    /// A seat for each viewer of the board.
     pub viewers: Vec<BoardSeat>,
 }
 
