@@ -7,7 +7,7 @@ use rev_tree::SessionId;
 use std::alloc::{AllocError, Global};
 use test_support::bare_entry;
 
-/// The replication from the peer with UUID 1 to the peer with UUID 2.
+/// The id of the replication from the peer with UUID 1 to the peer with UUID 2.
 const REP: RepId = RepId {
     source: 1,
     target: 2,

@@ -44,7 +44,7 @@ fn choose(alloc: Global) -> Option<Chosen> {
     }
 }
 
-/// Returns the length of the text of a replication id that has a selection.
+/// Returns the length of the text of a replication id with a selection.
 fn named(alloc: Global, chosen: &Chosen) -> Option<usize> {
     let Ok(rep) = RepId::new(1, 2, Some(chosen)).ok()?.copy(alloc) else {
         return None;
@@ -177,8 +177,8 @@ fn ended(alloc: Global, source: &mut Peer<Rules>, target: &mut Peer<Rules>) -> O
     ))
 }
 
-/// Replicates into a target. This code is a separate function, because the proof grows with each variable that is live
-/// together with a peer.
+/// Replicates into a target. The function is separate from its caller, because each variable that is live at the same
+/// time as a peer lengthens the proof.
 fn into_target(alloc: Global, source: &mut Peer<Rules>) -> Option<Seen> {
     let mut target = Peer::new(alloc, 2, Rules { deny: None });
     ended(alloc, source, &mut target)

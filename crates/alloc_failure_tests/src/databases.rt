@@ -178,7 +178,7 @@ fn fetched(alloc: Global, db: &Database, asked: &Asked) -> Result<(usize, usize)
     Ok((parcel.docs().len(), parcel.gone().len()))
 }
 
-/// Returns the number of documents for a request.
+/// Returns the number of documents that a database has for a request.
 fn asked_count(alloc: Global, db: &Database, asked: &Asked) -> Result<u128> {
     match db.count_asked(alloc, asked) {
         Err(AllocError) => Ok(db.count_asked(alloc, asked)?),
@@ -194,7 +194,7 @@ fn prepare(alloc: Global, parcel: &mut Parcel, window: &Window) -> Result<()> {
     }
 }
 
-/// Puts the fetched documents that have the id of a row.
+/// Puts those fetched documents whose id is the id of a row.
 fn put_row(alloc: Global, db: &mut Database, docs: &[Doc], row: &Row) -> Result<()> {
     let origin = Origin::Feed(SessionId(1), row.seq());
     for doc in docs {
@@ -217,7 +217,7 @@ fn arrived(alloc: Global, window: &Window, parcel: Parcel) -> Result<u64> {
     Ok(db.update_seq())
 }
 
-/// The numbers that are counted in an exchange with an empty database.
+/// The observed numbers of a replication into an empty database.
 #[derive(Clone, Copy)]
 struct Counts {
     rows: usize,
@@ -228,7 +228,8 @@ struct Counts {
     arrived: u64,
 }
 
-/// Requests a window for an empty database, fetches from both databases, and puts the fetched documents.
+/// Requests the leaves of a window that an empty database lacks. Fetches the requested leaves from both databases, and
+/// puts the documents that the first database returned.
 fn counted(alloc: Global, db: &Database, empty: &Database, window: &Window) -> Result<Counts> {
     let asked = asked(alloc, empty, window)?;
     let (count, _) = fetched(alloc, db, &asked)?;
@@ -250,7 +251,7 @@ fn exchanged(alloc: Global, db: &Database, empty: &Database) -> Result<Counts> {
     counted(alloc, db, empty, &window)
 }
 
-/// Copies a database into life 1.
+/// Copies a database, and gives the copy the life 1.
 fn db_copied(alloc: Global, db: &Database) -> Result<Database> {
     match db.copy_in(alloc, 1) {
         Err(AllocError) => Ok(db.copy_in(alloc, 1)?),
@@ -271,8 +272,8 @@ fn session(alloc: Global, db: &mut Database, empty: &Database) -> Result<(u64, C
     copy_exchanged(alloc, db, empty)
 }
 
-/// Runs a session between two databases. The function has few variables that are live together with a database, because
-/// each such variable lengthens the proof.
+/// Runs a session between two databases. The function has few variables, because each variable that is live at the same
+/// time as a database lengthens the proof.
 fn between(alloc: Global) -> Result<(u64, Counts)> {
     let mut db = Database::new(alloc, 7);
     let empty = Database::new(alloc, 8);

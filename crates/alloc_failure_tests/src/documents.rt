@@ -46,7 +46,7 @@ fn id(alloc: Global) -> Result<DocId, DocFault> {
     }
 }
 
-/// Reads the document body that a JSON value has.
+/// Reads a JSON value as a document body.
 fn body(alloc: Global, members: &Value) -> Result<Body, DocFault> {
     match read_body(alloc, members) {
         Err(DocFault::Memory) => read_body(alloc, members),
@@ -110,7 +110,7 @@ fn is_copied(alloc: Global, doc: &Doc) -> bool {
     }
 }
 
-/// Whether the document of a value, copied and written, has the expected text.
+/// Reads a document from a JSON value, and returns whether a copy of the document is written as the expected text.
 fn is_read(alloc: Global, value: &Value) -> bool {
     match read(alloc, value) {
         Ok(doc) => is_copied(alloc, &doc),

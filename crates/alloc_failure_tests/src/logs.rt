@@ -94,7 +94,7 @@ fn has_two(alloc: Global, logs: &Logs, target: u64) -> bool {
     }
 }
 
-/// Whether each of three replications has two entries in its log, and in a copy.
+/// Stores entries for three replications, and returns whether each replication has two entries in a copy of the logs.
 fn by_replication(alloc: Global) -> bool {
     let mut logs = Logs::new(alloc);
     if !fills(&mut logs) {

@@ -1,6 +1,6 @@
 //! Calls on a network. After a failed allocation, no peer was added, no document was written, and audits find no
-//! uncovered leaf. If hops fail, repeating the hops with other session ids has the result that the hops have without
-//! failures.
+//! uncovered leaf. If a hop fails, the test repeats the hops with other session ids. The repeated hops have the result
+//! of hops that do not fail.
 use crate::peers::{body, doc, doc_id};
 use crate::replications::{is_memory, is_nothing, plan};
 use anyhow::{Result, bail};
@@ -230,8 +230,8 @@ fn ended(alloc: Global, net: &mut Net<Rules>) -> Option<(u64, bool)> {
     Some((sequences(net)?, clean))
 }
 
-/// Performs the test `ended` with a new network. The network is the function's only live variable, because each further
-/// variable lengthens the proof.
+/// Calls `ended` with a new network. The network is the function's only live variable, because each further variable
+/// lengthens the proof.
 fn of_net(alloc: Global) -> Option<(u64, bool)> {
     let mut net = Net::new(alloc);
     ended(alloc, &mut net)

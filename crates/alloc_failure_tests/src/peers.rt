@@ -13,7 +13,7 @@ use std::alloc::{AllocError, Global};
 /// The only session.
 const SESSION: SessionId = SessionId(1);
 
-/// The replication from the peer 1 to the peer 2.
+/// The id of the replication from the peer with UUID 1 to the peer with UUID 2.
 const REP: RepId = RepId {
     source: 1,
     target: 2,
@@ -270,8 +270,8 @@ fn tell(rt: &impl Print, settled: Settled, report: Report, sequence: u64) -> Res
     Ok(())
 }
 
-/// Runs the session, and returns the numbers of settled documents, the report, and the target's update sequence. The
-/// target has a tree that contradicts a tree of the source.
+/// Runs the session, and returns the numbers of settled documents, the report, and the target's update sequence. Before
+/// the session, the target has a tree that contradicts a tree of the source.
 fn session(
     alloc: Global,
     source: &mut Peer<Rules>,
@@ -291,8 +291,8 @@ fn session(
     Some((settled, report, target.db().update_seq()))
 }
 
-/// Runs the session with a target that refuses documents. This code is a separate function, because the proof grows
-/// with each variable that is live together with a peer.
+/// Runs the session with a target that refuses documents. The function is separate from its caller, because each
+/// variable that is live at the same time as a peer lengthens the proof.
 fn into_target(
     alloc: Global,
     source: &mut Peer<Rules>,

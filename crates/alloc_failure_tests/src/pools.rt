@@ -12,8 +12,8 @@ use std::mem;
 use std::sync::Wait;
 use std::thread::Threads;
 
-/// A gate that never blocks a worker, but whose `may_block` returns true. Each fetcher and each writer of a run with
-/// this gate is a thread.
+/// A gate that never blocks a worker, but whose `may_block` returns true. With this gate, a run has a separate thread
+/// for each fetcher and each writer.
 struct Separate;
 
 impl Gate for Separate {
@@ -127,8 +127,8 @@ fn ended<G: Gate + Sync, R: Threads + Wait + Sync>(
     Some((report.recorded, target.db().update_seq(), clean))
 }
 
-/// Runs into a target. This code is a separate function, because the proof grows with each variable that is live
-/// together with a peer.
+/// Runs into a target. The function is separate from its caller, because each variable that is live at the same time as
+/// a peer lengthens the proof.
 fn into_target<G: Gate + Sync, R: Threads + Wait + Sync>(
     rt: &R,
     alloc: Global,

@@ -99,8 +99,8 @@ fn ended(
     Some((report.recorded, target.db().update_seq(), clean))
 }
 
-/// Replicates into a target. This code is a separate function, because the proof grows with each variable that is live
-/// together with a peer.
+/// Replicates into a target. The function is separate from its caller, because each variable that is live at the same
+/// time as a peer lengthens the proof.
 fn into_target(alloc: Global, source: &mut Peer<Rules>) -> Option<(u64, u64, bool)> {
     let mut target = Peer::new(alloc, 2, Rules { deny: None });
     ended(alloc, source, &mut target)

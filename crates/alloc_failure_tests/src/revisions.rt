@@ -85,10 +85,10 @@ fn is_text(alloc: Global, rev: Option<&Rev>, text: &[u8]) -> bool {
     }
 }
 
-/// The strings of the three revisions.
+/// The strings of the revisions 3-c, 2-b and 1-a.
 static TEXTS: &[&[u8]] = &[b"3-c", b"2-b", b"1-a"];
 
-/// Whether the texts of the three revisions are as expected.
+/// Whether the texts of a list of revisions are 3-c, 2-b and 1-a.
 fn are_texts(alloc: Global, revs: &[Rev]) -> bool {
     let mut same = revs.len() == TEXTS.len();
     for (i, text) in TEXTS.iter().enumerate() {
@@ -108,7 +108,7 @@ fn is_copied(alloc: Global, ancestry: &Ancestry) -> Option<bool> {
     Some(are_texts(alloc, copy.revs()))
 }
 
-/// Performs the check `is_copied` for the ancestry of three revisions.
+/// Calls `is_copied` for the ancestry 3-c, 2-b, 1-a.
 fn three_copied(alloc: Global) -> Option<bool> {
     match three(alloc) {
         Ok(ancestry) => is_copied(alloc, &ancestry),

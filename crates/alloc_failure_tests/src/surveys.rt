@@ -1,5 +1,5 @@
-//! Queries about two peers. If an allocation fails, the test repeats the query. The repeated query returns the result
-//! that it has without a failure.
+//! Tests queries about two peers. If an allocation fails in a query, the test repeats the query. The repeated query
+//! returns the result of a query without a failure.
 use crate::peers::{doc_id, load};
 use anyhow::{Result, bail};
 use couch_base::Database;
@@ -46,7 +46,7 @@ fn census(alloc: Global, database: &Database) -> Option<Census> {
     }
 }
 
-/// Adds a tree to the counts, and retries if an allocation fails. A failed call adds nothing.
+/// Adds a tree to the counts, and retries if an allocation fails. Checks that a failed call does not change the counts.
 fn counted(alloc: Global, tree: &Tree) -> Option<Census> {
     let mut census = Census::none();
     if census.add(alloc, tree).is_err() {
@@ -129,7 +129,7 @@ fn asked(alloc: Global, source: &Peer<Rules>, target: &Peer<Rules>) -> Option<bo
     Some(of_document == (2, 1, 1) && of_leaves == (2, 2) && totals && counts)
 }
 
-/// Loads the target's documents, and performs the queries.
+/// Loads the target's documents, and performs all queries (`asked`).
 fn with_target(alloc: Global, source: &Peer<Rules>) -> Option<bool> {
     let mut target = Peer::new(alloc, 2, Rules { deny: None });
     for text in TARGET {
@@ -140,7 +140,7 @@ fn with_target(alloc: Global, source: &Peer<Rules>) -> Option<bool> {
     asked(alloc, source, &target)
 }
 
-/// Loads the source's documents, and performs the queries.
+/// Loads the source's documents, and performs all queries (`asked`).
 fn of_peers(alloc: Global) -> Option<bool> {
     let mut source = Peer::new(alloc, 1, Rules { deny: None });
     for text in SOURCE {

@@ -82,7 +82,7 @@ fn other(alloc: Global) -> Option<Ancestry> {
     }
 }
 
-/// Returns the ancestry 12-l to 1-l. With this ancestry, the tree has enough revisions to build an index.
+/// Returns the ancestry 12-l to 1-l. After a merge of this ancestry, a tree has enough revisions to need an index.
 fn long(alloc: Global) -> Option<Ancestry> {
     match Sig::parse(b"l") {
         Ok(sig) => of_sigs(alloc, 12, &[sig; 12]),
@@ -90,7 +90,8 @@ fn long(alloc: Global) -> Option<Ancestry> {
     }
 }
 
-/// Merges an optional ancestry. Returns whether the merge has the expected result, and no failed call changed the tree.
+/// Merges an optional ancestry. Returns whether the merge has the expected result, and no failed call of `merge`
+/// changed the tree.
 fn merges(alloc: Global, tree: &mut Tree, given: Option<&Ancestry>, wanted: Merged) -> bool {
     let Some(given) = given else {
         return false;
@@ -101,7 +102,8 @@ fn merges(alloc: Global, tree: &mut Tree, given: Option<&Ancestry>, wanted: Merg
     }
 }
 
-/// Merges the three ancestries, and then the first ancestry a second time. Returns whether each result is as expected.
+/// Merges the ancestries of `three`, `other` and `long`, and then the ancestry of `three` again. Returns whether each
+/// merge has the expected result.
 fn grows(alloc: Global, tree: &mut Tree) -> bool {
     let three = revisions::three(alloc).ok();
     merges(alloc, tree, three.as_ref(), Merged::Changed)
@@ -117,7 +119,7 @@ fn copied(alloc: Global, tree: &Tree) -> Result<Tree, AllocError> {
     }
 }
 
-/// Whether exactly one given leaf is above a list of revisions.
+/// Whether the given leaf is the only leaf that is in a list of revisions or descends from a revision of the list.
 fn is_above(alloc: Global, tree: &Tree, revs: &[Rev], leaf: Rev) -> bool {
     match leaves_above(alloc, tree, revs) {
         Ok(above) => above.as_slice() == [leaf].as_slice(),
@@ -133,7 +135,7 @@ fn has_all(alloc: Global, tree: &Tree, revs: &[Rev]) -> bool {
     }
 }
 
-/// Whether the tree has the ancestry of a leaf, and no other leaf descends from this ancestry.
+/// Whether the tree has all revisions of a leaf's ancestry, and no other leaf descends from these revisions.
 fn is_read(alloc: Global, tree: &Tree, leaf: Rev) -> bool {
     match ancestry(alloc, tree, leaf) {
         Ok(walk) => {
@@ -143,7 +145,7 @@ fn is_read(alloc: Global, tree: &Tree, leaf: Rev) -> bool {
     }
 }
 
-/// Whether, for each leaf, the tree has the leaf's ancestry, and no other leaf descends from this ancestry.
+/// Whether `is_read` returns true for each leaf of the tree.
 fn are_read(alloc: Global, tree: &Tree) -> bool {
     let Ok(leaves) = leaves(alloc, tree) else {
         return false;
@@ -155,8 +157,8 @@ fn are_read(alloc: Global, tree: &Tree) -> bool {
     are_read
 }
 
-/// Copies the grown tree, and returns the copy's numbers of leaves and revisions, if reading the copy gives the
-/// expected results.
+/// Builds a tree (`grows`), copies the tree, and checks the copy (`are_read`). Returns the copy's numbers of leaves and
+/// revisions, or `None` if a check fails.
 fn ended(alloc: Global) -> Option<(usize, usize)> {
     let mut tree = Tree::new(alloc);
     if !grows(alloc, &mut tree) {

@@ -4,7 +4,7 @@ use doc_json::{Doc, DocFault, read_line_body, read_line_doc, write_doc};
 use json_values::{ReadFault, ValueReader};
 use std::alloc::{AllocError, Global};
 
-/// Compact JSON texts. The second text needs a larger buffer than the first.
+/// Compact JSON texts. The second text of this list needs a larger reading buffer than the first text.
 static TEXTS: &[&[u8]] = &[
     b"{\"n\":[1,{\"m\":\"x\"}]}",
     b"{\"l\":[{\"a\":\"a text with a \\\" in it\",\"b\":-15},{\"a\":[],\"b\":{\"c\":true}},null]}",
@@ -48,7 +48,7 @@ fn is_written_as(alloc: Global, doc: &Doc, text: &[u8]) -> Result<bool, DocFault
     }
 }
 
-/// Performs the check `is_its_document`, and retries if an allocation fails.
+/// Calls `is_its_document`, and retries if an allocation fails.
 fn is_written(reader: &mut ValueReader, alloc: Global, text: &[u8]) -> Result<bool, DocFault> {
     match is_its_document(reader, alloc, text) {
         Err(DocFault::Memory) => is_its_document(reader, alloc, text),
@@ -56,7 +56,7 @@ fn is_written(reader: &mut ValueReader, alloc: Global, text: &[u8]) -> Result<bo
     }
 }
 
-/// Performs the check `is_its_body`, and retries if an allocation fails.
+/// Calls `is_its_body`, and retries if an allocation fails.
 fn is_body(reader: &mut ValueReader, alloc: Global, text: &[u8]) -> Result<bool, DocFault> {
     match is_its_body(reader, alloc, text) {
         Err(DocFault::Memory) => is_its_body(reader, alloc, text),

@@ -1,5 +1,5 @@
-//! `World::run`. After a failed allocation, the world is in the state after the previous step, or a parcel is partially
-//! settled. After a failure, the test takes the remaining steps, and the result equals the result of a run without a
+//! `World::run`. If an allocation fails in a step, the world is in the state before this step, or the step has settled
+//! a part of a parcel. The test then takes the remaining steps. The final result is the result of a run without a
 //! failure.
 use crate::peers::{body, doc, doc_id};
 use anyhow::{Result, bail};
@@ -17,7 +17,7 @@ const SESSION: SessionId = SessionId(1);
 type Session = (usize, u64, u64);
 
 /// The observed values of a world: the source's life, the peers' update sequences, the session if it has begun, and the
-/// numbers of messages in the bag.
+/// numbers of messages that were sent (`World::bag_sizes`).
 #[derive(Clone, Copy, PartialEq, Eq)]
 struct Seen {
     life: u64,
@@ -27,9 +27,10 @@ struct Seen {
     sizes: (usize, usize, usize, usize, usize),
 }
 
-/// The observed values before each step, with the index of the first step that remains if the step fails. The table
-/// also has the observed values after a partial settling, with the index of the settling step. The test does not
-/// observe the source's log and backups, because it repeats the steps that store entries and back up.
+/// Each row has values that the test may observe after a step has failed, and the index of the step with which the test
+/// then continues. The step that settles a parcel has several rows, because the step may fail after it has settled a
+/// part of the parcel. The test does not observe the source's log and backups, because it may repeat the steps that
+/// store entries and back up.
 static BEFORE: &[(
     u64,
     u64,
@@ -59,7 +60,7 @@ static BEFORE: &[(
     (1, 3, 4, Some((1, 3, 3)), (1, 1, 1, 2, 1), 18),
 ];
 
-/// Returns the parts of an edit at 1-a: id, parent and body.
+/// Returns the parameters of an edit whose parent is 1-a: document id, parent and body.
 fn edit(alloc: Global, id: &str) -> Option<(doc_json::DocId, Option<Rev>, doc_json::Body)> {
     let Some(id) = doc_id(alloc, id) else {
         return None;
@@ -102,7 +103,7 @@ fn writes(alloc: Global, steps: &mut Vec<Step>) -> Option<()> {
         .ok()
 }
 
-/// Returns the step of a replication at an index.
+/// Returns the step of a replication that has the given index.
 fn step(at: Moment, place: usize) -> Step {
     let (window, asked, parcel, entry) = (0, 0, 0, 1);
     let session = SESSION;
@@ -184,7 +185,7 @@ fn look(world: &World<Rules>) -> Seen {
     }
 }
 
-/// Returns the index of the first remaining step, if the world is in one of the expected states.
+/// Returns the index of the step with which the test continues, if the table `BEFORE` has the observed values.
 fn left(seen: Seen) -> Option<usize> {
     for (life, source, target, session, sizes, place) in BEFORE {
         let before = Seen {
@@ -201,7 +202,7 @@ fn left(seen: Seen) -> Option<usize> {
     None
 }
 
-/// Takes all steps of a list. After a failed allocation, the call continues with the first remaining step.
+/// Takes all steps of a list. If an allocation fails, the call continues with the step that `left` returns.
 fn take(alloc: Global, world: &mut World<Rules>, steps: &[Step]) -> Option<()> {
     if world.run(alloc, steps).is_ok() {
         return Some(());
@@ -244,8 +245,8 @@ fn ended(alloc: Global, world: &mut World<Rules>) -> Option<(u64, Seen, bool)> {
     Some((entry.recorded, look(world), clean))
 }
 
-/// Performs the test `ended` with a world of two new peers. The world is the function's only live variable, because
-/// each further variable lengthens the proof.
+/// Calls `ended` with a world of two new peers. The world is the function's only live variable, because each further
+/// variable lengthens the proof.
 fn of_two(alloc: Global) -> Option<(u64, Seen, bool)> {
     let source = Peer::new(alloc, 1, Rules { deny: None });
     let target = Peer::new(alloc, 2, Rules { deny: None });

@@ -112,7 +112,8 @@ fn finish<T: LineTask, W: ScriptWrite>(
 /// `Write` if the writer failed in this call. Returns `Memory` if an allocation failed, or if a count of the task is at
 /// its maximum.
 ///
-/// After an error, `run_task` has written the text for the earlier lines, or a prefix of this text.
+/// After an error, the writer has the text of the first lines, and then a prefix of the text of the next line or of the
+/// input's end.
 pub fn run_task<T: LineTask, R: ScriptRead, W: ScriptWrite>(
     alloc: Global,
     task: &mut T,

@@ -9,8 +9,8 @@ use Rattle.relay_responses.specs.Read.{items_at, each_item, with_first}
 
 -- ---- named leaves
 
--- The members of a JSON object, appended to the members `found`. In the resulting list, each name occurs once, with its
--- last value.
+-- The members `found`, followed by the members of a JSON object. In the resulting list, each name occurs once, and has
+-- the value of the last member with this name.
 abbrev pub last_members : List (Text × Json) → Members → List (Text × Json)
 last_members found no_members = found
 last_members found (member k j ms) = last_members (insert_entry bytes_eq found k j) ms
@@ -23,7 +23,7 @@ doc_of id revs = (id, revs)
 abbrev pub missing_at : Text × Json → Option DocView
 missing_at m = option_map (doc_of m.0) (option_and_then (each_item as_str) (items_at (codes "missing") m.1))
 
--- The documents that the members of a response name, or `None` if one member does not name a document.
+-- The documents that the members of a response name, or `None` if a member does not name a document.
 abbrev pub each_missing : List (Text × Json) → Option (List DocView)
 each_missing [] = Some []
 each_missing (m ∷ ms) = with_first (missing_at m) (each_missing ms)

@@ -28,11 +28,12 @@ row_errors_in j = option_map (some_items row_error_in) (as_array j)
 abbrev pub entry_of : Json → Text × Text → EntryView
 entry_of j p = record { session = p.0; seq = p.1; json = print (json_tokens j) }
 
--- The entry of a log's history in a JSON value, if the value has a session and a sequence.
+-- The history entry that a JSON value describes, or `None` if the value lacks a session or a recorded sequence.
 abbrev pub entry_in : Json → Option EntryView
 entry_in j = option_map (entry_of j) (both (text_at (codes "session_id") j) (sequence_at (codes "recorded_seq") j))
 
--- The entries of a log's history, or the empty list if the log has no history.
+-- The entries of a log's history. The list is empty if the log has no history, and the result is `None` if the history
+-- is not a list.
 abbrev pub history_of : Option Json → Option (List EntryView)
 history_of None = Some []
 history_of (Some null) = None

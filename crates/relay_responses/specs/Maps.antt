@@ -1,4 +1,4 @@
--- The values that the maps of a response represent. A key of a response's map is a reference to a text.
+-- The lists by which contracts describe the maps in the code. The keys of the maps are references to strings.
 use Rattle.std.specs.Prelude.{List, [], Option, None, Some, map}
 use Rattle.std.specs.Borrow.{Bor}
 use Rattle.std.specs.Global.{Global}
@@ -8,7 +8,7 @@ use Rattle.json.specs.declared.value.Value.{Value}
 use Rattle.indexmap.specs.IndexSet.{IndexSet}
 use Rattle.relay_core.specs.Messages.{Text, DocView}
 
--- The texts that a list of references refers to.
+-- The strings that the references in a list refer to.
 abbrev pub texts_in : List (Bor Text) → List Text
 texts_in keys = map (λ k. k.now) keys
 

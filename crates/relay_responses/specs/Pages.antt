@@ -48,7 +48,8 @@ merged rows = fold add_row [] rows
 
 -- ---- the page
 
--- The number of documents after a page, or `None` if the page's member `pending` is missing or null.
+-- The value of a page's member `pending`, which is the number of documents after the page. The result is `Some None` if
+-- the member is missing or null, and `None` if the member has a value other than a number or null.
 abbrev pub pending_of : Option Json → Option (Option Text)
 pending_of None = Some None
 pending_of (Some null) = Some None

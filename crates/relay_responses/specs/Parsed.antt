@@ -8,7 +8,7 @@ use Rattle.relay_core.specs.Views.{fault_view}
 use Rattle.relay_responses.specs.declared.parsed.Parsed.{Parsed}
 use Rattle.relay_responses.specs.declared.parsed.Parsed.TheVariants as parsed
 
--- The response that f gives for a parsed value, or a fault if parsing failed.
+-- The response that the function f computes from a parsed value, or the fault if parsing failed.
 abbrev pub response_by : (Json → ResponseView) → Parsed → ResponseView
 response_by f (parsed.Json value) = f (value_view value)
 response_by f (parsed.Fault fault) = fault_response (fault_view fault)

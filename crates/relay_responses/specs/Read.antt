@@ -51,12 +51,12 @@ with_first None xs = None
 with_first (Some x) None = None
 with_first (Some x) (Some xs) = Some (x ∷ xs)
 
--- The results for all items of a list, or `None` if one item has no result.
+-- The results of the function `reads` for all items of a list, or `None` if one item has no result.
 abbrev pub each_item : {A : Type 0} → (Json → Option A) → Items → Option (List A)
 each_item reads no_items = Some []
 each_item reads (item j js) = with_first (reads j) (each_item reads js)
 
--- The results for the items of a list that can be read.
+-- The results of the function `reads` for the items of a list. An item without a result is skipped.
 abbrev pub some_items : {A : Type 0} → (Json → Option A) → Items → List A
 some_items reads no_items = []
 some_items reads (item j js) = option_map_or (λ x. x ∷ some_items reads js) (reads j) (some_items reads js)

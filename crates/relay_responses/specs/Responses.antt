@@ -18,7 +18,7 @@ use Rattle.relay_responses.specs.Logs.{row_errors_in, log_in, no_log, is_stored}
 abbrev pub is_success : ℕ → Bool
 is_success status = status == 200 || status == 201 || status == 202
 
--- Whether a `carry` request of fewer documents may succeed after a `carry` request whose response has the given status.
+-- Whether a `carry` request that failed with the given status may succeed with fewer documents.
 abbrev pub is_rejection : ℕ → Bool
 is_rejection status =
     nat_le 400 status && nat_lt status 500 && not (status == 401 || status == 403 || status == 404 || status == 408 || status == 429)
@@ -28,24 +28,25 @@ is_rejection status =
 abbrev pub words_of : Text × Text → Text
 words_of p = p.0 ++ codes ": " ++ p.1
 
--- The error and the reason in the body of a response.
+-- The error and the reason in the body of a response, or `no error text` if the body does not have both.
 abbrev pub words_in : Text → Text
 words_in body = option_map_or words_of (option_and_then (λ j. both (text_at (codes "error") j) (text_at (codes "reason") j)) (json_in body)) (codes "no error text")
 
 -- ---- responses
 
--- The response that f gives for a JSON body, or a fault if the body is not JSON.
+-- The response that the function f computes from a JSON body, or a fault if the body is not JSON.
 abbrev pub json_response : Operation → Text → (Json → ResponseView) → ResponseView
 json_response operation body f = option_map_or f (json_in body) (fault_response (not_json operation))
 
--- The response that f gives for a JSON body, or a fault if the status is not a success or the body is not JSON.
+-- The response that the function f computes from a JSON body, or a fault if the status is not a success or the body is
+-- not JSON.
 abbrev pub read_as : Side → Operation → ℕ → Text → (Json → ResponseView) → ResponseView
 read_as side operation status body f =
     if status == 0 then fault_response (unanswered side operation)
     else if is_success status then json_response operation body f
     else fault_response (bad_status side operation status (words_in body))
 
--- The response that f gives for an optional value, or the given fault if there is no value.
+-- The response that the function f computes from an optional value, or the given fault if there is no value.
 abbrev pub or_fault : {A : Type 0} → (A → ResponseView) → FaultView → Option A → ResponseView
 or_fault f fault o = option_map_or f o (fault_response fault)
 
@@ -70,7 +71,7 @@ put_response_in from status body =
     if status == 409 then conflict_response
     else read_as from WriteLog status body (λ j. if is_stored j then stored_response else fault_response (bad_answer WriteLog))
 
--- The server that the response names, or the server of the request.
+-- The server that the response names, or the request's server if the response does not name a server.
 abbrev pub side_or : Option Side → Side → Side
 side_or None side = side
 side_or (Some s) side = s

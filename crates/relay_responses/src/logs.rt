@@ -74,7 +74,8 @@ fn history_in(alloc: Global, value: &Value<'_>) -> Result<Option<Vec<LogEntry>>,
     }
 }
 
-/// Returns the history of a log, which is empty if the log lacks the member `history`.
+/// Returns the history of a log, which is empty if the log lacks the member `history`. Returns `None` if the member is
+/// not a list.
 fn history_of(alloc: Global, value: &Value<'_>) -> Result<Option<Vec<LogEntry>>, AllocError>
     requires { HasNumbers (value_view value.now) }
     ensures { IfOk result (λ o. option_map (λ v. entries_view v.items) o

@@ -165,7 +165,8 @@ fn merged(alloc: Global, rows: &[DocLeaves]) -> Result<Vec<DocLeaves>, AllocErro
     copied_docs(alloc, &docs)
 }
 
-/// Returns the number of changed documents after a page, if the response gives this number.
+/// Returns the number of changed documents after a page, if the response gives this number. The outer option is `None`
+/// if the member `pending` exists, but is neither a number nor null.
 fn pending_of(alloc: Global, value: &Value<'_>) -> Result<Option<Option<String>>, AllocError>
     ensures { IfOk result (λ o. option_map (option_map string_bytes) o
         ≡ pending_of (get (codes "pending") (value_view value.now))) }
@@ -180,7 +181,7 @@ fn pending_of(alloc: Global, value: &Value<'_>) -> Result<Option<Option<String>>
     }
 }
 
-/// Whether a page's number of remaining documents is given and zero.
+/// Whether a page gives the number of remaining documents, and the number is zero.
 fn is_zero(pending: &Option<String>) -> bool
     ensures { result ≡ is_zero (option_map string_bytes pending.now) }
 {

@@ -8,7 +8,7 @@ use Rattle.repl_inspect.specs.Conflicts.{live, in_conflict}
 use Rattle.repl_inspect.specs.Counting.{counted}
 use Rattle.repl_inspect.specs.declared.census.Census.{Census}
 
--- Whether a document is deleted, because its tree has no live leaf.
+-- Whether a document is deleted: the document's tree has no live leaf.
 abbrev pub is_gone : TreeValue → Bool
 is_gone tree = length (live tree) == 0
 

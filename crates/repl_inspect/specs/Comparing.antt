@@ -12,16 +12,18 @@ use Rattle.rev_tree.specs.Content.{ContentValue}
 use Rattle.rev_tree.specs.Tree.{TreeValue, leaves, ancestors, missing, first_contradiction}
 use Rattle.rev_tree.specs.declared.fault.Contradiction.{Contradiction}
 
--- The comparison of a source's document with the target's document. A comparison has the number of the source's leaves,
--- and the leaves that the target's tree lacks. A comparison has the first revision in the missing leaves' ancestries
--- that has another parent at the target. A comparison has the leaves whose contents are known on both sides and differ.
+-- The comparison of a source's document with the target's document. The fields are the number of the source's leaves,
+-- the leaves that the target's tree lacks, a contradiction, and the leaves whose known contents differ. Contents are
+-- compared only if both sides know them. The contradiction is at the first revision in the missing leaves' ancestries
+-- that has another parent at the target.
 pub record ComparisonValue : Type 0 where
   pub leaves : ℕ
   pub missing : List RevId
   pub contradiction : Option Contradiction
   pub differing : List RevId
 
--- The first contradiction of the leaves' ancestries with the target's tree, leaf by leaf, newest child first.
+-- The first contradiction between the ancestries of the given leaves and the target's tree. The leaves are searched in
+-- order, and each ancestry from its newest revision on.
 abbrev pub contradiction_under : TreeValue → TreeValue → List RevId → Option Contradiction
 contradiction_under source target [] = None
 contradiction_under source target (leaf ∷ leaves) =

@@ -8,7 +8,7 @@ use Rattle.rev_tree.specs.Tree.{TreeValue, leaves, is_deleted}
 abbrev pub live : TreeValue → List RevId
 live tree = filter (λ r. not (is_deleted tree r)) (leaves tree)
 
--- Whether a document is in conflict, because its tree has two or more live leaves.
+-- Whether a document is in conflict: the document's tree has two or more live leaves.
 abbrev pub in_conflict : TreeValue → Bool
 in_conflict tree = nat_le 2 (length (live tree))
 

@@ -26,7 +26,7 @@ abbrev pub AllTaken : PeerValue → List Document → Type 0
 AllTaken p [] = Unit {0}
 AllTaken p (d ∷ ds) = IsOk (put_answer p.db d) × AllTaken (after_load p d) ds
 
--- An empty peer with enough sequences accepts the documents of all selected leaves. After the load, each selected
+-- An empty peer with enough free sequences accepts the documents of all selected leaves. After the loads, each selected
 -- document has the same revisions, parents, contents of leaves and winner at the peer and in the database.
 abbrev pub LoadBack : DatabaseValue → Type 0
 LoadBack db =

@@ -18,8 +18,8 @@ pub struct Comparison {
     differing: Vec<Rev>,
 }
 
-// `Drop` is implemented by hand because its derived code would be proved again in each crate that owns such a value
-// (docs/DECISIONS.md, "Letting values go").
+// `Drop` is implemented by hand, because derived code would be proved again in each crate that owns a value of this
+// type (docs/DECISIONS.md, "Letting values go").
 impl Drop for Comparison {
     fn drop(self) {
         let Comparison {
@@ -63,7 +63,7 @@ impl Comparison {
 
     /// Returns the first revision in the missing leaves' ancestries that has another parent at the target. The call
     /// searches the missing leaves in order, and each leaf's ancestry from the newest revision on. The target would
-    /// refuse the leaf that has this revision in its ancestry.
+    /// refuse the missing leaf whose ancestry has the returned revision.
     pub fn contradiction(&self) -> Option<Contradiction>
         ensures { result ≡ self.now.contradiction }
     {

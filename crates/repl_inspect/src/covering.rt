@@ -1,4 +1,4 @@
-//! Compares the complete feed of a source with a target. The contract says which leaves the target covers.
+//! Compares the complete feed of a source with a target. The contract relates missing leaves to covered leaves.
 ghost use Rattle.std.specs.Prelude.{◌≡◌, IfOk};
 ghost use Rattle.std.specs.Option.{option_copied};
 ghost use Rattle.couch_base.specs.Feed.{chosen_feed};
@@ -17,8 +17,8 @@ use std::alloc::{AllocError, Global};
 /// logs, and reads the source's feed in pages.
 ///
 /// If no leaf is missing, the target covers the complete feed. If the target covers the complete feed, each missing
-/// leaf is in a ledger of the target. If the target covers the complete feed and all ledgers are empty, no leaf is
-/// missing.
+/// leaf is in the ancestry of a document that a session of the target refused. If the target covers the complete feed
+/// and all ledgers are empty, no leaf is missing.
 pub fn compare_feed<F: WriteFilter, G: WriteFilter>(
     alloc: Global,
     source: &Peer<F>,

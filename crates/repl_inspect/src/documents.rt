@@ -17,7 +17,7 @@ use std::alloc::{AllocError, Global};
 /// Returns the leaves of a document, winner first, each as a document with its known ancestry and its content. The list
 /// is empty if the database does not have the document.
 ///
-/// If the documents of all rows of a feed are loaded in order into an empty peer with enough sequences, the peer
+/// If the documents of all rows of a feed are loaded in order into an empty peer with enough free sequences, the peer
 /// accepts every document. After the last load, each selected document is the same in the peer and in the original
 /// database.
 pub fn documents_of(alloc: Global, database: &Database, id: &DocId) -> Result<Vec<Doc>, AllocError>

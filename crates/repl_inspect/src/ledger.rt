@@ -10,7 +10,7 @@ pub enum LedgerRow {
     /// The write filter refuses the document. The variant names the document's newest revision.
     Denied { rev: Rev },
     /// The ancestry of the document contradicts the tree, because a revision has another parent in the tree. The
-    /// variant names the newest revision whose parent differs.
+    /// variant names the newest revision with another parent in the tree, and both parents.
     Contradicted { rev: Rev, known: Rev, given: Rev },
 }
 

@@ -12,13 +12,13 @@ ArePages source plan since [] = Unit {0}
 ArePages source plan since (w ∷ windows) =
     (since < source.update_seq) × (w ≡ next_window source plan since) × ArePages source plan w.hi windows
 
--- The plan of a run allows n windows.
+-- The plan of a run allows n windows: n is at most the plan's `stop_after`, if the plan has one.
 abbrev pub AreAllowed : Option ℕ → ℕ → Type 0
 AreAllowed None n = Unit {0}
 AreAllowed (Some stop_after) n = n ≤ stop_after
 
 -- The windows of the run's session are consecutive pages of the source's selected feed, starting at the common
--- checkpoint. The windows have the plan's size, and there are at most as many windows as the plan allows.
+-- checkpoint. The limit of each window is the plan's batch, and the plan allows the number of windows.
 pub record IsPaged (source target target' : PeerValue) (plan : Plan) : Type 0 where
   pub session : SessionValue
   pub held : session_in target'.sessions plan.session ≡ Some session

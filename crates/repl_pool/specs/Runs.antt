@@ -31,7 +31,7 @@ use Rattle.repl_pool.specs.Pages.{IsPaged}
 
 -- ---- end of a run
 
--- The session of a run was concluded, no worker failed or stopped, and all parcels that were sent were received.
+-- The session of a run was concluded. No worker failed or stopped, and all sent parcels were received.
 pub record IsConcluded (plan : Plan) (fault : Option PoolFault) (complete : Bool) (before after : PeerValue)
     (report : Report) : Type 0 where
   pub free : fault ≡ None
@@ -39,7 +39,8 @@ pub record IsConcluded (plan : Plan) (fault : Option PoolFault) (complete : Bool
   pub answer : conclude_answer before plan.session ≡ Ok report
   pub peer : after ≡ after_conclude before plan.session plan.at
 
--- The error of a run whose session is recorded but not concluded: unfinished at the session's low water.
+-- The error of a run whose session was recorded instead of concluded. The error is `Unfinished` with the session's low
+-- water, or the error of recording the session.
 abbrev pub unfinished_at : Result ℕ TargetFault → PoolFault
 unfinished_at (Ok low_water) = faults.Refused (refusals.Unfinished low_water)
 unfinished_at (Err why) = faults.Refused why
@@ -55,8 +56,8 @@ pub data IsRecorded (plan : Plan) (fault : Option PoolFault) (complete : Bool) (
   refused : {why : TargetFault} → fault ≡ None → complete ≡ true → conclude_answer before plan.session ≡ Err why
       → after ≡ closed before plan → IsRecorded plan fault complete before after (faults.Refused why)
 
--- The outcome of a run after its last step. If the allocation for the entry at the source fails, success becomes
--- `Memory`. Any other outcome stays unchanged.
+-- The outcome of a run before and after the run stores its entry at the source. A successful run returns `Memory`
+-- instead if the allocation for the entry fails. A failed run keeps its error.
 abbrev pub UnlessMemory : Result Report PoolFault → Result Report PoolFault → Type 0
 UnlessMemory (Ok report) result = (result ≡ Ok report) ⊎ (result ≡ Err faults.Memory)
 UnlessMemory (Err why) result = result ≡ Err why
@@ -84,10 +85,10 @@ pub data ClosesRun (plan : Plan) (fault : Option PoolFault) (complete : Bool)
       → PutsEntry source after source' plan (Err why)
       → ClosesRun plan fault complete source before source' after (Err why)
 
--- The end of a run of the pool, with what is known about the workers. At the end of a run, the target has grown from
--- the given target, and the windows of the run's session are pages of the source. A worker halted only if the gate
--- allows the halt or a call of the worker failed. If no worker stopped and all parcels were received, the session has
--- read the documents that the fetchers counted.
+-- The end of a run of the pool, and what a proof knows about the run's workers. At the end of a run, the target has
+-- grown from the given target, and the windows of the run's session are pages of the source. If a worker halted, the
+-- gate allows the halt, or a call of the worker failed. If no worker stopped and all parcels were received, the session
+-- has read the documents that the fetchers counted.
 pub record EndsRun {F : Type 0} (refuses : F → Document → Bool) (may_fill : Type 0) (may_stop : Place → Type 0)
     (plan : Plan) (source : PeerValue) (given : F × PeerValue) (counts : List ℕ) (source' after : PeerValue)
     (outcome : Result Report PoolFault) : Type 0 where
@@ -112,26 +113,28 @@ EarlyOrLate may_fill may_stop (Err why) source target source' target' fetched ou
 EarlyOrLate may_fill may_stop (Ok done) source target source' target' fetched outcome =
     IfErr outcome (IsLateOn may_fill may_stop)
 
--- Why the session of a run has not begun: an error of the plan, a failed allocation, or an error of beginning.
+-- The error of a run whose session has not begun: an error of the plan, `Memory`, or the error of beginning the
+-- session.
 abbrev pub IsUnbegunFor : PeerValue → PeerValue → Plan → PoolFault → Type 0
 IsUnbegunFor source target plan fault =
     (early_answer source target plan ≡ Err fault)
     ⊎ (fault ≡ faults.Refused refusals.Memory)
     ⊎ (why : TargetFault) × (begins_answer source target plan ≡ Err why) × (fault ≡ faults.Refused why)
 
--- The outcome of a run is the error for which its session has not begun.
+-- The session of a run has not begun, and the run returns the error that is the reason.
 pub record IsUnbegun (source target : PeerValue) (plan : Plan) (outcome : Result Report PoolFault) : Type 0 where
   pub fault : PoolFault
   pub told : outcome ≡ Err fault
   pub due : IsUnbegunFor source target plan fault
 
--- An unfinished run returns the low water of its session, which is the recorded sequence.
+-- The error `Unfinished` has the low water of the run's session, and the session has recorded this sequence.
 abbrev pub TellsLowWater : PeerValue → SessionId → PoolFault → Type 0
 TellsLowWater target run (faults.Refused (refusals.Unfinished n)) =
     (s : SessionValue) × (session_in target.sessions run ≡ Some s) × (n ≡ low_water s.front) × (n ≡ s.recorded)
 TellsLowWater target run fault = Unit {0}
 
--- The session of a run has begun, its windows are pages of the source, and its entry is stored at the source.
+-- The session of a run has begun, the session's windows are pages of the source, and the session's entry is stored at
+-- the source.
 pub record IsBegun (source target source' target' : PeerValue) (plan : Plan) (outcome : Result Report PoolFault) : Type 0
   where
     pub begun : begins_answer source target plan ≡ Ok tt
@@ -139,18 +142,18 @@ pub record IsBegun (source target source' target' : PeerValue) (plan : Plan) (ou
     pub put : PutsEntry source target' source' plan outcome
     pub unfinished : IfErr outcome (TellsLowWater target' plan.session)
 
--- The effect of a run. If the run's session has not begun, both peers are unchanged. If the session has begun, its
--- entry is stored at the source.
+-- The effect of a run. If the run's session has not begun, both peers are unchanged. If the session has begun, the
+-- session's entry is stored at the source.
 abbrev pub LeavesOrPuts : {F : Type 0} → Plan → F × PeerValue → F × PeerValue → F × PeerValue → F × PeerValue
     → Result Report PoolFault → Type 0
 LeavesOrPuts plan source target source' target' outcome =
     (source' ≡ source) × (target' ≡ target) × IsUnbegun source.1 target.1 plan outcome
     ⊎ IsBegun source.1 target.1 source'.1 target'.1 plan outcome
 
--- The guarantees of a successful run. The report of a successful run is the report of the plan's session, which began
--- at the common checkpoint and has recorded its goal. After a successful run, the target covers the source's selected
--- feed above the start. If the target was empty and refused no document, each selected document is the same on both
--- sides. After a successful run, the fetchers' counts add up to the documents read.
+-- The guarantees of a successful run. A successful run returns the report of the plan's session, which began at the
+-- common checkpoint and has recorded the source's update sequence. After a successful run, the target covers the
+-- source's selected feed above the common checkpoint. If the target was empty and refused no document, each selected
+-- document is the same on both sides. After a successful run, the fetchers' counts add up to the documents read.
 pub record EndsWell (source target target' : PeerValue) (plan : Plan) (n : ℕ) (report : Report) : Type 0 where
   pub reported : IsReported source target target' plan report
   pub covered : CoversFrom source target' plan.chosen (start_between source target plan.chosen)
@@ -161,8 +164,8 @@ pub record EndsWell (source target target' : PeerValue) (plan : Plan) (n : ℕ) 
 abbrev pub LeftPeer : {F : Type 0} → (F → Document → Bool) → PeerValue → F × PeerValue → Plan → F × PeerValue → Type 0
 LeftPeer refuses source given plan now = (now.0 ≡ given.0) × IsLeft (refuses given.0) source given.1 plan now.1
 
--- The result of a run of the pool, and the two peers that it returns. If the run has a board, a counter of the board
--- may be full.
+-- The guarantees about the result of a run of the pool and about the two peers that the run returns. The run may return
+-- `BoardFull` only if the statement `may_fill` is true.
 pub record RunsOn {F : Type 0} (refuses : F → Document → Bool) (may_fill : Type 0) (may_stop : Place → Type 0)
     (plan : Plan) (source target source' target' : F × PeerValue) (fetched : List ℕ) (outcome : Result Report PoolFault)
     : Type 0 where
@@ -171,23 +174,25 @@ pub record RunsOn {F : Type 0} (refuses : F → Document → Bool) (may_fill : T
   -- `may_fill` is true.
   pub early : EarlyOrLate may_fill may_stop (early_answer source.1 target.1 plan) source target source' target' fetched
       outcome
-  -- A run changes only the log of its source.
+  -- At the source, a run changes only the outgoing logs.
   pub filter : source'.0 ≡ source.0
   pub log : source'.1 ≡ record source.1 { outgoing = source'.1.outgoing }
   -- The target of a run is unchanged, or the session has begun and the target has grown by calls with messages of the
   -- source.
   pub grown : LeftPeer refuses source.1 target plan target'
-  -- A run's target loses nothing. For every selection and all backups of the source, consistent peers stay consistent.
+  -- A run's target keeps all sessions and revisions, as `IsLaterPeer` says. For every selection and all backups of the
+  -- source, consistent peers stay consistent.
   pub later : IsLaterPeer target.1 target'.1
   pub tied : (chosen : Choice) (backups : List BackupValue) → IsTiedWith backups source.1 target.1 chosen
       → IsTiedWith backups source'.1 target'.1 chosen
-  -- A third peer stays tied to the source and to the target of a run, under the conditions of `KeepsOthersTied`.
+  -- A third peer that was consistent with the source or the target of a run stays consistent, under the conditions of
+  -- `KeepsOthersTied`.
   pub others : KeepsOthersTied source.1 target.1 source'.1 target'.1
   -- An audit of the peers that a run returns is clean if the peers were consistent before the run.
   pub audited : (chosen : Choice) → IsTiedPair source.1 target.1 chosen
       → audit_answer source'.1 target'.1 chosen ≡ None
   -- If a run's session has not begun, both peers are unchanged and the error gives the reason. If a run's session has
-  -- begun, its windows are pages of the source, and its entry is stored at the source.
+  -- begun, the session's windows are pages of the source, and the session's entry is stored at the source.
   pub put : LeavesOrPuts plan source target source' target' outcome
   -- If the peers of a run were consistent, the error of the run is one that `IsExpectedRun` lists.
   pub expected : IfErr outcome

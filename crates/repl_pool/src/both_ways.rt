@@ -36,16 +36,15 @@ pub struct SyncRan<F: WriteFilter> {
     pub outcome: Result<Synced, SyncFault>,
 }
 
-/// Replicates in both directions with a pool of threads. The first direction is `a` into `b`. If the first direction
-/// succeeds, the second follows, `b` into `a`. Each direction is a `run` with a separate plan. Both runs use the same
-/// gate.
+/// Replicates in both directions with a pool of threads. The first `run` replicates `a` into `b`. If the first run
+/// succeeds, a second `run` replicates `b` into `a`. Each run has a separate plan. Both runs use the same gate.
 ///
-/// If the call succeeds, it guarantees what `sync_alone` guarantees. If the peers are consistent (docs/PROFILE.md,
-/// "Tied peers"), each side then has every leaf of each document that both plans select and neither side has refused.
-/// If a document's two trees agreed before the call and had complete histories, both sides then have the same document.
-/// If the peers are consistent in both directions, they stay consistent for every result of the call. `a` stays
-/// consistent with third peers that do not have `b`'s UUID, and `b` stays consistent with third peers that do not have
-/// `a`'s UUID.
+/// A successful call has all guarantees of `sync_alone`. Suppose that the peers are consistent in both directions
+/// (docs/PROFILE.md, "Tied peers"). Consider a document that both plans select and neither side has refused. After a
+/// successful call, each side has the other side's leaves of the document. If the document's two trees agreed before
+/// the call and had complete histories, both sides have the same document. If the peers are consistent in both
+/// directions, they stay consistent for every result of the call. `a` stays consistent with third peers that do not
+/// have `b`'s UUID, and `b` stays consistent with third peers that do not have `a`'s UUID.
 ///
 /// The call blocks until both runs end. The contract does not guarantee that the two runs end.
 pub fn sync<F: WriteFilter + Send + Sync, G: Gate + Sync, R: Threads + Wait + Sync>(

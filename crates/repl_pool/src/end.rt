@@ -54,7 +54,8 @@ fn close_target<F: WriteFilter>(
 /// Stores the entry of a run's session, which the target has, in the source's log. If the source's log has a newer
 /// entry of the session, the call stores nothing.
 ///
-/// The call returns the outcome of the run. If the outcome is `Ok` and an allocation fails, the call returns `Memory`.
+/// The call returns the outcome of the run. If the outcome is `Ok` and the allocation for the entry fails, the call
+/// returns `Memory`.
 fn put_entry<F: WriteFilter>(
     source: &mut Peer<F>,
     target: &Peer<F>,
@@ -73,8 +74,8 @@ fn put_entry<F: WriteFilter>(
     Ok(report)
 }
 
-/// Ends a run. The call closes the session at the target, stores the session's entry at the source, and returns both
-/// peers.
+/// Ends a run. The call concludes or records the session at the target, stores the session's entry at the source, and
+/// returns both peers.
 pub fn end<F: WriteFilter>(source: Peer<F>, summed: Summed<F>, plan: &Plan) -> Ran<F>
     requires held { (s : SessionValue) × (session_in summed.target.1.sessions plan.now.session ≡ Some s) }
     ensures fetched { result.fetched ≡ summed.fetched }

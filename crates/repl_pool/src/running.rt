@@ -30,30 +30,31 @@ use std::thread::Threads;
 /// error.
 #[derive(Drop)]
 pub struct Ran<F: WriteFilter> {
-    /// The source of the run, of which only the logs may have changed.
+    /// The source of the run. The run has changed at most the source's outgoing logs.
     pub source: Peer<F>,
     /// The target.
     pub target: Peer<F>,
     /// The number of documents that each fetcher fetched. The list is empty if no fetcher was started.
     pub fetched: Vec<u64>,
-    /// The seats that the caller gave to the writers, in the given order. After `run`, which has no board, the list of
-    /// seats is empty.
+    /// The board seats that the caller gave to the writers, in the given order. The list is empty after `run`, because
+    /// `run` has no board.
     pub seats: Vec<BoardSeat>,
     /// The report of the plan's session, or the error.
     pub outcome: Result<Report, PoolFault>,
 }
 
-/// A board on which a run shows its progress, with a seat for each worker of the plan.
+/// A board on which a run shows its progress, with a seat for each worker of the plan. A worker updates the board
+/// through its seat.
 #[derive(Drop)]
 pub struct Progress<'a> {
     /// The board.
     pub board: &'a Board,
-    /// The seats of the board's workers.
+    /// The seats through which the workers update the board.
     pub seats: Vec<BoardSeat>,
 }
 
 /// A run whose session has begun at the target. A begun run has both peers, the session's start, and the number of
-/// workers in each group.
+/// fetchers, which is also the number of writers.
 #[derive(Drop)]
 struct Begun<F: WriteFilter> {
     source: Peer<F>,
@@ -62,8 +63,8 @@ struct Begun<F: WriteFilter> {
     crew: u64,
 }
 
-/// Returns the number of workers in each group. The number of workers in a group is the plan's number, but at most the
-/// possible number of windows. If no window is due, a group has 1 worker.
+/// Returns the number of fetchers of a run, which is also the number of writers. The result is the plan's number of
+/// workers, but at most the maximum number of windows. If the run has no window to read, the result is 1.
 fn crew_of(plan: &Plan, start: u64, goal: u64) -> u64
     requires workers { 0 < plan.now.workers }
     requires batch { is_batch plan.now.batch ≡ true }
@@ -80,14 +81,14 @@ fn crew_of(plan: &Plan, start: u64, goal: u64) -> u64
     }
 }
 
-/// The board on which the writers show their progress, if the run has a board, and the writers' seats.
+/// The board of a run, if the run has a board, and the seats through which the writers update the board.
 #[derive(Drop)]
 struct Shows<'a> {
     board: Option<&'a Board>,
     seats: Vec<BoardSeat>,
 }
 
-/// Ends a run whose workers were not started, because an allocation failed or because no window was due.
+/// Ends a run whose workers were not started, because an allocation failed or because the run has no window to read.
 fn without_workers<F: WriteFilter>(
     alloc: Global,
     begun: Begun<F>,
@@ -275,32 +276,31 @@ fn run_with<F: WriteFilter + Send + Sync, G: Gate + Sync, R: Threads + Wait + Sy
 
 /// Replicates the source's documents into the target with a pool of threads. The caller's thread begins the session at
 /// the common checkpoint of the two logs, and reads the source's feed in windows. The caller's thread stores each
-/// window at the target, and sends the window to one of `plan.workers` fetchers (fewer if there can only be fewer
-/// windows). Fetchers request the missing leaves at the target, count documents at the source, and send parcels to
-/// writers. A run has equally many fetchers and writers. The writers read and settle the parcels, and record the
-/// session. The target is behind a lock, and the source is shared. Workers call the gate at each place (stage of a
-/// window), and hold no lock during the call. If the gate never blocks, a fetcher and a writer share one thread and
-/// take turns.
+/// window at the target, and sends the window to a fetcher. A run has `plan.workers` fetchers, but at most the maximum
+/// number of windows, and equally many writers. Fetchers request the missing leaves at the target, count documents at
+/// the source, and send parcels to writers. The writers read and settle the parcels, and record the session. The target
+/// is behind a lock, and the source is shared. Workers call the gate at each place (stage of a window), and hold no
+/// lock during the call. If the gate never blocks, a fetcher and a writer share one thread and take turns.
 ///
-/// After all workers have ended, the caller's thread concludes the session. If concluding fails, the caller's thread
-/// records the session. The caller's thread then stores the session's entry in the source's log, unless the log has a
-/// newer entry of the session. The call does not scan the feed again, because each leaf was checked when its window was
-/// marked as done. The proof shows that every leaf above the start is covered if the session is concluded. The error
-/// `Hole`, which names an uncovered leaf, is therefore never returned.
+/// After all workers have ended, the caller's thread concludes the session. If the session cannot be concluded, the
+/// caller's thread records the session's low water. The caller's thread then stores the session's entry in the source's
+/// log, unless the log has a newer entry of the session. The call does not scan the feed again, because each leaf was
+/// checked when its window was marked as done. The proof shows that every leaf above the start is covered if the
+/// session is concluded. The error `Hole`, which names an uncovered leaf, is therefore never returned.
 ///
-/// If the run succeeds, each leaf of the source's selected feed above the start is covered at the target. The report is
-/// the report of the session, which began at the common checkpoint and has recorded the source's update sequence. The
-/// sum of all fetchers' numbers of documents is the report's number of read documents. If the run succeeds, the target
-/// was empty, and no document was refused, each selected document has the source's revisions, parents and contents of
-/// leaves. If the peers were consistent (docs/PROFILE.md, "Tied peers"), each leaf of the source's complete selected
-/// feed is covered, including leaves below the start.
+/// If the run succeeds, each leaf of the source's selected feed above the start is covered at the target. The call
+/// returns the report of the session, which began at the common checkpoint and has recorded the source's update
+/// sequence. The fetchers' numbers of documents add up to the report's number of read documents. If the run succeeds,
+/// the target was empty, and no document was refused, each selected document has the source's revisions, parents and
+/// contents of leaves. If the peers were consistent (docs/PROFILE.md, "Tied peers"), each leaf of the source's complete
+/// selected feed is covered, including leaves below the start.
 ///
-/// For every result, the run changes only the log of the source. The returned target is the given target, or the given
-/// target after the session began and received messages of the source. The target keeps all its documents, sessions and
-/// logs, and consistent peers stay consistent. A third peer that was consistent with one of the two peers stays
-/// consistent with that peer. Another source of the target must not have the source's UUID, and another target of the
-/// source must not have the target's UUID (`KeepsOthersTied`). If the peers were consistent, an audit after the run
-/// finds no uncovered leaf.
+/// For every result, the run changes only the outgoing logs of the source. The target is unchanged, or has changed only
+/// by beginning the session and by calls with messages of the source. The target keeps all its documents, sessions and
+/// logs. If the peers were consistent, they stay consistent. A third peer that was consistent with the source or the
+/// target stays consistent with that peer, under two conditions (`KeepsOthersTied`). A third peer that is another
+/// source of the target must not have the source's UUID. A third peer that is another target of the source must not
+/// have the target's UUID. If the peers were consistent, an audit after the run finds no uncovered leaf.
 ///
 /// The call blocks until the run ends. The contract does not guarantee that a run ends.
 ///
@@ -308,8 +308,8 @@ fn run_with<F: WriteFilter + Send + Sync, G: Gate + Sync, R: Threads + Wait + Sy
 ///
 /// - `NoWorkers`, `TooManyWorkers`, `BadBatch`, `SamePeer`: the errors of `check_run`, in this order. Both peers stay
 ///   unchanged.
-/// - `Refused`: a step failed. Suppose that no worker failed or stopped, and that all windows that the plan allows are
-///   settled. If these windows end below the goal, the error is `Refused` of `Unfinished`.
+/// - `Refused`: a step failed. The error is `Refused` of `Unfinished` if no worker failed or stopped, but the windows
+///   that the plan allows end below the source's update sequence.
 /// - `Halted`: the gate returned `Stop` at this place.
 /// - `CountFull`: a fetcher's count of documents would exceed 9,007,199,254,740,991.
 /// - `Memory`: an allocation failed, or a thread cannot be created.
@@ -334,13 +334,14 @@ pub fn run<F: WriteFilter + Send + Sync, G: Gate + Sync, R: Threads + Wait + Syn
     run_with(rt, alloc, source, target, plan, gate, unseen)
 }
 
-/// Makes a `run` with a board. Viewers may read the progress on the board during the run (`Board::read`). Each writer
-/// has the seat of a worker of the board. Before a writer settles a parcel, it adds the parcel's documents to its read
-/// counter. After settling, and before the gate is called at `Settled`, the writer adds the settled documents to its
-/// settled counter. Updating and reading the board takes no lock.
+/// Performs a `run` that shows its progress on a board. Viewers may read the progress on the board during the run
+/// (`Board::read`). Each writer updates the board through the seat of one of the board's workers. Before a writer
+/// settles a parcel, it adds the parcel's documents to its read counter. After settling, and before the gate is called
+/// at `Settled`, the writer adds the settled documents to its settled counter. Updating and reading the board takes no
+/// lock.
 ///
 /// The caller must give one seat for each worker of the plan. For every outcome, the call returns the seats in order,
-/// and no counter of a seat has decreased. If the run succeeds, the sums of all seats' read counters and settled
+/// and no counter of a seat has decreased. If the run succeeds, the sum of all read counters and the sum of all settled
 /// counters have each risen by the report's number of read documents.
 ///
 /// In addition to the errors of `run`, the call returns `BoardFull` if a writer's read counter would exceed

@@ -7,14 +7,15 @@ ghost use Rattle.pool_workers.specs.Boards.{HasNothing, WorksAt};
 use progress_board::{Board, BoardFault, BoardSeat};
 use std::alloc::Global;
 
-/// A new board, with the workers' seats for `run_on`, and the seats of viewers, which may call `read` during the run.
+/// A new board with its seats. The workers' seats are for `run_on`. A viewer may call `read` with its seat during the
+/// run.
 #[derive(Drop)]
 pub struct Seats {
     /// The board.
     pub board: Board,
-    /// The seats of the board's workers, in the order of their numbers.
+    /// A seat for each worker of the board, in the order of the workers' numbers.
     pub workers: Vec<BoardSeat>,
-    /// The seats of the board's viewers.
+    /// A seat for each viewer of the board.
     pub viewers: Vec<BoardSeat>,
 }
 

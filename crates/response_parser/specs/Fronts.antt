@@ -15,7 +15,8 @@ use Rattle.response_parser.specs.declared.place.Wanted.TheVariants.{Documents, E
 abbrev pub long : ℕ
 long = 262144
 
--- A run may follow the beginning s of a document, and the output for each document that begins with s begins with S.
+-- A run of bytes that the parser does not store may follow the beginning s of a document. The output for each document
+-- that begins with s begins with S.
 abbrev pub IsStart : Wanted → List ℕ → List ℕ → Type 0
 IsStart Documents s S = ⊥
 IsStart Enveloped s S = IsPutStart s S
@@ -44,8 +45,8 @@ pub record HasWritten (s : State) (written : List ℕ) : Type 0 where
   pub is : written ≡ cut.written
 
 -- The parser has just found a document in the state s, and `written` is the output for a long beginning of the
--- document. The output for the document without its runs does not begin like the output for the beginning without its
--- runs, because an unwrapped member follows the beginning.
+-- document. An unwrapped member follows the beginning. If the runs are left out, the output for the document therefore
+-- does not begin with the output for the beginning (`cut.front`).
 pub record IsLate (s : State) (written : List ℕ) : Type 0 where
   pub cut : Cut
   pub rest : List ℕ

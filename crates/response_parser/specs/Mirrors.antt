@@ -41,7 +41,7 @@ pub data Like (a b : State) : Type 0 where
   equal : a ≡ b → Like a b
   alike : a ≡ record b { text = a.text } → is_idle b.place ≡ true → Like a b
 
--- Whether a name's value may be a document that is found at its end.
+-- Whether the value of a name may be a document, which the parser finds when the value ends.
 abbrev pub is_document : Name → Bool
 is_document names.Plain = true
 is_document names.Document = true
@@ -57,20 +57,22 @@ is_document names.Reason = false
 is_document names.Other = false
 is_document names.Foreign = false
 
--- The place is in the value of a name.
+-- The parser's place is in the value of the given name: outside of strings, in a string, or after a backslash in a
+-- string.
 pub data IsWithin (name : Name) : Place → Type 0 where
   in_value : IsWithin name (Value name)
   in_string : IsWithin name (Quoted name)
   in_escape : IsWithin name (Escaped name)
 
--- The parser is in a document, which is the value of a name, and may not store its next run.
+-- The parser is in a document, which is the value of the given name, and may skip storing the next run of the document.
 pub record InDocument (name : Name) (s : State) : Type 0 where
   pub document : is_document name ≡ true
   pub object : slice_index s.text 0 ≡ 123
   pub nested : is_plain name ≡ true → (s.nesting == 0) ≡ false
   pub found : s.found ≡ Nothing
 
--- The full state and the stored state of a parser in a document, whose runs end before `cut` ends.
+-- The full state and the stored state of a parser in a document. The states differ only in their texts, and the texts
+-- differ only in the beginning `cut`, which has all runs.
 pub record Mirrors (cut : Cut) (name : Name) (full stored : State) : Type 0 where
   pub place : IsWithin name stored.place
   pub same : full ≡ record stored { text = full.text }

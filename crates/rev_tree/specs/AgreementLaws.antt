@@ -71,7 +71,7 @@ module _ (old other t : TreeValue) (tree : IsTree other) (grown : IsGrownBy old 
 one_parent : {X : Type 0} (o : Option X) (x y : X) → o ≡ Some x → o ≡ Some y → x ≡ y
 one_parent {X = X} o x y h k = ap (λ (v : Option X). option_map_or (λ w. w) v x) (sym h ∙ k)
 
--- A leaf of tree t that the tree `old` already had was a leaf of `old`.
+-- If tree t has grown from tree `old`, each leaf of t that is in `old` is a leaf of `old`.
 leaf_kept : (old other t : TreeValue) → IsGrownBy old other t → (l : RevId) → is_leaf t l ≡ true → has old l ≡ true → is_leaf old l ≡ true
 leaf_kept old other t grown l top there =
     elim (cases_Bool (is_parent old l)) [
@@ -81,7 +81,8 @@ leaf_kept old other t grown l top there =
       | inr none ↦ and_from _ _ there (ap not none)
     ]
 
--- If tree `other` has the leaves of tree `old`, it has the leaves of a tree that grew from `old` by data of `other`.
+-- If tree `other` has all leaves of tree `old`, `other` also has all leaves of a tree that has grown from `old` by data
+-- of `other`.
 pub leaves_known : (old other t : TreeValue) → IsGrownBy old other t → ((l : RevId) → is_leaf old l ≡ true → has other l ≡ true) → (l : RevId) → is_leaf t l ≡ true → has other l ≡ true
 leaves_known old other t grown all l top =
     elim (grown.revs l (and_parts _ _ top).0) [
@@ -118,8 +119,8 @@ module _ (a b b' a' : TreeValue) (there : IsGrownBy b a b') (back : IsGrownBy a 
 
 -- ---- the same
 
--- If trees s and t agree, and t has complete histories, each revision of t that has a known parent in s has that parent
--- in t.
+-- Trees s and t agree, and t has complete histories. If a revision of t has a known parent in s, the revision has the
+-- same parent in t.
 module _ (s t : TreeValue) (ours : IsTree s) (theirs : IsTree t) (agree : Agree s t) (whole : IsWhole t) where
   same_parent : (c p : RevId) → has t c ≡ true → get s.parents c ≡ Some p → get t.parents c ≡ Some p
   same_parent c p there e = go (get t.parents c) refl
@@ -196,7 +197,8 @@ same_order R S r s (k ∷ xs) h =
     ∙ same_placed R S r k (in_order R xs) (λ y m. h k y (ap (λ b. b || list_any (eq_by_cmp R k) xs) ((eq_by_cmp_equiv r).refl k)) (or_right _ _ (sym (any-in_order r xs y) ∙ m)))
     ∙ ap (placed S k) (same_order R S r s xs (λ a b m n. h a b (or_right _ _ m) (or_right _ _ n))) ∙ sym (in_order-cons s k xs)
 
--- If revisions are compared in the leaf order of any tree u, the list `leaves t` has exactly the leaves of tree t.
+-- The leaves that `leaves t` sorts are exactly the leaves of tree t, even if revisions are compared in the leaf order
+-- of another tree u.
 any_leaf : (u t : TreeValue) (r : RevId) → list_any (eq_by_cmp (leaf_cmp u) r) (filter (is_leaf t) (keys t.origins)) ≡ is_leaf t r
 any_leaf u t r =
     let all = filter (is_leaf t) (keys t.origins) in

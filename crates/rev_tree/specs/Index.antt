@@ -1,5 +1,4 @@
--- The index maps revisions to the positions of their nodes in the node list. The key of an index entry is a revision's
--- hash.
+-- The index of a tree maps the hash of a revision to the position of the revision's node in the list of nodes.
 use Rattle.std.specs.Prelude.{ℕ, Bool, true, ◌&&◌, not, ◌+◌, ◌%◌, ◌^◌, List, [], ◌∷◌, ◌++◌, is_some, length, nat_eq, nat_lt, if◌then◌else◌}
 use Rattle.std.specs.Map.{lookup}
 use Rattle.std.specs.Hash.FoldHasher as hasher
@@ -10,19 +9,19 @@ use Rattle.rev_tree.specs.declared.nodes.TheConstants.{MOST_WALKED}
 abbrev pub mark_of : RevId → ℕ
 mark_of r = (hasher.finish (hasher.write hasher.initial r.sig) + r.generation) % 2 ^ 64
 
--- The entries of a tree's index after adding a hash with the position of its node. If the entries have the hash
--- already, they do not change.
+-- The entries of a tree's index after adding a hash with the position of a node. If the index already has an entry for
+-- the hash, the entries do not change.
 abbrev pub noted : List (ℕ × ℕ) → ℕ → ℕ → List (ℕ × ℕ)
 noted entries mark place =
     if is_some (lookup (nat_eq mark) entries) then entries else entries ++ (mark, place) ∷ []
 
--- The entries of a tree's index after adding the hashes of a list of revisions, whose positions start at i. In the
--- index, each hash keeps its first position.
+-- The entries of a tree's index after adding the hashes of the revisions of a list, whose positions are counted from i.
+-- A hash that already has a position in the index keeps this position.
 abbrev pub noted_from : List (ℕ × ℕ) → ℕ → List RevId → List (ℕ × ℕ)
 noted_from entries i [] = entries
 noted_from entries i (r ∷ revs) = noted_from (noted entries (mark_of r) i) (i + 1) revs
 
--- Whether each revision of a list is one generation below the previous one, as in an ancestry.
+-- Whether each revision of a list is one generation below the previous revision, as in an ancestry.
 abbrev pub falls : List RevId → Bool
 falls [] = true
 falls (r ∷ []) = true
@@ -30,6 +29,6 @@ falls (r ∷ (s ∷ revs)) = nat_eq r.generation (s.generation + 1) && falls (s 
 
 -- The index that maps the hashes of the nodes' revisions `revs` to the nodes' positions. The index of a tree's nodes is
 -- empty if the nodes are few enough to be scanned. The index of a tree's nodes is also empty if each revision is one
--- generation below the previous one, because a revision's generation then determines the node's position.
+-- generation below the previous revision, because a revision's generation then determines the node's position.
 abbrev pub index_for : List RevId → List (ℕ × ℕ)
 index_for revs = if nat_lt MOST_WALKED (length revs) && not (falls revs) then noted_from [] 0 revs else []

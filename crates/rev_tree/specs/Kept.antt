@@ -1,10 +1,10 @@
--- How a list of revisions is stored, in definitions that no public contract uses.
+-- The stored form of a list of revisions, which no public contract mentions.
 use Rattle.std.specs.Prelude.{List, [], ◌∷◌}
 use Rattle.rev_core.specs.Rev.{RevId}
 use Rattle.rev_tree.specs.declared.revs.Kept.{Kept}
 use Rattle.rev_tree.specs.declared.revs.Kept.TheVariants.{One, Many}
 
--- The revisions of a list in its stored form.
+-- The list of revisions that a stored form represents.
 abbrev pub kept_revs : Kept → List RevId
 kept_revs (One rev) = rev ∷ []
 kept_revs (Many revs) = revs.items

@@ -31,13 +31,15 @@ abbrev pub content_of : Known → Option ContentValue
 content_of (Bare marks counted) = None
 content_of (Full marks counted content) = Some content
 
--- The index of a node's parent, decoded from its stored form: the index plus 1, or 0 if the parent is not known.
+-- The index of a node's parent, decoded from the stored number. The stored number is the index plus 1, or 0 if the
+-- parent is not known.
 abbrev pub parent_of : ℕ → Option ℕ
 parent_of zero = None
 parent_of (suc place) = Some place
 
--- An origin, decoded from its stored form: a local write, or a session's feed with the two halves of the session's
--- number.
+-- An origin, decoded from its stored form: a flag, the two 64-bit halves of a session's number, and a number. If the
+-- flag is true, the origin is the session's feed, and the number is a sequence. If the flag is false, the number is the
+-- number of a local write.
 abbrev pub origin_of : Bool → ℕ → ℕ → ℕ → Origin
 origin_of false high low number = Local number
 origin_of true high low number = Feed (record { 0 = high * 2 ^ 64 + low }) number

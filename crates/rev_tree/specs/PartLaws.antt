@@ -47,7 +47,7 @@ pub walk_begins : (m : FinMap rev_cmp RevId) (n : ℕ) (p : RevId) → (rest : L
 walk_begins m zero p = ([], refl)
 walk_begins m (suc n) p = (option_map_or (walk m n) (get m p) [], refl)
 
--- The edges of a traversal give each visited revision its parent in the tree.
+-- The edges of a traversal give each visited revision the same parent as the tree does.
 pub edges_walked : (s : TreeValue) → IsTree s → (n : ℕ) (x c : RevId) → has s x ≡ true → x.generation ≤ n → is_among c (walk s.parents n x) ≡ true → find rev_cmp c (edges_of (walk s.parents n x)) ≡ get s.parents c
 edges_walked s tree zero x c known low h = let low' = (tree.revs x known).low in absurd (omega arith)
 edges_walked s tree (suc n) x c known low h = go (λ p there under among. edges_walked s tree n p c there under among) (get s.parents x) refl
@@ -71,14 +71,15 @@ edges_walked s tree (suc n) x c known low h = go (λ p there under among. edges_
           | false ↦ λ _ later. further p (tree.parent x p e) (omega (arith, falls, low)) later
         ] refl among)
 
--- A revision that a traversal does not visit is not a child in the traversal's edges.
+-- If a traversal does not visit a revision, the revision is not the child of any edge of the traversal.
 edges_apart : (s : TreeValue) → IsTree s → (x c : RevId) → has s x ≡ true → is_among c (ancestors s x) ≡ false → find rev_cmp c (edges_of (ancestors s x)) ≡ None
 edges_apart s tree x c known apart =
     none_is (find rev_cmp c (edges_of (ancestors s x))) (λ p e. false≢true (sym apart ∙ (edge_found (ancestors s x) c p (IsAncestry-ancestors s tree x known).falls e).child))
 
 -- ---- parts
 
--- Tree t is a part of tree s: t has some revisions of s, each with all its ancestors, and the contents of the leaves.
+-- Tree t is a part of tree s: t has some of the revisions of s, and for each revision also its ancestors. If a leaf of
+-- s is in t, it has the same content in t as in s.
 pub record IsPart (s t : TreeValue) : Type 0 where
   pub within : (r : RevId) → has t r ≡ true → has s r ≡ true
   pub parents : (r : RevId) → has t r ≡ true → get t.parents r ≡ get s.parents r
@@ -100,7 +101,7 @@ nothing_is_part s = record {
     none : (r : RevId) → has no_revisions r ≡ true → ⊥
     none r h = false≢true (sym (ap is_some (get-empty rev_cmp r)) ∙ h)
 
--- The content of a leaf of tree s as replication sends it.
+-- The content that replication sends for a leaf of tree s.
 abbrev pub given : TreeValue → RevId → ContentValue
 given s leaf = record {
   deleted = is_deleted s leaf;
@@ -113,7 +114,7 @@ given_is s leaf b h = λ i. record {
   body = option_map_or (λ (x : ContentValue). x.body) (h i) [];
 }
 
--- The first revision of a leaf's ancestry is the leaf, with the leaf's content.
+-- A leaf's ancestry gives a content only to the leaf, and the content is the leaf's content in tree s.
 pub at_leaf : (s : TreeValue) (leaf q : RevId) → is_some (find rev_cmp q (at_head (ancestors s leaf) (given s leaf))) ≡ true → (q ≡ leaf) × (find rev_cmp q (at_head (ancestors s leaf) (given s leaf)) ≡ Some (given s leaf))
 at_leaf s leaf q h =
     let begins = walk_begins s.parents leaf.generation leaf in
@@ -143,7 +144,7 @@ module _ (s t : TreeValue) (tree : IsTree s) (part : IsPart s t) (leaf : RevId) 
   absent_parent : (q : RevId) → has t q ≡ false → get t.parents q ≡ None
   absent_parent q h = none_is (get t.parents q) (λ p e. false≢true (sym h ∙ part.child q p e))
 
-  -- Lemmas about the revisions that are new after a leaf was added with its ancestors.
+  -- The following lemmas are about part t of tree s after a leaf of s was added with its ancestors.
   brought_parent : (q : RevId) → is_among q revs ≡ true → get grown.parents q ≡ get s.parents q
   brought_parent q among =
       let edge : find rev_cmp q (edges_of revs) ≡ get s.parents q = edges_walked s tree leaf.generation leaf q known (omega arith) among in
@@ -219,7 +220,7 @@ module _ (s t : TreeValue) (tree : IsTree s) (part : IsPart s t) (leaf : RevId) 
 
 -- ---- the complete tree
 
--- A part that has a revision has every revision that the traversal from this revision visits.
+-- If a part has a revision, the part has every revision that the traversal from the revision visits.
 part_walked : (s t : TreeValue) → IsPart s t → (n : ℕ) (x r : RevId) → has t x ≡ true → is_among r (walk s.parents n x) ≡ true → has t r ≡ true
 part_walked s t part zero x r there h = elim (or_cases _ _ h) [ inl tie ↦ ap (has t) (rev_tie_is r x tie) ∙ there | inr nothing ↦ absurd (false≢true nothing) ]
 part_walked s t part (suc n) x r there h =

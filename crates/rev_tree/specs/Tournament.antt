@@ -1,5 +1,5 @@
--- A tournament, a tree of comparisons among the leaves of a revision tree. A player of a tournament is stored as the
--- index of its node, counted from 1, and 0 means that there is no player.
+-- A tournament finds the winner of a revision tree by a binary tree of matches between the leaves, the players. A
+-- player is stored as the index of its node, counted from 1. The number 0 means that there is no player.
 use Rattle.std.specs.Prelude.{◌≡◌, ℕ, zero, suc, ◌-◌, ◌/◌, ◌<◌, ◌≤◌, ◌^◌, ◌⊎◌, Bool, true, false, cond, List, length, get_or, Option, Some, None, is_some, option_map, nat_lt, slice_get}
 use Rattle.std.specs.declared.cmp.Ordering.{Ordering}
 use Rattle.std.specs.Ordering.{is_lt, bool_cmp, ordering_then}
@@ -36,15 +36,15 @@ abbrev pub leaf_key : Option NodeValue → Option Key
 leaf_key None = None
 leaf_key (Some n) = cond n.has_child None (Some (key_of n))
 
--- The key of the player at index k of the tournament, given the winners of the matches and the number of nodes that
--- take part.
+-- The key of the player at index k of the tournament. The parameters of `under` are the nodes, the stored winners of
+-- the matches, the number of nodes that take part, and k.
 abbrev pub under : List NodeValue → List ℕ → ℕ → ℕ → Option Key
 under nodes winners entered k =
     cond (nat_lt k (length winners)) (entry nodes (get_or winners k 0))
     (cond (nat_lt (k - length winners) entered) (leaf_key (slice_get nodes (k - length winners))) None)
 
--- The stored winners, and the leaves that take part, are nodes with a content. A node of the tournament has a content,
--- so the node's key does not change.
+-- Each stored winner is a node that takes part in the tournament, and has a content. Each leaf that takes part has a
+-- content. The key of a node that has a content never changes.
 pub record IsHeld (nodes : List NodeValue) (winners : List ℕ) (entered : ℕ) : Type 0 where
   pub within : entered ≤ length nodes
   pub fits : entered ≤ length winners
@@ -52,8 +52,8 @@ pub record IsHeld (nodes : List NodeValue) (winners : List ℕ) (entered : ℕ) 
   pub contents : (i p : ℕ) (n : NodeValue) → get_or winners i 0 ≡ suc p → slice_get nodes p ≡ Some n → is_some n.content ≡ true
   pub leaves : (j : ℕ) (n : NodeValue) → j < entered → slice_get nodes j ≡ Some n → n.has_child ≡ false → is_some n.content ≡ true
 
--- The stored results of all matches of a tournament except match x are right: neither player of a match goes before the
--- match's winner.
+-- In each match of a tournament except match x, neither player goes before the match's stored winner in the winner's
+-- order.
 pub record IsPlayed (nodes : List NodeValue) (winners : List ℕ) (entered x : ℕ) : Type 0 where
   pub held : IsHeld nodes winners entered
   pub ordered : (k : ℕ) → 2 ≤ k → k / 2 < length winners → (k / 2 ≡ x → ⊥) → IsBefore (entry nodes (get_or winners (k / 2) 0)) (under nodes winners entered k)
@@ -64,13 +64,13 @@ pub record IsEntry (nodes : List NodeValue) (winners : List ℕ) (entered k w : 
   pub within : w ≤ entered
   pub content : (p : ℕ) (n : NodeValue) → w ≡ suc p → slice_get nodes p ≡ Some n → is_some n.content ≡ true
 
--- The stored player w is one of two stored players, `one` and `other`, and neither of them goes before w.
+-- The stored player w is `one` or `other`, and neither `one` nor `other` goes before w in the winner's order.
 pub record IsWinnerOf (nodes : List NodeValue) (one other w : ℕ) : Type 0 where
   pub either : (w ≡ one) ⊎ (w ≡ other)
   pub first : IsBefore (entry nodes w) (entry nodes one)
   pub second : IsBefore (entry nodes w) (entry nodes other)
 
--- The node at index `place` is a leaf, and no other leaf goes before it in the winner's order.
+-- The node at index `place` is a leaf, and no leaf goes before this node in the winner's order.
 pub record IsBestLeaf (nodes : List NodeValue) (place : ℕ) : Type 0 where
   pub node : NodeValue
   pub at : slice_get nodes place ≡ Some node

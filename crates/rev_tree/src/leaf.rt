@@ -8,7 +8,8 @@ use crate::words::front_of;
 use rev_core::Rev;
 use std::cmp::Ordering;
 
-/// A leaf with the values that usually decide its order, so that sorting rarely reads the leaf's revision.
+/// A leaf with its sort key: the deleted flag, the generation, and the first eight bytes of the signature. The sort key
+/// usually decides the order of two leaves, so sorting rarely reads their revisions.
 #[derive(Clone, Copy)]
 pub(crate) struct Leaf<'a> {
     pub(crate) deleted: bool,
@@ -21,7 +22,7 @@ pub(crate) struct Leaf<'a> {
 }
 
 impl<'a> Leaf<'a> {
-    /// Creates the sort entry of a leaf.
+    /// Creates a leaf with its sort key.
     pub(crate) fn new(deleted: bool, rev: &'a Rev) -> Leaf<'a>
         ensures deleted { result.deleted ≡ deleted }
         ensures rev { result.rev.now ≡ rev.now }

@@ -18,8 +18,9 @@ impl Nodes {
     /// Whether the tree knows a parent of every child of an ancestry. Returns an error with the first child whose
     /// parent in the tree differs from the given parent.
     ///
-    /// A child's node stores the index of the known parent, so a known ancestry needs one lookup. For a new child, the
-    /// call tries the parent of the last node first.
+    /// If the tree has the complete ancestry, the call needs only one lookup, because each node stores the index of its
+    /// parent. If a child has no known parent, the call looks up the given parent, and first tries the parent of the
+    /// tree's last node.
     pub(crate) fn knows_edges(&self, revs: &[Rev]) -> Result<bool, Contradiction>
         requires some { 0 < length revs.now }
         ensures edges { IfOk result (λ b. b ≡ list_all (has_edge (tree_of self.now.items)) (edges_of revs.now)) }
@@ -55,9 +56,9 @@ impl Nodes {
         Ok(all)
     }
 
-    /// Returns a guess for the index of the node of a child's parent. The guess is the parent that the tree knows of
-    /// the child, or the parent of the previous node if the tree knows none. Consecutive nodes are often leaves of one
-    /// parent.
+    /// Returns a guess for the index of a child's parent. The guess is the child's known parent. If the child has no
+    /// known parent, the guess is the parent of the node before the child, because consecutive nodes are often leaves
+    /// with the same parent.
     fn near(&self, child: usize) -> Option<usize>
         requires { child < length self.now.items }
         ensures { IfSome result (λ i. i < length self.now.items) }
@@ -107,8 +108,8 @@ impl Nodes {
         }
     }
 
-    /// Inserts an ancestry into an empty tree. The revisions of an ancestry differ from one another, so the call looks
-    /// up no revision.
+    /// Inserts an ancestry into an empty tree. The revisions of an ancestry are distinct, so the call does not look for
+    /// existing nodes.
     fn put_first(&mut self, revs: &[Rev], content: Content, origin: Origin)
         requires none { self.old.items ≡ [] }
         requires ancestry { IsAncestry revs.now }
@@ -148,7 +149,7 @@ impl Nodes {
     }
 
     /// Appends a node for a revision with an origin, unless the revision has a node, and returns the node's index. The
-    /// call first tries the node at the index `near`. The caller has reserved the space for the node.
+    /// call looks for the revision first in the node at index `near`. The caller has reserved the space for the node.
     fn add(&mut self, near: Option<usize>, rev: Rev, origin: Origin) -> usize
         requires near { IfSome near (λ i. i < length self.old.items) }
         requires room { HasRoom self.old (unless_among (revs_in self.old.items) rev) }
@@ -160,7 +161,7 @@ impl Nodes {
         }
     }
 
-    /// Returns the index of a revision's node. The call first tries the node at the index `near`.
+    /// Returns the index of a revision's node. The call looks for the revision first in the node at index `near`.
     fn place_near(&self, near: Option<usize>, rev: &Rev) -> Option<usize>
         requires near { IfSome near (λ i. i < length self.now.items) }
         ensures place { result ≡ place_of self.now.items rev.now }

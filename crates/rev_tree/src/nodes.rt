@@ -17,11 +17,12 @@ use std::alloc::{AllocError, Global};
 use std::hash::{FoldHasher, Hasher};
 use std::marker::Model;
 
-/// The maximum number of nodes that a lookup scans. A tree with more nodes has an index.
+/// The maximum number of nodes that a lookup scans. A tree with more nodes has an index, unless each node is one
+/// generation below the previous node.
 pub(crate) const MOST_WALKED: usize = 8;
 
-/// A limit for the number of nodes plus the number of given revisions. If the sum is at most this limit, a merge first
-/// counts the missing revisions, and reserves space only for them.
+/// The maximum sum of the number of nodes and the number of given revisions for which a merge counts the missing
+/// revisions. Up to this sum, a merge reserves space only for the missing revisions.
 const MOST_COUNTED: usize = 4;
 
 /// The maximum number of nodes of a tree. The index of a parent, counted from 1, has 32 bits.
@@ -106,14 +107,15 @@ impl Nodes {
             if self.list[place].is_of(rev) {
                 return Some(place);
             }
-            // The index entry of this hash belongs to another revision with an equal hash.
+            // The index entry belongs to another revision with an equal hash, so the call scans the nodes.
         }
         walked_to(&self.list, rev)
     }
 
-    /// Reserves space for inserting an ancestry. If the tree and the ancestry are small, the call reserves exactly the
-    /// space for all revisions of the ancestry. If the tree and the ancestry are very small, the call reserves space
-    /// only for the revisions that the tree lacks. The call fails if the tree could get more than `MOST_NODES` nodes.
+    /// Reserves space for inserting an ancestry. If the sum of the numbers of nodes and of given revisions is at most
+    /// `MOST_COUNTED`, the call reserves space only for the revisions that the tree lacks. If the sum is greater, but
+    /// at most `MOST_WALKED`, the call reserves exactly the space for all given revisions. The call fails if the tree
+    /// could get more than `MOST_NODES` nodes.
     #[tactic(auto, using(crate::proofs::Rooms::count_within))]
     pub(crate) fn make_room(&mut self, revs: &[Rev]) -> Result<(), AllocError>
         ensures items { self.new.items ≡ self.old.items }
@@ -127,8 +129,8 @@ impl Nodes {
         reserve_index(*self.list.allocator(), &mut self.places, all)
     }
 
-    /// Releases unused space if the tree has few nodes but space for many nodes was reserved, because an ancestry had
-    /// many known revisions.
+    /// Releases the unused space of a tree with few nodes, and the space of an empty index. After a merge of an
+    /// ancestry with many known revisions, a tree with few nodes may have space for many nodes.
     pub(crate) fn give_back(&mut self)
         ensures { self.new.items ≡ self.old.items }
     {
@@ -180,8 +182,8 @@ impl Nodes {
         }
     }
 
-    /// Returns the index of the winner's node, as the tournament among the leaves says. If the tournament has no result
-    /// and the caller must scan the nodes, the call returns `None`.
+    /// Returns the index of the winner's node, which the tournament among the leaves finds. Returns `None` if the
+    /// caller must scan the nodes, because the tree has few nodes or the tournament has no result.
     pub(crate) fn tournament_winner(&mut self) -> Option<usize>
         ensures items { self.new.items ≡ self.old.items }
         ensures first { IfSome result (λ place. (r : RevId)
@@ -249,8 +251,8 @@ fn walked_to(nodes: &[Node], rev: &Rev) -> Option<usize>
     None
 }
 
-/// Extends the index of positions, which has the first `known` nodes, to all nodes. The caller has reserved the space
-/// in the index.
+/// Turns the index of the first `known` nodes into the index of all nodes. The caller has reserved the space in the
+/// index.
 fn index_rest(nodes: &[Node], places: &mut Places, known: usize)
     requires known { known ≤ length nodes.now }
     requires begun { places.old.entries ≡ index_for (revs_in (take known nodes.now)) }
@@ -288,7 +290,7 @@ fn all_fall(nodes: &[Node], known: usize) -> bool
     }
 }
 
-/// Whether each node after index `first` is one generation below the previous one.
+/// Whether each node after index `first` is one generation below the previous node.
 fn falls_from(nodes: &[Node], first: usize) -> bool
     requires { first < length nodes.now }
     ensures { result ≡ falls (drop first (revs_in nodes.now)) }
@@ -340,7 +342,7 @@ fn count_new(nodes: &[Node], revs: &[Rev]) -> usize
     count
 }
 
-/// Returns 1 if the revision has no node, and 0 if it has one, by scanning the nodes.
+/// Returns 0 if the revision has a node, and otherwise 1, by scanning the nodes.
 fn once_new(nodes: &[Node], rev: &Rev) -> usize
     ensures new { result ≡ unless_among (revs_in nodes.now) rev.now }
     ensures most { result ≤ 1 }
@@ -351,9 +353,9 @@ fn once_new(nodes: &[Node], rev: &Rev) -> usize
     }
 }
 
-/// Reserves space in the list for the revisions of an ancestry. If the tree and the ancestry are small, the call
-/// reserves exactly the space for all revisions. If the tree and the ancestry are very small, the call reserves space
-/// only for the revisions that the tree lacks.
+/// Reserves space in the list for the revisions of an ancestry. If the sum of the numbers of nodes and of given
+/// revisions is at most `MOST_COUNTED`, the call reserves space only for the revisions that the list lacks. If the sum
+/// is greater, but at most `MOST_WALKED`, the call reserves exactly the space for all given revisions.
 #[tactic(auto, using(crate::proofs::Rooms::count_within))]
 fn reserve_nodes(list: &mut Vec<Node>, revs: &[Rev]) -> Result<(), AllocError>
     ensures items { list.new.items ≡ list.old.items }
@@ -389,7 +391,7 @@ fn fit_index(places: &mut Places)
     }
 }
 
-/// Reserves space in the index for `nodes` nodes, unless a tree with this number of nodes is scanned.
+/// Reserves space in the index for `nodes` nodes, unless `nodes` nodes are few enough to be scanned.
 fn reserve_index(alloc: Global, places: &mut Places, nodes: usize) -> Result<(), AllocError>
     requires { length places.old.entries ≤ nodes }
     ensures index { places.new.entries ≡ places.old.entries }

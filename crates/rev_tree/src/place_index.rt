@@ -10,14 +10,14 @@ use indexmap::IndexMap;
 use std::alloc::{AllocError, Global};
 use std::marker::Model;
 
-/// The table has the positions of nodes by the hashes of their revisions, because hashes need less memory than
-/// revisions. If several revisions share a hash, the table has the position of only one of them, and a lookup of
-/// another revision scans the nodes. In practice, two revisions share a hash only if someone constructs them to do so.
+/// The keys of the table are hashes of revisions, because hashes need less memory than revisions. If several revisions
+/// share a hash, the table has the position of only one of them, and a lookup of another revision scans the nodes. In
+/// practice, two revisions share a hash only if someone constructs them to do so.
 ///
 /// The table is empty, and takes no memory, if the tree has few nodes or if each node is one generation below the
 /// previous node.
 ///
-/// The tournament among the leaves is stored with the table, so that a tree without a table takes no memory for a
+/// The table also owns the tournament among the leaves. A tree without a table therefore needs no memory for a
 /// tournament.
 #[derive(Drop)]
 pub(crate) struct Places {
@@ -133,7 +133,7 @@ impl Places {
         Ok(())
     }
 
-    /// Returns the node index of the winner among the leaves, as the tournament says.
+    /// Returns the node index of the winner among the leaves, which the tournament finds.
     ///
     /// Returns `None` if the table takes no memory, or if the tournament has no result.
     pub(crate) fn first_leaf(&mut self, nodes: &[Node]) -> Option<usize>

@@ -16,8 +16,8 @@ pub struct Revs {
     kept: Kept,
 }
 
-// `Drop` is implemented by hand because its derived code would be proved again in each crate that owns such a value
-// (docs/DECISIONS.md, "Letting values go").
+// `Drop` is implemented by hand, because derived code would be proved again in each crate that owns a value of this
+// type (docs/DECISIONS.md, "Letting values go").
 impl Drop for Revs {
     fn drop(self) {
         let Revs { kept: _ } = self;

@@ -10,11 +10,11 @@ use std::alloc::Global;
 /// winning revision.
 ///
 /// Match `i` is between the players at `2 * i` and `2 * i + 1`, and match 1 is the final. The tournament is a binary
-/// tree of matches, and the winner of match `i` is the player at index `i`. As long as node `n` is a leaf, it is the
-/// player at index `winners.len() + n` of the tree of matches.
+/// tree of matches, and the winner of match `i` is the player at index `i`. If node `n` takes part in the tournament
+/// and is a leaf, it is the player at index `winners.len() + n` of the tree of matches.
 ///
-/// The winner of a match is stored as its node's index, counted from 1, or as 0 if the match has no player. A node that
-/// is no longer a leaf stays stored as a winner until its matches are played again.
+/// The winner of a match is stored as its node's index, counted from 1, or as 0 if the match has no player. If a stored
+/// winner is no longer a leaf, it stays stored until its matches are played again.
 #[derive(Drop)]
 pub(crate) struct Tournament {
     winners: Vec<u32>,
@@ -37,7 +37,7 @@ impl Tournament {
     /// Returns the node index of the winner among the leaves. The call first adds the nodes that do not take part in
     /// the tournament yet.
     ///
-    /// Returns `None` if an allocation fails, or if the caller must scan the nodes for another reason.
+    /// Returns `None` if an allocation fails or the tournament finds no winner. The caller must then scan the nodes.
     pub(crate) fn first(&mut self, nodes: &[Node]) -> Option<usize>
         requires few { length nodes.now < 2 ^ 32 }
         requires played { IsPlayed nodes.now self.old.winners.items self.old.entered 0 }
@@ -61,7 +61,7 @@ impl Tournament {
     }
 
     /// Adds the nodes that do not take part in the tournament yet. Returns true if all nodes take part in the
-    /// tournament, and false if an allocation fails.
+    /// tournament, and false if an allocation fails or a leaf has no content.
     fn enter_all(&mut self, nodes: &[Node]) -> bool
         requires few { length nodes.now < 2 ^ 32 }
         requires played { IsPlayed nodes.now self.old.winners.items self.old.entered 0 }

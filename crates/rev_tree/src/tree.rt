@@ -23,14 +23,14 @@ pub struct RevInfo<'a> {
 
 /// The revisions of a document with their parents, contents and origins.
 ///
-/// Each revision is a node, which names its parent by index. The index of the winner's node is stored.
+/// Each revision is a node, which names its parent by index. The tree stores the index of the winner's node.
 pub struct Tree {
     nodes: Nodes,
     best: usize,
 }
 
-// `Drop` is implemented by hand because its derived code would be proved again in each crate that owns such a value
-// (docs/DECISIONS.md, "Letting values go").
+// `Drop` is implemented by hand, because derived code would be proved again in each crate that owns a value of this
+// type (docs/DECISIONS.md, "Letting values go").
 impl Drop for Tree {
     fn drop(self) {
         let Tree { nodes: _, best: _ } = self;
@@ -359,7 +359,7 @@ impl Tree {
         Ok(Merged::Changed)
     }
 
-    /// Merges an ancestry for which `merge_answer` has returned `Changed`, without checking again.
+    /// Merges an ancestry for which `merge_answer` has returned `Changed`, without checking the ancestry again.
     pub fn merge_change(
         &mut self,
         ancestry: &Ancestry,

@@ -17,7 +17,7 @@ impl Nodes {
         requires tree { IsTree (tree_of self.now.items) }
         ensures { IfOk result (λ v. v.items ≡ ancestors_at self.now.items start) }
     {
-        // The list of a revision and its ancestors is not longer than the list of nodes, and its length is at most the
+        // The list has a revision and its ancestors. Its length is at most the number of nodes, and at most the
         // revision's generation.
         let most = self
             .all()
@@ -53,7 +53,7 @@ impl Nodes {
     /// Returns the leaves that are one of the given revisions or descend from one of them. The result keeps the order
     /// of the leaves.
     ///
-    /// The call stores the result of each visited node, so it visits each node once for all leaves.
+    /// The call stores a result for each visited node, and uses the result again for other leaves.
     pub(crate) fn those_above(
         &self,
         alloc: Global,
@@ -79,8 +79,8 @@ impl Nodes {
         Ok(above)
     }
 
-    /// Creates the table of results by node index, in which the given revisions have the result true, and all other
-    /// revisions have no result.
+    /// Creates a table with an optional result for each node. The nodes of the given revisions have the result true,
+    /// and all other nodes have no result.
     fn asked(&self, alloc: Global, revs: &[Rev]) -> Result<Vec<Option<bool>>, AllocError>
         ensures { IfOk result (λ v. IsTold self.now.items revs.now v.items) }
     {

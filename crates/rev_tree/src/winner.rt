@@ -15,9 +15,9 @@ impl Nodes {
     /// Returns the index of the winner's node after an ancestry was inserted. `before` is the index of the node that
     /// was the winner before the merge.
     ///
-    /// The ancestry's head becomes the winner if it goes before the previous winner in the order of leaves. If the head
-    /// does not go before a previous winner that is still a leaf, the previous winner stays the winner. If the winner
-    /// is neither the ancestry's head nor the previous winner, the call looks for the winner among all leaves.
+    /// If the ancestry's head is a leaf and goes before the previous winner in the order of leaves, the head is the
+    /// winner. If the head is not the winner, the previous winner stays the winner if it is still a leaf. If the
+    /// previous winner is no longer a leaf, the call looks for the winner among all leaves.
     pub(crate) fn winner_after(&mut self, before: usize, head: usize) -> usize
         requires before { before < length self.old.items }
         requires head { head < length self.old.items }

@@ -1,4 +1,5 @@
-//! Worked examples of envelopes, and of the beginnings of envelopes after which a run may follow.
+//! Worked examples of wrapping documents in envelopes and unwrapping them. Some calls get only a beginning, after which
+//! a run of bytes of a string may follow.
 use doc_envelope::Envelope;
 use std::alloc::Global;
 use std::process::Abort;
@@ -16,10 +17,11 @@ enum Call {
     BeginTake,
 }
 
-/// A call, its text, and the text that it makes if it returns `true`.
+/// A row of a test: a call, the call's input, and the expected output. The output is `None` if the call must return
+/// `false`.
 type Row = (Call, &'static str, Option<&'static str>);
 
-/// Asserts that each call returns `true` exactly if its row has a text, and that the call makes that text.
+/// Asserts that each call returns `true` and makes the row's output, or returns `false` if the row has no output.
 fn run(rt: &impl Abort, envelope: &mut Envelope, rows: &[Row]) {
     for (i, (call, text, wanted)) in rows.iter().enumerate() {
         let returned = match *call {
@@ -53,13 +55,14 @@ static WRAPPED: &[Row] = &[
             r#"{"_id":"a","_rev":"2-b","_revisions":{"start":2,"ids":["b","c"]},"whole":"\"x\":\"y\",\"_attachments\":{\"f\":{\"data\":\"QUJDREVGRw"#,
         ),
     ),
-    // The member `_revisions` may follow.
+    // The call returns `false`, because the member `_revisions` may follow.
     (
         Call::BeginPut,
         r#"{"_id":"a","_rev":"2-b","_attachments":{"f":{"data":"QUJDREVGRw"#,
         None,
     ),
-    // The text ends in another member, outside of strings, or soon after a quotation mark.
+    // The calls return `false`, because the input ends in another member than `_attachments`, outside of a string, or
+    // shortly after a quotation mark.
     (
         Call::BeginPut,
         r#"{"_id":"a","_revisions":{"start":1,"ids":["b"]},"x":{"f":{"data":"QUJDREVGRw"#,
@@ -94,7 +97,8 @@ static UNWRAPPED: &[Row] = &[
         r#"{"_id":"a","_rev":"2-b","whole":"\"x\":\"y\",\"_attachments\":{\"f\":{\"data\":\"QUJDREVGRw"#,
         Some(r#"{"_id":"a","_rev":"2-b","x":"y","_attachments":{"f":{"data":"QUJDREVGRw"#),
     ),
-    // The text ends outside of the string's strings, in another member, or soon after an escape.
+    // The calls return `false`, because the input ends outside of a wrapped string, in another member than `whole`, or
+    // shortly after an escape.
     (
         Call::BeginTake,
         r#"{"_id":"a","_rev":"2-b","whole":"\"x\":1234567890"#,

@@ -22,7 +22,7 @@ enum Call {
     End,
     /// Read the low water.
     LowWater,
-    /// Count the runs of done windows above the low water.
+    /// Count the longest runs of adjacent done windows above the low water.
     RangeCount,
 }
 
@@ -67,8 +67,8 @@ static OUT_OF_ORDER: &[(Call, &str)] = &[
     (Call::Append(6), "Err(NotRising { end: 6 })"),
 ];
 
-/// Calls that append windows up to 2, 4, 6, 8 and 10. Finishing the windows makes ranges appear, merge, and fall below
-/// the low water.
+/// Calls that append windows up to 2, 4, 6, 8 and 10. Finishing the windows makes ranges of done windows appear, merge,
+/// and fall below the low water.
 static RANGES_MERGED: &[(Call, &str)] = &[
     (Call::Append(2), "Ok(())"),
     (Call::Append(4), "Ok(())"),

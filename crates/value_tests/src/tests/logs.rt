@@ -6,32 +6,34 @@ use std::alloc::Global;
 use std::process::Abort;
 use test_support::{bare_entry, shown};
 
-/// A call on logs. An index names a log of the bench.
+/// A call on logs. A `usize` is the index of a log in the test's list of logs (`Bench::logs`).
 #[derive(Clone, Copy)]
 enum Call<'a> {
-    /// Create an empty log as the bench's next log.
+    /// Create an empty log, and append it to the list of logs.
     Make,
-    /// Copy a log, and store the copy as the bench's next log.
+    /// Copy a log, and append the copy to the list of logs.
     Copy(usize),
-    /// Store the entry of a session that recorded up to a sequence and read nothing.
+    /// Store in a log the entry of a session that read nothing. The fields are the log, the session id and the recorded
+    /// sequence.
     Put(usize, u128, u64),
-    /// Store the entry of session 1 that read one document, with a timestamp.
+    /// Store in a log the entry of session 1, which read one document. The fields are the log and a timestamp.
     PutOne(usize, u64),
-    /// Store the entry of a session that read nothing, in the log of the replication from database 1 into another
-    /// database.
+    /// Store the entry of a session in the log of the replication from database 1 into another database. The fields are
+    /// the other database, the session id and the recorded sequence.
     PutInto(u128, u128, u64),
-    /// Copy all logs, and store the log of the replication from database 1 into another database, from the copy, as the
-    /// next log.
+    /// Copy the logs of all replications. Append the copied log of the replication from database 1 into another
+    /// database to the list of logs.
     CopyInto(u128),
-    /// Read whether there is a log of the replication from database 1 into another database.
+    /// Read whether the replication from database 1 into another database has a log.
     HasInto(u128),
-    /// Read whether a log has exactly the entries of sessions with given sequences, newest first.
+    /// Read whether a log has exactly the entries of the given sessions, newest first. A session is given by its id and
+    /// its recorded sequence.
     Has(usize, &'a [(u128, u64)]),
     /// Compare the logs of a source and a target.
     Common(usize, usize),
-    /// Copy the replication id of the row `log_text`, and format the copy as a string.
+    /// Copy the replication id of the test `log_text`, and format the copy as a string.
     Name,
-    /// Format a log of the replication of the row `log_text` as a string.
+    /// Format a log as a string, as a log of the replication of the test `log_text`.
     Write(usize),
     /// Create a timestamp, and read its seconds.
     Moment(u64),
@@ -40,7 +42,7 @@ enum Call<'a> {
 /// The calls of a test, and each call's expected result.
 type Rows = &'static [(Call<'static>, &'static str)];
 
-/// The logs of a test, and the logs of the replications from database 1.
+/// The state of a test: a list of logs, and the logs of the replications from database 1.
 #[derive(Drop)]
 struct Bench {
     alloc: Global,
@@ -49,7 +51,7 @@ struct Bench {
 }
 
 impl Bench {
-    /// Creates a bench without logs.
+    /// Creates the state of a test without logs.
     fn new(alloc: Global) -> Bench {
         Bench {
             alloc,
@@ -101,7 +103,7 @@ impl Bench {
         }
     }
 
-    /// Stores a copy of a log as the bench's next log.
+    /// Appends a copy of a log to the list of logs.
     fn keep_copy(&mut self, at: usize) -> Option<String> {
         let Some(log) = self.logs.get(at) else {
             return None;
@@ -128,7 +130,8 @@ impl Bench {
         }
     }
 
-    /// Stores the log of the replication from database 1 to `target` as the next log, from a copy of all logs.
+    /// Copies the logs of all replications, and appends the copied log of the replication from database 1 to `target`
+    /// to the list of logs.
     fn keep_into(&mut self, target: u128) -> Option<String> {
         match copy_into(self.alloc, &self.all, target) {
             Some(log) => self.keep(log),
@@ -191,7 +194,7 @@ fn entry(session: u128, recorded: u64) -> Option<Entry> {
     Some(bare_entry(SessionId(session), recorded, at))
 }
 
-/// Creates the entry of session 1 that read one document and recorded 1, with a timestamp.
+/// Creates the entry of session 1, which read one document and recorded sequence 1, with the given timestamp.
 fn one_document(moment: u64) -> Option<Entry> {
     let Ok(at) = Moment::new(moment) else {
         return None;
@@ -313,7 +316,7 @@ fn logs_by_replication(rt: HostRuntime) {
     Bench::new(rt.alloc()).run(&rt, LOGS_ROWS);
 }
 
-/// Returns the replication of the row `log_text`.
+/// Returns the replication id of the test `log_text`.
 fn replication() -> RepId {
     RepId {
         source: 0x1111_1111_1111_4111_8111_1111_1111_1111,
@@ -322,7 +325,7 @@ fn replication() -> RepId {
     }
 }
 
-/// The text of the log in the row `log_text`.
+/// The expected text of the log in the test `log_text`.
 const LOG_TEXT: &str =
     "{\"_id\":\"_local/11111111111141118111111111111111-22222222222242228222222222222222\",\
     \"history\":[{\"doc_write_failures\":0,\"docs_read\":1,\"docs_written\":1,\"end_last_seq\":1,\

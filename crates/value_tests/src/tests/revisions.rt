@@ -23,8 +23,8 @@ enum Call<'a> {
     Contains(Parts<'a>, &'a str),
     /// Read the parent of a revision in the copy of an ancestry.
     Parent(Parts<'a>, &'a str),
-    /// Store a revision in compact form, copy the compact revision, and read the copy's string and whether the
-    /// signature is short.
+    /// Store a revision in compact form (`KeptRev`), and copy the compact revision. Read whether the signature is
+    /// short, and read the copy's string.
     Keep(&'a str),
     /// Compute the hexadecimal digits of the digest of a string.
     Digest(&'a str),
@@ -198,7 +198,7 @@ fn kept_text(alloc: Global, text: &str) -> Option<String> {
     }
 }
 
-/// Returns whether a revision has a short signature, followed by a space.
+/// Returns the string `short ` or `long `, which says whether a revision's signature is short.
 fn form_text(alloc: Global, rev: &Rev) -> Option<String> {
     match KeptRev::short(rev) {
         Some(_) => "short ".to_string(alloc).ok(),
@@ -305,7 +305,7 @@ fn makes_and_copies_an_ancestry(rt: HostRuntime) {
     run(&rt, rt.alloc(), ANCESTRY_ROWS);
 }
 
-/// Test rows for a signature of 32 bytes and for a signature of 33 bytes.
+/// A revision with a signature of 32 bytes, and a revision with a signature of 33 bytes.
 const DIGITS: &str = "2-0123456789abcdef0123456789abcdef";
 
 const DIGITS_AND_ONE: &str = "2-0123456789abcdef0123456789abcdef0";
