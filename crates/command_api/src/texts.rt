@@ -58,8 +58,8 @@ pub fn push_count(text: &mut Vec<u8>, count: usize) -> Result<(), AllocError>
     push_number(text, count as u64)
 }
 
-/// Appends a revision. One step suffices if the signature has 32 bytes, the generation has one or three digits, and the
-/// buffer has enough capacity.
+/// Appends a revision. The call copies in one step if the signature has 32 bytes, the generation has one or three
+/// digits, and the buffer has enough capacity.
 #[inline(never)]
 pub fn push_rev(text: &mut Vec<u8>, rev: &Rev) -> Result<(), AllocError>
     ensures { OnOk result (text.new.items ≡ text.old.items ++ rev_text rev.now) }
