@@ -10,7 +10,7 @@ use itoa::Buffer;
 use rev_core::Rev;
 use std::alloc::{AllocError, Global};
 
-/// Appends a number. A number of four digits, which is usual, is copied in one step if the buffer has enough capacity.
+/// Appends a number. A number of four digits, the usual case, is copied in one step if the buffer has enough capacity.
 #[inline(never)]
 pub fn push_number(text: &mut Vec<u8>, number: u64) -> Result<(), AllocError>
     ensures { OnOk result (text.new.items ≡ text.old.items ++ decimal number) }
@@ -58,8 +58,8 @@ pub fn push_count(text: &mut Vec<u8>, count: usize) -> Result<(), AllocError>
     push_number(text, count as u64)
 }
 
-/// Appends a revision. A revision with a signature of 32 bytes and a generation of one or three digits is copied in one
-/// step if the buffer has enough capacity.
+/// Appends a revision. The call copies in one step if the signature has 32 bytes, the generation has one or three
+/// digits, and the buffer has enough capacity.
 #[inline(never)]
 pub fn push_rev(text: &mut Vec<u8>, rev: &Rev) -> Result<(), AllocError>
     ensures { OnOk result (text.new.items ≡ text.old.items ++ rev_text rev.now) }

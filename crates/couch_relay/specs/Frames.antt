@@ -50,7 +50,7 @@ pub record IsHead (line : Text) (head : HeadView) : Type 0 where
 
 -- ---- a response
 
--- The bytes `bytes` are the line `line` without a line feed, then a line feed, and then the bytes `rest`.
+-- The bytes `bytes` are the line `line`, which has no line feed, then a line feed, and then the bytes `rest`.
 pub record IsLine (bytes line rest : List ℕ) : Type 0 where
   pub is : bytes ≡ line ++ 10 ∷ rest
   pub one : has_line_end line ≡ false

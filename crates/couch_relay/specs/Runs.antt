@@ -80,8 +80,8 @@ status_after (tell notice) = None
 status_after (done None counts recorded) = Some (if counts.doc_write_failures == 0 then 0 else 1)
 status_after (done (Some fault) counts recorded) = Some 3
 
--- A run of the relay has ended with the given status. Either the last request was `done`, or the status is 3 and the
--- input bytes `left` do not begin with a complete response to the last request.
+-- A run of the relay has ended with the given status. If the last request was `done`, the run has the status of `done`.
+-- Otherwise, the status is 3, and the input bytes `left` do not begin with a complete response to the last request.
 abbrev pub EndsWith : Type 0 → RequestView → List ℕ → ℕ → Type 0
 EndsWith ended next left status =
     (status_after next ≡ Some status) ⊎ ((status_after next ≡ None) × NoFrame ended left × (status ≡ 3))
@@ -141,8 +141,8 @@ pub record IsChoice (input : List ℕ) (choice : Text) (rest : List ℕ) : Type 
   pub text : IsUtf8 body
   pub choice_is : choice ≡ on_one_line body
 
--- No selection of documents is read, because the given bytes do not begin with a complete response, or because the body
--- of the response is not UTF-8.
+-- No selection of documents is read. The given bytes do not begin with a complete response, or the body of the response
+-- is not UTF-8.
 abbrev pub NoChoice : Type 0 → List ℕ → Type 0
 NoChoice ended input =
     NoFrame ended input
@@ -163,8 +163,8 @@ TakesChoice options input choice rest =
     (options.choice ≡ true → IsChoice input choice rest) × (options.choice ≡ false → (choice ≡ []) × (rest ≡ input))
 
 -- The result of reading the selection that the options may require. The call appends the bytes that it reads to the
--- pending bytes. If the call returns a text, it is the selection at the beginning of the pending bytes, or the empty
--- text if the options require no selection. If the call returns no text, the options require a selection, and the
+-- pending bytes. A returned text is the selection at the beginning of the pending bytes, or the empty text if the
+-- options require no selection. If the call returns no text, the options require a selection, and the
 -- pending bytes did not begin with a selection.
 abbrev pub FindsChoice : Options → Option (List ℕ) → Option (List ℕ) → Type 0 → List ℕ → List ℕ → Option Text → Type 0
 FindsChoice options old new ended before after choice =

@@ -31,7 +31,7 @@ unfoldable pub first_seq : List ℕ
 first_seq = codes "0"
 
 -- The lines of a journal are blocks with right checksums. The second and third arguments of `Confirmed` are the hash
--- and the sequence of the last block, or `first_chain` and `first_seq` if there are no blocks.
+-- and the sequence of the last block. Without blocks, these arguments are `first_chain` and `first_seq`.
 pub data Confirmed : List (List ℕ) → List ℕ → List ℕ → Type 0 where
   nothing : Confirmed [] first_chain first_seq
   block : {lines : List (List ℕ)} {chain seq : List ℕ} (body : List (List ℕ)) (next : List ℕ) → Confirmed lines chain seq

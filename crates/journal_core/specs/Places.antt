@@ -6,8 +6,8 @@ use Rattle.journal_core.specs.declared.blocks.Blocks.{Blocks}
 use Rattle.journal_core.specs.declared.blocks.Took.{Took}
 use Rattle.journal_core.specs.declared.blocks.Took.TheVariants.{Held, Closed, Damaged}
 
--- The place of a reader in a journal: the hash and the sequence of the last confirmed block, the confirmed lines, and
--- the lines of the current block. The place of a reader is complete (`whole`) if no wrong checksum was read.
+-- A reader's place in a journal has the last confirmed block's hash and sequence, the confirmed lines, and the lines of
+-- the current block. The place of a reader is complete (`whole`) if no wrong checksum was read.
 pub record Place : Type 0 where
   pub chain : List ℕ
   pub seq : List ℕ

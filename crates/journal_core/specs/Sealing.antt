@@ -27,7 +27,7 @@ pub record IsSealing (chain seq : List ℕ) (lines : List (List ℕ)) (seal : Se
 abbrev pub Seals : Seal → List ℕ → List ℕ → Seal → Type 0
 Seals old line text new = (text ≡ []) × ((chain seq : List ℕ) (lines : List (List ℕ)) → IsSealing chain seq lines old → IsSealing chain seq (lines ++ line ∷ []) new)
 
--- The input has no bytes after its last line end, no line of the input is a sum line, and the line that ends the block
+-- The input has no bytes after its last line end, and no line of the input is a sum line. The line that ends the block
 -- is written.
 abbrev pub EndsRight : Seal → List ℕ → List ℕ → Type 0
 EndsRight old rest text = (rest ≡ []) × ((chain seq : List ℕ) (lines : List (List ℕ)) → IsSealing chain seq lines old
@@ -89,8 +89,8 @@ IsSeal chain seq input text =
 abbrev pub IsSealedPart : List ℕ → List ℕ → List ℕ → List ℕ → Type 0
 IsSealedPart chain seq input text = (back : List ℕ) × IsSeal chain seq input (text ++ back)
 
--- An error stopped the sealing of a block. The output is empty, or the input was read to its end (`ended`) and the
--- output is a prefix of the line that ends the block.
+-- An error stopped the sealing of a block. The output is empty, or a prefix of the line that ends the block. If the
+-- output is not empty, the input was read to its end (`ended`).
 abbrev pub HasSealedPart : List ℕ → List ℕ → Type 0 → Option (List ℕ) → Option (List ℕ) → Option (List ℕ) → Option (List ℕ)
     → Type 0
 HasSealedPart chain seq ended taken taken' held held' =

@@ -84,8 +84,8 @@ abbrev pub AreEntries : List Logged → List ℕ → List ℕ → Type 0
 AreEntries [] rest text = ⊥
 AreEntries (e ∷ es) rest text = (after : List ℕ) × IsEntry e after text × AreFurther es rest after
 
--- The text follows the opening bracket of a log's list of sessions, and begins with the given sessions, the closing
--- bracket, and the text up to the value of `session_id`.
+-- The text begins with the given sessions of a log, the closing bracket of their list, and the text up to the value of
+-- `session_id`.
 pub record IsHistory (text : List ℕ) (entries : List Logged) : Type 0 where
   pub tail : List ℕ
   pub listed : AreEntries entries (codes "],\"replication_id_version\":3,\"session_id\":\"" ++ tail) text

@@ -63,8 +63,8 @@ impl Finding {
 #[derive(Drop)]
 pub struct Row {
     pub table: Table,
-    /// The name of the database for a line of `info`, the id of the session for a line of `replicate`, or the empty
-    /// text for a line of `compare`.
+    /// The database's name for a line of `info`, the session's id for a line of `replicate`, or the empty text for a
+    /// line of `compare`.
     pub name: String,
     /// The numbers of the line in the order of the columns, one for each column.
     pub numbers: Vec<u64>,

@@ -4,7 +4,7 @@ use Rattle.httpdate.specs.declared.parts.Parts.{Parts}
 use Rattle.httpdate.specs.Calendar.{days_of_years, days_of_months, weekday}
 use Rattle.httpdate.specs.Text.{imf_fixdate}
 
--- The least number m from n on with x < f (m + 1), or n + `left` if there is no such number below n + `left`.
+-- The least m ≥ n with x < f (m + 1), or n + `left` if no such m is below n + `left`.
 unfoldable pub place_from : ℕ → ℕ → (ℕ → ℕ) → ℕ → ℕ
 place_from zero n f x = n
 place_from (suc left) n f x = if nat_lt x (f (n + 1)) then n else place_from left (n + 1) f x

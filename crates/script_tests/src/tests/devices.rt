@@ -36,7 +36,7 @@ impl ScriptRead for NarrowReader<'_> {
     }
 }
 
-/// Each line of this script has 16 bytes including the line end, and each call of the reader returns 16 bytes.
+/// Each line of this script has 16 bytes including the line end, and each call of the reader returns at most 16 bytes.
 const SIXTEEN: &str = "a line of these\na line of these\na line of these\n";
 
 /// Each row of the test has a script, the number of successful reads, and the output before the failed read. The engine
