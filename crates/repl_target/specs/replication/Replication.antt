@@ -91,7 +91,7 @@ next_window source plan since = page source since source.update_seq plan.batch p
 abbrev pub parcel_for : DatabaseValue → PeerValue → WindowValue → ParcelValue
 parcel_for source p w = open_revs source (revs_diff p.db w)
 
--- The session stores window w, and settling the missing documents has the given result.
+-- The plan's session stores window w, and then settling the parcel has the given result.
 abbrev pub StoresAndSettles : (Document → Bool) → Plan → PeerValue → WindowValue → ParcelValue
     → Result Settled TargetFault → PeerValue → Type 0
 StoresAndSettles refuses plan p w parcel result q =
@@ -147,7 +147,7 @@ ReadsUntil refuses source plan from why target' =
 
 -- ---- the end
 
--- The target after the session was concluded, or after the session was recorded because it cannot be concluded.
+-- The target after the plan's session is concluded or, if it cannot be concluded, recorded.
 abbrev pub closed_as : PeerValue → Plan → Result Report TargetFault → PeerValue
 closed_as p plan (Ok report) = after_conclude p plan.session plan.at
 closed_as p plan (Err fault) = after_record (after_conclude p plan.session plan.at) plan.session plan.at
@@ -161,7 +161,8 @@ abbrev pub PutsOver : PeerValue → RepId → EntryValue → Result (Unit {0}) A
 PutsOver source rep entry (Ok done) source' = source' ≡ after_put_entry source rep entry
 PutsOver source rep entry (Err refused) source' = source' ≡ source
 
--- The result of recording at both sides: the result of concluding, or `Memory` if the allocation at the source fails.
+-- The result of a replication after its windows: the result of concluding the session, or `Memory` if an allocation at
+-- the source failed.
 abbrev pub told_by : Result Report TargetFault → Result (Unit {0}) AllocError → Result Report TargetFault
 told_by concluded (Ok done) = concluded
 told_by concluded (Err refused) = Err faults.Memory
