@@ -53,7 +53,7 @@ row_in row = option_map row_by (both (text_at (codes "id") row) (both (row_seq (
 abbrev pub rows_in : Json → Option (List LeavesView)
 rows_in page = option_and_then (each_item row_in) (items_at (codes "results") page)
 
--- The number of documents after a page of changes, or `-` if the number is missing or `null`.
+-- The number of pending documents (member `pending`) of a page of changes, or `-` if the member is missing or `null`.
 abbrev pub pending_in : Option Json → Option (List ℕ)
 pending_in None = Some (codes "-")
 pending_in (Some null) = Some (codes "-")
