@@ -129,10 +129,10 @@ impl<F: WriteFilter> Peer<F> {
 
     /// Returns the database.
     ///
-    /// The clauses state what every peer guarantees. Each leaf of a window row at or below a session's recorded
-    /// sequence is covered, that is, in the tree or rightly refused. Each revision in the database comes from a local
-    /// write or from a row of a window. The number of read documents is the number of written documents plus the number
-    /// of refused documents.
+    /// The clauses of this call state guarantees of every peer. Each leaf of a window row at or below a session's
+    /// recorded sequence is covered, that is, in the tree or rightly refused. Each revision in the database comes from
+    /// a local write or from a row of a window. The number of read documents is the number of written documents plus
+    /// the number of refused documents.
     pub fn db(&self) -> &Database
         ensures value { result.now ≡ self.now.1.db }
         ensures law { Lawful (F.refuses self.now.0) self.now.1 }
@@ -328,8 +328,8 @@ impl<F: WriteFilter> Peer<F> {
         self.append_prepared(id, ReadyWindow::new(window))
     }
 
-    /// Does the same as `append` for a prepared window, which may already have the shorter form that is kept when the
-    /// window is done.
+    /// Does the same as `append` for a prepared window. A prepared window may already have the shorter form that the
+    /// session keeps once the window is done.
     pub fn append_prepared(&mut self, id: SessionId, ready: ReadyWindow) -> Result<(), TargetFault>
         ensures answer { GivesUnlessMemory result (append_answer self.old.1 id ready) }
         ensures filter { self.new.0 ≡ self.old.0 }
@@ -337,8 +337,7 @@ impl<F: WriteFilter> Peer<F> {
         ensures err { OnErr result (self.new.1 ≡ self.old.1) }
         ensures law { Lawful (F.refuses self.new.0) self.new.1 }
     {
-        // The result of this call is not used. The call only gives proofs the fact that the window satisfies its
-        // invariant.
+        // The result of `hi` is not used. The contract of `hi` states that the window satisfies its invariant.
         let _hi = ready.window().hi();
         self.sessions.append(id, ready)
     }
@@ -371,8 +370,8 @@ impl<F: WriteFilter> Peer<F> {
         self.settle_into(id, PreparedParcel::new(alloc, parcel), &mut spent)
     }
 
-    /// Does the same as `settle`, but moves the remains of the parcel into `spent` if all documents are settled. A
-    /// caller that holds the peer's lock can drop the remains after it releases the lock.
+    /// Does the same as `settle`, but moves the parts of the parcel into `spent`, instead of dropping them, if all
+    /// documents are settled. A caller that holds the peer's lock can drop these parts after it releases the lock.
     pub fn settle_into(
         &mut self,
         id: SessionId,
