@@ -84,7 +84,8 @@ impl Databases {
     ghost use Rattle.script_databases.specs.Refusals.{GivesOrMemory};
     ghost use Rattle.script_databases.specs.Replications.{ReplicatesAlone, ReplicatesBetween, ReplicatesByPool, ReplicatesWatched};
 
-    /// Creates an empty set of databases, with a copy of the settings. The empty set is consistent.
+    /// Creates an empty set of databases, with a copy of the settings. The empty set of databases is consistent
+    /// (`AllTied`).
     pub fn new(alloc: Global, settings: &Settings) -> Result<Databases, AllocError>
         ensures none { IfOk result (λ databases. databases ≡ no_databases (program_of settings.now)) }
         ensures tied { IfOk result (λ databases. AllTied databases) }
