@@ -79,7 +79,7 @@ fn print(alloc: Global, answer: &mut Vec<u8>, id: &str, tree: &Tree) -> Result<(
     push_leaves(alloc, answer, tree, leaves.as_slice())
 }
 
-/// Prints the first line. The parameter `all` has the leaves of the tree.
+/// Prints the first line of `show`. The parameter `all` has the leaves of the tree.
 fn push_head(answer: &mut Vec<u8>, id: &str, tree: &Tree, all: &[Rev]) -> Result<(), AllocError>
     requires { all.now ≡ leaves tree.now }
     ensures { OnOk result (answer.new.items ≡ answer.old.items ++ head_line id.now tree.now) }

@@ -27,7 +27,8 @@ pub trait StreamingCommand<L>: Sized + Drop {
 
     ghost asked: { Self → Ask };
 
-    // The parameters that a JSON object gives, if each of its members belongs to the command and has the right type.
+    // The parameters that a JSON object gives. Each member of the object must belong to the command and have the right
+    // type.
     ghost asked_in: { Data → Result Ask Refusal };
 
     // The results that the command may have, each with the state after the command.
