@@ -17,7 +17,8 @@ pub const BAD_COMMAND_LINE: u8 = 2;
 ///
 /// # Errors
 ///
-/// The error is `OutOfMemory` if an allocation fails. Any other error means that an argument is not valid Unicode.
+/// The error is `OutOfMemory` if an allocation fails. Any error except `OutOfMemory` means that an argument is not
+/// valid Unicode.
 pub fn words_of<H: AllocGlobal + Env>(rt: &H) -> io::Result<Vec<String>> {
     let words = env::args(rt)?.collect(rt.alloc())?;
     Ok(words)

@@ -91,22 +91,23 @@ Asks word second third whole svg task = (n : Named) × (word ≡ Some (word_of n
 
 -- ---- arguments without a task
 
--- The reason why task n cannot be built from an argument and flags: `Wrong` if n does not accept them, or `Memory`.
+-- The reason why task n cannot be built from an argument and flags, which is `Wrong` if n does not accept them, or
+-- `Memory`.
 abbrev pub FitsNone : Named → Option (List ℕ) → Bool → Bool → NoTask → Type 0
 FitsNone n word whole svg (Words error) = ⊥
 FitsNone n word whole svg Unknown = ⊥
 FitsNone n word whole svg (Wrong m) = (m ≡ n) × ((t : Task) → Fits n word whole svg t → ⊥)
 FitsNone n word whole svg Memory = Unit {0}
 
--- The reason why an argument of task n is not accepted: `Wrong` if the argument is not a database name, or `Memory`.
+-- The reason why an argument of task n is not accepted, which is `Wrong` if it is not a database name, or `Memory`.
 abbrev pub NamesNone : Named → Option (List ℕ) → NoTask → Type 0
 NamesNone n word (Words error) = ⊥
 NamesNone n word Unknown = ⊥
 NamesNone n word (Wrong m) = (m ≡ n) × ((db : List ℕ) → IsNamed word db → ⊥)
 NamesNone n word Memory = Unit {0}
 
--- The reason why arguments name no task: `Unknown` if the first argument is not the name of a task, `Wrong` if the
--- named task does not accept the further arguments, or `Memory`.
+-- The reason why arguments name no task. The reason is `Unknown` if the first argument is not the name of a task,
+-- `Wrong` if the named task does not accept the further arguments, or `Memory`.
 abbrev pub AskNothing : Option (List ℕ) → Option (List ℕ) → Option (List ℕ) → Bool → Bool → NoTask → Type 0
 AskNothing word second third whole svg (Words error) = ⊥
 AskNothing word second third whole svg Unknown = (n : Named) → word ≡ Some (word_of n) → ⊥
@@ -131,13 +132,13 @@ command_line =
     with_rule (with_rule (with_rule (with_rule (with_rule (program_app (codes "couch_lines")) task_word) second_word)
     (hidden_option (codes "further"))) (flag_option (codes "whole"))) (flag_option (codes "svg"))
 
--- A command line names the given task, by the texts of its arguments and flags.
+-- The texts of a command line's arguments and flags name the given task.
 abbrev pub SaysBy : (List ℕ → Option (List ℕ)) → Option (List ℕ) → Option (List ℕ) → Task → Type 0
 SaysBy text flag drawn task =
     (whole : Bool) × (svg : Bool) × IsFlag flag whole × IsFlag drawn svg
     × Asks (text (codes "task")) (text (codes "of")) (text (codes "further")) whole svg task
 
--- A command line names no task for the given reason, by the texts of its arguments and flags.
+-- The texts of a command line's arguments and flags name no task, for the given reason.
 abbrev pub RefusesBy : (List ℕ → Option (List ℕ)) → Option (List ℕ) → Option (List ℕ) → NoTask → Type 0
 RefusesBy text flag drawn why =
     (whole : Bool) × (svg : Bool) × IsFlag flag whole × IsFlag drawn svg

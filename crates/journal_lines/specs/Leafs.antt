@@ -20,8 +20,8 @@ leaf_view leaf = (string_bytes leaf.rev, leaf.start, texts_of leaf.names.items)
 abbrev pub rev_at : ℕ → List ℕ → List ℕ
 rev_at generation name = decimal generation ++ codes "-" ++ name
 
--- Whether a revision id consists of one of the given signatures and its generation. The first signature has the
--- generation `start`, and the generations fall by one.
+-- Whether a revision id has one of the given signatures and the signature's generation. The signatures have the
+-- generations from `start` on, falling by one.
 abbrev pub knows_at : List ℕ → ℕ → List (List ℕ) → Bool
 knows_at rev start [] = false
 knows_at rev start (name ∷ names) = bytes_eq rev (rev_at start name) || knows_at rev (start - 1) names

@@ -27,7 +27,7 @@ pub trait StreamingCommand<L>: Sized + Drop {
 
     ghost asked: { Self → Ask };
 
-    // The parameters that a JSON object gives. Each member of the object must belong to the command and have the right
+    // The parameters that a JSON object gives, if each member of the object belongs to the command and has the right
     // type.
     ghost asked_in: { Data → Result Ask Refusal };
 

@@ -21,7 +21,7 @@ pub enum Reason {
     /// The write filter refuses the document.
     Filtered,
     /// The ancestry of the document contradicts the tree, because a child has another parent in the tree. The variant
-    /// names the newest such child, its parent in the tree, and its parent in the ancestry.
+    /// names the newest child with two parents, its parent in the tree, and its parent in the ancestry.
     Contradicting { child: Rev, known: Rev, given: Rev },
 }
 

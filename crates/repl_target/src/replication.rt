@@ -45,7 +45,7 @@ pub struct Plan {
 }
 
 impl Plan {
-    /// Copies the plan. The copy shares the selection with the plan.
+    /// Copies the plan. The copy of a plan and the plan share the selection.
     pub fn copy(&self) -> Result<Plan, AllocError>
         ensures copied { IfOk result (λ plan. plan ≡ self.now) }
     {

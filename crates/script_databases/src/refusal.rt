@@ -12,8 +12,8 @@ use rev_core::RevFault;
 use std::alloc::{AllocError, AllocFailed};
 
 /// The reason why a line failed (docs/PROFILE.md, "Order of checks"). The method `name` returns the printed name of the
-/// error. Some variants exist only so that each error of a lower crate has a name. The comment of such a variant says
-/// that no line is expected to fail with it.
+/// error. Some variants exist only so that each error of a lower crate has a name, and no line is expected to fail with
+/// these variants.
 #[derive(Clone, Copy, Debug, PartialEq, Eq)]
 pub enum Refusal {
     /// A window is already done. No line is expected to fail with `AlreadyDone`.
@@ -26,7 +26,7 @@ pub enum Refusal {
     BadCommand,
     /// A revision id has no generation.
     BadGeneration,
-    /// A page with at most 0 rows was requested. No line is expected to fail with `BadLimit`.
+    /// A page with a maximum of 0 rows was requested. No line is expected to fail with `BadLimit`.
     BadLimit,
     /// The line is not a JSON object.
     BadLine,

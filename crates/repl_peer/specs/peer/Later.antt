@@ -1,4 +1,4 @@
--- The relation between a peer before calls and after them. A revision that the peer covers stays covered.
+-- The relation between the states of a peer before and after calls. A revision that the peer covers stays covered.
 use Rattle.std.specs.Prelude.{◌≡◌, ℕ, ◌≤◌, Some, slice_get}
 use Rattle.couch_base.specs.Lists.{Among}
 use Rattle.couch_base.specs.WriteLaws.{IsLater}

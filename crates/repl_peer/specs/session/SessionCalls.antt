@@ -48,7 +48,7 @@ recorded_by sessions rep (Some base) = recorded_of (base_in sessions rep base)
 abbrev pub in_ledgers : List SessionValue → Id → RevId → Bool
 in_ledgers sessions id r = list_any (λ s. in_ledger s.ledger id r) sessions
 
--- The result of a call that returns a log entry. The value of the entry replaces the entry's stored form.
+-- The result of a call that returns a log entry, with the entry's value instead of the entry's stored form.
 abbrev pub entry_value : Result Entry TargetFault → Result EntryValue TargetFault
 entry_value (Ok e) = Ok (value_of e)
 entry_value (Err fault) = Err fault
