@@ -102,7 +102,7 @@ fn named_by(word: &str) -> Option<Named>
 ///
 /// # Errors
 ///
-/// The call returns `Unknown` if no task has this name, and `Wrong` if the task does not take these arguments.
+/// The call returns `Unknown` if no task has the given name, and `Wrong` if the task does not take the given arguments.
 pub fn task_of(
     alloc: Global,
     word: Option<&str>,
@@ -135,7 +135,7 @@ pub fn task_of(
 ///
 /// # Errors
 ///
-/// The call returns `Wrong` if the task does not take this argument or these flags.
+/// The call returns `Wrong` if the task does not take the given argument or the given flags.
 fn fitting(
     alloc: Global,
     named: Named,

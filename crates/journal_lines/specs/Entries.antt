@@ -6,8 +6,8 @@ use Rattle.journal_lines.specs.Leafs.{HeadView, head_view, line_head}
 use Rattle.journal_lines.specs.declared.entry.Entry.{Entry}
 use Rattle.journal_lines.specs.declared.entry.Entry.TheVariants as entries
 
--- The content of a journal line: the leaves of a document (`state`), the requested leaves of a document (`lacks`), the
--- head of a document (`leaf`), or `wrong` for any other line.
+-- The content of a journal line: the leaves (`state`) or requested leaves (`lacks`) of a document, the head of a
+-- document (`leaf`), or `wrong` for any other line.
 pub data EntryView : Type 0 where
   state : LeavesView → EntryView
   lacks : LeavesView → EntryView

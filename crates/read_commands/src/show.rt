@@ -134,7 +134,7 @@ fn push_leaf(alloc: Global, answer: &mut Vec<u8>, tree: &Tree, leaf: &Rev) -> Re
     push_leaf_text(answer, leaf, deleted, rev_info.ancestry.revs())
 }
 
-/// Whether a content is known and deletes its document.
+/// Whether the content of a revision is known and has the deleted flag.
 fn is_deletion(content: Option<&Content>) -> bool
     ensures { result ≡ option_map_or (λ c. c.deleted) (option_copied content.entry) false }
 {

@@ -46,7 +46,7 @@ pub struct Settled {
 /// The reason why a call on a peer's sessions failed.
 #[derive(Debug, Drop, Error)]
 pub enum TargetFault {
-    /// The peer already has a session with this id.
+    /// The peer already has a session with the given id.
     #[error("the session is there already")]
     SessionExists,
     /// The base is not an earlier session of the session's replication.
@@ -60,7 +60,7 @@ pub enum TargetFault {
     /// The goal is below the start.
     #[error("the goal is below the start")]
     GoalBelowStart,
-    /// The peer has no session with this id.
+    /// The peer has no session with the given id.
     #[error("no such session")]
     NoSuchSession,
     /// The life of a window is not the session's life, or the life of a log entry is not the database's life. The

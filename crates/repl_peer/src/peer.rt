@@ -129,10 +129,10 @@ impl<F: WriteFilter> Peer<F> {
 
     /// Returns the database.
     ///
-    /// The clauses of this call state guarantees of every peer. Each leaf of a window row at or below a session's
-    /// recorded sequence is covered, that is, in the tree or rightly refused. Each revision in the database comes from
-    /// a local write or from a row of a window. The number of read documents is the number of written documents plus
-    /// the number of refused documents.
+    /// The clauses of `db` state guarantees of every peer. Each leaf of a window row at or below a session's recorded
+    /// sequence is covered, that is, in the tree or rightly refused. Each revision in the database comes from a local
+    /// write or from a row of a window. The number of read documents is the number of written documents plus the number
+    /// of refused documents.
     pub fn db(&self) -> &Database
         ensures value { result.now ≡ self.now.1.db }
         ensures law { Lawful (F.refuses self.now.0) self.now.1 }
@@ -287,7 +287,7 @@ impl<F: WriteFilter> Peer<F> {
     ///
     /// Checked in this order; an error changes nothing:
     ///
-    /// - `SessionExists`: the peer already has a session with this id.
+    /// - `SessionExists`: the peer already has a session with the given id.
     /// - `NoSuchBase`: the base is not a session of the same replication.
     /// - `StartAboveBase`: the start exceeds the base's recorded sequence, or 0 if there is no base.
     /// - `GoalBelowStart`: the goal is below the start.
@@ -313,7 +313,7 @@ impl<F: WriteFilter> Peer<F> {
     ///
     /// Checked in this order; an error changes nothing:
     ///
-    /// - `NoSuchSession`: the peer has no session with this id.
+    /// - `NoSuchSession`: the peer has no session with the given id.
     /// - `OtherLife`: the window's life is not the session's life.
     /// - `Gap`: the window does not begin at the end of the stored windows.
     /// - `PastGoal`: the window ends above the goal.
@@ -352,8 +352,8 @@ impl<F: WriteFilter> Peer<F> {
     ///
     /// Checked in this order; the first four change nothing:
     ///
-    /// - `NoSuchSession`: the peer has no session with this id.
-    /// - `ForeignParcel`: the session has no window with the parcel's bounds, or a document has no row in it.
+    /// - `NoSuchSession`: the peer has no session with the given id.
+    /// - `ForeignParcel`: the session has no window with the parcel's bounds, or a document has no row in that window.
     /// - `AlreadyDone`: the window is already done.
     /// - `CountFull`: a count of the session would exceed 9,007,199,254,740,991.
     /// - `Stopped`: a document could not get a sequence, or an allocation failed. The first `settled` documents are
@@ -388,7 +388,7 @@ impl<F: WriteFilter> Peer<F> {
 
     /// Records and returns the low water of a session, which is the source's sequence up to which every window is done.
     ///
-    /// Returns `NoSuchSession` if the peer has no session with this id. Does not allocate.
+    /// Returns `NoSuchSession` if the peer has no session with the given id. Does not allocate.
     pub fn record(&mut self, id: SessionId, at: Moment) -> Result<u64, TargetFault>
         ensures answer { result ≡ record_answer self.old.1 id }
         ensures filter { self.new.0 ≡ self.old.0 }
@@ -404,7 +404,7 @@ impl<F: WriteFilter> Peer<F> {
     ///
     /// Checked in this order; an error changes nothing:
     ///
-    /// - `NoSuchSession`: the peer has no session with this id.
+    /// - `NoSuchSession`: the peer has no session with the given id.
     /// - `Unfinished`: the session is done only up to a sequence below its goal.
     ///
     /// Does not allocate.
@@ -419,7 +419,7 @@ impl<F: WriteFilter> Peer<F> {
 
     /// Returns the log entry of a session.
     ///
-    /// Returns `NoSuchSession` if the peer has no session with this id. Does not allocate.
+    /// Returns `NoSuchSession` if the peer has no session with the given id. Does not allocate.
     pub fn entry(&self, id: SessionId) -> Result<Entry, TargetFault>
         ensures { entry_value result ≡ session_answer self.now.1 id (λ s. Ok (entry_of s)) }
     {

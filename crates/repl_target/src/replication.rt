@@ -164,7 +164,7 @@ pub fn check_peers<F: WriteFilter, G: WriteFilter>(
     check_plan(source.db().uuid(), target.db().uuid(), plan)
 }
 
-/// Checks whether a plan is valid for databases with these UUIDs.
+/// Checks whether a plan is valid for databases with the given UUIDs.
 ///
 /// # Errors
 ///

@@ -254,8 +254,9 @@ impl Databases {
     ///
     /// # Errors
     ///
-    /// Checked in this order: `NoDatabase` (the name is unknown), `NoBackup` (the database has no such backup),
-    /// `IsTarget` (the database has been a replication target), and `LifeFull` (no life is left).
+    /// The call checks in this order for `NoDatabase` (the name is unknown), `NoBackup` (the database has no backup of
+    /// this name), and `IsTarget` (the database has been a replication target). Last, the call checks for `LifeFull`
+    /// (no life is left).
     pub fn put_back(&mut self, db: &str, name: &str) -> Result<PutBack, Refusal>
         ensures answer { GivesOrMemory result
             (put_back_answer (peer_at self.old db.now) (backup_at self.old db.now name.now)) }

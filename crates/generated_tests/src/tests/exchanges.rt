@@ -13,7 +13,7 @@ use rev_core::Rev;
 use std::alloc::Global;
 use std::process::Abort;
 
-/// A database and its reference.
+/// A database and its reference (`PlainSide`).
 #[derive(Drop)]
 pub(crate) struct Side {
     pub(crate) db: Database,
@@ -228,8 +228,8 @@ fn exchange(
     docs
 }
 
-/// Performs requests and fetches between a source and a target. This code is a separate function, because the proof
-/// grows with each variable that is live in its caller.
+/// Performs requests and fetches between a source and a target. The function is separate from its caller, because the
+/// proof grows with each variable that is live in the caller.
 fn with_target(rt: &impl Abort, alloc: Global, seed: u64, source: &mut Side) -> usize {
     let mut rng = ChaCha8Rng::seed_from_u64(seed);
     let mut target = Side::new(alloc, 2);

@@ -480,7 +480,7 @@ impl PlainWorld {
         self.copies.len()
     }
 
-    /// Returns one of the two sides.
+    /// Returns the source side if `is_source` is true, otherwise the target side.
     pub(crate) fn side(&mut self, is_source: bool) -> &mut PlainSide {
         if is_source {
             &mut self.source

@@ -188,8 +188,8 @@ fn survey(rt: &impl Abort, alloc: Global, source: &Side, target: &Side) -> [u64;
     [total.contradicting, total.differing, conflicts]
 }
 
-/// Tests the calls of `repl_inspect` with a source and a target. This code is a separate function, because the proof
-/// grows with each variable that is live in its caller.
+/// Tests the calls of `repl_inspect` with a source and a target. The function is separate from its caller, because the
+/// proof grows with each variable that is live in the caller.
 fn with_target(rt: &impl Abort, alloc: Global, seed: u64, source: &mut Side) -> [u64; 3] {
     let mut rng = ChaCha8Rng::seed_from_u64(seed);
     let mut target = Side::new(alloc, 2);

@@ -155,7 +155,7 @@ pub(crate) fn put_prepared_at(
 }
 
 /// Adds the first `count` arrivals of a list to the session, and counts their documents. The caller has reserved the
-/// space for these arrivals.
+/// space for the arrivals.
 fn enter(
     earlier: &mut Vec<Vec<Written>>,
     arrivals: &mut Vec<Written>,

@@ -15,7 +15,7 @@ use Rattle.repl_target.specs.ties.Ties.{IsTiedWith, IsSentEntry, KeepsOthersTied
 use Rattle.repl_target.specs.replication.Calls.{IsLeft}
 
 -- Each document's tree in database `now` has grown (`IsGrownBy`) from the document's tree in database `old` by data of
--- its tree in database `other`.
+-- the document's tree in database `other`.
 abbrev pub HasGrownBy : DatabaseValue → DatabaseValue → DatabaseValue → Type 0
 HasGrownBy old other now = (id : Id) → IsGrownBy (tree_of old.docs id) (tree_of other.docs id) (tree_of now.docs id)
 
