@@ -1,4 +1,4 @@
-//! Reads the arguments of a program, and determines the exit status of a program that has nothing to run.
+//! Reads the arguments of a program, and determines the exit status if the arguments give nothing to run.
 ghost use Rattle.std.specs.Prelude.{◌≡◌, ◌≤◌};
 ghost use Rattle.clap.specs.Words.{kind_of};
 ghost use Rattle.cli_common.specs.Status.{kind_status};

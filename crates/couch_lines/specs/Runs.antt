@@ -75,9 +75,9 @@ Makes (Bulk n whole) left held held' result = (answers : List ℕ) → (document
     → IsScript (wanted_of (Bulk n whole)) answers documents → ReadsAnswers (bodies_of n) documents held held' result
 Makes (Trees db svg) left held held' result = ⊥
 
--- The effect of a run with the given command line. If the command line has no task, or an allocation fails while its
--- arguments are parsed, the run reads and writes no byte. If the command line has a task, the task is run. Only the
--- task `trees` draws a picture.
+-- The effect of a run of `couch_lines` with the command line `words`. If the command line has no task, or an allocation
+-- fails while its arguments are parsed, the run reads and writes no byte. If the command line has a task, the task is
+-- run. Only the task `trees` draws a picture.
 abbrev pub RunsWords : List (List ℕ) → Option (List ℕ) → Option (List ℕ) → Option (List ℕ) → Option (List ℕ) → Ended → Type 0
 RunsWords words left left' held held' (NotRun why) = Refuses words why × (left' ≡ left) × (held' ≡ held)
 RunsWords words left left' held held' (Ran run) =
@@ -112,7 +112,7 @@ IfDone (Drawn ended) holds = OnOk ended holds
 -- A run of the program `couch_lines` on its standard streams, with the command line `words`. The reads returned the
 -- bytes `input`, the output has accepted the bytes `text`, and the run ended as `ended` says. If the task succeeded,
 -- the statement `all` is true: the reads reached the end of the input. If the last output of a run cannot be flushed, a
--- part of this output is missing, and the run ends as `unflushed` says.
+-- part of this output may be missing, and `unflushed` determines how the run ends.
 abbrev pub RunsStandard : List (List ℕ) → List ℕ → Type 0 → List ℕ → Ended → Type 0
 RunsStandard words input all text ended =
     (first : Ended) × (rest : List ℕ) × RunsWords words (Some input) (Some []) (Some []) (Some (text ++ rest)) first

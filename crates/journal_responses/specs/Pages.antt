@@ -63,7 +63,7 @@ pending_in (Some (string s)) = None
 pending_in (Some (array js)) = None
 pending_in (Some (object ms)) = None
 
--- Whether a row of changes is printed. With the flag `several`, only rows with two or more leaves are printed.
+-- Whether a row of changes is printed. If the flag `several` is true, a row with fewer than two leaves is not printed.
 abbrev pub is_printed : Bool → LeavesView → Bool
 is_printed several row = if several then nat_le 2 (length row.2) else true
 

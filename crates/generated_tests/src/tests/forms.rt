@@ -12,7 +12,7 @@ use rev_tree::{Merged, Origin, Revs, SessionId, Tree, TreeFault};
 use std::alloc::{AllocError, Global};
 use std::process::Abort;
 
-/// Converts the result of a merge to the result type of the plain form.
+/// Converts the result of a merge to `PlainAnswer`, the result type of the plain form.
 fn plain_answer(rt: &impl Abort, answer: Result<Merged, TreeFault>) -> PlainAnswer {
     let fault = match answer {
         Ok(merged) => return Ok(merged),

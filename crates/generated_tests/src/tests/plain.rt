@@ -8,7 +8,8 @@ use rev_tree::{Merged, Origin};
 use std::alloc::{AllocError, Global};
 use std::cmp::Ordering;
 
-/// The result of a merge. An error has the child, the known parent and the given parent of a contradiction.
+/// The result of a merge. If the merge fails, the error has the child, the known parent and the given parent of a
+/// contradiction.
 pub(crate) type PlainAnswer = Result<Merged, (Rev, Rev, Rev)>;
 
 /// The given ancestries, and the contents and origins of revisions.

@@ -293,8 +293,8 @@ impl Sessions {
         }
     }
 
-    /// Returns the index of the stored window for a request, if this window is not done and has a row for each
-    /// requested document.
+    /// Returns the index of the session's stored window with the bounds of a request, if this window is not done and
+    /// has a row for each requested document.
     fn window_for(&self, session: u128, asked: &Rows) -> Option<usize> {
         self.windows.iter().position(|window| {
             window.session == session
@@ -340,8 +340,8 @@ impl Sessions {
         held.done.found = held.done.found.saturating_add(count(&asked.leaves));
     }
 
-    /// Records a session. If `concludes` is true, the session is recorded only if it has reached its goal. Returns the
-    /// session's log entry.
+    /// Records a session. If `concludes` is true, the call records the session only if the low water is the goal.
+    /// Returns the session's log entry.
     fn record(&mut self, session: u128, concludes: bool, time: u64) -> Option<Done> {
         let low = self.low_water(self.get(session)?);
         let place = self.place(session)?;

@@ -26,7 +26,7 @@ use Rattle.repl_peer.specs.declared.session.ledger_index.LedgerIndex.{LedgerInde
 abbrev pub known_of : DatabaseValue → LedgerIndex → Id → RevId → Bool
 known_of db index id r = has (tree_of db.docs id) r || is_ledgered index id r
 
--- The new ledger index has the revisions of the old ledger index, and the revisions of a ledger's documents.
+-- The new ledger index has exactly the revisions of the old ledger index and of the documents in a ledger.
 abbrev pub IndexesMore : LedgerIndex → List RefusedValue → LedgerIndex → Type 0
 IndexesMore old ledger new =
     (id : Id) (r : RevId) → is_ledgered new id r ≡ (is_ledgered old id r || in_ledger ledger id r)
@@ -61,7 +61,7 @@ pub record IsWindowAt (ws : List WindowValue) (lo hi i : ℕ) : Type 0 where
 abbrev pub IsSameIndex : LedgerIndex → LedgerIndex → Type 0
 IsSameIndex old new = (id : Id) (r : RevId) → is_ledgered new id r ≡ is_ledgered old id r
 
--- The new ledger index has the revisions of the old ledger index, and the revisions of document d.
+-- The new ledger index has exactly the revisions of the old ledger index and of document d.
 abbrev pub IsIndexedWith : Document → LedgerIndex → LedgerIndex → Type 0
 IsIndexedWith d old new =
     (id : Id) (r : RevId) → is_ledgered new id r ≡ (is_ledgered old id r || (bytes_eq d.id id && is_among r d.ancestry))

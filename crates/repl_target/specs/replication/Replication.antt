@@ -87,7 +87,8 @@ pub record Reading : Type 0 where
 abbrev pub next_window : DatabaseValue → Plan → ℕ → WindowValue
 next_window source plan since = page source since source.update_seq plan.batch plan.chosen
 
--- The parcel of window w for target p. The parcel has the source's documents for the leaves of w that p lacks.
+-- The parcel that the source returns for window w and target p. The parcel has the source's documents for the leaves of
+-- w that p lacks.
 abbrev pub parcel_for : DatabaseValue → PeerValue → WindowValue → ParcelValue
 parcel_for source p w = open_revs source (revs_diff p.db w)
 
@@ -109,7 +110,8 @@ pub record Carries (refuses : Document → Bool) (source : DatabaseValue) (plan 
         (Ok settled) after.target
     pub reached : after.since ≡ window.hi
 
--- The next window fails, because an allocation fails, the session does not store the window, or settling fails.
+-- Reading, storing or settling the next window fails. Either an allocation fails before the target changes, or the
+-- session does not store the window, or settling the window fails.
 abbrev pub WindowRefused : (Document → Bool) → DatabaseValue → Plan → Reading → TargetFault → PeerValue → Type 0
 WindowRefused refuses source plan before why q =
     (why ≡ faults.Memory) × (q ≡ before.target)

@@ -32,7 +32,7 @@ pub data Syncs (refuses_a refuses_b : Document → Bool) (a b : PeerValue) (ther
 
 -- ---- meaning
 
--- Each leaf of document `id` in database `db` is a revision of the document in database `knower`.
+-- Each leaf of document `id` in database `db` is in the document's tree in database `knower`.
 abbrev pub KnowsLeaves : DatabaseValue → DatabaseValue → Id → Type 0
 KnowsLeaves knower db id =
     (leaf : RevId) → is_leaf (tree_of db.docs id) leaf ≡ true → has (tree_of knower.docs id) leaf ≡ true
