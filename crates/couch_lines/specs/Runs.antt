@@ -86,9 +86,9 @@ RunsWords words left left' held held' (Drawn ended) =
     (db : Option (String Global)) × (svg : Bool) × Says words (Trees db svg)
     × PicturedBy ended (form_of svg) (option_map string_bytes db) left held held'
 
--- The reader or the writer failed in a run only if the run's error names this device. The error `Read` may also mean
--- that the maximum number of reads was reached. The arguments of `RunCounts` are numbers before and after the run,
--- first of reads, then of the reader's failures, and last of the writer's failures.
+-- A device (the reader or the writer) failed in a run exactly if the run's error names it. As an exception, the error
+-- `Read` may also mean that the maximum number of reads was reached. The arguments of `RunCounts` are numbers before
+-- and after the run, first of reads, then of the reader's failures, and last of the writer's failures.
 abbrev pub RunCounts : Result ℕ AnswerFault → ℕ → ℕ → ℕ → ℕ → ℕ → ℕ → Type 0
 RunCounts (Ok passed) reads reads' reader reader' writer writer' = (reader' ≡ reader) × (writer' ≡ writer)
 RunCounts (Err fault) reads reads' reader reader' writer writer' = CountsOf fault reads reads' reader reader' writer writer'
