@@ -24,8 +24,7 @@ IsFlag text flag =
     ((text ≡ None) → flag ≡ false) × ((text ≡ Some (codes "true")) → flag ≡ true)
     × ((text ≡ Some (codes "false")) → flag ≡ false)
 
--- For each argument, the calls of `clap` for the first value and for the only value return the value that the command
--- line gives.
+-- For each argument, `clap` returns as its first value and as its only value what the command line `words` gives.
 abbrev pub IsFound : App → List (List ℕ) → ArgMatches → Type 0
 IsFound line words m =
     (first_value (found_of m) ≡ λ id. first_of id (matches_of line words))

@@ -1,4 +1,4 @@
-//! Reads the arguments of a program, and determines the exit status of a program that has nothing to run.
+//! Reads the arguments of a program, and determines the exit status if the arguments give nothing to run.
 ghost use Rattle.std.specs.Prelude.{◌≡◌, ◌≤◌};
 ghost use Rattle.clap.specs.Words.{kind_of};
 ghost use Rattle.cli_common.specs.Status.{kind_status};
@@ -17,8 +17,8 @@ pub const BAD_COMMAND_LINE: u8 = 2;
 ///
 /// # Errors
 ///
-/// The error is `OutOfMemory` if an allocation fails. If the error is not `OutOfMemory`, an argument is not valid
-/// Unicode.
+/// The error is `OutOfMemory` if an allocation fails. Any error except `OutOfMemory` means that an argument is not
+/// valid Unicode.
 pub fn words_of<H: AllocGlobal + Env>(rt: &H) -> io::Result<Vec<String>> {
     let words = env::args(rt)?.collect(rt.alloc())?;
     Ok(words)

@@ -53,15 +53,15 @@ abbrev pub form_of : Bool → Form
 form_of true = Svg
 form_of false = Text
 
--- A task of `couch_lines` was run with the given result. The arguments of `IsDone` are the reader's remaining bytes,
--- and the bytes that the writer has accepted before and after.
+-- A task of `couch_lines` was run with the given result. The bytes `left` remained in the reader before the run. The
+-- writer had accepted the bytes `held` before the run, and `held'` after the run.
 abbrev pub IsDone : Task → Option (List ℕ) → Option (List ℕ) → Option (List ℕ) → Result ℕ AnswerFault → Type 0
 IsDone task left held held' result = Converts result (wanted_of task) (words_of_task task) left held held'
 
--- The guarantees of a task for input with known contents. A `load` task writes a `load` line for each document in
--- CouchDB responses, in order, with the document's text or envelope. A task for script output writes the output's
--- documents into request bodies, or each leaf of its changes into a `doc` line. If the contents of the input are known,
--- the task does not reject the input.
+-- The guarantees of a task if its input has the form that the task expects. A `load` task writes a `load` line for each
+-- document in CouchDB responses, in order, with the document's text or envelope. The tasks `ids` and `diff` write each
+-- leaf of a response into a request body. A task for script output writes the output's documents into request bodies,
+-- or each leaf of its changes into a `doc` line. A task does not reject input of the expected form.
 abbrev pub Makes : Task → Option (List ℕ) → Option (List ℕ) → Option (List ℕ) → Result ℕ AnswerFault → Type 0
 Makes (Load db whole) left held held' result = (answers : List ℕ) → (documents : List Piece) → left ≡ Some answers
     → IsAnswered (wanted_of (Load db whole)) answers documents → ReadsAnswers (loads_of (string_bytes db)) documents held held' result
@@ -75,8 +75,9 @@ Makes (Bulk n whole) left held held' result = (answers : List ℕ) → (document
     → IsScript (wanted_of (Bulk n whole)) answers documents → ReadsAnswers (bodies_of n) documents held held' result
 Makes (Trees db svg) left held held' result = ⊥
 
--- The effect of a run with the given command line. If the command line has no task, or an allocation fails, the run
--- reads and writes no byte. If the command line has a task, the task is run. Only the task `trees` draws a picture.
+-- The effect of a run of `couch_lines` with the command line `words`. If the command line has no task, or an allocation
+-- fails while its arguments are parsed, the run reads and writes no byte. If the command line has a task, the task is
+-- run. Only the task `trees` draws a picture.
 abbrev pub RunsWords : List (List ℕ) → Option (List ℕ) → Option (List ℕ) → Option (List ℕ) → Option (List ℕ) → Ended → Type 0
 RunsWords words left left' held held' (NotRun why) = Refuses words why × (left' ≡ left) × (held' ≡ held)
 RunsWords words left left' held held' (Ran run) =
@@ -85,8 +86,9 @@ RunsWords words left left' held held' (Drawn ended) =
     (db : Option (String Global)) × (svg : Bool) × Says words (Trees db svg)
     × PicturedBy ended (form_of svg) (option_map string_bytes db) left held held'
 
--- Of the reader and the writer, exactly the device that an error names failed in the run. The arguments of `RunCounts`
--- are the reader's counts of reads before and after, then the failure counts of the reader and of the writer.
+-- A device (the reader or the writer) failed in a run exactly if the run's error names it. As an exception, the error
+-- `Read` may also mean that the maximum number of reads was reached. The arguments of `RunCounts` are numbers before
+-- and after the run, first of reads, then of the reader's failures, and last of the writer's failures.
 abbrev pub RunCounts : Result ℕ AnswerFault → ℕ → ℕ → ℕ → ℕ → ℕ → ℕ → Type 0
 RunCounts (Ok passed) reads reads' reader reader' writer writer' = (reader' ≡ reader) × (writer' ≡ writer)
 RunCounts (Err fault) reads reads' reader reader' writer writer' = CountsOf fault reads reads' reader reader' writer writer'
@@ -101,16 +103,16 @@ EndedCounts (NotRun why) reads reads' reader reader' writer writer' =
 EndedCounts (Ran run) reads reads' reader reader' writer writer' = RunCounts run.ended reads reads' reader reader' writer writer'
 EndedCounts (Drawn ended) reads reads' reader reader' writer writer' = DrawnCounts ended reads reads' reader reader' writer writer'
 
--- If the run succeeded, the statement `holds` is true.
+-- If a run ended with success, the statement `holds` is true.
 abbrev pub IfDone : Ended → Type 0 → Type 0
 IfDone (NotRun why) holds = ⊤
 IfDone (Ran run) holds = OnOk run.ended holds
 IfDone (Drawn ended) holds = OnOk ended holds
 
--- A run of the program `couch_lines` on its standard streams. The arguments of `RunsStandard` are the command line, the
--- bytes that the reads returned, and whether the reads reached the end of the input. Further arguments of
--- `RunsStandard` are the bytes that the output has accepted, and how the run ended. If the last output of a run cannot
--- be flushed, a part of this output is missing, and the run ends as `unflushed` says.
+-- A run of the program `couch_lines` on its standard streams, with the command line `words`. The reads returned the
+-- bytes `input`, the output has accepted the bytes `text`, and the run ended as `ended` says. If the task succeeded,
+-- the statement `all` is true: the reads reached the end of the input. If the last output of a run cannot be flushed, a
+-- part of this output may be missing, and `unflushed` determines how the run ends.
 abbrev pub RunsStandard : List (List ℕ) → List ℕ → Type 0 → List ℕ → Ended → Type 0
 RunsStandard words input all text ended =
     (first : Ended) × (rest : List ℕ) × RunsWords words (Some input) (Some []) (Some []) (Some (text ++ rest)) first

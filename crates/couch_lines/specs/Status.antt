@@ -11,14 +11,12 @@ use Rattle.couch_lines.specs.declared.options.NoTask.TheVariants.{Words, Unknown
 use Rattle.couch_lines.specs.declared.run.Ended.{Ended}
 use Rattle.couch_lines.specs.declared.run.Ended.TheVariants.{NotRun, Ran, Drawn}
 
--- The exit status of `couch_lines` after a conversion, given the conversion's result, which says whether a document was
--- skipped.
+-- The exit status of `couch_lines` after a conversion: 0, or 1 if an object was skipped, or 3 after an error.
 abbrev pub status_of : Result ℕ AnswerFault → ℕ
 status_of (Ok passed) = cond (passed == 0) 0 1
 status_of (Err fault) = 3
 
--- The exit status of `couch_lines` after a drawing, given the drawing's result, which says whether memory was
--- insufficient for a line.
+-- The exit status of `couch_lines` after a drawing: 0, or 1 if memory was insufficient for a line, or 3 after an error.
 abbrev pub drawn_status : Result Bool ScriptFault → ℕ
 drawn_status (Ok true) = 0
 drawn_status (Ok false) = 1
@@ -36,7 +34,8 @@ ended_status (NotRun why) = words_status why
 ended_status (Ran run) = status_of run.ended
 ended_status (Drawn ended) = drawn_status ended
 
--- The result of a conversion whose last output could not be flushed, which is `Write`, or an earlier error.
+-- The result of a conversion whose last output could not be flushed, which is `Write`, or an earlier error of the
+-- conversion.
 abbrev pub unwritten : Result ℕ AnswerFault → Result ℕ AnswerFault
 unwritten (Ok passed) = Err (Device faults.Write)
 unwritten (Err fault) = Err fault

@@ -21,7 +21,7 @@ is_name_byte b =
 abbrev pub is_name : List ℕ → Bool
 is_name text = nat_lt 0 (length text) && nat_le (length text) 32 && list_all is_name_byte text
 
--- The number of items per request body: the number in the given text, or the default if there is no text.
+-- The number of items per request body: the number in the given text, or the default `absent` if there is no text.
 abbrev pub IsSize : ℕ → Option (List ℕ) → ℕ → Type 0
 IsSize absent None n = n ≡ absent
 IsSize absent (Some text) n =
@@ -40,7 +40,7 @@ word_of named.Leaves = codes "leaves"
 word_of named.Bulk = codes "bulk"
 word_of named.Trees = codes "trees"
 
--- An optional argument is the name of a database, if the argument exists.
+-- An optional argument is absent, or is the name of a database.
 abbrev pub IsNamedOrNone : Option (List ℕ) → Option (List ℕ) → Type 0
 IsNamedOrNone word None = word ≡ None
 IsNamedOrNone word (Some db) = IsNamed word db
@@ -84,29 +84,30 @@ Fits named.Trees word whole svg (Leaves db) = ⊥
 Fits named.Trees word whole svg (Bulk n w) = ⊥
 Fits named.Trees word whole svg (Trees db s) = IsNamedOrNone word (option_map string_bytes db) × (whole ≡ false) × (s ≡ svg)
 
--- The task that the arguments of a command line name, with the first argument as its name, and without a third
+-- The task that the arguments of a command line name. The first argument is the name of the task, and there is no third
 -- argument.
 abbrev pub Asks : Option (List ℕ) → Option (List ℕ) → Option (List ℕ) → Bool → Bool → Task → Type 0
 Asks word second third whole svg task = (n : Named) × (word ≡ Some (word_of n)) × (third ≡ None) × Fits n second whole svg task
 
 -- ---- arguments without a task
 
--- The named task does not accept the given arguments, or an allocation failed.
+-- The reason why task n cannot be built from an argument and flags, which is `Wrong` if n does not accept them, or
+-- `Memory`.
 abbrev pub FitsNone : Named → Option (List ℕ) → Bool → Bool → NoTask → Type 0
 FitsNone n word whole svg (Words error) = ⊥
 FitsNone n word whole svg Unknown = ⊥
 FitsNone n word whole svg (Wrong m) = (m ≡ n) × ((t : Task) → Fits n word whole svg t → ⊥)
 FitsNone n word whole svg Memory = Unit {0}
 
--- The argument of a task is not a database name, or an allocation failed.
+-- The reason why an argument of task n is not accepted, which is `Wrong` if it is not a database name, or `Memory`.
 abbrev pub NamesNone : Named → Option (List ℕ) → NoTask → Type 0
 NamesNone n word (Words error) = ⊥
 NamesNone n word Unknown = ⊥
 NamesNone n word (Wrong m) = (m ≡ n) × ((db : List ℕ) → IsNamed word db → ⊥)
 NamesNone n word Memory = Unit {0}
 
--- The first argument of a command line is not a task, or this task does not accept the further arguments, or an
--- allocation failed.
+-- The reason why arguments name no task. The reason is `Unknown` if the first argument is not the name of a task,
+-- `Wrong` if the named task does not accept the further arguments, or `Memory`.
 abbrev pub AskNothing : Option (List ℕ) → Option (List ℕ) → Option (List ℕ) → Bool → Bool → NoTask → Type 0
 AskNothing word second third whole svg (Words error) = ⊥
 AskNothing word second third whole svg Unknown = (n : Named) → word ≡ Some (word_of n) → ⊥
@@ -131,13 +132,13 @@ command_line =
     with_rule (with_rule (with_rule (with_rule (with_rule (program_app (codes "couch_lines")) task_word) second_word)
     (hidden_option (codes "further"))) (flag_option (codes "whole"))) (flag_option (codes "svg"))
 
--- The task of a command line, given the texts of its arguments and flags.
+-- The texts of a command line's arguments and flags name the given task.
 abbrev pub SaysBy : (List ℕ → Option (List ℕ)) → Option (List ℕ) → Option (List ℕ) → Task → Type 0
 SaysBy text flag drawn task =
     (whole : Bool) × (svg : Bool) × IsFlag flag whole × IsFlag drawn svg
     × Asks (text (codes "task")) (text (codes "of")) (text (codes "further")) whole svg task
 
--- The texts of the command line's arguments and flags give no task, or an allocation failed.
+-- The texts of a command line's arguments and flags name no task, for the given reason.
 abbrev pub RefusesBy : (List ℕ → Option (List ℕ)) → Option (List ℕ) → Option (List ℕ) → NoTask → Type 0
 RefusesBy text flag drawn why =
     (whole : Bool) × (svg : Bool) × IsFlag flag whole × IsFlag drawn svg
@@ -157,8 +158,8 @@ Says words task = SaysBy (text_said words) (flag_said words (codes "whole")) (fl
 abbrev pub Refused : List (List ℕ) → NoTask → Type 0
 Refused words why = RefusesBy (text_said words) (flag_said words (codes "whole")) (flag_said words (codes "svg")) why
 
--- The reason why the program has no task: `clap`'s error for the command line, a command line without a task, or a
--- failed allocation.
+-- The program has no task, because `clap` rejects the command line, because the command line names no task, or because
+-- an allocation failed.
 abbrev pub Refuses : List (List ℕ) → NoTask → Type 0
 Refuses words (Words error) = HasKind (fault_of command_line words) error
 Refuses words Unknown = Refused words Unknown

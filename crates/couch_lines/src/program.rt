@@ -17,9 +17,9 @@ use std::env::Env;
 use std::io::{Eprint, Input, Print, Printer, Write};
 use std::{io, str};
 
-/// Runs the program, and returns its exit status. The status is 0 on success, 1 if the program skipped an object
-/// without a document, and 2 for a usage error. The status is 3 if the input is not a response, or if reading, writing
-/// or an allocation failed.
+/// Runs the program, and returns its exit status. The status is 0 on success, and 2 for a usage error. The status is 1
+/// if the program skipped an object without a document, or if `trees` lacked memory for a line. The status is 3 if the
+/// input is not a response, or if reading, writing or another allocation failed.
 pub fn run_program<H: AllocGlobal + Env + Input + Print + Eprint>(rt: &H) -> u8
     ensures { result ≤ 3 }
 {
@@ -32,8 +32,8 @@ pub fn run_program<H: AllocGlobal + Env + Input + Print + Eprint>(rt: &H) -> u8
     }
 }
 
-/// Runs the program on standard input and output. Returns how the run ended, and both streams. The contract names the
-/// bytes that went through the streams. Output is buffered, and flushed at the end.
+/// Runs the program on standard input and output. Returns how the run ended, and both streams. The contract states
+/// which bytes were read and written. Output is buffered, and flushed at the end.
 ///
 /// # Errors
 ///

@@ -20,7 +20,8 @@ pub enum Ended {
     NotRun(NoTask),
     /// The program converted the input, or the conversion stopped early.
     Ran(Run),
-    /// The program drew the input, or drawing stopped early. The value is `false` if an allocation failed for a line.
+    /// The program drew the input, or drawing stopped early. The value in `Ok` is false if an allocation failed for a
+    /// line of the input.
     Drawn(Result<bool, ScriptFault>),
 }
 
@@ -44,8 +45,8 @@ pub fn run_words<'a, R: ScriptRead, W: ScriptWrite>(
 ) -> Ended
     ensures runs { RunsWords (map string_bytes words.entry.now) (R.left reader.old) (R.left reader.new)
         (W.held writer.old) (W.held writer.new) result }
-    // The clause `runs` describes the output by the bytes that the reads returned. If the call succeeds, the reads
-    // returned the complete input.
+    // The clause `took` describes the run with the bytes that the reads returned as its input. The clause `ended`
+    // states that the reads returned the complete input if the run succeeded.
     ensures took { (input : List ℕ) × Appends (R.taken reader.old) (R.taken reader.new) input
         × RunsWords (map string_bytes words.entry.now) (Some input) (Some []) (W.held writer.old)
         (W.held writer.new) result }

@@ -11,22 +11,22 @@ use std::alloc::Global;
 /// A task with its arguments.
 #[derive(Drop)]
 pub enum Task {
-    /// Writes `load` lines for the documents in CouchDB responses. If the task's Boolean is true, the task wraps each
-    /// document in an envelope.
+    /// The task `Load(db, whole)` writes `load` lines for the documents in CouchDB responses. If `whole` is true, the
+    /// task wraps each document in an envelope.
     Load(String, bool),
-    /// Writes the bodies of `_bulk_get` requests for the leaves in a changes feed or a `_revs_diff` response. The
-    /// task's number is the maximum number of leaves in a request body, or 0 for a single body.
+    /// The task `Ids(n)` writes the bodies of `_bulk_get` requests for the leaves in a changes feed or a `_revs_diff`
+    /// response. A body has at most `n` leaves, or all leaves if `n` is 0.
     Ids(u64),
-    /// Writes the bodies of `_revs_diff` requests for the leaves in a changes feed. The task's number is the maximum
-    /// number of documents in a request body, or 0 for a single body.
+    /// The task `Diff(n)` writes the bodies of `_revs_diff` requests for the leaves in a changes feed. A body has at
+    /// most `n` documents, or all documents if `n` is 0.
     Diff(u64),
-    /// Writes a `doc` line for each leaf in the `change` lines of a script's output.
+    /// The task `Leaves(db)` writes a `doc` line for each leaf in the `change` lines of a script's output.
     Leaves(String),
-    /// Writes bodies of `_bulk_docs`. The task's number is the maximum number of documents in a body. If the task's
-    /// Boolean is true, the task unwraps documents from envelopes.
+    /// The task `Bulk(n, whole)` writes bodies of `_bulk_docs` with at most `n` documents each. If `whole` is true, the
+    /// task unwraps the documents from envelopes.
     Bulk(u64, bool),
-    /// Draws the output of a script, as SVG if the task's Boolean is true and otherwise as text. If the task has a
-    /// database name, it also writes the commands that resolve conflicts.
+    /// The task `Trees(db, svg)` draws the output of a script, as SVG if `svg` is true and otherwise as text. If `db`
+    /// is the name of a database, the task also writes the commands that resolve conflicts.
     Trees(Option<String>, bool),
 }
 
@@ -102,7 +102,7 @@ fn named_by(word: &str) -> Option<Named>
 ///
 /// # Errors
 ///
-/// The call returns `Unknown` if no task has this name, and `Wrong` if the task does not take these arguments.
+/// The call returns `Unknown` if no task has the given name, and `Wrong` if the task does not take the given arguments.
 pub fn task_of(
     alloc: Global,
     word: Option<&str>,
@@ -135,7 +135,7 @@ pub fn task_of(
 ///
 /// # Errors
 ///
-/// The call returns `Wrong` if the task does not take this argument or these flags.
+/// The call returns `Wrong` if the task does not take the given argument or the given flags.
 fn fitting(
     alloc: Global,
     named: Named,

@@ -15,17 +15,17 @@ doc_view doc = (string_bytes doc.0, texts_of doc.1.keys)
 abbrev pub docs_view : {S T : Type 0} → IndexMap (String Global) (IndexSet (String Global) S) T → DocsView
 docs_view docs = map doc_view docs.entries
 
--- The revisions of an optional set, or the empty list if there is no set.
+-- The revisions of a set, or the empty list if the set is absent.
 abbrev pub keys_or_none : {S : Type 0} → Option (IndexSet (String Global) S) → List (String Global)
 keys_or_none None = []
 keys_or_none (Some revs) = revs.keys
 
--- A list of revisions after adding a revision, unless the list has the revision already.
+-- A list of revisions after adding revision `rev`, or the unchanged list if it already has this revision.
 abbrev pub add_rev : List (List ℕ) → List ℕ → List (List ℕ)
 add_rev revs rev = if list_any (bytes_eq rev) revs then revs else revs ++ rev ∷ []
 
--- The revisions of each document after adding a revision of document `id`, unless the document has this revision
--- already.
+-- The revisions of each document after adding revision `rev` of document `id`, or the unchanged revisions if the
+-- document already has this revision.
 abbrev pub add_pair : DocsView → List ℕ → List ℕ → DocsView
 add_pair [] id rev = (id, rev ∷ []) ∷ []
 add_pair (doc ∷ docs) id rev = if bytes_eq id doc.0 then (doc.0, add_rev doc.1 rev) ∷ docs else doc ∷ add_pair docs id rev

@@ -8,8 +8,8 @@ use Rattle.journal_lines.specs.Members.{both, items_at, number_at, text_at}
 use Rattle.journal_lines.specs.Lists.{revs_json, texts_of}
 use Rattle.journal_lines.specs.declared.leaf.Leaf.{Leaf}
 
--- A revision, the generation of the newest revision in its ancestry, and the signatures of the revision and its
--- ancestors.
+-- A revision with its known ancestry: the revision id, the generation of the newest revision of the ancestry, and the
+-- signatures of the ancestry, newest first.
 abbrev pub LeafView : Type 0
 LeafView = List ℕ × ℕ × List (List ℕ)
 
@@ -20,7 +20,8 @@ leaf_view leaf = (string_bytes leaf.rev, leaf.start, texts_of leaf.names.items)
 abbrev pub rev_at : ℕ → List ℕ → List ℕ
 rev_at generation name = decimal generation ++ codes "-" ++ name
 
--- Whether a revision has one of the given signatures, whose generations fall by one from `start`.
+-- Whether a revision id has one of the given signatures and the signature's generation. The signatures have the
+-- generations from `start` on, falling by one.
 abbrev pub knows_at : List ℕ → ℕ → List (List ℕ) → Bool
 knows_at rev start [] = false
 knows_at rev start (name ∷ names) = bytes_eq rev (rev_at start name) || knows_at rev (start - 1) names
@@ -36,16 +37,16 @@ HeadView = List ℕ × LeafView × Bool
 abbrev pub head_view : Leaf → HeadView
 head_view leaf = (string_bytes leaf.id, leaf_view leaf, leaf.deleted)
 
--- The newest generation and the signatures that a stored ancestry represents.
+-- The newest generation and the signatures of an ancestry, given the form in which the program stores the ancestry.
 abbrev pub ancestry_view : ℕ × Vec (String Global) Global → ℕ × List (List ℕ)
 ancestry_view p = (p.0, texts_of p.1.items)
 
--- The newest generation and the signatures that a JSON value of the member `_revisions` gives.
+-- The newest generation and the signatures in the member `_revisions` of a document, if the member has both.
 abbrev pub ancestry_in : Json → Option (ℕ × List (List ℕ))
 ancestry_in revisions = both (number_at (codes "start") revisions) (option_and_then revs_json (items_at (codes "ids") revisions))
 
--- The newest generation and the signatures of an optional member `_revisions`. If a document has no member
--- `_revisions`, no ancestors are known.
+-- The newest generation and the signatures in a document's member `_revisions`, or 0 and no signatures if the document
+-- has no such member.
 abbrev pub ancestry_by : Option Json → Option (ℕ × List (List ℕ))
 ancestry_by None = Some (0, [])
 ancestry_by (Some revisions) = ancestry_in revisions

@@ -17,13 +17,13 @@ texts_of texts = map string_bytes texts
 abbrev pub leaves_view : Leaves → LeavesView
 leaves_view leaves = (string_bytes leaves.seq, string_bytes leaves.id, texts_of leaves.revs.items)
 
--- A list with an item before its first item, if both the item and the list exist.
+-- The list xs after item x is inserted before its first item, or `None` if the item or the list is absent.
 abbrev pub with_first : {A : Type 0} → Option A → Option (List A) → Option (List A)
 with_first None xs = None
 with_first (Some x) None = None
 with_first (Some x) (Some xs) = Some (x ∷ xs)
 
--- The results for all items of a list, if every item has a result.
+-- The results of function `reads` for all items of a JSON list, or `None` if an item has no result.
 abbrev pub each_item : {A : Type 0} → (Json → Option A) → Items → Option (List A)
 each_item reads no_items = Some []
 each_item reads (item j js) = with_first (reads j) (each_item reads js)
@@ -62,7 +62,8 @@ list_in seq list = option_and_then (named_in seq) (document list)
 abbrev pub token : List ℕ → Option (List ℕ)
 token text = if is_token text then Some text else None
 
--- The leaves of a line with a sequence, a blank, and a JSON list of an id and revisions, if the line has both.
+-- The leaves of a line, given its sequence and the text of its JSON list, or `None` if the sequence or the text is
+-- absent.
 abbrev pub leaves_at : Option (List ℕ) → Option (List ℕ) → Option LeavesView
 leaves_at None list = None
 leaves_at (Some seq) None = None

@@ -14,7 +14,8 @@ use std::alloc::{AllocError, Global};
 pub enum Entry {
     /// A state line, which lists the leaves of a document at a sequence.
     State(Leaves),
-    /// A lacks line, which lists the requested leaves of a document if the source did not return all of them.
+    /// A lacks line, which lists the requested leaves of a document because the source did not return all of these
+    /// leaves.
     Lacks(Leaves),
     /// A line with a document.
     Leaf(Leaf),
@@ -38,7 +39,7 @@ pub fn entry_of(alloc: Global, scratch: &mut Scratch, line: &[u8]) -> Result<Ent
     }
 }
 
-/// Returns the state line whose text after `state` is given.
+/// Parses the text of a state line after `state `. Returns `Wrong` if the text does not list leaves.
 fn state_of(alloc: Global, scratch: &mut Scratch, rest: &[u8]) -> Result<Entry, AllocError>
     ensures { IfOk result (λ entry. entry_view entry ≡ state_or_wrong (leaves_in rest.now)) }
 {
@@ -48,7 +49,7 @@ fn state_of(alloc: Global, scratch: &mut Scratch, rest: &[u8]) -> Result<Entry, 
     }
 }
 
-/// Returns the lacks line whose text after `lacks` is given.
+/// Parses the text of a lacks line after `lacks `. Returns `Wrong` if the text does not list leaves.
 fn lacks_of(alloc: Global, scratch: &mut Scratch, rest: &[u8]) -> Result<Entry, AllocError>
     ensures { IfOk result (λ entry. entry_view entry ≡ lacks_or_wrong (leaves_in rest.now)) }
 {

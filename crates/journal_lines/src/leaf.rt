@@ -38,7 +38,8 @@ pub fn rev_of(alloc: Global, generation: u64, name: &str) -> Result<String, Allo
     Ok(rev)
 }
 
-/// Whether a revision is in an ancestry, given by the generation `start` of its newest revision and its signatures.
+/// Whether a revision is in an ancestry. The newest revision of the ancestry has the generation `start`, and `names`
+/// has the signatures.
 fn is_in(alloc: Global, rev: &str, start: u64, names: &[String]) -> Result<bool, AllocError>
     ensures { IfOk result (λ is_in. is_in ≡ knows_at rev.now start (texts_of names.now)) }
 {
@@ -88,8 +89,8 @@ fn ancestry_in(
     }
 }
 
-/// Returns the start generation and the signatures of a document's `_revisions`, or no signatures if the document lacks
-/// this member.
+/// Returns the newest generation and the signatures in a document's `_revisions`, or 0 and no signatures if the
+/// document lacks this member. Returns `None` if the member is invalid.
 fn ancestry_of(alloc: Global, doc: &Value<'_>) -> Result<Option<(u64, Vec<String>)>, AllocError>
     ensures { IfOk result (λ o. option_map ancestry_view o ≡ ancestry_by (get (codes "_revisions") (value_view doc.now))) }
 {

@@ -4,7 +4,7 @@ use Rattle.json.specs.Json.{Json, null, boolean, number, string, array, object}
 use Rattle.json.specs.Find.{get}
 use Rattle.journal_responses.specs.Members.{seq_at, text_or}
 
--- The sequence in a JSON object's member, or `-` if the member is missing.
+-- The sequence in a JSON object's member, or `-` if the member is missing or is not a sequence.
 abbrev pub word_or_none : List ℕ → Json → List ℕ
 word_or_none name j = text_or (codes "-") (seq_at name j)
 

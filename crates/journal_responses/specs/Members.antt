@@ -5,7 +5,7 @@ use Rattle.json.specs.Json.{Json, null, boolean, number, string, array, object}
 use Rattle.json.specs.Find.{get}
 use Rattle.journal_lines.specs.Lists.{token}
 
--- The sequence that a JSON value represents: the content of a string, or the text of a number.
+-- The sequence that a JSON value represents: the content of a string that is a sequence, or the text of a number.
 abbrev pub seq_in : Json → Option (List ℕ)
 seq_in null = None
 seq_in (boolean b) = None
@@ -14,7 +14,7 @@ seq_in (string s) = token s
 seq_in (array js) = None
 seq_in (object ms) = None
 
--- The sequence in a JSON object's member, if the member is a string or a number.
+-- The sequence in a JSON object's member, if the member is a number or a string that is a sequence.
 abbrev pub seq_at : List ℕ → Json → Option (List ℕ)
 seq_at name j = option_and_then seq_in (get name j)
 

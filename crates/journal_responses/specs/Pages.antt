@@ -53,7 +53,7 @@ row_in row = option_map row_by (both (text_at (codes "id") row) (both (row_seq (
 abbrev pub rows_in : Json → Option (List LeavesView)
 rows_in page = option_and_then (each_item row_in) (items_at (codes "results") page)
 
--- The number of documents after a page of changes, or `-` if the number is missing or `null`.
+-- The number of pending documents (member `pending`) of a page of changes, or `-` if the member is missing or `null`.
 abbrev pub pending_in : Option Json → Option (List ℕ)
 pending_in None = Some (codes "-")
 pending_in (Some null) = Some (codes "-")
@@ -63,7 +63,7 @@ pending_in (Some (string s)) = None
 pending_in (Some (array js)) = None
 pending_in (Some (object ms)) = None
 
--- Whether a row of changes is printed. With the flag `several`, only rows with two or more leaves are printed.
+-- Whether a row of changes is printed. If the flag `several` is true, a row with fewer than two leaves is not printed.
 abbrev pub is_printed : Bool → LeavesView → Bool
 is_printed several row = if several then nat_le 2 (length row.2) else true
 

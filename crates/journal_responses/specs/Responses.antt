@@ -10,7 +10,7 @@ use Rattle.journal_responses.specs.declared.said.Said.TheVariants.{Error, NotJso
 abbrev pub response_in : List ℕ → Option Json
 response_in body = option_and_then document (text_in body)
 
--- A server's response has no JSON value, or an allocation failed.
+-- The error of reading a server's response, which is `NotJson` if the response has no JSON value, or `Memory`.
 abbrev pub IsUnread : Option Json → Said → Type 0
 IsUnread value (Error error reason) = ⊥
 IsUnread value NotJson = value ≡ None
@@ -27,15 +27,15 @@ IsErrorOf error reason NotJson = ⊥
 IsErrorOf error reason Other = ⊥
 IsErrorOf error reason Memory = ⊥
 
--- The kind of a JSON value that is not the requested response: an error of CouchDB, another value, or not known because
--- an allocation failed.
+-- The error for a JSON value that is not the requested response. The error is `Error` for an error of CouchDB and
+-- `Other` for other values, or `Memory` for any value.
 abbrev pub IsSaid : Json → Said → Type 0
 IsSaid j (Error error reason) = error_in j ≡ Some (string_bytes error, string_bytes reason)
 IsSaid j NotJson = ⊥
 IsSaid j Other = error_in j ≡ None
 IsSaid j Memory = ⊤
 
--- A server's response is not the requested response, or an allocation failed.
+-- The error says that a server's response is not the requested response, and not that an allocation failed.
 abbrev pub IsOther : Said → Type 0
 IsOther (Error error reason) = ⊤
 IsOther NotJson = ⊤

@@ -72,7 +72,7 @@ FindsNone s ask =
 abbrev pub Audits : Answering State AuditAsk
 Audits old ask told new = Reads (audit_told old ask) old told new × FindsNone old ask
 
--- ---- the guarantee of `audit`, as specified in docs/PROFILE.md, "Tied databases"
+-- ---- The guarantee of `audit`, as specified in docs/PROFILE.md, "Tied databases"
 
 -- An `audit` line prints `clean`, or fails with an error.
 abbrev pub IsClean : Told → Type 0

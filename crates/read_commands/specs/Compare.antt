@@ -49,7 +49,8 @@ compare_in d = do
 
 -- ---- its output
 
--- The line of `compare` for the revision that has another parent at the target, if there is such a revision.
+-- The line of `compare` for a revision whose parent differs at the target, or the empty text if there is no such
+-- revision.
 abbrev pub contradicts_line : List ℕ → Option Contradiction → List ℕ
 contradicts_line id None = []
 contradicts_line id (Some c) = revs_line (codes "contradicts") id (c.child ∷ [])

@@ -36,8 +36,8 @@ conflicts_in d = do
 
 -- ---- its output
 
--- The line of `conflicts` for the document of a feed row. The line has the document's live leaves, and is empty if
--- there are fewer than two.
+-- The line of `conflicts` for the document of a feed row. The line has the document's live leaves, and is empty if the
+-- document has fewer than two live leaves.
 abbrev pub conflict_line : DatabaseValue → RowValue → List ℕ
 conflict_line db r = option_map_or (λ tree. revs_line (codes "conflict") r.id (conflicting tree)) (tree_in db.docs r.id) []
 

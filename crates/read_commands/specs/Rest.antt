@@ -10,24 +10,25 @@ use Rattle.read_commands.specs.Docs.{docs_left}
 use Rattle.read_commands.specs.declared.rest.Rest.{Rest}
 use Rattle.read_commands.specs.declared.rest.Rest.TheVariants.{Compare, Conflicts, Docs}
 
--- The text of the remaining output of a command, in the state in which the output was started.
+-- The text of a command's remaining output, computed from state s.
 abbrev pub rest_left : State → Rest → List ℕ
 rest_left s (Compare r) = compare_left s r.value
 rest_left s (Conflicts r) = conflicts_left s r.value
 rest_left s (Docs r) = docs_left s r.value
 
--- The remaining output of a command was started in the given state.
+-- The totals in a command's remaining output are the totals of the rows of state s that the command has printed.
 abbrev pub FitsRest : State → Rest → Type 0
 FitsRest s (Compare r) = FitsCompare s r.value
 FitsRest s (Conflicts r) = FitsConflicts s r.value
 FitsRest s (Docs r) = Unit {0}
 
--- The result of a line whose output has not started.
+-- The result of a line before the first piece of its output: the complete output, or the name of the error.
 abbrev pub told_from : State → Result Rest Refusal → Told
 told_from s (Ok rest) = Ok (rest_left s rest)
 told_from s (Err refusal) = Err (name_of refusal)
 
--- The result of a line whose output begins with the given text.
+-- The result of a line after the pieces `text` of its output: these pieces and the remaining output, or the name of the
+-- error.
 abbrev pub told_begun : State → Result (Option Rest) Refusal → List ℕ → Told
 told_begun s (Ok rest) text = Ok (text_with (rest_left s) text rest)
 told_begun s (Err refusal) text = Err (name_of refusal)

@@ -10,16 +10,16 @@ use Rattle.read_commands.specs.declared.feed.Walk.{Walk}
 abbrev pub rows_left : DatabaseValue → Walk → List RowValue
 rows_left db w = chosen_feed w.chosen db w.since db.update_seq
 
--- All rows of the selected changes feed, before and after a reader's position.
+-- All rows of the selected changes feed up to the update sequence, regardless of the reader's position.
 abbrev pub rows_walked : DatabaseValue → Walk → List RowValue
 rows_walked db w = chosen_feed w.chosen db 0 db.update_seq
 
--- The remaining output of a command about a database, or the empty text if the database does not exist.
+-- The value of function `text` for a database, or the empty text if the database does not exist.
 abbrev pub left_in : Option PeerValue → (PeerValue → List ℕ) → List ℕ
 left_in None text = []
 left_in (Some l) text = text l
 
--- The database does not exist, or has the given property.
+-- The database does not exist, or has the property `holds`.
 abbrev pub holds_in : Option PeerValue → (PeerValue → Type 0) → Type 0
 holds_in None holds = Unit {0}
 holds_in (Some l) holds = holds l

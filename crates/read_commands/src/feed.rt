@@ -32,7 +32,7 @@ pub trait RowPrinter {
     // The text that the type prints for a row.
     ghost row_text: { Self → RowValue → List ℕ };
 
-    // The given counts are the counts of the given rows.
+    // The given value of `Tally` has the counts of the given rows.
     ghost counts: { Self → Self.Tally → List RowValue → Type 0 } = { λ _ _ _. Unit {0} };
 
     /// Prints and counts a row of the feed.
@@ -132,8 +132,8 @@ fn step<P: RowPrinter>(
     Ok(())
 }
 
-/// Returns the number of rows that a page scans. If at most `limit` documents are selected, the page scans all rows that
-/// are left, because it returns at most `limit` of them.
+/// Returns the number of rows that a page scans. If at most `limit` documents are selected, a page returns at most
+/// `limit` rows, and therefore scans all rows that are left.
 fn scan_limit(limit: u64, chosen: Option<&Chosen>) -> u64
     requires { 0 < limit }
     ensures { 0 < result }

@@ -8,8 +8,9 @@ use crate::docs::DocsRest;
 use script_databases::Databases;
 use std::alloc::{AllocError, Global};
 
-/// The part of a command's output that is still to be produced. A rest has the names of its databases, and does not
-/// borrow the databases. The type `Rest` is small because each line returns a `Rest`.
+/// The part of a command's output that is still to be produced. A `Rest` has the names of the databases that it reads,
+/// and does not borrow the databases. The variants of `Rest` are boxed, because each line returns a `Rest`, which must
+/// be small.
 #[derive(Drop)]
 pub enum Rest {
     Compare(Box<CompareRest>),

@@ -79,7 +79,7 @@ fn print(alloc: Global, answer: &mut Vec<u8>, id: &str, tree: &Tree) -> Result<(
     push_leaves(alloc, answer, tree, leaves.as_slice())
 }
 
-/// Prints the first line. The parameter `all` has the leaves of the tree.
+/// Prints the first line of `show`. The parameter `all` has the leaves of the tree.
 fn push_head(answer: &mut Vec<u8>, id: &str, tree: &Tree, all: &[Rev]) -> Result<(), AllocError>
     requires { all.now ≡ leaves tree.now }
     ensures { OnOk result (answer.new.items ≡ answer.old.items ++ head_line id.now tree.now) }
@@ -134,7 +134,7 @@ fn push_leaf(alloc: Global, answer: &mut Vec<u8>, tree: &Tree, leaf: &Rev) -> Re
     push_leaf_text(answer, leaf, deleted, rev_info.ancestry.revs())
 }
 
-/// Whether a content is known and deletes its document.
+/// Whether the content of a revision is known and has the deleted flag.
 fn is_deletion(content: Option<&Content>) -> bool
     ensures { result ≡ option_map_or (λ c. c.deleted) (option_copied content.entry) false }
 {

@@ -22,12 +22,13 @@ pub trait StreamingCommand<L>: Sized + Drop {
     // The JSON value of a line.
     ghost seen: { L → Data };
 
-    // The values of the command's parameters, as contracts see them.
+    // The values by which contracts describe the command's parameters.
     ghost Ask: { Type 0 };
 
     ghost asked: { Self → Ask };
 
-    // The parameters that a JSON object gives, if each of its members belongs to the command and has the right type.
+    // The parameters that a JSON object gives, if each member of the object belongs to the command and has the right
+    // type.
     ghost asked_in: { Data → Result Ask Refusal };
 
     // The results that the command may have, each with the state after the command.

@@ -21,7 +21,7 @@ pub enum Reason {
     /// The write filter refuses the document.
     Filtered,
     /// The ancestry of the document contradicts the tree, because a child has another parent in the tree. The variant
-    /// names the newest child whose parent differs.
+    /// names the newest child with two parents, its parent in the tree, and its parent in the ancestry.
     Contradicting { child: Rev, known: Rev, given: Rev },
 }
 
@@ -46,7 +46,7 @@ pub struct Settled {
 /// The reason why a call on a peer's sessions failed.
 #[derive(Debug, Drop, Error)]
 pub enum TargetFault {
-    /// The peer already has a session with this id.
+    /// The peer already has a session with the given id.
     #[error("the session is there already")]
     SessionExists,
     /// The base is not an earlier session of the session's replication.
@@ -60,10 +60,11 @@ pub enum TargetFault {
     /// The goal is below the start.
     #[error("the goal is below the start")]
     GoalBelowStart,
-    /// The peer has no session with this id.
+    /// The peer has no session with the given id.
     #[error("no such session")]
     NoSuchSession,
-    /// The life of the window or entry differs from `now`, the life of the session or database.
+    /// The life of a window is not the session's life, or the life of a log entry is not the database's life. The
+    /// expected life is `now`.
     #[error("of another life than {now}")]
     OtherLife {
         now: u64,
@@ -76,7 +77,7 @@ pub enum TargetFault {
     /// The window ends above the session's goal.
     #[error("the window ends above the goal")]
     PastGoal,
-    /// The session has no such window, or a document of the parcel has no row in it.
+    /// The session has no window with the parcel's bounds, or a document of the parcel has no row in that window.
     #[error("the parcel is of no window of the session")]
     ForeignParcel,
     /// The parcel's window is already done.
@@ -85,8 +86,8 @@ pub enum TargetFault {
     /// A count of the session would exceed 9,007,199,254,740,991.
     #[error("a count of the session is full")]
     CountFull,
-    /// Only the first `settled` documents of the parcel are settled, and `rest` has the remaining documents. The window
-    /// is not done.
+    /// Only the first `settled` documents of the parcel are settled, and `rest` has the remaining documents. The
+    /// parcel's window is not done.
     #[error("stopped after {settled} documents")]
     Stopped {
         settled: u64,
@@ -117,7 +118,7 @@ pub enum TargetFault {
     /// The backup is of a database with another UUID.
     #[error("the copy is of another database")]
     ForeignBackup,
-    /// The database cannot get another life, because its number would exceed 9,007,199,254,740,991.
+    /// The database cannot get another life, because the number of that life would exceed 9,007,199,254,740,991.
     #[error("no life is left")]
     LifeFull,
     /// The window size of a plan is 0 or exceeds 10,000.
@@ -152,7 +153,7 @@ impl From<AllocError> for Cause {
     }
 }
 
-/// Converts the error of a put that is not a reason to refuse the document.
+/// Converts an error of `Database::put`, other than `Contradiction`, to the cause for which settling stopped.
 impl From<BaseFault> for Cause {
     ghost from_gives = { λ fault cause. cause ≡ cause_by_database fault };
 
@@ -164,7 +165,7 @@ impl From<BaseFault> for Cause {
     }
 }
 
-/// Converts the error of marking a window as done after the window was checked.
+/// Converts an error of `Front::finish`, for a window that was checked before, to the cause for which settling stopped.
 impl From<FrontFault> for Cause {
     ghost from_gives = { λ fault cause. cause ≡ cause_by_front fault };
 
@@ -192,7 +193,7 @@ impl<T: Drop> From<AllocFailed<T>> for TargetFault {
     }
 }
 
-/// Converts the error of a log.
+/// Converts the error of a replication log to an error of the peer.
 impl From<LogFault> for TargetFault {
     ghost from_gives = { λ refused fault. fault ≡ refused_by_log refused };
 
@@ -206,7 +207,7 @@ impl From<LogFault> for TargetFault {
     }
 }
 
-/// Converts the error of a session's front.
+/// Converts the error of a session's front to an error of the peer.
 impl From<FrontFault> for TargetFault {
     ghost from_gives = { λ refused fault. fault ≡ refused_by_front refused };
 

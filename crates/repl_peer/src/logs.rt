@@ -16,7 +16,7 @@ use rev_tree::SessionId;
 use std::alloc::{AllocError, Global};
 
 /// Returns the id of the replication from one peer into another. The id contains the UUIDs of both databases, and
-/// shares the selection with the caller. The call also gives proofs the fact that both peers satisfy their invariants.
+/// shares the selection with the caller. The contract also states that both peers satisfy their invariants.
 pub fn rep_between<F: WriteFilter, G: WriteFilter>(
     source: &Peer<F>,
     target: &Peer<G>,

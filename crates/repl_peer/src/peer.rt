@@ -129,7 +129,7 @@ impl<F: WriteFilter> Peer<F> {
 
     /// Returns the database.
     ///
-    /// The clauses state what every peer guarantees. Each leaf of a window row at or below a session's recorded
+    /// The clauses of `db` state guarantees of every peer. Each leaf of a window row at or below a session's recorded
     /// sequence is covered, that is, in the tree or rightly refused. Each revision in the database comes from a local
     /// write or from a row of a window. The number of read documents is the number of written documents plus the number
     /// of refused documents.
@@ -287,7 +287,7 @@ impl<F: WriteFilter> Peer<F> {
     ///
     /// Checked in this order; an error changes nothing:
     ///
-    /// - `SessionExists`: the peer already has a session with this id.
+    /// - `SessionExists`: the peer already has a session with the given id.
     /// - `NoSuchBase`: the base is not a session of the same replication.
     /// - `StartAboveBase`: the start exceeds the base's recorded sequence, or 0 if there is no base.
     /// - `GoalBelowStart`: the goal is below the start.
@@ -313,7 +313,7 @@ impl<F: WriteFilter> Peer<F> {
     ///
     /// Checked in this order; an error changes nothing:
     ///
-    /// - `NoSuchSession`: the peer has no session with this id.
+    /// - `NoSuchSession`: the peer has no session with the given id.
     /// - `OtherLife`: the window's life is not the session's life.
     /// - `Gap`: the window does not begin at the end of the stored windows.
     /// - `PastGoal`: the window ends above the goal.
@@ -328,8 +328,8 @@ impl<F: WriteFilter> Peer<F> {
         self.append_prepared(id, ReadyWindow::new(window))
     }
 
-    /// Does the same as `append` for a prepared window, which may already have the shorter form that is kept when the
-    /// window is done.
+    /// Does the same as `append` for a prepared window. A prepared window may already have the shorter form that the
+    /// session keeps once the window is done.
     pub fn append_prepared(&mut self, id: SessionId, ready: ReadyWindow) -> Result<(), TargetFault>
         ensures answer { GivesUnlessMemory result (append_answer self.old.1 id ready) }
         ensures filter { self.new.0 ≡ self.old.0 }
@@ -337,8 +337,7 @@ impl<F: WriteFilter> Peer<F> {
         ensures err { OnErr result (self.new.1 ≡ self.old.1) }
         ensures law { Lawful (F.refuses self.new.0) self.new.1 }
     {
-        // The result of this call is not used. The call only gives proofs the fact that the window satisfies its
-        // invariant.
+        // The result of `hi` is not used. The contract of `hi` states that the window satisfies its invariant.
         let _hi = ready.window().hi();
         self.sessions.append(id, ready)
     }
@@ -353,8 +352,8 @@ impl<F: WriteFilter> Peer<F> {
     ///
     /// Checked in this order; the first four change nothing:
     ///
-    /// - `NoSuchSession`: the peer has no session with this id.
-    /// - `ForeignParcel`: the session has no window with the parcel's bounds, or a document has no row in it.
+    /// - `NoSuchSession`: the peer has no session with the given id.
+    /// - `ForeignParcel`: the session has no window with the parcel's bounds, or a document has no row in that window.
     /// - `AlreadyDone`: the window is already done.
     /// - `CountFull`: a count of the session would exceed 9,007,199,254,740,991.
     /// - `Stopped`: a document could not get a sequence, or an allocation failed. The first `settled` documents are
@@ -371,8 +370,8 @@ impl<F: WriteFilter> Peer<F> {
         self.settle_into(id, PreparedParcel::new(alloc, parcel), &mut spent)
     }
 
-    /// Does the same as `settle`, but moves the remains of the parcel into `spent` if all documents are settled. A
-    /// caller that holds the peer's lock can drop the remains after it releases the lock.
+    /// Does the same as `settle`, but moves the parts of the parcel into `spent`, instead of dropping them, if all
+    /// documents are settled. A caller that holds the peer's lock can drop these parts after it releases the lock.
     pub fn settle_into(
         &mut self,
         id: SessionId,
@@ -389,7 +388,7 @@ impl<F: WriteFilter> Peer<F> {
 
     /// Records and returns the low water of a session, which is the source's sequence up to which every window is done.
     ///
-    /// Returns `NoSuchSession` if the peer has no session with this id. Does not allocate.
+    /// Returns `NoSuchSession` if the peer has no session with the given id. Does not allocate.
     pub fn record(&mut self, id: SessionId, at: Moment) -> Result<u64, TargetFault>
         ensures answer { result ≡ record_answer self.old.1 id }
         ensures filter { self.new.0 ≡ self.old.0 }
@@ -405,7 +404,7 @@ impl<F: WriteFilter> Peer<F> {
     ///
     /// Checked in this order; an error changes nothing:
     ///
-    /// - `NoSuchSession`: the peer has no session with this id.
+    /// - `NoSuchSession`: the peer has no session with the given id.
     /// - `Unfinished`: the session is done only up to a sequence below its goal.
     ///
     /// Does not allocate.
@@ -420,7 +419,7 @@ impl<F: WriteFilter> Peer<F> {
 
     /// Returns the log entry of a session.
     ///
-    /// Returns `NoSuchSession` if the peer has no session with this id. Does not allocate.
+    /// Returns `NoSuchSession` if the peer has no session with the given id. Does not allocate.
     pub fn entry(&self, id: SessionId) -> Result<Entry, TargetFault>
         ensures { entry_value result ≡ session_answer self.now.1 id (λ s. Ok (entry_of s)) }
     {

@@ -32,11 +32,11 @@ pub const MOST_ROWS: u64 = 10_000;
 pub struct Plan {
     /// The id of the new session.
     pub session: SessionId,
-    /// The number of fetchers, and the number of writers. The call `replicate_alone` ignores this number.
+    /// The number of fetchers, and the number of writers. `replicate_alone` ignores the number of workers.
     pub workers: u64,
     /// The maximum number of rows of a window: 1 to 10,000.
     pub batch: u64,
-    /// The number of windows after which the replication stops, even below its goal.
+    /// The number of windows after which the replication stops, even if they end below its goal.
     pub stop_after: Option<u64>,
     /// The timestamp to record.
     pub at: Moment,
@@ -45,7 +45,7 @@ pub struct Plan {
 }
 
 impl Plan {
-    /// Copies the plan. The copy of a plan shares the selection.
+    /// Copies the plan. The copy of a plan and the plan share the selection.
     pub fn copy(&self) -> Result<Plan, AllocError>
         ensures copied { IfOk result (λ plan. plan ≡ self.now) }
     {
@@ -75,8 +75,9 @@ impl Plan {
 /// Consistent peers (docs/PROFILE.md, "Tied peers") stay consistent for every selection and every result, so an audit
 /// after the call finds no uncovered leaf. If the peers are consistent and the call succeeds, each leaf of the source's
 /// complete selected feed is covered, including leaves below the start. A third peer that was consistent with one of
-/// the two peers stays consistent with that peer, as a source and as a target. Another source of the target must not
-/// have the source's UUID, and another target of the source must not have the target's UUID (`KeepsOthersTied`).
+/// the two peers stays consistent with that peer, as a source and as a target. If the third peer is another source of
+/// the target, it must not have the source's UUID. If the third peer is another target of the source, it must not have
+/// the target's UUID (`KeepsOthersTied`).
 ///
 /// # Errors
 ///
@@ -163,7 +164,7 @@ pub fn check_peers<F: WriteFilter, G: WriteFilter>(
     check_plan(source.db().uuid(), target.db().uuid(), plan)
 }
 
-/// Checks whether a plan is valid for databases with these UUIDs.
+/// Checks whether a plan is valid for databases with the given UUIDs.
 ///
 /// # Errors
 ///
@@ -331,8 +332,8 @@ fn record_at_target<G: WriteFilter>(
     }
 }
 
-/// Stores the entry of a plan's session, which the target has, in the source's log. If the source's log has a newer
-/// entry of the session, the call stores nothing.
+/// Stores the target's entry of a plan's session in the source's log. The target must have the session. If the source's
+/// log has a newer entry of the session, the call stores nothing.
 ///
 /// An error changes nothing.
 pub fn record_at_source<F: WriteFilter, G: WriteFilter>(

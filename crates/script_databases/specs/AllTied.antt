@@ -12,7 +12,7 @@ use Rattle.script_databases.specs.Databases.{State, NamedBackupValue, IsTaken, p
 
 -- ---- known databases
 
--- A database of script state s has the UUID `uuid`, and `uuid` is not `own`.
+-- The UUID `uuid` is not `own`, and a database of script state s has the UUID `uuid`.
 abbrev pub IsOther : State → ℕ → ℕ → Type 0
 IsOther s own uuid = IsTaken s uuid × (uuid ≡ own → ⊥)
 
@@ -24,8 +24,8 @@ LeadToOthers s own logs = (l : RepId × List EntryValue) → Among l logs → Is
 abbrev pub ComeFromOthers : State → ℕ → List SessionValue → Type 0
 ComeFromOthers s own sessions = (x : SessionValue) → Among x sessions → IsOther s own x.rep.source
 
--- Backup k is a backup of the database under whose name it is stored. All logs of the backup belong to replications
--- into other databases.
+-- Backup k has the UUID of the database under whose name it is stored. Each log of the backup belongs to a replication
+-- into another database of the script.
 pub record IsCopyOfOne (s : State) (k : NamedBackupValue) : Type 0 where
   pub peer : PeerValue
   pub there : peer_at s k.db ≡ Some peer

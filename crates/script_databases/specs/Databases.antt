@@ -30,7 +30,7 @@ abbrev pub text_cmp : List ℕ → List ℕ → Ordering
 text_cmp = slice_cmp nat_cmp
 
 -- The program's settings: the id prefix that targets refuse, the seed of generated ids, and the defaults of
--- replications. The last setting says whether successful loads and edits print nothing.
+-- replications. The setting `quiet` says whether successful loads and edits print nothing.
 pub record Program : Type 0 where
   pub deny : Option (List ℕ)
   pub seed : ℕ
@@ -83,7 +83,7 @@ coded_state = code_by (Option (List ℕ) × (ℕ × (ℕ × (ℕ × (ℕ × (Boo
 abbrev pub no_databases : Program → State
 no_databases program = record { program = program; drawn = 0; backups = []; peers = finmap.empty }
 
--- The id that is generated next.
+-- The next id that the script generates in state s.
 abbrev pub next_made : State → ℕ
 next_made s = made_id s.program.seed s.drawn
 
@@ -102,7 +102,7 @@ with_peer s name p = record s { peers = finmap.insert s.peers name p }
 abbrev pub IsTaken : State → ℕ → Type 0
 IsTaken s uuid = (name : List ℕ) × (p : PeerValue) × (peer_at s name ≡ Some p) × (p.db.uuid ≡ uuid)
 
--- The state after f changed the peer of a name, or the unchanged state if no peer has the name.
+-- The state after function f is applied to the peer with a name, or the unchanged state if no peer has this name.
 abbrev pub with_changed : State → List ℕ → (PeerValue → PeerValue) → Option PeerValue → State
 with_changed s name f None = s
 with_changed s name f (Some p) = with_peer s name (f p)
@@ -134,7 +134,7 @@ edited_answer (Some l) id parent deleted body =
 abbrev pub edited_at : State → List ℕ → List ℕ → Option RevId → Bool → List ℕ → State
 edited_at s name id parent deleted body = changed_at s name (λ l. after_edit l id parent deleted body)
 
--- ---- backing up a database, as specified in docs/PROFILE.md, "Backup and restore"
+-- ---- Backups of databases, as specified in docs/PROFILE.md, "Backup and restore"
 
 abbrev pub is_named : List ℕ → List ℕ → NamedBackupValue → Bool
 is_named db name k = bytes_eq k.db db && bytes_eq k.name name

@@ -87,12 +87,12 @@ target_refusal target.BadBatch = why.BadBatch
 target_refusal target.SamePeer = why.SamePeer
 target_refusal target.Memory = why.Memory
 
--- The low water of a replication that returned `Unfinished`, or the error of the line.
+-- Given the error of a replication: the low water if the error is `Unfinished`, otherwise the error of the line.
 abbrev pub stop_of : TargetFault → Result ℕ Refusal
 stop_of (target.Unfinished low_water) = Ok low_water
 stop_of fault = Err (target_refusal fault)
 
--- The low water of a pool run that returned `Unfinished`, or the error of the line.
+-- Given the error of a pool run: the low water if the error is `Unfinished`, otherwise the error of the line.
 abbrev pub run_stop_of : PoolFault → Result ℕ Refusal
 run_stop_of pool.NoWorkers = Err why.NoWorkers
 run_stop_of pool.TooManyWorkers = Err why.TooManyWorkers
@@ -105,7 +105,7 @@ run_stop_of pool.CountFull = Err why.CountFull
 run_stop_of pool.BoardFull = Err why.BoardFull
 run_stop_of pool.Memory = Err why.Memory
 
--- A result whose error is converted to the error of a line.
+-- A result in which function `name` has converted an error, if there is one, to the error of a line.
 abbrev pub told_as : {A E : Type 0} → (E → Refusal) → Result A E → Result A Refusal
 told_as name (Ok x) = Ok x
 told_as name (Err fault) = Err (name fault)

@@ -1,4 +1,4 @@
--- The values that stored databases represent.
+-- The values by which contracts describe the stored databases of a script.
 use Rattle.std.specs.Prelude.{◌≡◌, ℕ, true, List, map, nat_eq, Option, Some, option_map, String, string_bytes}
 use Rattle.std.specs.declared.alloc.Global.{Global}
 use Rattle.std.specs.FinMap as finmap
@@ -11,7 +11,7 @@ use Rattle.script_databases.specs.Databases.{Program, State, NamedBackupValue, I
 use Rattle.script_databases.specs.declared.backups.BackupName.{BackupName}
 use Rattle.script_databases.specs.declared.settings.Settings.{Settings}
 
--- The values of a table's entries, by the bytes of the entries' names.
+-- The map from the name of each entry of a table, as bytes, to the value of the entry.
 abbrev pub by_text : {X V : Type 0} → (X → V) → List (String Global × X) → FinMap text_cmp V
 by_text value entries = finmap.from_entries (map (λ e. (string_bytes e.0, value e.1)) entries)
 
@@ -37,7 +37,7 @@ state_of beside entries =
 abbrev pub deny_of : Rules → Option (List ℕ)
 deny_of rules = option_map string_bytes rules.deny
 
--- The id prefixes that the peers of a table refuse, by name.
+-- The map from the name of each peer of a table to the id prefix that the peer refuses, if any.
 abbrev pub denied_of : Entries → FinMap text_cmp (Option (List ℕ))
 denied_of entries = by_text (λ p. deny_of p.0) entries
 
@@ -46,14 +46,15 @@ abbrev pub AllDeny : Option (List ℕ) → Entries → Type 0
 AllDeny deny entries =
     (name : List ℕ) (denied : Option (List ℕ)) → finmap.get (denied_of entries) name ≡ Some denied → denied ≡ deny
 
--- The table of databases after the peers of two names have changed. No other peers have changed.
+-- The table `new` differs from the table `old` at most in the peers of the names `source` and `target`, and in their
+-- filters.
 abbrev pub IsEmptied : Entries → List ℕ → List ℕ → Entries → Type 0
 IsEmptied old source target new =
     (p : Rules × PeerValue) × (q : Rules × PeerValue)
     × (peers_of new ≡ finmap.insert (finmap.insert (peers_of old) source p.1) target q.1)
     × (denied_of new ≡ finmap.insert (finmap.insert (denied_of old) source (deny_of p.0)) target (deny_of q.0))
 
--- The program's settings as a value, which contracts use.
+-- The value by which contracts describe the program's settings.
 abbrev pub program_of : Settings → Program
 program_of s =
     record {
@@ -68,11 +69,11 @@ program_of s =
 abbrev pub beside_of : Settings → ℕ → List NamedBackupValue → Beside
 beside_of s drawn backups = record { program = program_of s; drawn = drawn; backups = backups }
 
--- The list of backups in the entries of a map.
+-- The list of the backups in the stored table of backups.
 abbrev pub copies_of : List (BackupName × BackupValue) → List NamedBackupValue
 copies_of entries = map (λ e. record { db = string_bytes e.0.db; name = string_bytes e.0.name; backup = e.1 }) entries
 
--- The list contains exactly the UUIDs of the databases.
+-- The list `uuids` contains exactly the UUIDs of the databases of state s.
 pub record IsIndex (s : State) (uuids : List ℕ) : Type 0 where
   pub noted : (uuid : ℕ) → list_any (nat_eq uuid) uuids ≡ true → IsTaken s uuid
   pub taken : (uuid : ℕ) → IsTaken s uuid → list_any (nat_eq uuid) uuids ≡ true

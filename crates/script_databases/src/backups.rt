@@ -57,7 +57,7 @@ impl Backups {
         }
     }
 
-    /// Returns the backup with this key, if it exists.
+    /// Returns the backup with the given key, if it exists.
     pub fn find(&self, name: &BackupName) -> Option<&Backup>
         ensures { option_copied result ≡ backup_among self.now (string_bytes name.now.db) (string_bytes name.now.name) }
     {

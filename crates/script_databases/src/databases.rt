@@ -84,7 +84,8 @@ impl Databases {
     ghost use Rattle.script_databases.specs.Refusals.{GivesOrMemory};
     ghost use Rattle.script_databases.specs.Replications.{ReplicatesAlone, ReplicatesBetween, ReplicatesByPool, ReplicatesWatched};
 
-    /// Creates an empty set of databases, with a copy of the settings. The empty set is consistent.
+    /// Creates an empty set of databases, with a copy of the settings. The empty set of databases is consistent
+    /// (`AllTied`).
     pub fn new(alloc: Global, settings: &Settings) -> Result<Databases, AllocError>
         ensures none { IfOk result (λ databases. databases ≡ no_databases (program_of settings.now)) }
         ensures tied { IfOk result (λ databases. AllTied databases) }
@@ -253,8 +254,9 @@ impl Databases {
     ///
     /// # Errors
     ///
-    /// Checked in this order: `NoDatabase` (the name is unknown), `NoBackup` (the database has no such backup),
-    /// `IsTarget` (the database has been a replication target), and `LifeFull` (no life is left).
+    /// The call checks in this order for `NoDatabase` (the name is unknown), `NoBackup` (the database has no backup of
+    /// this name), and `IsTarget` (the database has been a replication target). Last, the call checks for `LifeFull`
+    /// (no life is left).
     pub fn put_back(&mut self, db: &str, name: &str) -> Result<PutBack, Refusal>
         ensures answer { GivesOrMemory result
             (put_back_answer (peer_at self.old db.now) (backup_at self.old db.now name.now)) }

@@ -12,11 +12,11 @@ use rev_core::RevFault;
 use std::alloc::{AllocError, AllocFailed};
 
 /// The reason why a line failed (docs/PROFILE.md, "Order of checks"). The method `name` returns the printed name of the
-/// error. Some variants exist only so that each error of a call has a name. No line is expected to fail with these
-/// variants.
+/// error. Some variants exist only so that each error of a lower crate has a name, and no line is expected to fail with
+/// these variants.
 #[derive(Clone, Copy, Debug, PartialEq, Eq)]
 pub enum Refusal {
-    /// A window is already done. No line is expected to fail with this error.
+    /// A window is already done. No line is expected to fail with `AlreadyDone`.
     AlreadyDone,
     /// A document has attachments.
     Attachments,
@@ -26,13 +26,13 @@ pub enum Refusal {
     BadCommand,
     /// A revision id has no generation.
     BadGeneration,
-    /// A page of no rows was requested. No line is expected to fail with this error.
+    /// A page with a maximum of 0 rows was requested. No line is expected to fail with `BadLimit`.
     BadLimit,
     /// The line is not a JSON object.
     BadLine,
     /// A timestamp is after the year 9999.
     BadMoment,
-    /// The goal of a page is not above its start. No line is expected to fail with this error.
+    /// The goal of a page is not above its start. No line is expected to fail with `BadRange`.
     BadRange,
     /// A document's `_revisions` is not an ancestry.
     BadRevisions,
@@ -52,23 +52,23 @@ pub enum Refusal {
     DatabaseExists,
     /// The requested log has no entries.
     EmptyLog,
-    /// A backup is from a different database. No line is expected to fail with this error.
+    /// A backup is from a different database. No line is expected to fail with `ForeignBackup`.
     ForeignBackup,
-    /// A parcel belongs to no window of the session. No line is expected to fail with this error.
+    /// A parcel belongs to no window of the session. No line is expected to fail with `ForeignParcel`.
     ForeignParcel,
     /// A number is not a 64-bit integer.
     Fraction,
-    /// A window does not follow the previous window. No line is expected to fail with this error.
+    /// A window does not follow the previous window. No line is expected to fail with `Gap`.
     Gap,
     /// An edit's parent has the maximum generation.
     GenerationFull,
-    /// The goal of a page is above the update sequence. No line is expected to fail with this error.
+    /// The goal of a page is above the update sequence. No line is expected to fail with `GoalAhead`.
     GoalAhead,
-    /// A session's goal is below its start. No line is expected to fail with this error.
+    /// A session's goal is below its start. No line is expected to fail with `GoalBelowStart`.
     GoalBelowStart,
-    /// A worker was stopped. No line is expected to fail with this error.
+    /// A worker was stopped. No line is expected to fail with `Halted`.
     Halted,
-    /// A leaf of the source is not covered. No line is expected to fail with this error.
+    /// The target does not cover a leaf of the source. No line is expected to fail with `Hole`.
     Hole,
     /// The database has been a replication target.
     IsTarget,
@@ -86,7 +86,7 @@ pub enum Refusal {
     NoneChosen,
     /// A document has no revision id.
     NoRev,
-    /// A session's base session does not exist. No line is expected to fail with this error.
+    /// A session's base session does not exist. No line is expected to fail with `NoSuchBase`.
     NoSuchBase,
     /// The database has no document with the given id.
     NoSuchDocument,
@@ -98,12 +98,12 @@ pub enum Refusal {
     NoWorkers,
     /// A document or a body is not an object.
     NotObject,
-    /// The stored log entry has a greater recorded sequence. No line is expected to fail with this error.
+    /// The stored log entry has a greater recorded sequence. No line is expected to fail with `Older`.
     Older,
-    /// A window or an entry has another life than the session or the database. No line is expected to fail with this
-    /// error.
+    /// A window or an entry has another life than the session or the database. No line is expected to fail with
+    /// `OtherLife`.
     OtherLife,
-    /// A window ends above the goal. No line is expected to fail with this error.
+    /// A window ends above the goal. No line is expected to fail with `PastGoal`.
     PastGoal,
     /// A document's id begins with `_`, and is not the id of a design document.
     ReservedId,
@@ -115,13 +115,14 @@ pub enum Refusal {
     SamePeer,
     /// The update sequence is at its maximum.
     SeqFull,
-    /// A new database's update sequence is above the maximum. No line is expected to fail with this error.
+    /// A new database's update sequence is above the maximum. No line is expected to fail with `SeqTooLarge`.
     SeqTooLarge,
     /// The target already has the named session.
     SessionExists,
     /// A special member is unknown, or `_deleted` is not a Boolean.
     SpecialMember,
-    /// A session starts above the recorded sequence of its base session. No line is expected to fail with this error.
+    /// A session starts above the recorded sequence of its base session. No line is expected to fail with
+    /// `StartAboveBase`.
     StartAboveBase,
     /// Only part of a window was settled, because no memory or no update sequence was left.
     Stopped,
@@ -129,9 +130,9 @@ pub enum Refusal {
     TooManyChosen,
     /// The number of workers is above 64.
     TooManyWorkers,
-    /// The fetched documents do not cover a leaf of the window. No line is expected to fail with this error.
+    /// The fetched documents do not cover a leaf of the window. No line is expected to fail with `Uncovered`.
     Uncovered,
-    /// A session has not reached its goal. No line is expected to fail with this error.
+    /// A session has not reached its goal. No line is expected to fail with `Unfinished`.
     Unfinished,
     /// Another database has the given UUID.
     UuidTaken,
@@ -205,7 +206,8 @@ impl Refusal {
         }
     }
 
-    /// Returns the low water of a replication that returned `Unfinished`, or the error of the line.
+    /// Returns `Ok` with the low water if a replication failed with `Unfinished`, otherwise `Err` with the error of the
+    /// line.
     pub fn stop_of(fault: TargetFault) -> Result<u64, Refusal>
         ensures { result ≡ stop_of fault }
     {
@@ -215,7 +217,8 @@ impl Refusal {
         }
     }
 
-    /// Returns the low water of a pool run that returned `Unfinished`, or the error of the line.
+    /// Returns `Ok` with the low water if a pool run failed with `Unfinished`, otherwise `Err` with the error of the
+    /// line.
     pub fn run_stop_of(fault: PoolFault) -> Result<u64, Refusal>
         ensures { result ≡ run_stop_of fault }
     {
@@ -274,7 +277,7 @@ impl From<DocFault> for Refusal {
 
 /// Returns the error of a line whose revision id is invalid.
 ///
-/// The two errors of ancestries do not occur for the text of a revision id.
+/// The errors `NoIds` and `StartTooSmall` do not occur for the text of a revision id.
 impl From<RevFault> for Refusal {
     ghost from_gives = { λ fault e. e ≡ rev_refusal fault };
 

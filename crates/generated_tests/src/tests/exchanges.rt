@@ -13,7 +13,7 @@ use rev_core::Rev;
 use std::alloc::Global;
 use std::process::Abort;
 
-/// A database and its reference.
+/// A database and its reference (`PlainSide`).
 #[derive(Drop)]
 pub(crate) struct Side {
     pub(crate) db: Database,
@@ -43,7 +43,7 @@ impl Side {
     }
 }
 
-/// Returns the index that the reference uses for a revision.
+/// Returns the index of a revision in the reference, or `PLACES` if the reference cannot have the revision.
 pub(crate) fn place_of(rt: &impl Abort, wanted: Rev) -> usize {
     for place in 0..PLACES {
         if rev(rt, place) == wanted {
@@ -53,7 +53,7 @@ pub(crate) fn place_of(rt: &impl Abort, wanted: Rev) -> usize {
     PLACES
 }
 
-/// Returns the mask with the reference's bits of the given revisions.
+/// Returns a mask with the bits that the reference uses for the given revisions.
 fn mask_of(rt: &impl Abort, revs: &[Rev]) -> u32 {
     let mut mask = 0;
     for one in revs {
@@ -119,8 +119,8 @@ fn is_leaf(
     );
 }
 
-/// Asserts that the documents from an index on are those leaves of a tree that are given revisions or descend from
-/// given revisions. Returns the index after the compared documents.
+/// Asserts that the parcel's documents from index `from` on are the leaves of a tree that are among the given revisions
+/// or descend from them. Returns the index of the first document that was not compared.
 fn brings_leaves(
     rt: &impl Abort,
     alloc: Global,
@@ -139,8 +139,8 @@ fn brings_leaves(
     at
 }
 
-/// Asserts that the gone revisions from an index on are the requested revisions that a tree lacks. Returns the index
-/// after the compared revisions.
+/// Asserts that the parcel's gone revisions from index `from` on are the requested revisions that a tree lacks. Returns
+/// the index of the first gone revision that was not compared.
 fn loses(
     rt: &impl Abort,
     parcel: &Parcel,
@@ -164,7 +164,8 @@ fn loses(
     at
 }
 
-/// Asserts that a parcel has, for a request, the documents in the trees. Returns the parcel's number of documents.
+/// Asserts that a parcel has exactly the documents and the gone revisions that the reference returns for the request.
+/// Returns the parcel's number of documents.
 fn brings(
     rt: &impl Abort,
     alloc: Global,
@@ -189,8 +190,8 @@ fn brings(
     docs
 }
 
-/// Asserts that a side returns, for a request, the documents in the side's trees. Returns the number of returned
-/// documents.
+/// Asserts that the database of a side returns the same documents for a request as the reference of the side. Returns
+/// the number of returned documents.
 fn answers(rt: &impl Abort, alloc: Global, side: &Side, asked: &Asked) -> usize {
     let parcel = side.db.open_revs(alloc, asked).expect(rt, "memory");
     brings(rt, alloc, &side.plain, asked, &parcel)
@@ -206,8 +207,8 @@ fn asked(rt: &impl Abort, alloc: Global, source: &Side, target: &Side) -> Asked 
     target.db.revs_diff(alloc, &window).expect(rt, "memory")
 }
 
-/// Puts random documents on both sides, and asserts requests and parcels. Returns the number of documents of the
-/// source.
+/// Puts random documents on both sides, and compares requests and parcels with the reference. Returns the number of
+/// documents of the source.
 fn exchange(
     rt: &impl Abort,
     alloc: Global,
@@ -219,15 +220,16 @@ fn exchange(
     target.grow(rt, alloc, rng, 10);
     let asked = asked(rt, alloc, source, target);
     asks(rt, alloc, &source.plain, &target.plain, &asked);
-    // The source may change before the fetch, and another database may lack the requested revisions.
+    // The test changes the source before the fetch, and also fetches from the target, which may lack the requested
+    // revisions.
     source.grow(rt, alloc, rng, 10);
     let docs = answers(rt, alloc, source, &asked);
     let _others = answers(rt, alloc, target, &asked);
     docs
 }
 
-/// Performs requests and fetches between a source and a target. This code is a separate function, because the proof
-/// grows with each variable that is live in its caller.
+/// Performs requests and fetches between a source and a target. The function is separate from its caller, because the
+/// proof grows with each variable that is live in the caller.
 fn with_target(rt: &impl Abort, alloc: Global, seed: u64, source: &mut Side) -> usize {
     let mut rng = ChaCha8Rng::seed_from_u64(seed);
     let mut target = Side::new(alloc, 2);

@@ -12,7 +12,7 @@ use rev_tree::{Merged, Origin, Revs, SessionId, Tree, TreeFault};
 use std::alloc::{AllocError, Global};
 use std::process::Abort;
 
-/// Converts the result of a merge to the result type of the plain form.
+/// Converts the result of a merge to `PlainAnswer`, the result type of the plain form.
 fn plain_answer(rt: &impl Abort, answer: Result<Merged, TreeFault>) -> PlainAnswer {
     let fault = match answer {
         Ok(merged) => return Ok(merged),
@@ -90,7 +90,7 @@ fn agree_on_leaves(rt: &impl Abort, alloc: Global, tree: &Tree, leaves: &[Rev]) 
     holds(rt, tree.winner() == leaves.first().copied(), "the winner");
 }
 
-/// Asserts that a tree and the plain form have the same leaves above given revisions.
+/// Asserts that a tree and the plain form return the same leaves that are among given revisions or descend from them.
 fn agree_on_above(
     rt: &impl Abort,
     alloc: Global,
@@ -103,7 +103,7 @@ fn agree_on_above(
     are_same(rt, tree.leaves_above(alloc, asked), &above);
 }
 
-/// Asserts that a tree and the plain form lack the same revisions of a list.
+/// Asserts that a tree and the plain form return the same revisions of a list as missing.
 fn agree_on_missing(rt: &impl Abort, alloc: Global, tree: &Tree, plain: &PlainTree, asked: &[Rev]) {
     let missing = plain.missing(alloc, asked).expect(rt, "memory");
     are_same(rt, tree.missing(alloc, asked), &missing);
@@ -121,7 +121,7 @@ fn agree(rt: &impl Abort, alloc: Global, tree: &Tree, plain: &PlainTree, asked: 
     }
 }
 
-/// Returns the origin that a merge of a given round has.
+/// Returns a random origin for the merge of a round: a local write, or a row of a session, with the round's number.
 fn origin_of(rng: &mut ChaCha8Rng, round: u64) -> Origin {
     if below(rng, 2) == 0 {
         Origin::Local(round)
@@ -176,8 +176,8 @@ fn merge_and_read(
 }
 
 /// Performs fifty merges from one seed in both representations. After each merge, the call reads the merged and other
-/// revisions. After half of the merges, the call reads from a copy of the tree. After the last merge, the call reads
-/// every revision.
+/// revisions. After about half of the merges, chosen at random, a copy replaces the tree. After the last merge, the
+/// call reads every revision.
 fn merges_alike(rt: &impl Abort, alloc: Global, seed: u64, tree: &mut Tree) {
     let mut rng = ChaCha8Rng::seed_from_u64(seed);
     let mut plain = PlainTree::new(alloc);

@@ -21,8 +21,8 @@ fn low_water(start: u64, marks: &[bool; WINDOWS]) -> u64 {
     water
 }
 
-/// Returns the number of maximal runs of the value true above the low water. The count excludes the run from the start
-/// to the low water.
+/// Returns the number of groups of adjacent done windows above the low water. The count excludes the group that ends at
+/// the low water.
 fn range_count(marks: &[bool; WINDOWS]) -> usize {
     let mut count: usize = 0;
     let mut before = true;
@@ -68,7 +68,7 @@ fn finish_one(rt: &impl Abort, front: &mut Front, lo: u64, is_done: bool) {
     );
 }
 
-/// Whether a front has the low water and the runs that a list of Booleans determines.
+/// Whether a front has the low water and the number of groups that a list of Booleans determines.
 fn is_marked(front: &Front, start: u64, marks: &[bool; WINDOWS]) -> bool {
     front.low_water() == low_water(start, marks) && front.range_count() == range_count(marks)
 }

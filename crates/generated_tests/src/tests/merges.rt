@@ -12,7 +12,7 @@ use std::alloc::{AllocError, Global};
 use std::process::Abort;
 use std::sync::ArcSlice;
 
-/// Returns the signature that the reference has at an index.
+/// Returns the signature of the revision at an index of the reference.
 fn sig(rt: &impl Abort, place: usize) -> Sig {
     match Sig::parse(&[b'a' + (place % 3) as u8]) {
         Ok(sig) => sig,
@@ -20,7 +20,7 @@ fn sig(rt: &impl Abort, place: usize) -> Sig {
     }
 }
 
-/// Returns the revision that the reference has at an index.
+/// Returns the revision at an index of the reference.
 pub(crate) fn rev(rt: &impl Abort, place: usize) -> Rev {
     let text = [
         b'1' + (place % PLACES / 3) as u8,
@@ -171,7 +171,7 @@ fn revs(rt: &impl Abort, alloc: Global, places: &[usize]) -> Vec<Rev> {
     revs
 }
 
-/// Asserts that the tree and the reference lack the same revisions of a list.
+/// Asserts that the tree and the reference return the same revisions of a list as missing.
 fn agree_on_missing(
     rt: &impl Abort,
     alloc: Global,
@@ -184,7 +184,7 @@ fn agree_on_missing(
     assert_are(rt, tree.missing(alloc, &revs), &missing);
 }
 
-/// Asserts that a tree and the reference have the same leaves above given revisions.
+/// Asserts that a tree and the reference return the same leaves that are among given revisions or descend from them.
 fn agree_on_above(
     rt: &impl Abort,
     alloc: Global,
@@ -197,8 +197,8 @@ fn agree_on_above(
     assert_are(rt, tree.leaves_above(alloc, &revs), &above);
 }
 
-/// Asserts that a tree and the reference have the same leaves above random revisions, and that both lack the same
-/// random revisions.
+/// Asserts that a tree and the reference agree about random revisions: which leaves are among them or descend from
+/// them, and which of them are missing.
 fn agree_on_asked(
     rt: &impl Abort,
     alloc: Global,
@@ -303,6 +303,6 @@ fn two_hundred_seeds_agree(rt: HostRuntime) {
         let mut tree = Tree::new(rt.alloc());
         refusals = refusals.saturating_add(merges(&rt, rt.alloc(), seed, &mut tree));
     }
-    // The test asserts that enough merges succeed and enough merges fail.
+    // The test asserts that more than 1,000 and fewer than 9,000 of the 10,000 merges fail.
     assert!(rt; 1_000 < refusals && refusals < 9_000, "{refusals} refusals");
 }

@@ -108,7 +108,7 @@ fn hops(rt: &impl Abort, alloc: Global, rng: &mut ChaCha8Rng, sessions: &mut u12
 
 /// Returns a mask for each peer with the bits of all peers that chains of hops reach from this peer.
 ///
-/// The reference processes each hop once, and does not enumerate the chains of hops.
+/// For each peer, the function processes each hop once, and does not enumerate the chains of hops.
 fn reached(hops: &[Hop]) -> [u32; PEERS] {
     let mut reached = [0u32; PEERS];
     for (place, places) in reached.iter_mut().enumerate() {
@@ -164,8 +164,8 @@ fn assert_led(
     }
 }
 
-/// Replicates along random hops. Returns whether chains led from every peer to every other peer. If chains lead from
-/// every peer to every other peer, all peers must have the same documents.
+/// Replicates along random hops. Returns whether chains of hops led from every peer to every other peer. If chains lead
+/// from every peer to every other peer, all peers must have the same documents.
 fn along_chance(
     rt: &impl Abort,
     alloc: Global,
@@ -232,8 +232,8 @@ fn of_seed(rt: &impl Abort, alloc: Global, seed: u64) {
     }
 }
 
-/// Repeatedly edits the peers' documents at random, and replicates along random hops. Returns how often chains led from
-/// every peer to every other peer.
+/// Repeatedly edits the peers' documents at random, and replicates along random hops. Returns the number of rounds in
+/// which chains of hops led from every peer to every other peer.
 fn by_chance(rt: &impl Abort, alloc: Global, seed: u64) -> usize {
     let mut rng = ChaCha8Rng::seed_from_u64(seed);
     let mut sessions = 0;
@@ -261,6 +261,6 @@ fn thirty_nets_replicate_by_chance(rt: HostRuntime) {
     for seed in 0..30u64 {
         ends = ends.saturating_add(by_chance(&rt, rt.alloc(), seed));
     }
-    // The test asserts that chains of hops connect all peers in at least one round, and not in every round.
+    // The test asserts that chains of hops connect all peers in more than 5 and fewer than 85 of the 90 rounds.
     assert!(rt; 5 < ends && ends < 85, "both kinds of ends: {ends}");
 }

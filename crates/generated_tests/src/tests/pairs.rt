@@ -20,17 +20,18 @@ use std::process::Abort;
 use std::sync::Wait;
 use std::thread::Threads;
 
-/// The number of choices for the document that a filter refuses. Some choices are not the number of any document.
+/// The number of random choices for the document that a filter refuses. A choice of `IDS` or more means that no
+/// document is refused.
 const CHOICES: u32 = 8;
 
-/// Indices in the list of what a test replicates: all documents, the first selection, and the second selection.
+/// Indices in `Bench::picked`: all documents, the first selection, and the second selection.
 const WHOLE: usize = 0;
 
 const FIRST: usize = 1;
 
 const SECOND: usize = 2;
 
-/// The indices of the two sources in a bench's list.
+/// The indices of the two sources of a `Bench`.
 const SOURCE: usize = 0;
 
 const OTHER: usize = 1;
@@ -62,7 +63,7 @@ static CALLS: &[Call] = &[
     Call::Replicate(SOURCE, WHOLE),
 ];
 
-/// A peer, its plain model, and the sequences up to which it was replicated into the target, completely and for each
+/// A peer, its plain model, and the peer's sequences up to which the target has replicated all documents and each
 /// selection.
 #[derive(Drop)]
 struct Side {
@@ -101,7 +102,7 @@ struct Bench {
     /// The number of workers, or 0 for one thread.
     workers: u64,
     deny: Option<usize>,
-    /// All documents, and two selections.
+    /// What the test replicates: all documents, and two selections.
     picked: [Picked; 3],
     sessions: u128,
     sides: Vec<Side>,
@@ -176,7 +177,7 @@ impl Bench {
     }
 }
 
-/// The documents that are replicated, and the document that is refused.
+/// The documents that a replication copies, and the document that the target refuses.
 #[derive(Clone, Copy)]
 struct How {
     choice: usize,

@@ -8,7 +8,8 @@ use rev_tree::{Merged, Origin};
 use std::alloc::{AllocError, Global};
 use std::cmp::Ordering;
 
-/// The result of a merge. An error has the child, the known parent and the given parent of a contradiction.
+/// The result of a merge. If the merge fails, the error has the child, the known parent and the given parent of a
+/// contradiction.
 pub(crate) type PlainAnswer = Result<Merged, (Rev, Rev, Rev)>;
 
 /// The given ancestries, and the contents and origins of revisions.
@@ -44,7 +45,7 @@ impl PlainTree {
         None
     }
 
-    /// Returns the deleted flag and the byte of a revision's content.
+    /// Returns the deleted flag of a revision's content, and the content's body, which is one byte.
     pub(crate) fn content(&self, rev: Rev) -> Option<(bool, u8)> {
         for entry in &self.contents {
             if entry.0 == rev {
@@ -80,8 +81,7 @@ impl PlainTree {
         deleted(a).cmp(&deleted(b)).then(b.cmp(&a))
     }
 
-    /// Returns the leaves, winner first. The call inserts each leaf before the first leaf that it precedes in the order
-    /// of leaves.
+    /// Returns the leaves, winner first. The call inserts each leaf before the first leaf over which it wins.
     pub(crate) fn leaves(&self, alloc: Global) -> Result<Vec<Rev>, AllocError> {
         let mut leaves: Vec<Rev> = Vec::new(alloc);
         for entry in &self.origins {
@@ -109,7 +109,7 @@ impl PlainTree {
         Ok(walk)
     }
 
-    /// Returns the leaves that have one of the revisions as an ancestor.
+    /// Returns the given leaves that are among the given revisions or descend from them.
     pub(crate) fn above(
         &self,
         alloc: Global,
@@ -137,7 +137,7 @@ impl PlainTree {
         Ok(missing)
     }
 
-    /// Returns the first child in a given ancestry that has another parent in the tree.
+    /// Returns the newest child in a given ancestry that has another parent in the tree, and both parents.
     fn contradiction(&self, revs: &[Rev]) -> Option<(Rev, Rev, Rev)> {
         for pair in revs.windows(2) {
             if let [child, given] = pair {

@@ -40,8 +40,8 @@ pub(crate) fn next_above(documents: &Documents, seq: u64, goal: u64) -> Option<(
 /// For each document, a mask with a bit for each revision of a set.
 pub(crate) type Masks = [u32; IDS];
 
-/// A ledger row is the document, its newest revision, and the child, known parent and given parent of a contradiction.
-/// If the filter refuses the document, the child and both parents are `PLACES`.
+/// A ledger row: the document, its newest revision, and the child, known parent and given parent of a contradiction. In
+/// the ledger row of a document that the filter refuses, the child and both parents are `PLACES`.
 pub(crate) type Row = [usize; 5];
 
 /// A peer's plain model: each document's tree and latest sequence, and the revisions of refused documents.
@@ -131,7 +131,7 @@ impl Carried {
         }
     }
 
-    /// Counts a fetched document. A ledger row means that the document was refused.
+    /// Counts a fetched document. If `row` is a ledger row, the document was refused.
     fn count(&mut self, rt: &impl Abort, row: Option<Row>) {
         self.found = self.found.saturating_add(1);
         match row {

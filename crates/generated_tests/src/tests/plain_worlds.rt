@@ -8,7 +8,8 @@ use crate::tests::reference::mask_of;
 use std::alloc::Global;
 use std::process::Abort;
 
-/// The document that is edited and never loaded. The edited document's revision of generation g has index 3 (g - 1).
+/// The document that is edited and never loaded. In the reference, the edited document's revision of generation g has
+/// the index 3 (g - 1).
 pub(crate) const EDITED: usize = 4;
 
 /// A window or a request for a window, with the life of its source, its bounds, and the leaves of its rows.
@@ -71,11 +72,11 @@ struct Copied {
 pub(crate) struct Met {
     /// The number of restores while windows, entries or logs were in transit.
     pub(crate) restores: u64,
-    /// The number of sessions that began in a life of the source that had ended.
+    /// The number of sessions that began from a log of an earlier life of the source.
     pub(crate) begins: u64,
-    /// The number of windows whose life differs from the life of the session that should store the window.
+    /// The number of windows that a session did not store because the window's life differs from the session's life.
     pub(crate) windows: u64,
-    /// The number of entries whose life differs from the source's life.
+    /// The number of entries that the source did not store because the entry's life differs from the source's life.
     pub(crate) entries: u64,
 }
 
@@ -139,7 +140,8 @@ fn count(masks: &Masks) -> u64 {
     all
 }
 
-/// Returns a page of a source's feed in a life. The page has the selected rows above a sequence and at or below a goal.
+/// Returns a page of a source's feed, with the given life of the source. The page has the selected rows above a
+/// sequence and at or below a goal.
 fn page(side: &PlainSide, life: u64, since: u64, goal: u64, limit: u64, picked: Picked) -> Rows {
     let mut leaves = [0; IDS];
     let mut hi = since;
@@ -255,8 +257,8 @@ impl Sessions {
         0
     }
 
-    /// Begins a session at the common checkpoint of a source's log and the target's sessions, in the log's life, if the
-    /// session is valid.
+    /// Begins a session in the log's life, if no session has the id and the goal is not below the start. The start is
+    /// the common checkpoint of the source's log and the target's sessions.
     fn begin(&mut self, rt: &impl Abort, session: u128, log: &SourceLog, goal: u64, time: u64) {
         let start = self.agreed(&log.entries);
         if start <= goal && self.get(session).is_none() {
@@ -275,7 +277,8 @@ impl Sessions {
         }
     }
 
-    /// Stores a window, if the window is from the session's life and is the session's next window.
+    /// Stores a window, if it has the session's life, begins at the end of the session's windows, and ends at or below
+    /// the goal.
     fn append(&mut self, rt: &impl Abort, session: u128, rows: Rows) {
         let Some(held) = self.get(session) else {
             return;
@@ -290,8 +293,8 @@ impl Sessions {
         }
     }
 
-    /// Returns the index of the stored window for a request, if this window is not done and has a row for each
-    /// requested document.
+    /// Returns the index of the session's stored window with the bounds of a request, if this window is not done and
+    /// has a row for each requested document.
     fn window_for(&self, session: u128, asked: &Rows) -> Option<usize> {
         self.windows.iter().position(|window| {
             window.session == session
@@ -302,7 +305,7 @@ impl Sessions {
         })
     }
 
-    /// Counts a document as written or refused in a session. A ledger row means that the document was refused.
+    /// Counts a document as written or refused in a session. If `row` is a ledger row, the document was refused.
     fn count(&mut self, rt: &impl Abort, session: u128, row: Option<Row>) {
         let place = self.place(session).unwrap_or(0);
         let held = self.begun.get_mut(place).expect(rt, "a session");
@@ -337,8 +340,8 @@ impl Sessions {
         held.done.found = held.done.found.saturating_add(count(&asked.leaves));
     }
 
-    /// Records a session. If `concludes` is true, the session is recorded only if it has reached its goal. Returns the
-    /// session's log entry.
+    /// Records a session. If `concludes` is true, the call records the session only if the low water is the goal.
+    /// Returns the session's log entry.
     fn record(&mut self, session: u128, concludes: bool, time: u64) -> Option<Done> {
         let low = self.low_water(self.get(session)?);
         let place = self.place(session)?;
@@ -405,7 +408,7 @@ fn place_in(log: &[Done], session: u128) -> Option<usize> {
     None
 }
 
-/// Stores an entry in a log, unless an entry of the session has a greater recorded sequence.
+/// Stores an entry in a log, unless the log has an entry of the same session with a greater recorded sequence.
 fn put_done(rt: &impl Abort, log: &mut Vec<Done>, done: Done) {
     let Some(place) = place_in(log, done.session) else {
         log.push(done).expect(rt, "memory");
@@ -461,7 +464,7 @@ impl PlainWorld {
         }
     }
 
-    /// Returns the numbers of windows, requests, parcels, entries and logs.
+    /// Returns the numbers of windows, requests, parcels, entries and logs in the message bag.
     pub(crate) fn sizes(&self) -> (usize, usize, usize, usize, usize) {
         (
             self.windows.len(),
@@ -477,7 +480,7 @@ impl PlainWorld {
         self.copies.len()
     }
 
-    /// Returns one of the two sides.
+    /// Returns the source side if `is_source` is true, otherwise the target side.
     pub(crate) fn side(&mut self, is_source: bool) -> &mut PlainSide {
         if is_source {
             &mut self.source
@@ -621,8 +624,8 @@ impl PlainWorld {
         }
     }
 
-    /// Stores an entry in the source's log, if the entry is from the source's life and no entry of its session has a
-    /// greater recorded sequence.
+    /// Stores an entry in the source's log, if the entry has the source's life and the log has no entry of the same
+    /// session with a greater recorded sequence.
     pub(crate) fn put_entry(&mut self, rt: &impl Abort, entry: usize) {
         if let Some(entry) = self.entries.get(entry) {
             if entry.life == self.log.life {

@@ -92,7 +92,7 @@ impl Reference {
         self.origins[place % PLACES]
     }
 
-    /// Returns the newest child in a given ancestry that has another parent in the tree.
+    /// Returns the newest child in a given ancestry that has another parent in the tree, and both parents.
     pub(crate) fn contradiction(&self, revs: &[usize]) -> Option<Answer> {
         for pair in revs.windows(2) {
             if let [child, given] = pair {
@@ -162,7 +162,7 @@ impl Reference {
         self.leaf_mask() & bit(place) != 0
     }
 
-    /// Returns the leaves, with live leaves before deleted leaves, and then by falling index.
+    /// Returns the live leaves and then the deleted leaves, each group by falling index.
     pub(crate) fn leaves(&self, alloc: Global) -> Result<Vec<usize>, AllocError> {
         let mut leaves = Vec::new(alloc);
         for deleted in [false, true] {

@@ -15,7 +15,8 @@ use rev_tree::Origin;
 use std::alloc::Global;
 use std::process::Abort;
 
-/// Returns the index of the first revision in the leaves' ancestries that has another parent in the target's tree.
+/// Returns the index of the newest revision with another parent in the target's tree, in the ancestry of the first leaf
+/// that has such a revision.
 fn contradicts(
     rt: &impl Abort,
     alloc: Global,
@@ -50,7 +51,7 @@ fn differ(
     found
 }
 
-/// Whether a comparison names the revision at an optional index.
+/// Whether a comparison names the revision at the given index as contradicting, or no revision if there is no index.
 fn names(rt: &impl Abort, comparison: &Comparison, place: Option<usize>) -> bool {
     match (comparison.contradiction(), place) {
         (Some(found), Some(place)) => found.child == rev(rt, place),
@@ -187,8 +188,8 @@ fn survey(rt: &impl Abort, alloc: Global, source: &Side, target: &Side) -> [u64;
     [total.contradicting, total.differing, conflicts]
 }
 
-/// Tests the calls of `repl_inspect` with a source and a target. This code is a separate function, because the proof
-/// grows with each variable that is live in its caller.
+/// Tests the calls of `repl_inspect` with a source and a target. The function is separate from its caller, because the
+/// proof grows with each variable that is live in the caller.
 fn with_target(rt: &impl Abort, alloc: Global, seed: u64, source: &mut Side) -> [u64; 3] {
     let mut rng = ChaCha8Rng::seed_from_u64(seed);
     let mut target = Side::new(alloc, 2);
@@ -207,7 +208,7 @@ fn two_hundred_pairs_agree(rt: HostRuntime) {
             found[at] = found[at].saturating_add(more[at]);
         }
     }
-    // The test asserts that contradicting documents, differing leaves and conflicts occurred often enough.
+    // The test asserts more than 100 contradicting documents, 50 differing leaves and 100 documents in conflict.
     assert!(rt;
         found[0] > 100 && found[1] > 50 && found[2] > 100,
         "{found:?}"

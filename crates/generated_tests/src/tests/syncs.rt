@@ -202,7 +202,7 @@ fn of_seed<R: Abort + Threads + Wait + Sync>(rt: &R, alloc: Global, seed: u64, w
     }
 }
 
-/// Edits the document d0 at the side that has it.
+/// Edits the document d0 of a peer, or creates d0.
 fn edit_d0(rt: &impl Abort, alloc: Global, rng: &mut ChaCha8Rng, peer: &mut Peer<Rules>) {
     let id = id(rt, alloc, 0);
     let parent = leaf(rt, alloc, rng, peer.db().tree(&id));

@@ -34,7 +34,7 @@ struct Dealer {
     /// The revisions of a document that is edited repeatedly, oldest first.
     chain: Vec<Rev>,
     model: PlainWorld,
-    /// The number of generated steps. The number `turn` counts the generated steps of the replication.
+    /// The number of generated steps. The field `turn` counts only the steps in the order of a replication.
     number: usize,
     turn: usize,
 }
@@ -101,7 +101,7 @@ impl Dealer {
         }
     }
 
-    /// Returns the index of an edit's parent, which is usually the leaf, or `None` if the document has no revision.
+    /// Returns the index of an edit's parent, usually the document's leaf, or `None` for an edit without a parent.
     fn parent(&mut self, at_source: bool) -> Option<usize> {
         let held = self.model.side(at_source).tree(EDITED).count();
         let generation = if below(&mut self.rng, 4) == 0 {

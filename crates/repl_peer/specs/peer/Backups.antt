@@ -20,13 +20,13 @@ pub record BackupValue : Type 0 where
 abbrev pub peer_of : BackupValue → PeerValue
 peer_of b = record { db = b.db; locals = b.locals; sessions = []; outgoing = b.outgoing }
 
--- The invariant of a backup: each revision comes from a local write, and the local writes are in the trees of their
--- documents.
+-- The invariant of a backup: each revision comes from a local write. In its document's tree, each revision of a local
+-- write is the child of the next older revision of this write.
 pub record IsBackup (b : BackupValue) : Type 0 where
   pub origins : HasOrigins (peer_of b)
   pub locals : (a : WrittenValue) → Among a b.locals → StandsIn b.db a
 
--- Whether a peer with the given incoming sessions has been a replication target.
+-- Whether a peer has been a replication target, which is true if its list of incoming sessions is not empty.
 abbrev pub is_target : List SessionValue → Bool
 is_target [] = false
 is_target (s ∷ sessions) = true

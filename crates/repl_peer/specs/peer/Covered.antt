@@ -26,7 +26,8 @@ refusal_of refuses db d =
     if refuses d then Some reasons.Filtered
     else option_map (λ c. reasons.Contradicting c.child c.known c.given) (contradiction_of db d)
 
--- Whether a document is rightly refused: the filter refuses it, or its ancestry contradicts its tree.
+-- Whether a document is rightly refused: the filter refuses it, or its ancestry contradicts the document's tree in the
+-- database.
 abbrev pub rightly_refused : (Document → Bool) → DatabaseValue → Document → Bool
 rightly_refused refuses db d = refuses d || is_some (contradiction_of db d)
 

@@ -1,12 +1,12 @@
--- A peer before and after calls: a revision that the peer covers stays covered.
+-- The relation between the states of a peer before and after calls. A revision that the peer covers stays covered.
 use Rattle.std.specs.Prelude.{◌≡◌, ℕ, ◌≤◌, Some, slice_get}
 use Rattle.couch_base.specs.Lists.{Among}
 use Rattle.couch_base.specs.WriteLaws.{IsLater}
 use Rattle.couch_base.specs.Feed.{WindowValue}
 use Rattle.repl_peer.specs.peer.Peer.{PeerValue, SessionValue, WrittenValue, RefusedValue}
 
--- A session after calls keeps its scope and start. After calls, the windows, arrivals, ledger and recorded sequence of
--- a session have only grown.
+-- Calls of a peer never change a session's id, scope and start. Calls only add windows, arrivals and ledger rows to a
+-- session, and never lower its recorded sequence.
 pub record Keeps (old new : SessionValue) : Type 0 where
   pub id : new.id ≡ old.id
   pub scope : new.scope ≡ old.scope
@@ -16,8 +16,8 @@ pub record Keeps (old new : SessionValue) : Type 0 where
   pub arrivals : (a : WrittenValue) → Among a old.arrivals → Among a new.arrivals
   pub ledger : (x : RefusedValue) → Among x old.ledger → Among x new.ledger
 
--- A peer after calls: its database is a later state of the database, its local writes keep their numbers, and its
--- sessions stay.
+-- After calls, a peer's database is a later state of its database before. The peer still has each local write under the
+-- same number, and each session.
 pub record IsLaterPeer (old new : PeerValue) : Type 0 where
   pub db : IsLater old.db new.db
   pub locals : (n : ℕ) (x : WrittenValue) → slice_get old.locals n ≡ Some x → slice_get new.locals n ≡ Some x

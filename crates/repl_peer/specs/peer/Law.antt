@@ -21,8 +21,8 @@ window_bounds ws = map (λ w. (w.lo, w.hi)) ws
 
 -- The invariant of a session's stored windows `ws`, its front f, its recorded sequence n and its goal.
 pub record LawfulStore (f : FrontValue) (ws : List WindowValue) (n goal : ℕ) : Type 0 where
-  -- A session's windows are consecutive from its start, end at or below the goal, and have rising rows. The front of a
-  -- session has the session's windows.
+  -- A session's windows are consecutive from its start, end at or below the goal, and have rows with rising sequences.
+  -- The front of a session has the bounds of the session's windows.
   pub front : IsFront f
   pub bounds : window_bounds ws ≡ bounds f
   pub within : end_of f ≤ goal
@@ -51,8 +51,8 @@ pub record LawfulSession (refuses : Document → Bool) (p : PeerValue) (s : Sess
   pub counts : LawfulCounts s.arrivals s.ledger s.counts
   pub open counts use *
 
--- Session s has no base and starts at 0, or s starts at or below the recorded sequence of its base, an earlier session
--- of its replication.
+-- A session without a base starts at 0. The base of a session is an earlier session of the same replication, and the
+-- session starts at or below the recorded sequence of its base.
 abbrev pub IsBased : List SessionValue → SessionValue → Type 0
 IsBased earlier s =
     (s.base ≡ None) × (s.front.start ≡ 0)
@@ -71,8 +71,8 @@ pub record LawfulSessions (refuses : Document → Bool) (p : PeerValue) : Type 0
   pub based : AllBased p.sessions
   pub distinct : IsDistinct nat_eq (session_numbers p.sessions)
 
--- The invariant of peer p: its sessions satisfy their invariant, each of its revisions has an origin, and its local
--- writes are in the trees of their documents.
+-- The invariant of peer p: its sessions satisfy their invariant, and each of its revisions has an origin. In its
+-- document's tree, each revision of a local write is the child of the next older revision of this write.
 pub record Lawful (refuses : Document → Bool) (p : PeerValue) : Type 0 where
   pub sessions : LawfulSessions refuses p
   pub origins : HasOrigins p

@@ -35,8 +35,8 @@ pub record IsArrival (s : SessionValue) (id : Id) (r : RevId) : Type 0 where
   pub of : arrival.id ≡ id
   pub brings : is_among r arrival.ancestry ≡ true
 
--- The given session of peer p has a row of document `id` at sequence `seq`, and an arrival of document `id` with
--- revision r.
+-- Peer p has the given session. A row of the session is of document `id` at sequence `seq`, and an arrival of the
+-- session is of document `id` and has revision r.
 pub record IsFed (p : PeerValue) (id : Id) (r : RevId) (session : SessionId) (seq : ℕ) : Type 0 where
   pub by : SessionValue
   pub held : Among by p.sessions
@@ -44,12 +44,13 @@ pub record IsFed (p : PeerValue) (id : Id) (r : RevId) (session : SessionId) (se
   pub listed : IsListed by id seq
   pub arrived : IsArrival by id r
 
--- The origin that is stored for revision r of document `id` is true for peer p.
+-- The given origin of revision r of document `id` is true. Peer p has a local write (`IsLocal`), or a session with a
+-- row and an arrival (`IsFed`), as the origin says.
 abbrev pub ComesFrom : PeerValue → Id → RevId → Origin → Type 0
 ComesFrom p id r (Local n) = IsLocal p id r n
 ComesFrom p id r (Feed session seq) = IsFed p id r session seq
 
--- Every revision of every tree of peer p has a stored origin, and this origin is true.
+-- Every revision of every tree of peer p has a stored origin, and this origin is true (`ComesFrom`).
 abbrev pub HasOrigins : PeerValue → Type 0
 HasOrigins p =
     (id : Id) (r : RevId) → has (tree_of p.db.docs id) r ≡ true

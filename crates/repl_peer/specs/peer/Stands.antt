@@ -12,7 +12,7 @@ Follows parents [] = Unit {0}
 Follows parents (r ∷ []) = Unit {0}
 Follows parents (r ∷ (s ∷ rest)) = (get parents r ≡ Some s) × Follows parents (s ∷ rest)
 
--- If the generations of write w's revisions fall by one, the parent of each revision in the document's tree is the next
+-- If the generations of write w's revisions fall by one, each revision's parent in the document's tree is the next
 -- revision of w.
 abbrev pub StandsIn : DatabaseValue → WrittenValue → Type 0
 StandsIn db w = FallsByOne w.ancestry → Follows (tree_of db.docs w.id).parents w.ancestry

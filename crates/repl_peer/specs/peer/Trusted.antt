@@ -27,8 +27,8 @@ abbrev pub IsAccounted : (Document → Bool) → PeerValue → Id → RevId → 
 IsAccounted refuses p id r = (has (tree_of p.db.docs id) r ≡ true) ⊎ IsRightlyRefused refuses p id r
 
 -- The guarantees of peer p. Every leaf of a session's rows at or below the recorded sequence is in its document's tree,
--- or was rightly refused. Every revision of a peer comes from a window row or a local write. The number of documents
--- that a session read is the number of those written plus those refused.
+-- or was rightly refused. Every revision of a peer comes from a window row or a local write. A session's number of
+-- documents read is its number of documents written plus its number of documents refused.
 pub record IsTrusted (refuses : Document → Bool) (p : PeerValue) : Type 0 where
   pub recorded : (s : SessionValue) → Among s p.sessions → (w : WindowValue) → Among w s.windows → (row : RowValue)
       → Among row w.rows → row.seq ≤ s.recorded → (leaf : RevId) → Among leaf row.leaves

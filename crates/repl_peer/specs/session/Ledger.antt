@@ -1,10 +1,10 @@
--- The stored form of a ledger row's reason.
+-- The form in which a ledger row stores its reason.
 use Rattle.repl_peer.specs.declared.fault.Reason.{Reason}
 use Rattle.repl_peer.specs.declared.fault.Reason.TheVariants as reasons
 use Rattle.repl_peer.specs.declared.session.refused.StoredReason.{StoredReason}
 use Rattle.repl_peer.specs.declared.session.refused.StoredReason.TheVariants as stored
 
--- The reason that a stored form represents.
+-- The reason of a ledger row, given the form in which the row stores the reason.
 abbrev pub reason_of : StoredReason → Reason
 reason_of stored.Filtered = reasons.Filtered
 reason_of (stored.Contradicting block) = block.value

@@ -1,4 +1,4 @@
--- The number of documents that a session has read, and the number that settling adds, as specified in docs/PROFILE.md,
+-- A session's count of documents read, and the increase of this count by settling, as specified in docs/PROFILE.md,
 -- "Settling".
 use Rattle.std.specs.Prelude.{ℕ, List, Option, Some, None, Result, Ok, Err}
 use Rattle.rev_tree.specs.declared.origin.SessionId.{SessionId}
@@ -15,8 +15,8 @@ read_of (Some s) = s.counts.read
 abbrev pub read_in : List SessionValue → SessionId → ℕ
 read_in sessions id = read_of (session_in sessions id)
 
--- The number of documents that settling a parcel of n documents adds. The number is n if all documents were settled, m
--- if settling stopped after m documents, and 0 otherwise.
+-- The increase of the session's count of documents read by settling a parcel of n documents. The count increases by n
+-- if all documents were settled, by m if settling stopped after m documents, and otherwise by 0.
 abbrev pub taken : Result Settled TargetFault → ℕ → ℕ
 taken (Ok settled) n = n
 taken (Err (faults.Uncovered seq id rev)) n = n

@@ -1,4 +1,4 @@
--- Calls of a peer that use only the peer's sessions.
+-- The results and effects of those calls of a peer that use only the peer's sessions.
 use Rattle.std.specs.Prelude.{Bool, ℕ, List, Option, Some, None, Result, Ok, Err, if◌then◌else◌}
 use Rattle.std.specs.List.{list_any}
 use Rattle.rev_core.specs.Rev.{RevId}
@@ -14,7 +14,8 @@ use Rattle.repl_peer.specs.declared.session.beginning.Beginning.{Beginning}
 use Rattle.repl_peer.specs.declared.fault.TargetFault.{TargetFault}
 use Rattle.repl_peer.specs.declared.fault.TargetFault.TheVariants as faults
 
--- A peer's sessions after a change of the found session, or unchanged if no session was found.
+-- A peer's sessions after function `change` is applied to the found session, or the unchanged sessions if no session
+-- was found.
 abbrev pub changed : (SessionValue → SessionValue) → List SessionValue → Option SessionValue → List SessionValue
 changed change sessions None = sessions
 changed change sessions (Some s) = with_session sessions (change s)
@@ -22,7 +23,8 @@ changed change sessions (Some s) = with_session sessions (change s)
 abbrev pub with_changed : List SessionValue → SessionId → (SessionValue → SessionValue) → List SessionValue
 with_changed sessions id change = changed change sessions (session_in sessions id)
 
--- The result that the session with the given id gives, or `NoSuchSession` if the peer does not have the session.
+-- The result of function `answer` for the session with the given id, or `NoSuchSession` if the peer does not have the
+-- session.
 abbrev pub answer_in : {A : Type 0} → List SessionValue → SessionId → (SessionValue → Result A TargetFault)
     → Result A TargetFault
 answer_in sessions id answer = found_answer answer (session_in sessions id)
@@ -46,7 +48,7 @@ recorded_by sessions rep (Some base) = recorded_of (base_in sessions rep base)
 abbrev pub in_ledgers : List SessionValue → Id → RevId → Bool
 in_ledgers sessions id r = list_any (λ s. in_ledger s.ledger id r) sessions
 
--- The result of a call that returns a log entry, with the entry's value instead of its stored form.
+-- The result of a call that returns a log entry, with the entry's value instead of the entry's stored form.
 abbrev pub entry_value : Result Entry TargetFault → Result EntryValue TargetFault
 entry_value (Ok e) = Ok (value_of e)
 entry_value (Err fault) = Err fault

@@ -27,7 +27,7 @@ refused_by_front front_faults.NoSuchWindow = faults.ForeignParcel
 refused_by_front front_faults.AlreadyDone = faults.AlreadyDone
 refused_by_front front_faults.Memory = faults.Memory
 
--- Peer p after a change of one session, if p has this session.
+-- Peer p after function `change` is applied to the found session, or the unchanged peer if no session was found.
 abbrev pub on_found : PeerValue → (SessionValue → SessionValue) → Option SessionValue → PeerValue
 on_found p change None = p
 on_found p change (Some s) = record p { sessions = with_session p.sessions (change s) }
@@ -35,7 +35,7 @@ on_found p change (Some s) = record p { sessions = with_session p.sessions (chan
 abbrev pub on_session : PeerValue → SessionId → (SessionValue → SessionValue) → PeerValue
 on_session p id change = on_found p change (session_in p.sessions id)
 
--- The result that a call gives for a session, or `NoSuchSession` if the peer does not have the session.
+-- The result of function `answer` for the found session, or `NoSuchSession` if no session was found.
 abbrev pub found_answer : {A : Type 0} → (SessionValue → Result A TargetFault) → Option SessionValue
     → Result A TargetFault
 found_answer answer None = Err faults.NoSuchSession

@@ -26,7 +26,7 @@ use Rattle.repl_peer.specs.declared.session.ledger_index.LedgerIndex.{LedgerInde
 abbrev pub known_of : DatabaseValue → LedgerIndex → Id → RevId → Bool
 known_of db index id r = has (tree_of db.docs id) r || is_ledgered index id r
 
--- The new ledger index has the revisions of the old ledger index, and the revisions of a ledger's documents.
+-- The new ledger index has exactly the revisions of the old ledger index and of the documents in a ledger.
 abbrev pub IndexesMore : LedgerIndex → List RefusedValue → LedgerIndex → Type 0
 IndexesMore old ledger new =
     (id : Id) (r : RevId) → is_ledgered new id r ≡ (is_ledgered old id r || in_ledger ledger id r)
@@ -40,7 +40,7 @@ pub record KeepsIndexed (old : SessionValue) (index : LedgerIndex) (new : Sessio
     pub ledger : (i : Id) (r : RevId) → in_ledger old.ledger i r ≡ true → in_ledger new.ledger i r ≡ true
     pub indexed : (base : LedgerIndex) → IndexesMore base old.ledger index → IndexesMore base new.ledger index'
 
--- The row at index i of a list of rows is of document `id`.
+-- A list of rows has a row of document `id` at index i.
 abbrev pub IsRowOf : List RowValue → Id → ℕ → Type 0
 IsRowOf rows id i = (row : RowValue) × (slice_get rows i ≡ Some row) × (bytes_eq row.id id ≡ true)
 
@@ -61,7 +61,7 @@ pub record IsWindowAt (ws : List WindowValue) (lo hi i : ℕ) : Type 0 where
 abbrev pub IsSameIndex : LedgerIndex → LedgerIndex → Type 0
 IsSameIndex old new = (id : Id) (r : RevId) → is_ledgered new id r ≡ is_ledgered old id r
 
--- The new ledger index has the revisions of the old ledger index, and the revisions of document d.
+-- The new ledger index has exactly the revisions of the old ledger index and of document d.
 abbrev pub IsIndexedWith : Document → LedgerIndex → LedgerIndex → Type 0
 IsIndexedWith d old new =
     (id : Id) (r : RevId) → is_ledgered new id r ≡ (is_ledgered old id r || (bytes_eq d.id id && is_among r d.ancestry))
@@ -69,7 +69,8 @@ IsIndexedWith d old new =
 abbrev pub settling_at : DatabaseValue → SessionValue → Settling
 settling_at db session = record { db = db; session = session }
 
--- Settling document d, whose new revisions get origin o, changes the state `before` into the state `after`.
+-- Settling document d changes the database and session `before` into `after`, and does not stop at d. The new revisions
+-- of d get origin o.
 pub record Steps (refuses : Document → Bool) (o : Origin) (d : Document) (before after : Settling) : Type 0 where
   pub goes : stops_at refuses before d ≡ false
   pub step : (w : WindowValue) → o ≡ fed w before.session.id d → after ≡ settle_one refuses w before d
@@ -116,8 +117,8 @@ pub record Passes (s : SessionValue) (parcel : ParcelValue) (place leaves asked 
   pub leaf_count : leaves ≡ leaf_count window
   pub asked_count : asked ≡ asked_count parcel.asked
 
--- The result of marking window w as done, and the new session t. A window is marked as done if each leaf of its rows is
--- known.
+-- The result of an attempt to mark window w as done, and the session t after the attempt. A window is marked as done
+-- only if each leaf of its rows is known.
 abbrev pub Marks : (Id → RevId → Bool) → WindowValue → SessionValue → ℕ → ℕ → ℕ → Result (Unit {0}) TargetFault
     → SessionValue → Type 0
 Marks known w s leaves asked n (Ok done) t =

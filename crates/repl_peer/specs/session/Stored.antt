@@ -23,7 +23,7 @@ session_value s = record {
   end_time = s.end_time;
 }
 
--- The invariant of a stored session, without regard to other sessions.
+-- The part of a stored session's invariant that does not depend on other sessions.
 pub record IsSession (s : Inside) : Type 0 where
   pub front : IsFront s.front.front
   pub bounds : window_bounds (windows_of s.windows.items) ≡ bounds s.front.front

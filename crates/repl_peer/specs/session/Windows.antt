@@ -1,4 +1,4 @@
--- The stored form of a window, which is complete, or lacks the leaves of the window's rows.
+-- The two stored forms of a window: complete, or without the leaves of its rows.
 use Rattle.std.specs.Prelude.{◌≡◌, ◌⊎◌, ℕ, Bool, true, false, List, map, slice_get, Some}
 use Rattle.couch_base.specs.Lists.{Among}
 use Rattle.couch_base.specs.Feed.{WindowValue}
@@ -17,7 +17,8 @@ abbrev pub IsThinnedWhereDone : FrontValue → List StoredWindowValue → Type 0
 IsThinnedWhereDone front stored =
     (v : StoredWindowValue) → Among v stored → v.whole ≡ false → is_done front v.window.lo v.window.hi ≡ true
 
--- Of a list of stored windows, only the window at index `place` may have lost the leaves of its rows.
+-- Compared with the list `old` of stored windows, only the window at index `place` of the list `new` may have lost the
+-- leaves of its rows.
 abbrev pub IsThinner : ℕ → List StoredWindowValue → List StoredWindowValue → Type 0
 IsThinner place old new =
     (v : StoredWindowValue) → Among v new → v.whole ≡ false

@@ -18,12 +18,13 @@ impl Model for GhostRevs {
     ghost also_owns = { λ _. ftrue };
 }
 
-// A struct with `also_owns` does not implement `Send` or `Sync` automatically. `GhostRevs` owns nothing.
+// The compiler does not derive `Send` and `Sync` for a struct with a ghost member `also_owns`. `GhostRevs` owns
+// nothing.
 unsafe impl Send for GhostRevs {}
 
 unsafe impl Sync for GhostRevs {}
 
-/// The value from which the revisions of a write are taken.
+/// The source of the revisions of a write.
 #[derive(Clone, Copy, Drop)]
 pub(crate) enum Came<'a> {
     /// The revisions of a document's complete ancestry.

@@ -18,8 +18,9 @@ use std::alloc::AllocError;
 
 /// Stores a user's document in the database, together with the local write that records it.
 ///
-/// The call builds the local write before it changes the database, so that an error changes nothing. If building the
-/// local write fails, the call still returns the put's error or `Same`, unless the put's result depends on memory.
+/// The call builds the local write before it changes the database, so that an error changes nothing. If an allocation
+/// for the local write fails, the call returns `Memory` if the put would change the database, and otherwise the result
+/// of `Database::put_answer`.
 pub(crate) fn load(
     db: &mut Database,
     locals: &mut Vec<Written>,
@@ -72,8 +73,9 @@ fn prepare_id(locals: &mut Vec<Written>, id: &DocId) -> Result<DocId, AllocError
 
 /// Edits a document, and stores the local write that records the edit.
 ///
-/// The call prepares the local write before it changes the database, so that an error changes nothing. If preparing the
-/// local write fails, the call still returns the edit's error, unless this error depends on memory.
+/// The call prepares the local write before it changes the database, so that an error changes nothing. If an allocation
+/// for the local write fails, the call returns the error of `Database::check_edit`, or `Memory` if `check_edit` returns
+/// no error.
 pub(crate) fn edit(
     db: &mut Database,
     locals: &mut Vec<Written>,
@@ -112,7 +114,7 @@ pub(crate) fn edit(
     }
 }
 
-/// Returns the winner of a document, if it exists.
+/// Returns the winner of a document, or `None` if the document does not exist.
 fn winner(db: &Database, id: &DocId) -> Option<Rev>
     ensures { result ≡ stood_on (tree_in db.now.docs id.now) None }
 {

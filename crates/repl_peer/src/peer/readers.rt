@@ -35,8 +35,8 @@ impl<F: WriteFilter> Peer<F> {
         self.sessions.id_at(place)
     }
 
-    /// Returns the stored windows of a session, if the peer has the session. Most windows that are done have dropped
-    /// the leaves of their rows.
+    /// Returns the stored windows of a session, if the peer has the session. A done window may be stored without the
+    /// leaves of its rows.
     pub fn windows(&self, id: SessionId) -> Option<&[StoredWindow]>
         ensures { option_map windows_of (option_copied result)
             ≡ option_map (λ s. s.windows) (session_in self.now.1.sessions id) }
@@ -59,8 +59,8 @@ impl<F: WriteFilter> Peer<F> {
         }
     }
 
-    /// Returns the arrivals of a session in order, if the peer has the session. The arrivals in the inner lists precede
-    /// the arrivals in the second list.
+    /// Returns the arrivals of a session in order, if the peer has the session. The first value is a list of lists of
+    /// arrivals, and the second value is the list of the later arrivals.
     pub fn arrivals(&self, id: SessionId) -> Option<(&[Vec<Written>], &[Written])>
         ensures { option_map (λ lists. flat_map (λ list. list.items) lists.0.now ++ lists.1.now) result
             ≡ option_map (λ s. s.arrivals) (session_in self.now.1.sessions id) }

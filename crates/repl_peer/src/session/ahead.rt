@@ -1,4 +1,4 @@
-//! Settles the prepared documents at the front of a parcel in bulk.
+//! Settles in bulk the prepared documents with which a parcel begins.
 ghost use Rattle.std.specs.Prelude.{◌≡◌, ◌<◌, ◌≤◌, ◌+◌, ◌++◌, Some, Ok, true, false, map, length, take, drop, slice_get};
 ghost use Rattle.std.specs.List.{flat_map, list_all, list_any};
 ghost use Rattle.std.specs.Str.{bytes_eq};
@@ -28,7 +28,7 @@ use rev_tree::{Origin, SessionId};
 use std::mem::replace;
 
 /// Settles the first documents of a parcel, which have prepared arrivals, until a document cannot be stored. Returns
-/// the number of settled documents. The caller then settles the next document individually, which shows why that
+/// the number of settled documents. The caller then settles the next document individually, and so finds out why the
 /// document could not be stored in bulk.
 ///
 /// The arrivals are added as one list, so that the peer does not add each arrival individually under its lock. If the
@@ -65,7 +65,7 @@ pub(crate) fn settle_prepared<F: WriteFilter>(
     if arrivals.is_empty() || session.earlier.reserve(2).is_err() {
         return 0;
     }
-    // A stored window may lack its rows only if it is done.
+    // Only a done window may be stored without the leaves of its rows, and this window is not done.
     let Some(rows) = session.windows[place].rows() else {
         unreachable!()
     };
@@ -80,8 +80,8 @@ pub(crate) fn settle_prepared<F: WriteFilter>(
     count
 }
 
-/// Stores at most `limit` documents from the front of a parcel, until a document is refused or cannot be stored.
-/// Returns their number.
+/// Stores at most the first `limit` documents of a parcel, until a document is refused or cannot be stored. Returns the
+/// number of stored documents.
 fn put_ahead<F: WriteFilter>(
     filter: &F,
     db: &mut Database,
@@ -117,7 +117,7 @@ fn put_ahead<F: WriteFilter>(
 }
 
 /// Stores the document at an index, with its prepared tree if possible. Returns false if the document cannot be stored.
-/// If the call returns false, it has changed no stored data, but may have dropped the prepared tree.
+/// If the call returns false, the database is unchanged, but the prepared tree may have been dropped.
 fn put_next(
     db: &mut Database,
     docs: &[Doc],
@@ -155,7 +155,7 @@ pub(crate) fn put_prepared_at(
 }
 
 /// Adds the first `count` arrivals of a list to the session, and counts their documents. The caller has reserved the
-/// space for these arrivals.
+/// space for the arrivals.
 fn enter(
     earlier: &mut Vec<Vec<Written>>,
     arrivals: &mut Vec<Written>,

@@ -4,8 +4,9 @@ use doc_json::{Doc, DocId};
 use rev_core::Rev;
 use std::alloc::Global;
 
-/// The remains of settled parcels: requests, documents, gone revisions and unused prepared trees. The remains are
-/// dropped together with the `DeferredDrops` value, after the peer has settled.
+/// The parts of a settled parcel that are not dropped at once: the request, documents, gone revisions and unused
+/// prepared trees. These parts are dropped together with the `DeferredDrops` value, after the peer has settled the
+/// parcel.
 #[derive(Drop)]
 pub struct DeferredDrops {
     asked: Option<Asked>,
@@ -25,7 +26,7 @@ impl DeferredDrops {
         }
     }
 
-    /// Stores the remains of a parcel.
+    /// Stores the parts of a parcel, and drops the parts of the parcel that was stored before.
     pub(crate) fn keep(
         &mut self,
         asked: Asked,

@@ -13,9 +13,9 @@ use std::sync::Arc;
 
 /// The revisions in the ancestries of refused documents, by document id.
 ///
-/// For most ids, a ledger has only one document. The index shares this document with its ledger row, and stores no
-/// revisions of its own. For an id with several documents, the index stores the revisions of all but the first document
-/// in a set, so that a lookup does not scan these documents.
+/// For most ids, the ledgers have only one document. The index shares the first document of each id with the document's
+/// ledger row, and does not copy the document's revisions. For an id with several documents, the index stores the
+/// revisions of all later documents in one set, so that a lookup does not scan these documents.
 #[derive(Drop)]
 pub(crate) struct LedgerIndex {
     /// The first document with each id.
@@ -84,7 +84,7 @@ impl LedgerIndex {
         Ok(())
     }
 
-    /// Adds the revisions of a document to the set of its id. On error, no set changes.
+    /// Adds the revisions of a document to the set for the document's id. On error, no set changes.
     fn add_later(&mut self, doc: &Doc) -> Result<(), AllocError>
         ensures first { self.new.first ≡ self.old.first }
         ensures ok { OnOk result

@@ -42,7 +42,7 @@ impl Model for PreparedParcel {
 }
 
 impl PreparedParcel {
-    /// Wraps a parcel without preparing it.
+    /// Creates a `PreparedParcel` of a parcel, without trees and arrivals.
     pub fn new(alloc: Global, parcel: Parcel) -> PreparedParcel
         ensures { result ≡ parcel }
     {

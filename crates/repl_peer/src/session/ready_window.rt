@@ -33,7 +33,7 @@ impl Model for ReadyWindow {
 }
 
 impl ReadyWindow {
-    /// Wraps a window without preparing it.
+    /// Creates a `ReadyWindow` of a window, without the shorter form.
     pub fn new(window: Window) -> ReadyWindow
         ensures { result ≡ window }
     {

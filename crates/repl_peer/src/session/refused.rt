@@ -16,7 +16,8 @@ pub struct Refused {
     reason: StoredReason,
 }
 
-/// A reason as a ledger row stores it. A contradiction has three revisions, so it is stored in a heap block.
+/// The form in which a ledger row stores a reason. A contradiction has three revisions, so it is stored in a heap
+/// block.
 #[derive(Drop)]
 enum StoredReason {
     Filtered,

@@ -32,7 +32,7 @@ fn row_in(rows: &[Row], id: &DocId) -> Option<usize>
 /// Returns the index of a row with an id. The call tries the row after index `from` first, then all rows from `from`
 /// on, and then the rows before `from`.
 ///
-/// The next document of a parcel usually has the next row, or the same row.
+/// In a parcel, the next document usually has the next row of the window, or the same row as the document before.
 pub(crate) fn row_from(rows: &[Row], id: &DocId, from: usize) -> Option<usize>
     requires { from ≤ length rows.now }
     ensures some { IfSome result (IsRowOf rows.now id.now) }
@@ -77,7 +77,7 @@ pub(crate) fn all_have_rows(rows: &[Row], docs: &[Doc]) -> bool
     true
 }
 
-/// Returns the number of leaves in the rows, or the greatest `u64` if there are more.
+/// Returns the number of leaves in the rows, or 2^64 - 1 if the number is greater.
 pub(crate) fn leaf_count(rows: &[Row]) -> u64
     ensures { result ≡ min (sum_by (λ row. length row.leaves) rows.now) (2 ^ 64 - 1) }
 {
@@ -88,7 +88,7 @@ pub(crate) fn leaf_count(rows: &[Row]) -> u64
     count
 }
 
-/// Returns the number of requested revisions, or the greatest `u64` if there are more.
+/// Returns the number of requested revisions, or 2^64 - 1 if the number is greater.
 pub(crate) fn asked_count(docs: &[Wanted]) -> u64
     ensures { result ≡ min (sum_by (λ wanted. length wanted.revs) docs.now) (2 ^ 64 - 1) }
 {

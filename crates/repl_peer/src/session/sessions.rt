@@ -150,7 +150,7 @@ impl Sessions {
     ///
     /// Checked in this order; an error changes nothing:
     ///
-    /// - `SessionExists`: there is a session with this id.
+    /// - `SessionExists`: there is a session with the given id.
     /// - `NoSuchBase`: the base is not a session of the same replication.
     /// - `StartAboveBase`: the start exceeds the base's recorded sequence, or 0 if there is no base.
     /// - `GoalBelowStart`: the goal is below the start.

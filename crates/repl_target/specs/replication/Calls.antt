@@ -28,13 +28,13 @@ settled_of refuses p parcel (Ok at) = settled_before refuses at.1 (settling_of p
 abbrev pub most_settled : (Document → Bool) → PeerValue → SessionId → ParcelValue → ℕ
 most_settled refuses p session parcel = settled_of refuses p parcel (settle_check p session parcel)
 
--- The target after settling ran out of memory after n documents. If fewer than n documents can be settled, all of these
--- documents are settled.
+-- The target after settling ran out of memory. The first n documents of the parcel are settled, or fewer if settling
+-- without failed allocations settles fewer.
 abbrev pub after_some : (Document → Bool) → PeerValue → SessionId → ParcelValue → ℕ → PeerValue
 after_some refuses p session parcel n =
     after_stop refuses p session parcel (min n (most_settled refuses p session parcel))
 
--- A call on a target. The call `Stop` is a settling that ran out of memory after a number of documents.
+-- A call on a target. The call `Stop` settles at most `settled` documents of a parcel, and then runs out of memory.
 pub data Call : Type 0 where
   Load : (doc : Document) → Call
   Edit : (id : Id) (parent : Option RevId) (deleted : Bool) (body : List ℕ) → Call
@@ -71,8 +71,9 @@ pub record IsPageOf (db : DatabaseValue) (chosen : Choice) (w : WindowValue) : T
   pub within : goal ≤ db.update_seq
   pub is : w ≡ page db since goal limit chosen
 
--- A call that a run of the pool makes on the target, for the run's session. A run's calls begin no session and make no
--- local write, and their messages come from the source's selected feed.
+-- A call that a run of the pool makes on the target, for the run's session. A run begins no other session and makes no
+-- local write. A run appends only pages of the source's selected feed, and settles only parcels that the source
+-- returned.
 abbrev pub IsFrom : DatabaseValue → Choice → SessionId → Call → Type 0
 IsFrom source chosen run (Append session window) = (session ≡ run) × IsPageOf source chosen window
 IsFrom source chosen run (Settle session parcel) = (session ≡ run) × (parcel ≡ open_revs source parcel.asked)
@@ -85,20 +86,20 @@ abbrev pub AllFrom : DatabaseValue → Choice → SessionId → List Call → Ty
 AllFrom source chosen run [] = Unit {0}
 AllFrom source chosen run (c ∷ calls) = IsFrom source chosen run c × AllFrom source chosen run calls
 
--- The target peer `now` has grown from the peer `given` by calls of a run.
+-- Calls of a run have changed the target from the peer `given` to the peer `now`.
 abbrev pub IsGrown : (Document → Bool) → DatabaseValue → Choice → SessionId → PeerValue → PeerValue → Type 0
 IsGrown refuses source chosen run given now =
     (calls : List Call) × AllFrom source chosen run calls × (now ≡ after_calls refuses given calls)
 
--- The effect of a replication on its target. After a replication, the target may be unchanged. Otherwise, the plan's
--- session has begun at the common checkpoint, and the target has grown by calls of this session.
+-- The effect of a replication on its target. Either the target is unchanged, or the plan's session has begun at the
+-- common checkpoint, and calls for this session have changed the target further.
 abbrev pub IsLeft : (Document → Bool) → PeerValue → PeerValue → Plan → PeerValue → Type 0
 IsLeft refuses source given plan now =
     (now ≡ given)
     ⊎ (begins_answer source given plan ≡ Ok tt)
     × IsGrown refuses source.db plan.chosen plan.session (after_begins source given plan) now
 
--- If a session satisfies Q, each window of the session satisfies P.
+-- If the id and the replication of a session have the property Q, each window of the session has the property P.
 abbrev pub EachStored : (SessionId → RepId → Type 0) → (WindowValue → Type 0) → List SessionValue → Type 0
 EachStored Q P sessions =
     (s : SessionValue) → Among s sessions → Q s.id s.rep → (w : WindowValue) → Among w s.windows → P w

@@ -7,7 +7,7 @@ use Rattle.repl_peer.specs.declared.fault.TargetFault.TheVariants as faults
 use Rattle.repl_target.specs.replication.Replication.{is_batch}
 use Rattle.repl_target.specs.declared.replication.Plan.{Plan}
 
--- The plan limits the number of windows, and the replication's windows end below the goal.
+-- The plan has a maximum number of windows (`stop_after`), and the low water is below the source's update sequence.
 abbrev pub StopsShort : PeerValue → Plan → ℕ → Type 0
 StopsShort source plan low_water =
     (stop_after : ℕ) × (plan.stop_after ≡ Some stop_after) × (low_water < source.db.update_seq)

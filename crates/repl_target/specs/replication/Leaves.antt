@@ -14,7 +14,8 @@ use Rattle.repl_target.specs.declared.replication.Plan.{Plan}
 use Rattle.repl_target.specs.ties.Ties.{IsTiedWith, IsSentEntry, KeepsOthersTied}
 use Rattle.repl_target.specs.replication.Calls.{IsLeft}
 
--- Each tree of database `now` has grown from the same document's tree in database `old` by data of database `other`.
+-- Each document's tree in database `now` has grown (`IsGrownBy`) from the document's tree in database `old` by data of
+-- the document's tree in database `other`.
 abbrev pub HasGrownBy : DatabaseValue → DatabaseValue → DatabaseValue → Type 0
 HasGrownBy old other now = (id : Id) → IsGrownBy (tree_of old.docs id) (tree_of other.docs id) (tree_of now.docs id)
 

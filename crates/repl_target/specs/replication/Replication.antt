@@ -87,11 +87,12 @@ pub record Reading : Type 0 where
 abbrev pub next_window : DatabaseValue → Plan → ℕ → WindowValue
 next_window source plan since = page source since source.update_seq plan.batch plan.chosen
 
--- The parcel of window w for target p. The parcel has the source's documents for the leaves of w that p lacks.
+-- The parcel that the source returns for window w and target p. The parcel has the source's documents for the leaves of
+-- w that p lacks.
 abbrev pub parcel_for : DatabaseValue → PeerValue → WindowValue → ParcelValue
 parcel_for source p w = open_revs source (revs_diff p.db w)
 
--- The session stores window w, and settling the missing documents has the given result.
+-- The plan's session stores window w, and then settling the parcel has the given result.
 abbrev pub StoresAndSettles : (Document → Bool) → Plan → PeerValue → WindowValue → ParcelValue
     → Result Settled TargetFault → PeerValue → Type 0
 StoresAndSettles refuses plan p w parcel result q =
@@ -109,7 +110,8 @@ pub record Carries (refuses : Document → Bool) (source : DatabaseValue) (plan 
         (Ok settled) after.target
     pub reached : after.since ≡ window.hi
 
--- The next window fails, because an allocation fails, the session does not store the window, or settling fails.
+-- Reading, storing or settling the next window fails. Either an allocation fails before the target changes, or the
+-- session does not store the window, or settling the window fails.
 abbrev pub WindowRefused : (Document → Bool) → DatabaseValue → Plan → Reading → TargetFault → PeerValue → Type 0
 WindowRefused refuses source plan before why q =
     (why ≡ faults.Memory) × (q ≡ before.target)
@@ -147,7 +149,7 @@ ReadsUntil refuses source plan from why target' =
 
 -- ---- the end
 
--- The target after the session was concluded, or after the session was recorded because it cannot be concluded.
+-- The target after the plan's session is concluded or, if it cannot be concluded, recorded.
 abbrev pub closed_as : PeerValue → Plan → Result Report TargetFault → PeerValue
 closed_as p plan (Ok report) = after_conclude p plan.session plan.at
 closed_as p plan (Err fault) = after_record (after_conclude p plan.session plan.at) plan.session plan.at
@@ -161,7 +163,8 @@ abbrev pub PutsOver : PeerValue → RepId → EntryValue → Result (Unit {0}) A
 PutsOver source rep entry (Ok done) source' = source' ≡ after_put_entry source rep entry
 PutsOver source rep entry (Err refused) source' = source' ≡ source
 
--- The result of recording at both sides: the result of concluding, or `Memory` if the allocation at the source fails.
+-- The result of a replication after its windows: the result of concluding the session, or `Memory` if an allocation at
+-- the source failed.
 abbrev pub told_by : Result Report TargetFault → Result (Unit {0}) AllocError → Result Report TargetFault
 told_by concluded (Ok done) = concluded
 told_by concluded (Err refused) = Err faults.Memory

@@ -32,7 +32,7 @@ pub data Syncs (refuses_a refuses_b : Document → Bool) (a b : PeerValue) (ther
 
 -- ---- meaning
 
--- Each leaf of document `id` in database `db` is a revision of the document in database `knower`.
+-- Each leaf of document `id` in database `db` is in the document's tree in database `knower`.
 abbrev pub KnowsLeaves : DatabaseValue → DatabaseValue → Id → Type 0
 KnowsLeaves knower db id =
     (leaf : RevId) → is_leaf (tree_of db.docs id) leaf ≡ true → has (tree_of knower.docs id) leaf ≡ true
@@ -42,8 +42,9 @@ abbrev pub HasRefusedNone : PeerValue → Id → Type 0
 HasRefusedNone p id =
     (s : SessionValue) → Among s p.sessions → (x : RefusedValue) → Among x s.ledger → x.doc.id ≡ id → ⊥
 
--- The effect of both replications on a document. After both replications, each side has the other side's leaves of the
--- document. If the document's trees agreed before and had complete histories, both sides have the same document.
+-- The effect of the replications in both directions on a document. After both replications, each side has the other
+-- side's leaves of the document. If the document's trees agreed before and had complete histories, both sides have the
+-- same document.
 pub record Meets (a b a' b' : DatabaseValue) (id : Id) : Type 0 where
   pub there : KnowsLeaves b' a' id
   pub back : KnowsLeaves a' b' id
@@ -55,8 +56,8 @@ pub record Meets (a b a' b' : DatabaseValue) (id : Id) : Type 0 where
   pub whole : IsWhole (tree_of a.docs id) → IsWhole (tree_of b.docs id)
       → IsWhole (tree_of a'.docs id) × IsWhole (tree_of b'.docs id)
 
--- If the peers were tied in both directions, a document that both plans select and neither side has refused satisfies
--- `Meets` after both replications.
+-- Each document that both plans select and neither side has ever refused satisfies `Meets` after both replications, if
+-- the peers were tied in both directions before.
 abbrev pub MeetBoth : PeerValue → PeerValue → PeerValue → PeerValue → Plan → Plan → Type 0
 MeetBoth a b a' b' there back =
     IsTiedPair a b there.chosen → IsTiedPair b a back.chosen → (id : Id) → HasRefusedNone a' id → HasRefusedNone b' id

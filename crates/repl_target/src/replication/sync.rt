@@ -37,11 +37,11 @@ pub enum SyncFault {
 /// the second follows, `b` into `a`. Each direction is a `replicate_alone` with a separate plan.
 ///
 /// Suppose that the peers are consistent in both directions (docs/PROFILE.md, "Tied peers"), and that the call
-/// succeeds. Consider a document that both plans select and neither side has refused. After the call, each side has the
-/// other side's leaves of the document. If the document's two trees agreed before the call and had complete histories,
-/// both sides have the same revisions, parents, contents of leaves and winner. Two trees agree if no revision has
-/// different parents or contents in the two trees. After the call, the document's two trees still agree and have
-/// complete histories.
+/// succeeds. If both plans select a document and neither side has refused the document, each side then has the other
+/// side's leaves of the document. If the document's two trees agreed before the call and had complete histories, both
+/// sides have the same revisions, parents, contents of leaves and winner. Two trees agree if no revision has different
+/// parents or contents in the two trees. After the call, the document's two trees still agree and have complete
+/// histories.
 ///
 /// If the peers are consistent in both directions, they stay consistent for every result of the call. `a` stays
 /// consistent with third peers that do not have `b`'s UUID, and `b` stays consistent with third peers that do not have
