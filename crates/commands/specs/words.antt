@@ -66,7 +66,8 @@ asked_as word.Info d = seen_as info (info_in d)
 asked_as word.Ledger d = seen_as ledger (ledger_in d)
 asked_as word.Sync d = seen_as sync (sync_in d)
 
--- The request of a JSON object that is a line with the given command, or `BadCommand` if no command is given.
+-- The request of a JSON object that is a line with the given command. If the line's command is not known, the result is
+-- `BadCommand`.
 abbrev pub asked_if : Option CommandName → Data → Result Asked Refusal
 asked_if (Some w) d = asked_as w d
 asked_if None d = Err why.BadCommand

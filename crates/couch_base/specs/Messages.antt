@@ -22,7 +22,7 @@ pub record WantedValue : Type 0 where
   pub id : Id
   pub revs : List RevId
 
--- A request for a window of the feed: the revisions of each document that the target requests.
+-- A request for a window of the feed: for each document, the revisions that the target requests.
 pub record AskedValue : Type 0 where
   pub lo : ℕ
   pub hi : ℕ

@@ -101,8 +101,8 @@ impl<'a, H: Eprint + Clock> ErrorReporter<'a, H> {
         }
     }
 
-    /// If errors are explained, warns about options whose values make `replicate` and `sync` commands fail
-    /// (docs/PROFILE.md, "Limits").
+    /// If errors are explained, warns about options with invalid values (docs/PROFILE.md, "Limits"). With such a value,
+    /// `replicate` and `sync` commands without their own value fail.
     pub(crate) fn warn(&self, settings: &Settings) {
         if !self.explains {
             return;

@@ -47,8 +47,9 @@ fault_of halts.BoardFull = faults.BoardFull
 fault_of halts.Memory = faults.Memory
 fault_of halts.Lost = faults.Memory
 
--- The reasons for which a worker may halt. A worker halts with `Stopped` only if the gate may stop it, and with
--- `BoardFull` only if `may_fill` is true. If a call on the target failed, the error satisfies `IsStepFault`.
+-- The reasons for which a worker may halt. A worker halts with `Stopped` only if the gate may stop a worker at the
+-- halt's place, and with `BoardFull` only if `may_fill` is true. If a call on the target failed, the error satisfies
+-- `IsStepFault`.
 abbrev pub AllowsOn : Type 0 → (Place → Type 0) → Halt → Type 0
 AllowsOn may_fill may_stop (halts.Stopped place) = may_stop place
 AllowsOn may_fill may_stop (halts.Refused fault) = IsStepFault fault

@@ -37,7 +37,7 @@ impl<'a, S: SourceBrand, G: Gate> Promise<Fetcher<S>> for FetcherPromise<'a, S, 
         × IfSome r.stopped (Allows (G.may_stop p.gate.now)) };
 }
 
-/// The guarantee of a writer whose thread has ended, and which was started with a given seat of the board.
+/// The guarantee of a writer whose thread has ended. If there is a board, the writer was started with the seat `seat`.
 #[derive(Drop)]
 pub struct WriterPromise<'a, S: SourceBrand, G: Gate> {
     pub channels: &'a Channels<S>,

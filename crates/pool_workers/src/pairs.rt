@@ -166,8 +166,8 @@ impl<
     }
 
     /// Starts the pairs. If there is a board, each pair gets a seat, and the first pair gets the last seat. If a thread
-    /// cannot be created or an allocation fails, the call starts fewer pairs than requested, and sends end messages of
-    /// the channel of windows to the started pairs.
+    /// cannot be created or an allocation fails, the call starts fewer pairs than requested. The call then sends end
+    /// messages of the channel of windows to the started pairs.
     fn start_pairs<'s, E>(
         &'e self,
         scope: &Scope<'s, E>,

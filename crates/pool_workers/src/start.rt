@@ -158,8 +158,8 @@ impl<
     }
 
     /// Starts the writers. If there is a board, each writer gets a seat, and the first writer gets the last seat. If a
-    /// thread cannot be created or an allocation fails, the call starts fewer writers than requested, and sends end
-    /// messages of the channel of parcels to the started writers.
+    /// thread cannot be created or an allocation fails, the call starts fewer writers than requested. The call then
+    /// sends end messages of the channel of parcels to the started writers.
     pub fn start_writers<'s, E>(
         &'e self,
         scope: &Scope<'s, E>,

@@ -58,8 +58,8 @@ impl<
     R: Threads + Wait + Sync,
 > Context<'e, F, S, T, L, G, R> {
     /// Starts the fetchers, reads the windows, and joins the fetchers. Returns the fetchers' results, and the reason if
-    /// reading the windows ended early. If a thread cannot be created, the call returns `None`, reads no window, and
-    /// sends end messages of the channel of parcels to the writers.
+    /// reading the windows ended early. If not all fetchers can be started (`start_fetchers`), the call returns `None`
+    /// and reads no window. The call then sends the end messages of the missing fetchers to the writers.
     fn fetch_in_scope<'s, E>(
         &'e self,
         scope: &Scope<'s, E>,
@@ -102,8 +102,8 @@ impl<
         Some((read, fetched))
     }
 
-    /// Runs the workers while the caller's thread reads the windows, and returns the seats of the board. If a thread
-    /// cannot be created, the call reads no window and returns `None`.
+    /// Runs the workers while the caller's thread reads the windows, and returns the seats of the board. If not all
+    /// workers can be started, the call reads no window and returns `None`.
     fn in_scope<'s, E>(
         &'e self,
         scope: &Scope<'s, E>,

@@ -121,7 +121,8 @@ abbrev pub IsStored : List Exchange → Text → Type 0
 IsStored [] s = ⊥
 IsStored (e ∷ h) s = IsStoring e.request e.response s (IsStored h s)
 
--- The relay requests that the source's log record a sequence only after the target's log has recorded this sequence.
+-- The relay requests that the source's log record a sequence only if the target has just stored its log with this
+-- sequence (`IsStored`).
 abbrev pub IsInOrder : List Exchange → Side → Text → Type 0
 IsInOrder h Target s = Unit {0}
 IsInOrder h Source s = IsStored h s

@@ -41,9 +41,9 @@ pub data FaultView : Type 0 where
   bad_answer : Operation → FaultView
   bad_log : Side → FaultView
   refused : Text → Side → ℕ → Text → FaultView
-  -- The fault of missing leaves that the target has not refused. The fault has the id and revision of one of the
-  -- leaves, and the number of the leaves. If an error row of the transfer is about the leaf's document, the fault also
-  -- has the row's error and reason.
+  -- The fault of missing leaves that the target has not refused. The fault has the id and revision of the first of the
+  -- leaves, and the number of the leaves. The fault also has the error and reason of the document's first error row
+  -- with another error than `forbidden` and `unauthorized`, if any.
   unaccounted : Text → Text → Option (Text × Text) → ℕ → FaultView
   log_changed : FaultView
 

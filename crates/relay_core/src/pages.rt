@@ -132,7 +132,8 @@ fn ask_carry(alloc: Global, run: Run, mut transfer: Transfer) -> Phase
     quiet(alloc, run, Stage::Carry(transfer))
 }
 
-/// Continues a run after a part of a transfer is done, with at most twice the number of documents in the next part.
+/// Continues a run after a part of a transfer is done. The call raises the maximum number of documents of later parts
+/// to twice the number of this part, but not above `settings.carry`.
 fn advance(alloc: Global, settings: &Settings, mut run: Run, mut transfer: Transfer) -> Phase
     ensures { (h : List Exchange) → IsOpenAt h run transfer → Knows h result }
 {

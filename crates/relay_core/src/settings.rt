@@ -7,7 +7,7 @@ pub struct Settings {
     pub session_id: String,
     /// The largest number of documents in one transfer.
     pub carry: u64,
-    /// The number of pages with rows between two checkpoints.
+    /// The maximum number of pages with rows between two checkpoints.
     pub every: u64,
     /// Whether the run waits for changes after the feed's end.
     pub continuous: bool,
