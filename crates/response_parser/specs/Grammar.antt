@@ -35,7 +35,7 @@ pub data Holds (wanted : Wanted) : Name → List ℕ → List Piece → Type 0 w
   of_last : {u : List ℕ} → Holds wanted Last u []
   of_other : {u : List ℕ} → Holds wanted Other u []
 
--- An object o whose first member is `_id`, and the same text u on one line.
+-- The text o of an object whose first member is `_id`, and the text u of the same object on one line.
 pub record IsPlainDocument (o u : List ℕ) : Type 0 where
   pub before : List ℕ
   pub behind : List ℕ
