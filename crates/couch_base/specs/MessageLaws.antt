@@ -49,7 +49,8 @@ all_wanted : (ds : List DocumentValue) (rows : List RowValue) → AllByRecursion
 all_wanted ds [] h = tt
 all_wanted ds (r ∷ rows) h = wanted_first r.id (missing (tree_of ds r.id) r.leaves) (wanted ds rows) (each_filter (eq_by_cmp rev_cmp) (λ l. not (has (tree_of ds r.id) l)) r.leaves h.0.distinct) (all_wanted ds rows h.1)
 
--- A request for a window names each document once, with at least one revision and without duplicates.
+-- A request for a window names no document twice, and requests at least one revision of each named document, none
+-- twice.
 pub IsAsked-revs_diff : (db : DatabaseValue) (w : WindowValue) → IsWindow w → IsAsked (revs_diff db w)
 IsAsked-revs_diff db w window = record { distinct = each_wanted db.docs w.rows window.distinct; docs = all_wanted db.docs w.rows window.rows }
 
