@@ -140,8 +140,8 @@ fn count(masks: &Masks) -> u64 {
     all
 }
 
-/// Returns a page of a source's feed, with the given life of the source. The page has the selected rows above a
-/// sequence and at or below a goal.
+/// Returns a page of a source's feed, with the given life of the source. The call scans at most `limit` rows above
+/// `since` and at or below `goal`. The page has the selected rows of the scanned rows.
 fn page(side: &PlainSide, life: u64, since: u64, goal: u64, limit: u64, picked: Picked) -> Rows {
     let mut leaves = [0; IDS];
     let mut hi = since;
