@@ -6,8 +6,8 @@ use Rattle.journal_lines.specs.Leafs.{HeadView, head_view, line_head}
 use Rattle.journal_lines.specs.declared.entry.Entry.{Entry}
 use Rattle.journal_lines.specs.declared.entry.Entry.TheVariants as entries
 
--- The content of a journal line: the leaves (`state`) or requested leaves (`lacks`) of a document, the head of a
--- document (`leaf`), or `wrong` for any other line.
+-- The content of a journal line: the leaves (`state`) or requested leaves (`lacks`) of a document, or the head of a
+-- document (`leaf`). The content of any other line is `wrong`.
 pub data EntryView : Type 0 where
   state : LeavesView → EntryView
   lacks : LeavesView → EntryView
