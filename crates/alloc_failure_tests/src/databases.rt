@@ -229,7 +229,7 @@ struct Counts {
 }
 
 /// Requests the leaves of a window that an empty database lacks. Fetches the requested leaves from both databases, and
-/// puts the documents that the first database returned.
+/// puts the documents that the first database returned into a new database.
 fn counted(alloc: Global, db: &Database, empty: &Database, window: &Window) -> Result<Counts> {
     let asked = asked(alloc, empty, window)?;
     let (count, _) = fetched(alloc, db, &asked)?;

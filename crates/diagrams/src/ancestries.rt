@@ -239,7 +239,7 @@ impl Ancestries {
         (one, other)
     }
 
-    /// Moves the path from its branch to the branch from which this branch branches off.
+    /// Returns the path after leaving its branch, at the revision from which this branch branches off.
     fn climbed(&self, climb: Climb) -> Climb {
         match climb.at {
             Some(point) => Climb {

@@ -148,8 +148,8 @@ fn draw_cells(
     Ok(())
 }
 
-/// Draws the part of a row in a column, if the column is between the start of the row and the leaf. The part is the
-/// edge to the column, and the contents of a column that is before the leaf's column.
+/// Draws the part of a row in a column, unless the column is before the row's start or after the leaf's column. The part
+/// is the edge to the column, and the contents of a column that is before the leaf's column.
 fn draw_column(
     out: &mut Vec<u8>,
     cell: &Cell,

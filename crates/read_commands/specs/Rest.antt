@@ -16,7 +16,8 @@ rest_left s (Compare r) = compare_left s r.value
 rest_left s (Conflicts r) = conflicts_left s r.value
 rest_left s (Docs r) = docs_left s r.value
 
--- The totals in a command's remaining output are the totals of the rows of state s that the command has printed.
+-- The totals that a command has counted so far are the totals of the feed rows of state s that it has processed. The
+-- command `docs` counts nothing.
 abbrev pub FitsRest : State → Rest → Type 0
 FitsRest s (Compare r) = FitsCompare s r.value
 FitsRest s (Conflicts r) = FitsConflicts s r.value

@@ -13,9 +13,9 @@ use Rattle.rev_tree.specs.Tree.{TreeValue, leaves, ancestors, missing, first_con
 use Rattle.rev_tree.specs.declared.fault.Contradiction.{Contradiction}
 
 -- The comparison of a source's document with the target's document. The fields are the number of the source's leaves,
--- the leaves that the target's tree lacks, a contradiction, and the leaves whose known contents differ. Contents are
--- compared only if both sides know them. The contradiction is at the first revision in the missing leaves' ancestries
--- that has another parent at the target.
+-- the leaves that the target's tree lacks, an optional contradiction, and the leaves whose known contents differ.
+-- Contents are compared only if both sides know them. The contradiction is at the first revision in the missing leaves'
+-- ancestries that has another parent at the target.
 pub record ComparisonValue : Type 0 where
   pub leaves : ℕ
   pub missing : List RevId

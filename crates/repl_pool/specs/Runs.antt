@@ -73,7 +73,7 @@ pub record PutsEntry (source target source' : PeerValue) (plan : Plan) (outcome 
     pub done : IfOk outcome (λ _. put ≡ Ok tt)
 
 -- The end of a run of the pool. At the end of a run, the session is concluded or recorded at the target, and the
--- session's entry is stored at the source.
+-- source stores the session's entry as `PutsEntry` says.
 pub data ClosesRun (plan : Plan) (fault : Option PoolFault) (complete : Bool)
     (source before source' after : PeerValue) : Result Report PoolFault → Type 0 where
   concluded : {report : Report} {outcome : Result Report PoolFault}
@@ -133,8 +133,8 @@ TellsLowWater target run (faults.Refused (refusals.Unfinished n)) =
     (s : SessionValue) × (session_in target.sessions run ≡ Some s) × (n ≡ low_water s.front) × (n ≡ s.recorded)
 TellsLowWater target run fault = Unit {0}
 
--- The session of a run has begun, the session's windows are pages of the source, and the session's entry is stored at
--- the source.
+-- The session of a run has begun, the session's windows are pages of the source, and the source stores the session's
+-- entry as `PutsEntry` says.
 pub record IsBegun (source target source' target' : PeerValue) (plan : Plan) (outcome : Result Report PoolFault) : Type 0
   where
     pub begun : begins_answer source target plan ≡ Ok tt
@@ -143,7 +143,7 @@ pub record IsBegun (source target source' target' : PeerValue) (plan : Plan) (ou
     pub unfinished : IfErr outcome (TellsLowWater target' plan.session)
 
 -- The effect of a run. If the run's session has not begun, both peers are unchanged. If the session has begun, the
--- session's entry is stored at the source.
+-- source stores the session's entry as `PutsEntry` says.
 abbrev pub LeavesOrPuts : {F : Type 0} → Plan → F × PeerValue → F × PeerValue → F × PeerValue → F × PeerValue
     → Result Report PoolFault → Type 0
 LeavesOrPuts plan source target source' target' outcome =
@@ -192,7 +192,7 @@ pub record RunsOn {F : Type 0} (refuses : F → Document → Bool) (may_fill : T
   pub audited : (chosen : Choice) → IsTiedPair source.1 target.1 chosen
       → audit_answer source'.1 target'.1 chosen ≡ None
   -- If a run's session has not begun, both peers are unchanged and the error gives the reason. If a run's session has
-  -- begun, the session's windows are pages of the source, and the session's entry is stored at the source.
+  -- begun, the session's windows are pages of the source, and the source stores the entry as `PutsEntry` says.
   pub put : LeavesOrPuts plan source target source' target' outcome
   -- If the peers of a run were consistent, the error of the run is one that `IsExpectedRun` lists.
   pub expected : IfErr outcome

@@ -290,10 +290,10 @@ fn run_with<F: WriteFilter + Send + Sync, G: Gate + Sync, R: Threads + Wait + Sy
 ///
 /// If the run succeeds, each leaf of the source's selected feed above the start is covered at the target. The call
 /// returns the report of the session, which began at the common checkpoint and has recorded the source's update
-/// sequence. The fetchers' numbers of documents add up to the report's number of read documents. If the run succeeds,
-/// the target was empty, and no document was refused, each selected document has the source's revisions, parents and
-/// contents of leaves. If the peers were consistent (docs/PROFILE.md, "Tied peers"), each leaf of the source's complete
-/// selected feed is covered, including leaves below the start.
+/// sequence. The fetchers' numbers of documents add up to the report's number of read documents. If the run succeeds
+/// without refusing a document, and the target was empty, each selected document has the source's revisions, parents
+/// and contents of leaves. If the run succeeds and the peers were consistent (docs/PROFILE.md, "Tied peers"), each leaf
+/// of the source's selected feed is covered, even below the start.
 ///
 /// For every result, the run changes only the outgoing logs of the source. The target is unchanged, or has changed only
 /// by beginning the session and by calls with messages of the source. The target keeps all its documents, sessions and
@@ -341,8 +341,8 @@ pub fn run<F: WriteFilter + Send + Sync, G: Gate + Sync, R: Threads + Wait + Syn
 /// lock.
 ///
 /// The caller must give one seat for each worker of the plan. For every outcome, the call returns the seats in order,
-/// and no counter of a seat has decreased. If the run succeeds, the sum of all read counters and the sum of all settled
-/// counters have each risen by the report's number of read documents.
+/// and no counter of a seat has decreased. If the run succeeds, the sums of the seats' read counters and settled counters
+/// have each risen by the report's number of read documents.
 ///
 /// In addition to the errors of `run`, the call returns `BoardFull` if a writer's read counter would exceed
 /// 9,007,199,254,740,991. The run does not settle the parcel that would make the counter exceed its maximum.

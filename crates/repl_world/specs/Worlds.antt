@@ -173,7 +173,7 @@ run refuses w (step ∷ steps) = run refuses (happens refuses w step) steps
 -- ---- failed allocations
 
 -- The effect of a step that ran out of memory. A step that runs out of memory changes nothing, except that a step that
--- settles a parcel may have settled a part of the parcel's documents.
+-- settles a parcel may have settled documents of the parcel.
 abbrev pub IsStopped : (Document → Bool) → WorldValue → SessionId → Option (ℕ × ParcelValue) → WorldValue → Type 0
 IsStopped refuses w session parcel now =
     (now ≡ w)

@@ -134,7 +134,7 @@ impl<F: WriteFilter> World<F> {
     ///
     /// If a peer's call fails in a step, the step has the effects of the failed call. A step whose index is not in the
     /// message bag changes nothing. If an allocation fails, the failed step changes nothing, except that a step that
-    /// settles a parcel may have settled a part of the parcel's documents (`Stopped`).
+    /// settles a parcel may have settled documents of the parcel (`Stopped`).
     ///
     /// A consistent world stays consistent. The target of a consistent world covers the source's current feed up to the
     /// sequences that both logs claim.

@@ -45,7 +45,7 @@ pub data WritesInPart (fault : ScriptFault) (made : List ℕ) (held held' : Opti
   in_part : (text missing : List ℕ) → made ≡ text ++ missing → Appends held held' text → fault ≡ Write → WritesInPart fault made held held'
   nothing : Appends held held' [] → IsWhole fault [] → WritesInPart fault made held held'
 
--- An error at the end of a document, after the part `front` of the document's text was written. The error is
+-- An error at the end of a document, after the text `front` was written for the document's beginning. The error is
 -- `LateMember` if the document's text does not begin with `front`. Otherwise a device or an allocation failed, and the
 -- rest of the document was not written completely. The parser has the state s at the document's end.
 abbrev pub RestBreaks : AnswerFault → State → Words → List ℕ → Option (List ℕ) → Option (List ℕ) → Type 0

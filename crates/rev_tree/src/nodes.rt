@@ -182,8 +182,8 @@ impl Nodes {
         }
     }
 
-    /// Returns the index of the winner's node, which the tournament among the leaves finds. Returns `None` if the
-    /// caller must scan the nodes, because the tree has few nodes or the tournament has no result.
+    /// Returns the index of the winner's node, which the tournament among the leaves finds. Returns `None` if the tree
+    /// has few nodes or no index, or if the tournament has no result. The caller must then scan the nodes.
     pub(crate) fn tournament_winner(&mut self) -> Option<usize>
         ensures items { self.new.items ≡ self.old.items }
         ensures first { IfSome result (λ place. (r : RevId)

@@ -17,7 +17,8 @@ impl Nodes {
     ///
     /// If the ancestry's head is a leaf and goes before the previous winner in the order of leaves, the head is the
     /// winner. If the head is not the winner, the previous winner stays the winner if it is still a leaf. If the
-    /// previous winner is no longer a leaf, the call looks for the winner among all leaves.
+    /// previous winner is no longer a leaf, and no new leaf goes before it, the call looks for the winner among all
+    /// leaves.
     pub(crate) fn winner_after(&mut self, before: usize, head: usize) -> usize
         requires before { before < length self.old.items }
         requires head { head < length self.old.items }

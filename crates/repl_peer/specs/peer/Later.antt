@@ -1,4 +1,5 @@
--- The relation between the states of a peer before and after calls. A revision that the peer covers stays covered.
+-- The relation between an earlier and a later state of a peer that was not restored in between. A revision that the
+-- peer covers stays covered.
 use Rattle.std.specs.Prelude.{◌≡◌, ℕ, ◌≤◌, Some, slice_get}
 use Rattle.couch_base.specs.Lists.{Among}
 use Rattle.couch_base.specs.WriteLaws.{IsLater}
@@ -16,8 +17,8 @@ pub record Keeps (old new : SessionValue) : Type 0 where
   pub arrivals : (a : WrittenValue) → Among a old.arrivals → Among a new.arrivals
   pub ledger : (x : RefusedValue) → Among x old.ledger → Among x new.ledger
 
--- After calls, a peer's database is a later state of its database before. The peer still has each local write under the
--- same number, and each session.
+-- Peer `new` is a later state of peer `old`, without a restore in between. The database of `new` is a later state of the
+-- database of `old`. Peer `new` still has each session of `old`, and each local write of `old` under the same number.
 pub record IsLaterPeer (old new : PeerValue) : Type 0 where
   pub db : IsLater old.db new.db
   pub locals : (n : ℕ) (x : WrittenValue) → slice_get old.locals n ≡ Some x → slice_get new.locals n ≡ Some x

@@ -71,8 +71,9 @@ pub record LawfulSessions (refuses : Document → Bool) (p : PeerValue) : Type 0
   pub based : AllBased p.sessions
   pub distinct : IsDistinct nat_eq (session_numbers p.sessions)
 
--- The invariant of peer p: its sessions satisfy their invariant, and each of its revisions has an origin. In its
--- document's tree, each revision of a local write is the child of the next older revision of this write.
+-- The invariant of peer p. The sessions of p satisfy their invariant, and each revision of p has an origin. If the
+-- generations of a local write's revisions fall by one, each revision's parent in the document's tree is the next
+-- revision of the write (`StandsIn`).
 pub record Lawful (refuses : Document → Bool) (p : PeerValue) : Type 0 where
   pub sessions : LawfulSessions refuses p
   pub origins : HasOrigins p

@@ -21,8 +21,8 @@ after_load p d = record p {
   locals = if is_changed (put_answer p.db d) then p.locals ++ written_of d ∷ [] else p.locals;
 }
 
--- Peer p after a user's edit. The edit stores a document with the new revision and its parent. If the edit failed, peer
--- p is unchanged.
+-- Peer p after a user's edit. The edit stores a document with the new revision and its parent, if it has one. If the
+-- edit failed, peer p is unchanged.
 abbrev pub load_edited : PeerValue → Id → Bool → List ℕ → Result (RevId × Option RevId) BaseFault → PeerValue
 load_edited p id deleted body (Ok e) = after_load p (edit_document id e deleted body)
 load_edited p id deleted body (Err fault) = p

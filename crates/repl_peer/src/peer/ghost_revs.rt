@@ -18,8 +18,8 @@ impl Model for GhostRevs {
     ghost also_owns = { λ _. ftrue };
 }
 
-// The compiler does not derive `Send` and `Sync` for a struct with a ghost member `also_owns`. `GhostRevs` owns
-// nothing.
+// The compiler does not implement `Send` and `Sync` automatically for a type whose `Model` defines `also_owns`.
+// `GhostRevs` owns nothing.
 unsafe impl Send for GhostRevs {}
 
 unsafe impl Sync for GhostRevs {}

@@ -15,7 +15,7 @@ use std::sync::Arc;
 ///
 /// For most ids, the ledgers have only one document. The index shares the first document of each id with the document's
 /// ledger row, and does not copy the document's revisions. For an id with several documents, the index stores the
-/// revisions of all later documents in one set, so that a lookup does not scan these documents.
+/// revisions of all later documents in one set. A lookup therefore does not scan the later documents.
 #[derive(Drop)]
 pub(crate) struct LedgerIndex {
     /// The first document with each id.

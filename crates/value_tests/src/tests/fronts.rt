@@ -22,7 +22,7 @@ enum Call {
     End,
     /// Read the low water.
     LowWater,
-    /// Count the longest runs of adjacent done windows above the low water.
+    /// Count the maximal runs of adjacent done windows above the low water.
     RangeCount,
 }
 

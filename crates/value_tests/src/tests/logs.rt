@@ -18,8 +18,8 @@ enum Call<'a> {
     Put(usize, u128, u64),
     /// Store in a log the entry of session 1, which read one document. The fields are the log and a timestamp.
     PutOne(usize, u64),
-    /// Store the entry of a session in the log of the replication from database 1 into another database. The fields are
-    /// the other database, the session id and the recorded sequence.
+    /// Store the entry of a session that read nothing, in the log of the replication from database 1 into another
+    /// database. The fields are the other database, the session id and the recorded sequence.
     PutInto(u128, u128, u64),
     /// Copy the logs of all replications. Append the copied log of the replication from database 1 into another
     /// database to the list of logs.
@@ -33,7 +33,7 @@ enum Call<'a> {
     Common(usize, usize),
     /// Copy the replication id of the test `log_text`, and format the copy as a string.
     Name,
-    /// Format a log as a string, as a log of the replication of the test `log_text`.
+    /// Format a log as a string, with the replication id of the test `log_text`.
     Write(usize),
     /// Create a timestamp, and read its seconds.
     Moment(u64),
