@@ -38,7 +38,7 @@ impl<S: SourceBrand> Protocol<WindowMessage<S>, WindowView> for InTurn {
     ghost first = { window_view 1024 1 0 [] };
 }
 
-/// Calls that split off a pass for a fetcher, and later take the pass back.
+/// The split of a pass into two, one of which is for a fetcher, and the later join of both passes.
 pub struct WindowCut;
 
 impl Split<WindowView> for WindowCut {
