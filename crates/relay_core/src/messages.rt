@@ -92,7 +92,7 @@ pub enum Fault {
 pub struct Unaccounted {
     pub id: String,
     pub rev: String,
-    /// The error and the reason of the document's first `_bulk_docs` row that has another error than `forbidden` and
+    /// The error and the reason of the document's first `_bulk_docs` row whose error is neither `forbidden` nor
     /// `unauthorized`.
     pub error: Option<(String, String)>,
     /// The number of leaves of the page that the target lacks and has not refused.
@@ -173,7 +173,7 @@ pub enum Request<'a> {
     /// A request for the source's changes after a sequence. If a request for changes has a timeout (in milliseconds),
     /// it is a longpoll request.
     GetChanges(&'a str, Option<u32>),
-    /// A request that the target say which of the given leaves it lacks.
+    /// A request that the target name which of the given leaves it lacks.
     RevsDiff(&'a [DocLeaves]),
     /// A carry, a request to copy the given leaves from the source to the target.
     Carry(&'a [DocLeaves]),
