@@ -229,8 +229,8 @@ ReportsReplication old ask told new = ReplicatesFound old ask (both_of old ask) 
 
 -- ---- the guarantee of `replicate`, as specified in docs/PROFILE.md, "Tied databases"
 
--- The guarantee of a session that reached its goal and recorded sequence n. Sequence n is the source's update sequence,
--- and the target covers each leaf of the source's selected feed.
+-- The guarantee of a session that reached the session's goal and recorded sequence n. Sequence n is the source's update
+-- sequence, and the target covers each leaf of the source's selected feed.
 abbrev pub CoversIfDone : State → List ℕ → List ℕ → Choice → Ending → Type 0
 CoversIfDone s source target chosen (Done report) = CoversUpTo s source target chosen report.recorded
 CoversIfDone s source target chosen (Shown watched) = CoversUpTo s source target chosen watched.report.recorded
@@ -241,8 +241,8 @@ abbrev pub StopsIfAsked : Options → Ending → Type 0
 StopsIfAsked options (Stopped low_water) = options.alone ≡ true → (most : ℕ) × (options.stop_after ≡ Some most)
 StopsIfAsked options ending = Unit {0}
 
--- The errors with which a `replicate` line may fail. A database does not exist, the timestamp or the selection is
--- invalid, or the replication fails.
+-- The errors with which a `replicate` line may fail. The line fails only if a database does not exist, the timestamp or
+-- the selection is invalid, or the replication fails.
 abbrev pub MayFail : ReplicateAsk → Refusal → Type 0
 MayFail ask refusal =
     (refusal ≡ why.NoDatabase) ⊎ (refusal ≡ why.BadMoment) ⊎ (choice_given ask.doc_ids ≡ Err refusal)

@@ -72,7 +72,8 @@ sync_in d = do
 
 -- ---- its result
 
--- The result of `sync` after the first direction: both outputs in order, or the second direction's error.
+-- The result of `sync` if the first direction succeeded: the outputs of both directions in order, or the second
+-- direction's error.
 abbrev pub both_told : List ℕ → Told → Told
 both_told text (Ok more) = Ok (text ++ more)
 both_told text (Err name) = Err name
@@ -84,7 +85,7 @@ SyncsBack mid ask (Ok text) told new =
     (second : Told) × MayTell ReportsReplication mid ask.back second new × (told ≡ both_told text second)
 SyncsBack mid ask (Err name) told new = (told ≡ Err name) × (new ≡ mid)
 
--- The results that `sync` may have: the results of two `replicate` lines in order.
+-- The results that `sync` may have: the results of two `replicate` lines, one for each direction, in order.
 abbrev pub Syncs : Answering State SyncAsk
 Syncs old ask told new =
     (first : Told) × (mid : State) × MayTell ReportsReplication old ask.there first mid × SyncsBack mid ask first told new
