@@ -52,8 +52,8 @@ coded_parcel =
 
 -- ---- requesting
 
--- The requested revisions of document `id`, unless the list of these revisions is empty, followed by the requests for
--- other documents.
+-- The requests `others` for other documents, preceded by a request for the given revisions of document `id` if there
+-- are any.
 abbrev pub want_first : Id → List RevId → List WantedValue → List WantedValue
 want_first id [] others = others
 want_first id (r ∷ revs) others = record { id = id; revs = r ∷ revs } ∷ others

@@ -100,7 +100,7 @@ impl Model for Asked {
 impl Asked {
     ghost use Rattle.couch_base.specs.Messages.{AskedValue, IsAsked};
 
-    /// Creates a request from parts that satisfy its invariant.
+    /// Creates a request from parts that satisfy the invariant of requests.
     pub(crate) fn new(lo: u64, hi: u64, docs: Vec<Wanted>) -> Asked
         requires { IsAsked (record { lo = lo; hi = hi; docs = docs.items }) }
         ensures { result ≡ record { lo = lo; hi = hi; docs = docs.items } }

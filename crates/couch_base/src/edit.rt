@@ -95,8 +95,8 @@ fn ancestry_of(alloc: Global, rev: Rev, parent: Option<Rev>) -> Result<Ancestry,
     ensures ancestry { IfOk result (λ a. a ≡ rev ∷ option_to_list parent) }
 {
     let mut revs = Vec::with_capacity(alloc, 2)?;
-    // The calls of `generation` have no effect at run time. The proof needs the contract of `generation`: `rev` and
-    // `parent` are valid revisions.
+    // The calls of `generation` have no effect at run time. This function's proof needs the contract of `generation`,
+    // which says that `rev` and `parent` are valid revisions.
     let _generation = rev.generation();
     revs.push(rev)?;
     let Some(parent) = parent else {

@@ -56,7 +56,7 @@ impl Model for Parcel {
 impl Parcel {
     ghost use Rattle.couch_base.specs.Messages.{ParcelValue, IsParcel};
 
-    /// Creates a parcel from parts that satisfy its invariant.
+    /// Creates a parcel from parts that satisfy the invariant of parcels.
     pub(crate) fn new(
         alloc: Global,
         asked: Asked,
