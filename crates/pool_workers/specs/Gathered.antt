@@ -13,7 +13,8 @@ use Rattle.pool_workers.specs.declared.parcels.ParcelView.{ParcelView}
 use Rattle.pool_workers.specs.declared.windows.WindowView.{WindowView}
 
 -- What is known of the fetchers after they have ended. If no fetcher was stopped, the fetchers have counted all sent
--- parcels and all documents of these parcels. The sent parcels then have the numbers of the taken windows.
+-- parcels and all documents of these parcels. If no fetcher was stopped, the sent parcels have the numbers of the taken
+-- windows.
 abbrev pub FetchedKnows : WindowView → ParcelView → FetchedAll → Type 0
 FetchedKnows w p t =
     t.stopped ≡ None → (sum t.counts.items ≡ amounts p.sent) × (t.sent ≡ length p.sent) × (w.taken ≡ names p.sent)

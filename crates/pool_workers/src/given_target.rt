@@ -1,4 +1,4 @@
-//! The facts about the run's target that are known without its lock.
+//! The facts about the run's target that are known without the target's lock.
 ghost use Rattle.std.specs.Prelude.{◌≡◌, [], Some, length, IfOk, IfSome};
 ghost use Rattle.std.specs.Option.{ForSome};
 ghost use Rattle.couch_base.specs.Database.{DatabaseValue};

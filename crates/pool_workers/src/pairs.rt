@@ -1,7 +1,7 @@
 //! Pairs are threads that each alternate between the work of a fetcher and of a writer.
 //!
-//! If the gate never blocks a worker, half as many threads do the work of both groups, because each thread fetches
-//! windows and settles parcels.
+//! If the gate never blocks a worker, half as many threads do the work of the fetchers and the writers, because each
+//! thread both fetches windows and settles parcels.
 ghost use Rattle.std.specs.Prelude.{◌≡◌, ℕ, ◌+◌, ◌-◌, ◌<◌, ◌≤◌, ◌++◌, [], true, length, None, IfSome, IfOk, IfErr, vec_len, vec_capacity, option_copied, option_to_list};
 ghost use Rattle.std.specs.List.{All};
 ghost use Rattle.crossbeam_channel.specs.Claims.{view, IsSeatAt};
@@ -114,9 +114,9 @@ impl<
     }
 
     /// For a new pair, splits off one pass of the channel of windows, two passes of the channel of parcels, and a part
-    /// of the ledger. Then takes the last seat, and starts the pair (`start_pair`). `others` is the number of pairs
-    /// that were started before. If a thread cannot be created, the call returns `None`, and the seat stays in the list
-    /// of seats.
+    /// of the ledger. The call then takes the last seat, and starts the pair (`start_pair`). `others` is the number of
+    /// pairs that were started before. If a thread cannot be created, the call returns `None`, and the seat stays in
+    /// the list of seats.
     fn spawn_pair<'s, E>(
         &'e self,
         scope: &Scope<'s, E>,

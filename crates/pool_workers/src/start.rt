@@ -38,8 +38,8 @@ impl<
     G: Gate + Sync,
     R: Wait + Sync,
 > Context<'e, F, S, T, L, G, R> {
-    /// Splits one pass off the given pass of each channel. Then starts a fetcher with the two new passes, which are
-    /// ghost rights to use the channels.
+    /// From the given pass (the ghost right to use a channel) of each channel, splits off a pass. The call then starts
+    /// a fetcher with both new passes.
     fn spawn_fetcher<'s, E>(
         &'e self,
         scope: &Scope<'s, E>,
@@ -112,8 +112,8 @@ impl<
     }
 
     /// For a new writer, splits off a pass of the channel of parcels and a part of the ledger, and takes the last seat.
-    /// Then starts the writer (`start_writer`). `others` is the number of writers that were started before. If a thread
-    /// cannot be created, the call returns `None`, and the seat stays in the list of seats.
+    /// The call then starts the writer (`start_writer`). `others` is the number of writers that were started before. If
+    /// a thread cannot be created, the call returns `None`, and the seat stays in the list of seats.
     fn spawn_writer<'s, E>(
         &'e self,
         scope: &Scope<'s, E>,

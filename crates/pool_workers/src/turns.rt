@@ -46,7 +46,7 @@ impl<F: WriteFilter, S: SourceBrand, T: TargetBrand<F>, L: Ledger, G: Gate, R: W
     G,
     R,
 > {
-    /// For a fetcher on this thread, splits one pass off the given pass of each channel.
+    /// For a fetcher on this thread, splits a pass off the given pass of each channel.
     pub fn fetcher_here(
         &self,
         windows: &mut WindowPass<S>,
