@@ -49,7 +49,7 @@ abbrev pub log_in : ResponseView → Option LogView
 log_in (log_response log) = Some log
 log_in r = None
 
--- The log that one server (the source or the target) has last returned, after an exchange. The log `before` is the log
+-- After an exchange, the log that one server (the source or the target) has last returned. The log `before` is the log
 -- that this server had last returned before the exchange.
 abbrev pub log_after : Side → RequestView → ResponseView → Option LogView → Option LogView
 log_after Source (get_log Source) r before = log_in r

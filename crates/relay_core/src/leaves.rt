@@ -45,7 +45,7 @@ fn has_all(leaves: &LeafSet<'_>, docs: &[DocLeaves]) -> bool
     true
 }
 
-/// Whether each leaf that the list `named` has is also in the list `docs`.
+/// Whether each leaf in the list `named` is also in the list `docs`.
 pub fn name_all(alloc: Global, docs: &[DocLeaves], named: &[DocLeaves]) -> Result<bool, AllocError>
     ensures { IfOk result (λ b. b ≡ name_all (docs_view docs.now) (docs_view named.now)) }
 {
@@ -88,7 +88,7 @@ fn push_doc(
     Ok(())
 }
 
-/// Returns the given documents with only the leaves that a set of leaves has. Documents that then have no leaf are
+/// Returns the given documents with only the leaves that a set of leaves has. Documents without such a leaf are
 /// omitted.
 fn leaves_in(
     alloc: Global,
@@ -105,8 +105,8 @@ fn leaves_in(
     Ok(kept)
 }
 
-/// Returns the given documents with only the leaves that a response names as missing. Documents that then have no leaf
-/// are omitted.
+/// Returns the given documents with only the leaves that a response names as missing. Documents without such a leaf are
+/// omitted.
 pub fn missing_of(
     alloc: Global,
     docs: &[DocLeaves],

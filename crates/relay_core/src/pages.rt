@@ -119,8 +119,8 @@ fn accounted(
     Ok(onward(settings, run, notices))
 }
 
-/// Requests the transfer of the next documents. If all documents were transferred, the call again requests the leaves
-/// that the target lacks.
+/// Requests the transfer of the next documents. If all documents were transferred, the call asks the target again which
+/// leaves the target lacks.
 fn ask_carry(alloc: Global, run: Run, mut transfer: Transfer) -> Phase
     ensures { (h : List Exchange) → IsOpenAt h run transfer → Knows h result }
 {
@@ -307,8 +307,8 @@ pub(crate) fn after_carry(
     }
 }
 
-/// Requests a page again, because the target neither has nor has refused a leaf of the page. After the last try, ends
-/// the run with `Unaccounted` instead.
+/// Requests a page again, because the target neither has nor has refused a leaf of the page. After the last try, the
+/// call ends the run with `Unaccounted`.
 fn retry(
     alloc: Global,
     mut run: Run,
@@ -331,7 +331,7 @@ fn retry(
     Ok(quiet(alloc, run, Stage::Changes))
 }
 
-/// Continues a run after the target says which leaves of a page it still lacks.
+/// Continues a run after the target's `_revs_diff` response that follows a transfer.
 pub(crate) fn after_again(
     alloc: Global,
     settings: &Settings,

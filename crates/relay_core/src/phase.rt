@@ -193,7 +193,7 @@ pub(crate) fn failed(alloc: Global, run: Run, fault: Fault) -> Phase
     quiet(alloc, run, Stage::Done(Some(fault)))
 }
 
-/// Returns the timeout for the request of the next page, if it is a longpoll request.
+/// Returns the timeout of the request for the next page, if this request is a longpoll request.
 fn wait_of(run: &Run) -> Option<u32>
     ensures { result ≡ wait_of run.now }
 {

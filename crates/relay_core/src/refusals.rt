@@ -57,8 +57,8 @@ pub(crate) fn push_too_large(
     Ok(())
 }
 
-/// Whether an error row with the revision `rev` concerns a leaf. A row without a revision concerns every leaf of its
-/// document.
+/// Whether an error row with the revision `rev` concerns a leaf. A row without a revision concerns every leaf of the
+/// row's document.
 fn is_about(rev: &Option<String>, leaf: &str) -> bool
     ensures { result ≡ is_about (option_map string_bytes rev.now) leaf.now }
 {
