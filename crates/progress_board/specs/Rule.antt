@@ -47,8 +47,8 @@ SeesRead v i n w =
     × (slice_index v.reads i ≤ n) × (n ≤ most) × (v.works ≡ true → v.number ≡ i → n ≡ slice_index v.reads i)
 
 -- A seat loaded n from worker i's settled counter. The seat's lower bound of worker i's settled counter rises to n, or
--- was n already. The seat's lower bound of worker i's read counter is then at least n. If the seat is worker i's own
--- seat, the bound of the settled counter was n already.
+-- was n already. After the load, the seat's lower bound of worker i's read counter is at least n. If the seat is worker
+-- i's own seat, the bound of the settled counter was n already.
 abbrev pub SeesSettled : SeatView → ℕ → ℕ → SeatView → Type 0
 SeesSettled v i n w =
     (w ≡ seat_view v.deals v.works v.number (slice_set v.reads i (max (slice_index v.reads i) n))
