@@ -103,15 +103,15 @@ abbrev pub documents_part : Report → List ℕ
 documents_part r =
     codes " read " ++ decimal r.counts.read ++ codes " written " ++ decimal r.counts.written ++ codes " failed " ++ decimal r.counts.failures
 
--- The line of `replicate` with the report of a session.
+-- The output line of `replicate` with the report of a session.
 abbrev pub report_line : Report → List ℕ
 report_line r = ended (session_part r ++ checked_part r ++ documents_part r)
 
--- The line of `replicate` with the board's counts of settled and of read documents.
+-- The output line of `replicate` with the board's counts of settled and of read documents.
 abbrev pub progress_line : Watched → List ℕ
 progress_line w = ended (codes "progress " ++ decimal w.settled ++ codes " of " ++ decimal w.read)
 
--- The line of `replicate` with the low water of a session that ended below its goal.
+-- The output line of `replicate` with the low water of a session that ended below the session's goal.
 abbrev pub stopped_line : SessionId → ℕ → List ℕ
 stopped_line session low_water = ended (codes "stopped " ++ id_digits session.0 ++ codes " at " ++ decimal low_water)
 
@@ -158,27 +158,30 @@ plan_of s options chosen = plan_with s.program options (session_of s options) ch
 
 -- ---- its result
 
--- The ending of a replication by one thread. A replication by one thread that returned `Unfinished` has not failed.
+-- How a replication by one thread ended, or the error with which it failed. A replication by one thread that returned
+-- `Unfinished` has not failed.
 abbrev pub ending_of : Result Report TargetFault → Result Ending Refusal
 ending_of (Ok report) = Ok (Done report)
 ending_of (Err fault) = do
   low_water ← stop_of fault
   Ok (Stopped low_water)
 
--- The ending of a replication by the pool. A replication by the pool that returned `Unfinished` has not failed.
+-- How a replication by the pool ended, or the error with which it failed. A replication by the pool that returned
+-- `Unfinished` has not failed.
 abbrev pub ending_of_run : Result Report PoolFault → Result Ending Refusal
 ending_of_run (Ok report) = Ok (Done report)
 ending_of_run (Err fault) = do
   low_water ← run_stop_of fault
   Ok (Stopped low_water)
 
--- The ending of a replication by the pool with a progress board.
+-- How a replication by the pool with a progress board ended, or the error with which it failed.
 abbrev pub ending_of_watched : Result Watched PoolFault → Result Ending Refusal
 ending_of_watched (Ok watched) = Ok (Shown watched)
 ending_of_watched (Err fault) = ending_of_run (Err fault)
 
--- The ending of a replication. One thread replicates if the first argument of `EndsBy` is true. If the first argument
--- of `EndsBy` is false, the pool replicates, with a board if the second argument is true.
+-- How a replication ended, or the error with which it failed. One thread replicates if the first argument of `EndsBy`
+-- is true. If the first argument of `EndsBy` is false, the pool replicates, with a board if the second argument is
+-- true.
 abbrev pub EndsBy : Bool → Bool → State → List ℕ → List ℕ → PeerValue → PeerValue → Plan → Result Ending Refusal → State
     → Type 0
 EndsBy true progress old source target s t plan ending new =
