@@ -74,7 +74,7 @@ IsSeated None None = Unit {0}
 IsSeated (Some b) (Some s) = WorksAt b s
 IsSeated board seat = ⊥
 
--- If there is a board, seat t is seat s with n more documents read. Without a board, t equals s.
+-- If there is a board, seat t is seat s after n more documents were read. Without a board, seat t equals seat s.
 abbrev pub HasRead : Option Board → ℕ → Option BoardSeat → Option BoardSeat → Type 0
 HasRead None n s t = t ≡ s
 HasRead (Some b) n (Some s) (Some t) =
@@ -91,15 +91,16 @@ abbrev pub HasRoom : Option Board → ℕ → Option BoardSeat → Type 0
 HasRoom (Some b) n (Some s) = s.settled + n ≤ s.read
 HasRoom board n seat = Unit {0}
 
--- If there is a board, seat t is seat s with z - a more documents settled. Without a board, t equals s.
+-- If there is a board, seat t is seat s after z - a more documents were settled. Without a board, seat t equals seat s.
 abbrev pub HasSettled : Option Board → ℕ → ℕ → Option BoardSeat → Option BoardSeat → Type 0
 HasSettled None a z s t = t ≡ s
 HasSettled (Some b) a z (Some s) (Some t) =
     WorksAt b t × (t.number ≡ s.number) × (t.read ≡ s.read) × (t.settled + a ≡ s.settled + z)
 HasSettled (Some b) a z s t = ⊥
 
--- If there is a board, seat t is seat s with z - a more documents settled. The read counter of t is at least the read
--- counter of s. If no writer was stopped, t has z - a more documents read than s. Without a board, t equals s.
+-- If there is a board, seat t is seat s after z - a more documents were settled. The read counter of t is at least the
+-- read counter of s. If the writer was not stopped, seat t shows z - a more read documents than seat s. Without a
+-- board, seat t equals seat s.
 abbrev pub HasWritten : Option Board → ℕ → ℕ → Option Halt → Option BoardSeat → Option BoardSeat → Type 0
 HasWritten None a z stopped s t = t ≡ s
 HasWritten (Some b) a z stopped (Some s) (Some t) =

@@ -119,7 +119,7 @@ impl<S: SourceBrand> Model for Found<S> {
 }
 
 impl<S: SourceBrand> Found<S> {
-    /// Counts the source's documents for a request for the leaves of a page.
+    /// Counts the documents that the source would return for a request for leaves of a page.
     pub fn count<F: WriteFilter>(
         alloc: Global,
         source: &Peer<F>,
@@ -137,8 +137,8 @@ impl<S: SourceBrand> Found<S> {
         })
     }
 
-    /// Counts the source's documents for a request for all leaves of a page. The source has one document for each leaf,
-    /// so the call needs no lookup in the source.
+    /// Counts the documents that the source would return for a request for all leaves of a page. The source has one
+    /// document for each leaf, so the call needs no lookup in the source.
     pub fn whole<F: WriteFilter>(source: &Peer<F>, asked: Asked, page: Paged<S>) -> Found<S>
         requires source { S.source ≡ source.now.1.db }
         requires whole { (db : DatabaseValue) × (db.docs ≡ []) × (asked ≡ revs_diff db page) }
@@ -205,8 +205,8 @@ impl<S: SourceBrand> Model for Fetched<S> {
 }
 
 impl<S: SourceBrand> Fetched<S> {
-    /// Reads the source's documents for a request for the leaves of a page. If a session is given, the call also
-    /// prepares the documents for this session.
+    /// Reads the documents that the source returns for a request for leaves of a page. If a session is given, the call
+    /// also prepares the documents for this session.
     pub fn fetch<F: WriteFilter>(
         alloc: Global,
         source: &Peer<F>,

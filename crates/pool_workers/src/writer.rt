@@ -65,7 +65,7 @@ impl<F: WriteFilter, S: SourceBrand, T: TargetBrand<F>, L: Ledger, G: Gate, R: W
     G,
     R,
 > {
-    /// Settles a parcel, and shows the parcel's documents as settled.
+    /// Settles a parcel, and shows the number of settled documents on the board.
     fn settle_and_show(
         &self,
         share: &mut Share<L>,
