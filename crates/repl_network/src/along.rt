@@ -20,8 +20,8 @@ use repl_target::{Peer, Plan, Report, TargetFault, WriteFilter, replicate_alone}
 use rev_core::Rev;
 use std::alloc::Global;
 
-/// Replicates along hops between the peers of a network, in order, until a hop fails. Each hop is a `replicate_alone`
-/// with the hop's plan.
+/// Replicates along hops between the peers of a network, in order, until a hop fails. Each hop is a call of
+/// `replicate_alone` with the hop's plan.
 ///
 /// If every two peers are consistent (docs/PROFILE.md, "Nets"), they stay consistent, even if the call fails. Suppose
 /// that the call succeeds, each plan selects a document, no peer has refused this document, and the document's trees
