@@ -89,16 +89,17 @@ replicate_in d = do
 
 -- ---- its output
 
--- The session id, the start and the recorded sequence of a report, in the output of `replicate`.
+-- The part of the output of `replicate` that has a report's session id, start and recorded sequence.
 abbrev pub session_part : Report → List ℕ
 session_part r =
     codes "session " ++ id_digits r.session.0 ++ codes " from " ++ decimal r.start ++ codes " to " ++ decimal r.recorded
 
--- The number of checked leaves, and the number of checked leaves that the target lacked, in the output of `replicate`.
+-- The part of the output of `replicate` that has the number of checked leaves, and the number of checked leaves that
+-- the target lacked.
 abbrev pub checked_part : Report → List ℕ
 checked_part r = codes " checked " ++ decimal r.counts.checked ++ codes " found " ++ decimal r.counts.found
 
--- The numbers of documents that were read, written and refused, in the output of `replicate`.
+-- The part of the output of `replicate` that has the numbers of documents that were read, written and refused.
 abbrev pub documents_part : Report → List ℕ
 documents_part r =
     codes " read " ++ decimal r.counts.read ++ codes " written " ++ decimal r.counts.written ++ codes " failed " ++ decimal r.counts.failures

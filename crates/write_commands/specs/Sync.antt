@@ -93,8 +93,8 @@ Syncs old ask told new =
 -- ---- the guarantee of `sync`, as specified in docs/PROFILE.md, "Tied databases"
 
 -- The guarantee for a `sync` line. Between the two directions of `sync`, all databases are consistent, and each
--- direction has the guarantee of a replication. A `sync` line fails only with an error with which one of its directions
--- may fail.
+-- direction has the guarantee of a `replicate` line (`IsCovered`). A `sync` line fails only with an error with which
+-- one of its directions may fail.
 abbrev pub IsMet : State → SyncAsk → Told → Type 0
 IsMet new ask (Ok text) =
     (mid : State) × (first : List ℕ) × (second : List ℕ) × (text ≡ first ++ second) × AllTied mid
