@@ -30,7 +30,7 @@ pub struct Replicate<'v, 'a> {
     pub source: &'v str,
     pub target: &'v str,
     /// The ids of the selected documents, which are strings. If the line gives no ids, all documents are selected.
-    pub doc_ids: Option<&'v Vec<LineValue<'a>>>,
+    pub doc_ids: Option<&'v [LineValue<'a>]>,
     pub options: Options,
 }
 
