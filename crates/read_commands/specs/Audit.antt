@@ -32,7 +32,7 @@ abbrev pub audit_asked : Audit → AuditAsk
 audit_asked ask = record {
   source = ask.source.now;
   target = ask.target.now;
-  doc_ids = option_map (λ v. texts_of (line_items v.now.items)) ask.doc_ids;
+  doc_ids = option_map (λ v. texts_of (line_items v.now)) ask.doc_ids;
 }
 
 abbrev pub audit_in : Data → Result AuditAsk Refusal

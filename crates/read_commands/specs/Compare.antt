@@ -36,7 +36,7 @@ abbrev pub compare_asked : Compare → CompareAsk
 compare_asked ask = record {
   source = ask.source.now;
   target = ask.target.now;
-  doc_ids = option_map (λ v. texts_of (line_items v.now.items)) ask.doc_ids;
+  doc_ids = option_map (λ v. texts_of (line_items v.now)) ask.doc_ids;
 }
 
 abbrev pub compare_in : Data → Result CompareAsk Refusal

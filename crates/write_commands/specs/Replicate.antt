@@ -44,7 +44,7 @@ abbrev pub replicate_asked : Replicate → ReplicateAsk
 replicate_asked ask = record {
   source = ask.source.now;
   target = ask.target.now;
-  doc_ids = option_map (λ v. texts_of (line_items v.now.items)) ask.doc_ids;
+  doc_ids = option_map (λ v. texts_of (line_items v.now)) ask.doc_ids;
   options = ask.options;
 }
 

@@ -31,7 +31,7 @@ pub struct Replicate<'v, 'a> {
     pub target: &'v str,
     /// The ids of the selected documents, which are strings. If the line has no member `doc_ids`, all documents are
     /// selected.
-    pub doc_ids: Option<&'v Vec<LineValue<'a>>>,
+    pub doc_ids: Option<&'v [LineValue<'a>]>,
     pub options: Options,
 }
 
