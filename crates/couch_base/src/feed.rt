@@ -7,7 +7,8 @@ use rev_tree::{Revs, Tree};
 use std::alloc::{AllocError, Global};
 use std::marker::Model;
 
-/// A changed document in the changes feed, as a reference into the database. Contracts see its row.
+/// A changed document in the changes feed, as a reference into the database. Contracts see the feed row of the
+/// document.
 #[derive(Drop)]
 pub struct Change<'a> {
     seq: u64,
