@@ -10,7 +10,8 @@ use std::marker::Model;
 /// A front is a list of adjacent windows `(lo, hi]` of sequences. Each window is done or not done.
 ///
 /// Windows are appended in order and finished in any order. The low water is the sequence up to which all windows are
-/// done. The done windows above the low water are stored as ranges. No range touches another range or the low water.
+/// done. The done windows above the low water are stored as ranges. No range of done windows touches another range or
+/// the low water.
 pub struct Front {
     start: u64,
     /// The upper bounds of the front's windows, in rising order.
