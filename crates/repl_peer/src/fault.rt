@@ -165,7 +165,8 @@ impl From<BaseFault> for Cause {
     }
 }
 
-/// Converts an error of `Front::finish`, for a window that was checked before, to the cause for which settling stopped.
+/// Converts an error of `Front::finish` to the cause for which settling stopped. The caller has checked the window
+/// before it calls `finish`.
 impl From<FrontFault> for Cause {
     ghost from_gives = { λ fault cause. cause ≡ cause_by_front fault };
 

@@ -137,7 +137,7 @@ abbrev pub begins : WorldValue → SessionId → ℕ → ℕ → Option (ℕ × 
 begins w session goal at None = w
 begins w session goal at (Some log) = record w { target = after_begin w.target session (beginning_in w goal log) at }
 
--- The world after adding a backup of the source, if making the backup succeeded.
+-- The world after the given backup of the source is added, or the unchanged world if making the backup failed.
 abbrev pub backs_up : WorldValue → Result BackupValue TargetFault → WorldValue
 backs_up w (Ok b) = record w { backups = w.backups ++ b ∷ [] }
 backs_up w (Err fault) = w

@@ -317,7 +317,8 @@ impl Databases {
     ///
     /// # Errors
     ///
-    /// The call returns the errors of `replicate`, and `Memory`, without any change, if the board cannot be allocated.
+    /// The call returns the errors of `replicate`. If the board cannot be allocated, the call returns `Memory` and
+    /// changes nothing.
     pub fn replicate_watched<H: Threads + Wait + Sync>(
         &mut self,
         rt: &H,

@@ -20,8 +20,9 @@ pub record BackupValue : Type 0 where
 abbrev pub peer_of : BackupValue → PeerValue
 peer_of b = record { db = b.db; locals = b.locals; sessions = []; outgoing = b.outgoing }
 
--- The invariant of a backup. Each revision comes from a local write. If the generations of a local write's revisions
--- fall by one, each revision's parent in the document's tree is the next revision of the write (`StandsIn`).
+-- The invariant of a backup. Each revision comes from a local write. If a local write's generations decrease by one
+-- from each revision to the next, each revision's parent in the document's tree is the next revision of the write
+-- (`StandsIn`).
 pub record IsBackup (b : BackupValue) : Type 0 where
   pub origins : HasOrigins (peer_of b)
   pub locals : (a : WrittenValue) → Among a b.locals → StandsIn b.db a

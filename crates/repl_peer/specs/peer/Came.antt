@@ -13,7 +13,8 @@ came_revs (came.Whole revs) = revs.now
 came_revs (came.Edit rev parent) = rev ∷ option_to_list parent
 came_revs (came.Again revs) = revs.now.revs
 
--- The list `revs` begins with revision `head`, has `count` revisions, and its generations fall by one.
+-- The list `revs` begins with revision `head`, and has `count` revisions. The generations of `revs` decrease by one
+-- from each revision to the next.
 pub record IsBegun (head : RevId) (count : ℕ) (revs : List RevId) : Type 0 where
   pub first : head_of revs ≡ Some head
   pub size : length revs ≡ count

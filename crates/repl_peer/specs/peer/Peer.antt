@@ -84,7 +84,7 @@ session_in sessions id = find (is_of id) sessions
 abbrev pub holds : List SessionValue → SessionId → Bool
 holds sessions id = list_any (is_of id) sessions
 
--- A peer's sessions after the session with t's id is replaced by session t.
+-- A peer's sessions after session t has replaced the session with the same id.
 abbrev pub with_session : List SessionValue → SessionValue → List SessionValue
 with_session sessions t = map (λ s. if is_of t.id s then t else s) sessions
 

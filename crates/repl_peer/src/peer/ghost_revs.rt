@@ -24,7 +24,7 @@ unsafe impl Send for GhostRevs {}
 
 unsafe impl Sync for GhostRevs {}
 
-/// The source of the revisions of a write.
+/// The revisions from which `GhostRevs::of` creates the ghost value of a write.
 #[derive(Clone, Copy, Drop)]
 pub(crate) enum Came<'a> {
     /// The revisions of a document's complete ancestry.

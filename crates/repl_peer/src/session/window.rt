@@ -216,8 +216,8 @@ impl StoredWindow {
         }
     }
 
-    /// Drops the leaves of the rows. If the shorter form was not prepared and its allocation fails, the window keeps
-    /// the leaves of its rows.
+    /// Drops the leaves of the rows. If the form without leaves was not prepared, and the allocation for this form
+    /// fails, the window keeps the leaves of its rows.
     pub(crate) fn let_leaves_go(&mut self, alloc: Global)
         ensures { self.new.window ≡ self.old.window }
     {
@@ -229,7 +229,7 @@ impl StoredWindow {
     }
 }
 
-/// Drops the leaves of the window at an index, if the allocation for its shorter form succeeds.
+/// Drops the leaves of the window at an index, if the allocation for the form without leaves succeeds.
 pub(crate) fn let_leaves_go_at(windows: &mut Vec<StoredWindow>, place: usize)
     requires within { place < length windows.old.items }
     ensures windows { windows_of windows.new.items ≡ windows_of windows.old.items }

@@ -157,7 +157,7 @@ fn append_null(alloc: Global, text: &mut String, number: usize) -> Option<()> {
     }
 }
 
-/// Appends a member whose name and value are a given number, and then a given text.
+/// Appends a member whose name and value are a given number, and appends a given text after the member.
 fn append_number(alloc: Global, text: &mut String, number: usize, end: &str) -> Option<()> {
     match format!(in alloc; "\"{number:05}\":{number}{end}") {
         Ok(member) => text.push_str(member.as_str()).ok(),
