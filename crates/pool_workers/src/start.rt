@@ -38,7 +38,7 @@ impl<
     G: Gate + Sync,
     R: Wait + Sync,
 > Context<'e, F, S, T, L, G, R> {
-    /// From the given pass (the ghost right to use a channel) of each channel, splits off a pass. The call then starts
+    /// For each channel, splits a new pass (a ghost right to use the channel) off the given pass. The call then starts
     /// a fetcher with both new passes.
     fn spawn_fetcher<'s, E>(
         &'e self,

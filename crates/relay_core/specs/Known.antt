@@ -46,8 +46,8 @@ asked_of phase = option_map_or (λ n. tell (notice_view n)) (slice_get phase.not
 
 -- ---- what is known
 
--- Pages of changes lead from sequence `begin` to sequence `since`. The number `failures` is at least the number of
--- refused leaves of the pages that the target lacks, or at least 2^64 - 1.
+-- Pages of changes lead from sequence `begin` to sequence `since`. The number `failures` is at least the number of the
+-- pages' leaves that the target refused and lacks, or at least 2^64 - 1.
 pub record IsReachedFrom (h : List Exchange) (begin since : Text) (failures : ℕ) : Type 0 where
   pub rejected : ℕ
   pub reached : Reached begin h since rejected

@@ -88,7 +88,7 @@ fn push_doc(
     Ok(())
 }
 
-/// Returns the given documents with only the leaves that a set of leaves has. Documents without such a leaf are
+/// Returns the given documents with only the leaves that a set of leaves has. Documents without a leaf in the set are
 /// omitted.
 fn leaves_in(
     alloc: Global,
@@ -105,8 +105,8 @@ fn leaves_in(
     Ok(kept)
 }
 
-/// Returns the given documents with only the leaves that a response names as missing. Documents without such a leaf are
-/// omitted.
+/// Returns the given documents with only the leaves that a response names as missing. Documents without a missing leaf
+/// are omitted.
 pub fn missing_of(
     alloc: Global,
     docs: &[DocLeaves],
