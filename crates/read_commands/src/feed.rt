@@ -29,7 +29,7 @@ pub trait RowPrinter {
     /// The counts.
     type Tally;
 
-    // The text that the type prints for a row.
+    // The text that is printed for a row of the feed.
     ghost row_text: { Self → RowValue → List ℕ };
 
     // Whether a value of type `Tally` has the counts of a list of rows.
