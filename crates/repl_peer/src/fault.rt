@@ -142,7 +142,7 @@ pub struct Report {
     pub start: u64,
     /// The source's sequence up to which every window of the session is done.
     pub recorded: u64,
-    /// What the session counted.
+    /// The counts of the session.
     pub counts: Counts,
 }
 
