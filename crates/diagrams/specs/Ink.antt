@@ -51,7 +51,7 @@ markup_text own.NodeEnd = codes "</text></g>\n"
 markup_text own.Line = codes ")\"><text x=\"20\" y=\"18\">"
 markup_text own.Numbers = codes "</text>\n<text x=\"20\" y=\"40\">"
 
--- A revision as its generation and the first six characters of its signature.
+-- The short form of a revision: the generation and the first six characters of the signature.
 abbrev pub short_text : RevId → List ℕ
 short_text r = decimal r.generation ++ 45 ∷ take 6 r.sig
 
@@ -94,7 +94,7 @@ pub data Sign : Type 0 where
   listed : RevId → Sign
   -- A piece of a picture that shows the kind and the name of a line of numbers.
   heading : Form → Table → List ℕ → Sign
-  -- A piece of a picture that shows one number of a line, with its column.
+  -- A piece of a picture that shows one number of a line, with the caption of the number's column.
   count : Column → ℕ → Sign
   -- A piece of a picture that shows a part of a total as a bar.
   bar : Form → ℕ → ℕ → Sign
@@ -102,8 +102,8 @@ pub data Sign : Type 0 where
   log : Form → List ℕ → Sign
   -- A piece of a picture that shows the start time of a session.
   moment : Form → List ℕ → Sign
-  -- A piece of a picture that shows the bar of a session in a log. The numbers are the documents that the session
-  -- wrote, the documents that it read, and the most documents that a session of the log read.
+  -- A piece of a picture that shows the bar of a session in a log. The numbers count the documents that the session
+  -- wrote, the documents that the session read, and the most documents that one session of the log read.
   chart : Form → ℕ → ℕ → ℕ → Sign
 
 abbrev pub leaf_ink : Form → RevId → Bool → Bool → List ℕ
@@ -161,7 +161,7 @@ bar_ink forms.Svg part all =
     ++ decimal (share part all)) ++ codes "\" height=\"10\" class=\"w\"/><text x=\"432\" y=\"63\">") ++ ratio part all)
     ++ codes "</text>\n"
 
--- The length of the filled part of a bar of 40 characters.
+-- The number of filled characters in a bar of 40 characters.
 abbrev pub filled : ℕ → ℕ → ℕ
 filled written most = share written most / 10
 
@@ -228,8 +228,8 @@ pub record Draws (old new : List ℕ) (signs : List Sign) : Type 0 where
 abbrev pub leaf_sign : Form → Leaf → Sign
 leaf_sign form l = leaf form l.rev l.wins l.live
 
--- The command that resolves the conflict of a leaf, if the database is named. A picture has a command only for a leaf
--- that is live and not the winner.
+-- The command that resolves the conflict of a leaf in database `db`. There is a command only for a leaf that is live
+-- and not the winner.
 abbrev pub edit_of : List ℕ → List ℕ → Leaf → List Sign
 edit_of db id l = if not l.wins && l.live then edit db id l.rev ∷ [] else []
 
@@ -237,7 +237,8 @@ abbrev pub edits_of : Option (List ℕ) → List ℕ → List Leaf → List Sign
 edits_of None id leaves = []
 edits_of (Some db) id leaves = flat_map (edit_of db id) leaves
 
--- The signs of a document in a picture: its id, its leaves, and in text the commands that resolve its conflict.
+-- The signs of a document in a picture: its id, its leaves, and, in a text picture, the commands that resolve the
+-- document's conflict.
 abbrev pub signs_of : Form → Option (List ℕ) → List ℕ → List Leaf → List Sign
 signs_of forms.Text db id leaves = title forms.Text id ∷ (map (leaf_sign forms.Text) leaves ++ edits_of db id leaves)
 signs_of forms.Svg db id leaves = title forms.Svg id ∷ map (leaf_sign forms.Svg) leaves

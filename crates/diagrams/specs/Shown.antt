@@ -1,5 +1,5 @@
--- Escaping an input text, so that it has no markup and no hidden characters, as specified in docs/PROFILE.md,
--- "Pictures".
+-- The escaping of hidden characters, and in SVG of markup characters, in an input text, as specified in
+-- docs/PROFILE.md, "Pictures".
 use Rattle.std.specs.Prelude.{◌≡◌, ℕ, ◌==◌, ◌||◌, List, [], ◌∷◌, ◌++◌, Bool, true, false, if◌then◌else◌, codes}
 use Rattle.std.specs.List.{flat_map}
 use Rattle.visible_text.specs.Visible.{IsSeen, escape_of, is_hidden}
@@ -26,13 +26,14 @@ shown form cs = flat_map (shown_char form) cs
 abbrev pub is_markup : ℕ → Bool
 is_markup c = c == 38 || c == 60 || c == 62 || c == 34
 
--- In an escaped text no character is hidden, and markup characters occur only in entities.
+-- In an escaped text, no character is hidden, and markup characters occur only in entities.
 pub data IsEscaped : List ℕ → Type 0 where
   done : IsEscaped []
   plain : {c : ℕ} {cs : List ℕ} → is_hidden c ≡ false → is_markup c ≡ false → IsEscaped cs → IsEscaped (c ∷ cs)
   named : (c : ℕ) {cs : List ℕ} → is_markup c ≡ true → IsEscaped cs → IsEscaped (entity_of c ++ cs)
 
--- An input text is safe in a picture: no character is hidden, and in SVG markup characters occur only in entities.
+-- An input text is safe in a picture: no character is hidden, and, in an SVG picture, markup characters occur only in
+-- entities.
 abbrev pub IsSafe : Form → List ℕ → Type 0
 IsSafe Text cs = IsSeen cs
 IsSafe Svg cs = IsEscaped cs

@@ -18,7 +18,7 @@ pub struct Point {
 /// A branch, which is a run of consecutive revisions of an ancestry.
 #[derive(Drop)]
 struct Branch {
-    /// The parent of the branch's first revision, if it is known.
+    /// The parent of the branch's first revision, if the parent is known.
     from: Option<Point>,
     /// The revisions of the branch, oldest first. A branch has at least one revision.
     revs: Vec<Rev>,
@@ -50,7 +50,7 @@ struct Climb {
 }
 
 impl Climb {
-    /// The number of branches up to the branch of the revision that the path has reached, or 0 at the path's end.
+    /// The index of the reached revision's branch plus one, or 0 at the path's end.
     fn height(&self) -> usize {
         match self.at {
             Some(point) => point.branch.saturating_add(1),
@@ -58,7 +58,7 @@ impl Climb {
         }
     }
 
-    /// The index of the branch of the reached revision.
+    /// The index of the reached revision's branch, or 0 at the path's end.
     fn branch(&self) -> usize {
         match self.at {
             Some(point) => point.branch,
@@ -97,7 +97,8 @@ impl Ancestries {
         Ok(at)
     }
 
-    /// Returns the position after the given position in a stored ancestry, if the given revision is stored there.
+    /// Returns the position of the given revision, if a stored ancestry has this revision directly after the given
+    /// position.
     fn after(&self, at: Option<Point>, rev: &Rev) -> Option<Point> {
         let (branch, count) = match at {
             Some(point) => (point.branch, point.count),
@@ -124,7 +125,7 @@ impl Ancestries {
         })
     }
 
-    /// Adds a branch that is not empty, and returns its newest revision.
+    /// Adds a branch that is not empty, and returns the branch's newest revision.
     fn branch_off(
         &mut self,
         alloc: Global,
@@ -151,7 +152,7 @@ impl Ancestries {
         }))
     }
 
-    /// Returns a revision of a branch, given the number of revisions before it.
+    /// Returns the revision that follows the first `count` revisions of a branch.
     fn rev_at(&self, branch: usize, count: usize) -> Option<&Rev> {
         match self.branches.as_slice().get(branch) {
             Some(branch) => branch.revs.as_slice().get(count),
@@ -185,8 +186,8 @@ impl Ancestries {
         }
     }
 
-    /// Returns the number of revisions that two ancestries share at their oldest end. The revision `one` or the
-    /// revision `other` must be in the ancestry that was added first.
+    /// Returns the number of revisions that two ancestries share, beginning with the oldest revision. The revision
+    /// `one` or the revision `other` must be in the ancestry that was added first.
     pub fn shared(&self, one: Option<Point>, other: Option<Point>) -> usize {
         let (one, other) = self.fork(one, other);
         one.count().min(other.count())
@@ -205,7 +206,7 @@ impl Ancestries {
         }
     }
 
-    /// Compares two ancestries, from their oldest revisions on.
+    /// Compares two ancestries revision by revision, beginning with the oldest revisions.
     pub fn order(&self, one: Option<Point>, other: Option<Point>) -> Ordering {
         if one == other {
             return Ordering::Equal;
@@ -239,7 +240,7 @@ impl Ancestries {
         (one, other)
     }
 
-    /// Moves the path from its branch to the branch from which this branch branches off.
+    /// Returns the given path, moved from its branch to the revision from which this branch branches off.
     fn climbed(&self, climb: Climb) -> Climb {
         match climb.at {
             Some(point) => Climb {
@@ -250,7 +251,7 @@ impl Ancestries {
         }
     }
 
-    /// Returns the revision that follows the first `count` revisions of the reached branch in the ancestry of the path.
+    /// Returns the revision of the path's ancestry that follows the first `count` revisions of the reached branch.
     fn next(&self, climb: Climb, count: usize) -> Option<&Rev> {
         if climb.count() > count {
             return self.rev_at(climb.branch(), count);

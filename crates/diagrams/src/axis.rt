@@ -16,7 +16,7 @@ pub struct Cell {
     pub width: usize,
 }
 
-/// Computes the columns for leaves and their rows.
+/// Computes the columns of a diagram from the leaves and their rows.
 pub fn axis_of(
     alloc: Global,
     ancestries: &Ancestries,

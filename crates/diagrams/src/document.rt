@@ -10,8 +10,8 @@ use std::cmp::Ordering;
 /// A leaf of a document.
 #[derive(Debug, Drop)]
 pub struct Leaf {
-    /// The sort key of the leaf. The key is 0 for the winner. For another leaf, the key is a constant minus the number
-    /// of revisions that the leaf shares with the winner.
+    /// The sort key of the leaf. The sort key of the winner is 0. The sort key of every other leaf is a constant minus
+    /// the number of revisions that the leaf shares with the winner.
     pub apart: usize,
     /// The leaf's parent, if the parent is known. In the leaf's ancestry, each revision's generation is one above the
     /// generation of its parent.
@@ -53,8 +53,8 @@ pub struct Document {
     pub id: String,
     /// The number of leaves.
     pub count: u64,
-    /// The leaves that were read, in the order of reading (winner first), or in the order of drawing after they were
-    /// sorted.
+    /// The leaves that were read. The leaves have the order of reading, winner first, or, after `sort`, the order of
+    /// drawing.
     pub leaves: Vec<Leaf>,
     /// The known ancestries of the leaves.
     pub ancestries: Ancestries,
@@ -94,7 +94,7 @@ impl Document {
         Ok(())
     }
 
-    /// Computes the parts of a leaf that decide its position in the drawing.
+    /// Computes the fields of a leaf that decide the leaf's position in the drawing.
     fn placed(&self, leaf: Leaf, parent: Option<Point>) -> Leaf
         ensures rev { result.rev ≡ leaf.rev }
         ensures live { result.live ≡ leaf.live }

@@ -54,7 +54,7 @@ impl Serve for Drawer<'_> {
 
 impl Drawer<'_> {
     /// Reads a line of the output, and draws the document, comparison, numbers or log that the line completes. If an
-    /// allocation fails, the call drops the document whose lines it is reading.
+    /// allocation fails, the call drops the document whose lines are being read.
     fn take_in(&mut self, line: &[u8], answer: &mut Vec<u8>) -> Result<(), AllocError>
         requires { answer.old.items ≡ [] }
         ensures ok { OnOk result (Takes (sketch_of self.old.form self.old.db self.old.begun) line.now
@@ -165,7 +165,7 @@ impl Drawer<'_> {
 /// picture shows the documents of `show` and `conflicts`, the lines of `compare`, the numbers of `info` and of
 /// sessions, and logs. If the caller names the database, a text picture includes the commands that resolve conflicts.
 ///
-/// Returns whether no allocation failed for any line.
+/// Returns true if no allocation for a line failed.
 ///
 /// # Errors
 ///

@@ -53,7 +53,7 @@ pub fn draw_numbers(out: &mut Vec<u8>, form: Form, height: u64, row: &Row) -> Re
     end(out, form)
 }
 
-/// Draws each number with the caption of its column.
+/// Draws each number with the caption of the number's column.
 fn draw_counts(out: &mut Vec<u8>, columns: &[Column], numbers: &[u64]) -> Result<(), AllocError>
     ensures { OnOk result (Draws out.old.items out.new.items (counts_of columns.now numbers.now)) }
 {
@@ -66,7 +66,7 @@ fn draw_counts(out: &mut Vec<u8>, columns: &[Column], numbers: &[u64]) -> Result
     Ok(())
 }
 
-/// Draws a progress bar, if lines of this kind have a bar.
+/// Draws the progress bar of a line of `compare` or of a session. A line of `info` has no bar.
 fn draw_bar(out: &mut Vec<u8>, form: Form, table: Table, numbers: &[u64]) -> Result<(), AllocError>
     ensures { OnOk result (Draws out.old.items out.new.items (bars_of form table numbers.now)) }
 {
@@ -116,7 +116,7 @@ pub fn extent_of_row(row: &Row) -> Extent {
     }
 }
 
-/// Draws the position of an item in SVG.
+/// Writes the start of an item in an SVG picture, at the given height.
 pub fn begin(out: &mut Vec<u8>, form: Form, height: u64, behind: Markup) -> Result<(), AllocError>
     ensures { OnOk result (Draws out.old.items out.new.items []) }
 {
@@ -211,7 +211,7 @@ fn table_text(table: Table) -> &'static str
     }
 }
 
-/// Draws the number of a column.
+/// Draws a number with the caption of the number's column.
 pub fn put_count(out: &mut Vec<u8>, column: Column, number: u64) -> Result<(), AllocError>
     ensures { OnOk result (Draws out.old.items out.new.items (count column number ∷ [])) }
 {

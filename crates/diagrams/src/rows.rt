@@ -20,7 +20,7 @@ pub struct Row {
     pub below: Vec<u32>,
 }
 
-/// A row off which a later leaf may branch.
+/// A row from which the row of a later leaf may branch off.
 #[derive(Drop)]
 struct Branch {
     /// The generation of the revision from which the row branches off.
@@ -88,8 +88,8 @@ fn open_below(alloc: Global, rows: &mut [Row]) -> Result<(), AllocError> {
     Ok(())
 }
 
-/// Given the generations `open` at which vertical edges continue below a row, computes these generations for the
-/// previous row. The row branches off at the generation `hang`, or does not branch off if `hang` is 0.
+/// Changes `open` from the generations at which vertical edges continue below a row to those of the previous row. The
+/// row branches off at the generation `hang`, or does not branch off if `hang` is 0.
 fn close(open: &mut Vec<u32>, hang: u32) -> Result<(), AllocError> {
     open.retain(|generation| *generation < hang);
     if hang > 0 {

@@ -86,7 +86,7 @@ pub fn extent_of(log: &Log) -> Extent {
     }
 }
 
-/// Returns the height at which a session is drawn, given the session's index and the height of its log.
+/// Returns the height at which a session is drawn, given the session's index and the height at which the log is drawn.
 fn height_of(height: u64, place: usize) -> u64 {
     height.saturating_add((place as u64).min(1 << 32) * ROW + ROW)
 }

@@ -148,8 +148,8 @@ fn draw_cells(
     Ok(())
 }
 
-/// Draws the part of a row in a column, if the column is between the start of the row and the leaf. The part is the
-/// edge to the column, and the contents of a column that is before the leaf's column.
+/// Draws a row's edge to a column. If the column is before the leaf's column, the call also draws the column's
+/// contents. If the column is before the row's start or after the leaf's column, the call draws nothing.
 fn draw_column(
     out: &mut Vec<u8>,
     cell: &Cell,
@@ -171,8 +171,8 @@ fn draw_column(
     Ok(())
 }
 
-/// Draws the edge to the column whose first generation is given. The edge starts in the column before, in this row or
-/// in the row from which this row branches off.
+/// Draws the edge to the column whose first generation is given. The edge starts in the previous column, either in the
+/// same row or in the row from which the row branches off.
 fn draw_edge(
     out: &mut Vec<u8>,
     low: u32,

@@ -110,8 +110,8 @@ fn draw_cells(
     Ok(())
 }
 
-/// Draws the part of a row in a column, unless the column is after the column of the leaf. The part is the edge to the
-/// column, and the contents of a column that is before the leaf's column.
+/// Draws a row's edge to a column. If the column is before the leaf's column, the call also draws the column's
+/// contents. If the column is after the leaf's column, the call draws nothing.
 fn draw_column(
     out: &mut Vec<u8>,
     cell: &Cell,

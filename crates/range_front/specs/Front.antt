@@ -5,13 +5,13 @@ use Rattle.std.specs.List.{list_any, list_all}
 use Rattle.range_front.specs.declared.fault.FrontFault.{FrontFault}
 use Rattle.range_front.specs.declared.fault.FrontFault.TheVariants as faults
 
--- A window of a front, given by its upper bound. A window of a front begins at the end of the previous window, or at
--- the front's start if it is the first window.
+-- A window of a front: its upper bound, and whether the window is done. A window of a front begins at the end of the
+-- previous window, or at the front's start if it is the first window.
 pub record FrontWindow : Type 0 where
   pub hi : ℕ
   pub done : Bool
 
--- A front: adjacent windows from a start.
+-- A front: a sequence at which the first window begins, and a list of adjacent windows.
 pub record FrontValue : Type 0 where
   pub start : ℕ
   pub windows : List FrontWindow
@@ -33,18 +33,18 @@ pub record FrontWithRoom : Type 0 where
 
 -- ---- derived values
 
--- A window (lo, hi] with both bounds, and whether it is done.
+-- A window (lo, hi]: both bounds, and whether the window is done.
 pub record Span : Type 0 where
   pub lo : ℕ
   pub hi : ℕ
   pub done : Bool
 
--- A list of adjacent windows with both bounds, the first of which begins at `lo`.
+-- The given adjacent windows, each with both bounds. The first window begins at `lo`.
 abbrev pub spans_from : ℕ → List FrontWindow → List Span
 spans_from lo [] = []
 spans_from lo (w ∷ ws) = record { lo = lo; hi = w.hi; done = w.done } ∷ spans_from w.hi ws
 
--- The windows of front f in order, with both bounds.
+-- The windows of front f in order, each with both bounds.
 abbrev pub spans : FrontValue → List Span
 spans f = spans_from f.start f.windows
 
@@ -64,7 +64,7 @@ is_done f lo hi = list_any (λ s. (s.lo == lo) && ((s.hi == hi) && s.done)) (spa
 abbrev pub all_done : FrontValue → Bool
 all_done f = list_all (λ w. w.done) f.windows
 
--- The end of a list of adjacent windows, the first of which begins at `start`.
+-- The end of the last of the given windows, or `start` if there are no windows.
 abbrev pub end_from : ℕ → List FrontWindow → ℕ
 end_from start [] = start
 end_from start (w ∷ ws) = end_from w.hi ws
@@ -98,7 +98,7 @@ range_count f = run_count false (above_low_water f.windows)
 abbrev pub no_windows : ℕ → FrontValue
 no_windows start = record { start = start; windows = [] }
 
--- Front f after appending a window from the end of f to `hi`, which is not done.
+-- Front f after a window from the end of f to `hi` is appended. The new window is not done.
 abbrev pub appended : FrontValue → ℕ → FrontValue
 appended f hi = record f { windows = f.windows ++ record { hi = hi; done = false } ∷ [] }
 
@@ -107,13 +107,13 @@ appended f hi = record f { windows = f.windows ++ record { hi = hi; done = false
 abbrev pub append_answer : FrontValue → ℕ → Result (Unit {0}) FrontFault
 append_answer f hi = if nat_le hi (end_of f) then Err (faults.NotRising (end_of f)) else Ok tt
 
--- A list of adjacent windows that begins at `from`, after marking the window (lo, hi] as done.
+-- The given adjacent windows, the first of which begins at `from`, after the window (lo, hi] is marked as done.
 abbrev pub finished_from : ℕ → List FrontWindow → ℕ → ℕ → List FrontWindow
 finished_from from [] lo hi = []
 finished_from from (w ∷ ws) lo hi =
     (if (from == lo) && (w.hi == hi) then record w { done = true } else w) ∷ finished_from w.hi ws lo hi
 
--- Front f after marking the window (lo, hi] as done.
+-- Front f after the window (lo, hi] is marked as done.
 abbrev pub finished : FrontValue → ℕ → ℕ → FrontValue
 finished f lo hi = record f { windows = finished_from f.start f.windows lo hi }
 
@@ -124,13 +124,13 @@ finish_answer f lo hi =
 
 -- ---- the invariant
 
--- The windows of a list are consecutive. Each window of the list begins at the end of the previous window, or at `lo`
--- if it is the first, and ends above its beginning.
+-- The windows of a list are consecutive: the first window begins at `lo`, and each later window begins at the end of
+-- the previous window. The upper bound of each window is above its lower bound.
 abbrev pub IsConsecutive : ℕ → List Span → Type 0
 IsConsecutive lo [] = Unit {0}
 IsConsecutive lo (s ∷ ss) = (s.lo ≡ lo) × (s.lo < s.hi) × IsConsecutive s.hi ss
 
--- Each window of a list ends above its beginning.
+-- The upper bounds of a list of adjacent windows rise, and the first upper bound is above `lo`.
 abbrev pub Rises : ℕ → List FrontWindow → Type 0
 Rises lo [] = Unit {0}
 Rises lo (w ∷ ws) = (lo < w.hi) × Rises w.hi ws

@@ -1,4 +1,4 @@
--- Lemmas for dependent crates about fronts, which are specified in docs/PROFILE.md, "Windows and low water".
+-- Lemmas about fronts, for dependent crates. Fronts are specified in docs/PROFILE.md, "Windows and low water".
 use Rattle.std.proofs.Common.{◌≡◌, ◌⊎◌, inl, inr, ℕ, ◌<◌, ◌≤◌, ◌^◌, true, false, ◌&&◌, ◌||◌, ◌==◌, [], ◌∷◌, ◌++◌, map, Ok, Err, sym, ap, ◌∙◌, arith}
 use Rattle.std.proofs.lemmas.Bool.{eqb-true, and_parts, or_cases}
 use Rattle.std.specs.List.{list_any}
@@ -81,7 +81,7 @@ end_of-finished f lo hi = end-finished f.start f.windows lo hi
 pub bounds-finished : (f : FrontValue) (lo hi : ℕ) → bounds (finished f lo hi) ≡ bounds f
 bounds-finished f lo hi = bounds-finished_from f.start f.windows lo hi
 
--- After finishing a window, the done windows are the finished window and the windows that were done before.
+-- After `finish` marks a window as done, exactly this window and the windows that were done before are done.
 pub is_done-finished : (f : FrontValue) (lo hi a b : ℕ) → is_done (finished f lo hi) a b ≡ (is_done f a b || (is_window f lo hi && ((lo == a) && (hi == b))))
 is_done-finished f lo hi a b = done-finished_from f.start f.windows lo hi a b
 

@@ -11,7 +11,7 @@ abbrev pub Rising : ℕ → List ℕ → Type 0
 Rising from [] = Unit {0}
 Rising from (e ∷ es) = (from < e) × Rising e es
 
--- Whether (lo, hi] is one of the adjacent windows with the ends `es`, the first of which begins at `from`.
+-- Whether (lo, hi] is one of the adjacent windows with the ends `es`. The first window begins at `from`.
 abbrev pub has_window : ℕ → List ℕ → ℕ → ℕ → Bool
 has_window from [] lo hi = false
 has_window from (e ∷ es) lo hi = ((from == lo) && (e == hi)) || has_window e es lo hi
@@ -63,7 +63,7 @@ joined mark rs lo hi = if mark == lo then absorbed hi rs else (mark, put_in rs l
 
 -- ---- the front
 
--- The windows with the ends `es`. The window that ends at `hi` is done if `done hi` is true.
+-- The windows with the ends `es`. The window that ends at `hi` is done exactly if `done hi` is true.
 abbrev pub marked : (ℕ → Bool) → List ℕ → List FrontWindow
 marked done es = map (λ hi. record { hi = hi; done = done hi }) es
 

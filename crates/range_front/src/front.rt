@@ -10,7 +10,8 @@ use std::marker::Model;
 /// A front is a list of adjacent windows `(lo, hi]` of sequences. Each window is done or not done.
 ///
 /// Windows are appended in order and finished in any order. The low water is the sequence up to which all windows are
-/// done. The done windows above the low water are stored as ranges. No range touches another range or the low water.
+/// done. The done windows above the low water are stored as ranges. No range of done windows touches another range or
+/// the low water.
 pub struct Front {
     start: u64,
     /// The upper bounds of the front's windows, in rising order.
@@ -76,7 +77,7 @@ impl Front {
         self.start
     }
 
-    /// Returns the upper bound of the last window. If the front has no window, the call returns its start.
+    /// Returns the upper bound of the last window. If the front has no window, the call returns the front's start.
     pub fn end(&self) -> u64
         ensures value { result ≡ end_of self.now.front }
         ensures front { IsFront self.now.front }
@@ -110,10 +111,10 @@ impl Front {
         Ok(())
     }
 
-    /// Reserves space for a call of `finish`. The next call of `finish` then does not return `Memory`, even if windows
-    /// are appended before that call.
+    /// Reserves space for one call of `finish`. After `reserve` succeeds, the next call of `finish` does not return
+    /// `Memory`, even if windows are appended before that call.
     ///
-    /// The call never changes the windows, even if the allocation fails.
+    /// `reserve` never changes the windows, even if the allocation fails.
     pub fn reserve(&mut self) -> Result<(), AllocError>
         ensures room { OnOk result (0 < self.new.room) }
         ensures kept { self.new.front ≡ self.old.front }
@@ -148,7 +149,7 @@ impl Front {
         Ok(())
     }
 
-    /// Whether `(lo, hi]` is a window that is done.
+    /// Whether `(lo, hi]` is a window of the front that is done.
     pub fn is_done(&self, lo: u64, hi: u64) -> bool
         ensures value { result ≡ is_done self.now.front lo hi }
         ensures front { IsFront self.now.front }

@@ -1,4 +1,5 @@
-//! Windows of a feed that are finished in any order, and the sequence up to which all windows are done.
+//! A front has the windows of a feed, which are finished in any order, and the sequence up to which all windows are
+//! done.
 //!
 //! The rules are in docs/PROFILE.md, "Goal and windows" and "Windows and low water".
 #![tactic(auto)]

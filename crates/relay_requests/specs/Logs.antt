@@ -8,7 +8,8 @@ use Rattle.json.specs.Print.{print}
 use Rattle.relay_core.specs.declared.messages.Counts.{Counts}
 use Rattle.relay_core.specs.Messages.{Text, EntryView, LogView, CheckpointView}
 
--- The path of both replication logs, which has the MD5 of six texts with line feeds between them.
+-- The path of the replication logs, which both servers use. The path ends with the MD5 of six texts, which are
+-- separated by line feeds.
 abbrev pub log_path : Text → Text → Text → Text → Text → Text → Text
 log_path source target filter query choice salt =
     codes "/_local/sandermauve-" ++ encode_lower (md5 (source ++ 10 ∷ (target ++ 10 ∷ (filter ++ 10 ∷ (query ++ 10 ∷ (choice ++ 10 ∷ salt))))))
@@ -51,14 +52,13 @@ is_of_session session r = bytes_eq r.0 session
 abbrev pub is_recorded : Text → Text → Recorded → Bool
 is_recorded session seq r = bytes_eq r.0 session && bytes_eq r.1 seq
 
--- Whether a log keeps an entry of its history, if the newer entries in `kept` are kept. A history keeps at most 50
--- entries, and at most two entries of a session. Entries of one session that are kept have different sequences.
+-- Whether a log that keeps the newer entries `kept` of its history also keeps the given entry. A history keeps at most
+-- 50 entries, and at most two entries of a session. The kept entries of one session have different sequences.
 abbrev pub may_keep : List Recorded → EntryView → Bool
 may_keep kept e =
     nat_lt (length kept) 50 && nat_lt (count_by (is_of_session e.session) kept) 2 && not (list_any (is_recorded e.session e.seq) kept)
 
--- The entries of a log's history that are kept, newest first. The list `kept` has newer entries, which are kept
--- already.
+-- The entries of a log's history that are kept, newest first. The list `kept` has the newer entries that the log keeps.
 abbrev pub thinned : List Recorded → List EntryView → List EntryView
 thinned kept [] = []
 thinned kept (e ∷ es) = if may_keep kept e then e ∷ thinned (kept ++ recorded_of e ∷ []) es else thinned kept es
@@ -79,8 +79,8 @@ abbrev pub head_tokens : Option Text → Text → Text → List Token
 head_tokens rev session seq =
     begin_object ∷ (rev_tokens rev ++ position_tokens session seq ++ key (codes "history") ∷ begin_array ∷ [])
 
--- The text of a log that records checkpoint c. A new entry is followed by the kept entries of the log that the same
--- server last returned.
+-- The text of a log that records checkpoint c. The text has a new entry, and then the kept entries of `log`, the log
+-- that the server last returned.
 abbrev pub log_text : Text → LogView → CheckpointView → Text
 log_text session log c =
     print (head_tokens log.rev session c.seq) ++ print (entry_tokens session c)

@@ -132,14 +132,14 @@ pub(crate) struct Recorded<'a> {
     pub(crate) seq: &'a str,
 }
 
-/// Returns the number of entries of a session among the entries that a log keeps.
+/// Returns the number of a session's entries among the kept entries of a log.
 fn count_of_session(kept: &[Recorded<'_>], session_id: &str) -> usize
     ensures { result ≡ count_by (is_of_session session_id.now) (kept_view kept.now) }
 {
     kept.iter().filter(|r| r.session_id == session_id).count()
 }
 
-/// Whether one of the entries that a log keeps has the given session id and the given recorded sequence.
+/// Whether one of the kept entries of a log has the given session id and the given recorded sequence.
 fn has_entry(kept: &[Recorded<'_>], session_id: &str, seq: &str) -> bool
     ensures { result ≡ list_any (λ r. is_recorded session_id.now seq.now (recorded_view r)) kept.now }
 {
@@ -147,7 +147,7 @@ fn has_entry(kept: &[Recorded<'_>], session_id: &str, seq: &str) -> bool
         .any(|r| r.session_id == session_id && r.seq == seq)
 }
 
-/// Whether the entries that a log keeps say that a session has recorded a sequence.
+/// Whether the kept entries of a log say that the session has recorded the sequence.
 fn is_recorded(kept: &[Recorded<'_>], session_id: &str, seq: &str) -> bool
     ensures { result ≡ list_any (is_recorded session_id.now seq.now) (kept_view kept.now) }
 {
@@ -168,7 +168,7 @@ fn has_space_for(kept: &[Recorded<'_>], session_id: &str) -> bool
     count_of_session(kept, session_id) < 2
 }
 
-/// Whether a log also keeps the older entry `entry`, if the log keeps the newer entries `kept`.
+/// Whether a log that keeps the newer entries `kept` also keeps the older entry `entry`.
 fn may_keep(kept: &[Recorded<'_>], entry: &LogEntry) -> bool
     ensures { result ≡ may_keep (kept_view kept.now) (entry_view entry.now) }
 {

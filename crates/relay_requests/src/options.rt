@@ -8,7 +8,7 @@ use std::alloc::{AllocError, Global};
 /// The options of a run that determine the text of its requests. An empty string means that the option is absent.
 #[derive(Drop)]
 pub struct RequestOptions {
-    /// The path of both replication logs.
+    /// The path of the replication logs, which both servers use.
     pub log_path: String,
     pub session_id: String,
     /// The largest number of changes in a page of the feed.

@@ -28,8 +28,8 @@ pub record IsWorld (refuses : Document → Bool) (w : WorldValue) : Type 0 where
 
 -- ---- tied worlds
 
--- The bag has a window at index `place`. If the window at `place` has the source's current life, the request `a`, or
--- the parcel `p`, is consistent with the window.
+-- The bag has a window at index `place`. If this window has the source's current life, the request `a` (in `OwnParcel`
+-- the parcel `p`) is consistent with the window.
 pub record OwnAsked (w : WorldValue) (place : ℕ) (a : AskedValue) : Type 0 where
   pub window : WindowValue
   pub own : slice_get w.bag.windows place ≡ Some window
@@ -46,8 +46,8 @@ pub record Tied (w : WorldValue) : Type 0 where
   -- The life of each window or log in the bag is at most the life of the source's database.
   pub window_lives : (x : WindowValue) → Among x w.bag.windows → x.life ≤ w.source.db.life
   pub log_lives : (g : ℕ × List EntryValue) → Among g w.bag.logs → g.0 ≤ w.source.db.life
-  -- A window of the bag that has the source's current life is consistent with the source's database. Each request or
-  -- parcel in the bag is consistent with its window, if the window has the source's current life.
+  -- A window of the bag that has the source's current life is consistent with the source's database. If the window of a
+  -- request or parcel in the bag has the source's current life, the request or parcel is consistent with the window.
   pub windows : (x : WindowValue) → Among x w.bag.windows → x.life ≡ w.source.db.life
       → IsTiedWindow w.source.db w.chosen x
   pub asked : (a : ℕ × AskedValue) → Among a w.bag.asked → OwnAsked w a.0 a.1

@@ -137,7 +137,7 @@ abbrev pub begins : WorldValue → SessionId → ℕ → ℕ → Option (ℕ × 
 begins w session goal at None = w
 begins w session goal at (Some log) = record w { target = after_begin w.target session (beginning_in w goal log) at }
 
--- The world after adding a backup of the source, if making the backup succeeded.
+-- The world after the given backup of the source is added, or the unchanged world if making the backup failed.
 abbrev pub backs_up : WorldValue → Result BackupValue TargetFault → WorldValue
 backs_up w (Ok b) = record w { backups = w.backups ++ b ∷ [] }
 backs_up w (Err fault) = w
@@ -173,7 +173,7 @@ run refuses w (step ∷ steps) = run refuses (happens refuses w step) steps
 -- ---- failed allocations
 
 -- The effect of a step that ran out of memory. A step that runs out of memory changes nothing, except that a step that
--- settles a parcel may have settled a part of the parcel's documents.
+-- settles a parcel may have settled documents of the parcel.
 abbrev pub IsStopped : (Document → Bool) → WorldValue → SessionId → Option (ℕ × ParcelValue) → WorldValue → Type 0
 IsStopped refuses w session parcel now =
     (now ≡ w)

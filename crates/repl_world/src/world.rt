@@ -132,12 +132,12 @@ impl<F: WriteFilter> World<F> {
 
     /// Takes steps in order.
     ///
-    /// If a peer's call fails in a step, the step has the effects of the failed call. A step whose index is not in the
-    /// message bag changes nothing. If an allocation fails, the failed step changes nothing, except that a step that
-    /// settles a parcel may have settled a part of the parcel's documents (`Stopped`).
+    /// If a peer's call fails in a step, the step has the effects of the failed call. A step changes nothing if the
+    /// message bag has no message at the step's index. If an allocation fails, the failed step changes nothing, except
+    /// that a step that settles a parcel may have settled documents of the parcel (`Stopped`).
     ///
-    /// A consistent world stays consistent. The target of a consistent world covers the source's current feed up to the
-    /// sequences that both logs claim.
+    /// A consistent world stays consistent. The target of a consistent world covers the source's current feed up to
+    /// each sequence that both logs claim.
     pub fn run(&mut self, alloc: Global, steps: &[Step]) -> Result<(), AllocError>
         ensures filters { self.new.0 ≡ self.old.0 }
         ensures ok { OnOk result (self.new.1 ≡ run (F.refuses self.old.0.1) self.old.1 steps.now) }

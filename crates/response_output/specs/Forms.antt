@@ -52,8 +52,8 @@ before_rev Diffs = codes ":["
 before_rev Docs = codes ",\"rev\":"
 before_rev Bodies = codes ",\"rev\":"
 
--- Whether a request body has the revisions of a document as one list. Such a body ends before a document, not after a
--- revision.
+-- Whether a request body has the revisions of a document as one list. A request body with lists of revisions is closed
+-- before a document, not after a revision.
 abbrev pub has_lists : Form → Bool
 has_lists Loads = false
 has_lists Asked = false

@@ -25,8 +25,8 @@ use Rattle.response_output.specs.declared.run.AnswerFault.TheVariants.{Refused, 
 abbrev pub IsBegun : State → Words → List ℕ → Type 0
 IsBegun s w part = (part ≡ []) ⊎ ((written : List ℕ) × HasWritten s written × (part ≡ before w ++ written))
 
--- The given bytes were read, and the items in these bytes were written, and then the beginning `part` of the next item.
--- The last two arguments of `Fed` are the bytes that the writer has accepted before and after.
+-- The given bytes were read, the items in these bytes were written, and then the beginning `part` of the next item was
+-- written. The last two arguments of `Fed` are the bytes that the writer had accepted before and after this step.
 pub record Fed (s : State) (w : Words) (bytes : List ℕ) (s' : State) (w' : Words) (part : List ℕ) (held held' : Option (List ℕ)) : Type 0 where
   pub state : s' ≡ after s bytes
   pub words : w' ≡ words_behind w (pieces s bytes)
@@ -40,12 +40,12 @@ IsWhole Write missing = ⊤
 IsWhole Memory missing = missing ≡ []
 IsWhole Cut missing = ⊥
 
--- A text was not written completely: a write failed in the text, or before its first byte.
+-- A text was not written completely: a write failed within the text, or an error occurred before the text's first byte.
 pub data WritesInPart (fault : ScriptFault) (made : List ℕ) (held held' : Option (List ℕ)) : Type 0 where
   in_part : (text missing : List ℕ) → made ≡ text ++ missing → Appends held held' text → fault ≡ Write → WritesInPart fault made held held'
   nothing : Appends held held' [] → IsWhole fault [] → WritesInPart fault made held held'
 
--- An error at the end of a document, after the part `front` of the document's text was written. The error is
+-- An error at the end of a document, after the text `front` was written for the document's beginning. The error is
 -- `LateMember` if the document's text does not begin with `front`. Otherwise a device or an allocation failed, and the
 -- rest of the document was not written completely. The parser has the state s at the document's end.
 abbrev pub RestBreaks : AnswerFault → State → Words → List ℕ → Option (List ℕ) → Option (List ℕ) → Type 0
@@ -55,9 +55,10 @@ RestBreaks (LateMember at) s w front held held' =
 RestBreaks (Device fault) s w front held held' =
     (starts_with nat_eq s.text front ≡ true) × WritesInPart fault (rest_text w s.text (length front)) held held'
 
--- A device or an allocation failed after `before`, a prefix of the given bytes. The output for this prefix is the texts
--- of the items in it, and then the beginning `last` of the next item. The text `part` of this output was written before
--- the given bytes were read, and `text` after that. The remaining text `missing` is empty, unless a write failed.
+-- A device or an allocation failed after `before`, a prefix of the given bytes. The output for `before` consists of the
+-- texts of the items in `before`, and the beginning `last` of the next item. The text `part` of this output was written
+-- before the given bytes were read, and `text` was written later. The unwritten text `missing` is empty, unless a write
+-- failed.
 pub record Begins (fault : ScriptFault) (s : State) (w : Words) (part bytes : List ℕ) (held held' : Option (List ℕ)) : Type 0 where
   pub before : List ℕ
   pub behind : List ℕ
@@ -70,10 +71,10 @@ pub record Begins (fault : ScriptFault) (s : State) (w : Words) (part bytes : Li
   pub written : Appends held held' text
   pub complete : IsWhole fault missing
 
--- Of the given bytes, the byte `last` after the bytes `front` ends a long document. The output `begun`, which was
--- written for the beginning of this document, is not the beginning of the document's output (`IsLate`). The items in
--- `front` were written, and then `begun`. The text `part` was written before the given bytes were read. The parser has
--- read `at` bytes up to the document's end.
+-- The given bytes begin with `front` and the byte `last`, which ends a long document. The output `begun`, which was
+-- written for the beginning of the long document, is not the beginning of the document's output (`IsLate`). The items
+-- in `front` were written, and then `begun`. The text `part` was written before the given bytes were read. Up to the
+-- end of the long document, the parser has read `at` bytes.
 pub record IsLateAt (at : ℕ) (s : State) (w : Words) (part bytes : List ℕ) (held held' : Option (List ℕ)) : Type 0 where
   pub front : List ℕ
   pub last : ℕ
@@ -94,10 +95,10 @@ Breaks (Device fault) s w part bytes held held' = Begins fault s w part bytes he
 
 -- ---- the stored parser
 
--- The state s is of a parser that stores each byte, and r is the state of the program's parser. The output has begun
--- the next item with the text `part`. If the current document is long, `front` is the output for its beginning without
--- the bytes that the program's parser did not store. The program's parser had stored `at` bytes of the document when
--- `front` was built.
+-- The program's parser has the state r, and a parser that stores each byte would have the state s. The output has begun
+-- the next item with the text `part`. If the current document is long, `front` is the output for the document's
+-- beginning, without the bytes that the program's parser did not store. The program's parser had stored `at` bytes of
+-- the document when `front` was built.
 pub data Tracks (s r : State) (front : List ℕ) (at : ℕ) (w : Words) (part : List ℕ) : Type 0 where
   tracks_whole : Like s r → front ≡ [] → part ≡ [] → Tracks s r front at w part
   tracks_long : (cut : LongCut) (name : Name) → Mirrors cut name s r → front ≡ cut.front → at ≡ length cut.stored → (length front == 0) ≡ false
@@ -105,7 +106,7 @@ pub data Tracks (s r : State) (front : List ℕ) (at : ℕ) (w : Words) (part : 
   tracks_stuck : (cut : LongCut) → Rejected cut s r → part ≡ before w ++ cut.written → Tracks s r front at w part
 
 -- The parser read the given bytes, and the items in these bytes were written. The texts `part` and `part'` are the
--- beginnings of the next item that were written before and after.
+-- beginnings of the next item that were written before and after these bytes were read.
 pub record Feeds (s : State) (w : Words) (part bytes : List ℕ) (r' : State) (front' : List ℕ) (at' : ℕ) (w' : Words) (held held' : Option (List ℕ)) : Type 0 where
   pub part' : List ℕ
   pub tracks : Tracks (after s bytes) r' front' at' w' part'
@@ -120,7 +121,7 @@ pub record Feeds (s : State) (w : Words) (part bytes : List ℕ) (r' : State) (f
 abbrev pub all_text : Words → List Piece → List ℕ
 all_text w all = texts w all ++ last_text (words_behind w all)
 
--- A write failed within the text that ends the output, so that only a part of it is written.
+-- A write failed within the text that ends the output, so only a prefix of this text was written.
 pub record EndsInPart (fault : ScriptFault) (whole : List ℕ) (held held' : Option (List ℕ)) : Type 0 where
   pub text : List ℕ
   pub missing : List ℕ
@@ -128,7 +129,7 @@ pub record EndsInPart (fault : ScriptFault) (whole : List ℕ) (held held' : Opt
   pub written : Appends held held' text
   pub failed : fault ≡ Write
 
--- The text that ends the output is written if the input consists of complete responses.
+-- If the input consists of complete responses, the text that ends the output is written.
 abbrev pub EndsAnswers : State → Words → Option (List ℕ) → Option (List ℕ) → Result ℕ AnswerFault → Type 0
 EndsAnswers s w held held' (Ok passed) =
     Appends held held' (last_text w) × (end_of s.place ≡ Ok tt) × (passed ≡ s.passed)
@@ -137,8 +138,8 @@ EndsAnswers s w held held' (Err (Refused why at)) =
 EndsAnswers s w held held' (Err (LateMember at)) = ⊥
 EndsAnswers s w held held' (Err (Device fault)) = EndsInPart fault (last_text w) held held' × (end_of s.place ≡ Ok tt)
 
--- The effect of the end of the input on a conversion, which first adds a line end to a last line without one. The text
--- `part` is the beginning of an item that was written before the end.
+-- The effect of the end of the input on a conversion. If the last line has no line end, the conversion first adds a
+-- line end. The text `part` is the beginning of an item, and was written before the end of the input.
 abbrev pub Finishes : State → Words → List ℕ → Option (List ℕ) → Option (List ℕ) → Result ℕ AnswerFault → Type 0
 Finishes s w part held held' (Ok passed) =
     (text : List ℕ) × Appends held held' text × (part ++ text ≡ all_text w (pieces s (last_end s)))
@@ -154,13 +155,13 @@ Finishes s w part held held' (Err (Device fault)) =
 
 -- ---- everything from a reader
 
--- The input of a conversion is all remaining bytes of the reader, with a line end added if the last line has none. No
--- byte of the input is rejected.
+-- The input of a conversion consists of all remaining bytes of the reader, and of a line end if the last line has none.
+-- No byte of the input is rejected.
 abbrev pub IsAll : Wanted → Option (List ℕ) → List ℕ → Type 0
 IsAll wanted left read =
     (input : List ℕ) × Gives left input × (read ≡ whole (start wanted) input) × (is_refused (after (start wanted) input).place ≡ false)
 
--- The input of a conversion is all remaining bytes of the reader, with a line end added if the last line has none.
+-- The input of a conversion consists of all remaining bytes of the reader, and of a line end if the last line has none.
 -- Bytes of the input may be rejected.
 abbrev pub IsLeft : Wanted → Option (List ℕ) → List ℕ → Type 0
 IsLeft wanted left read = (input : List ℕ) × Gives left input × (read ≡ whole (start wanted) input)
@@ -171,8 +172,8 @@ IsFront wanted left read =
     (rest : List ℕ) × Gives left (read ++ rest) × (is_refused (after (start wanted) read).place ≡ true)
 
 -- The input consists of complete responses, `passed` documents were skipped, and the items in the input are written.
--- The arguments of `Answered` are the reader's remaining bytes, and the bytes that the writer has accepted before and
--- after.
+-- The arguments `left`, `held` and `held'` are the reader's remaining bytes, and the bytes that the writer had accepted
+-- before and after the conversion.
 abbrev pub Answered : Wanted → Words → Option (List ℕ) → Option (List ℕ) → Option (List ℕ) → ℕ → Type 0
 Answered wanted w left held held' passed =
     (read : List ℕ) × IsAll wanted left read × Appends held held' (all_text w (pieces (start wanted) read))
@@ -181,7 +182,7 @@ Answered wanted w left held held' passed =
 -- The effect of a run that failed. If the input of a run is invalid at its last byte, the items before that byte are
 -- written. If a device or an allocation failed, the written text is a prefix of the output for the complete input. If
 -- the run failed in a long document, the beginning of the document's output is written, too. After the error
--- `LateMember`, this beginning is not the beginning of the document's complete output.
+-- `LateMember`, the text written for a long document is not the beginning of the document's complete output.
 abbrev pub Stopped : Wanted → Words → Option (List ℕ) → Option (List ℕ) → Option (List ℕ) → AnswerFault → Type 0
 Stopped wanted w left held held' (Refused why at) =
     (read : List ℕ) × (IsFront wanted left read ⊎ IsAll wanted left read)
@@ -200,7 +201,7 @@ Converts (Ok passed) wanted w left held held' = Answered wanted w left held held
 Converts (Err fault) wanted w left held held' = Stopped wanted w left held held' fault
 
 -- The effect of a run on responses with the given items: the items are written, and the input is not rejected. After
--- the error `LateMember`, the first items are written, and the beginning `begun` of the next one.
+-- the error `LateMember`, the first items are written, and the text `begun` for a part of the next item.
 abbrev pub ReadsAnswers : Words → List Piece → Option (List ℕ) → Option (List ℕ) → Result ℕ AnswerFault → Type 0
 ReadsAnswers w all held held' (Ok passed) = Appends held held' (all_text w all)
 ReadsAnswers w all held held' (Err (Refused why at)) = ⊥
@@ -209,8 +210,10 @@ ReadsAnswers w all held held' (Err (LateMember at)) =
     × Appends held held' (texts w told ++ (before (words_behind w told) ++ begun))
 ReadsAnswers w all held held' (Err (Device fault)) = ⊤
 
--- Of the reader and the writer, exactly the device that the error names failed. The arguments of `CountsOf` are the
--- reader's counts of reads before and after, then the failure counts of reader and writer.
+-- After the error `Read`, either the reader failed or the maximum number of reads was reached, and the writer did not
+-- fail. After the error `Write`, the writer failed and the reader did not. After any other error, neither the reader
+-- nor the writer failed. The arguments of `CountsOf` are the reader's counts of reads before and after, then the
+-- failure counts of reader and writer.
 abbrev pub CountsOf : AnswerFault → ℕ → ℕ → ℕ → ℕ → ℕ → ℕ → Type 0
 CountsOf (Refused why at) reads reads' reader reader' writer writer' = (reader' ≡ reader) × (writer' ≡ writer)
 CountsOf (LateMember at) reads reads' reader reader' writer writer' = (reader' ≡ reader) × (writer' ≡ writer)

@@ -30,7 +30,7 @@ pub record Words : Type 0 where
 abbrev pub before : Words → List ℕ
 before w = cond (w.count == 0) (opening w.form) (separator w.form) ++ w.begins
 
--- Whether the formatter's request body is full, and is therefore closed, after one more item.
+-- Whether one more item fills the formatter's request body, so that the formatter closes the body.
 abbrev pub is_full : Words → Bool
 is_full w = not (has_lists w.form) && more w.count == w.size
 
@@ -47,8 +47,8 @@ id_kept w id = record w { id = id; listed = false }
 abbrev pub document_text : Words → List ℕ → List ℕ
 document_text w text = before w ++ (text ++ behind w)
 
--- The output for a part of a document. The part has the text `front` without its first `told` bytes, and then the given
--- bytes. If `told` is 0, the output begins with the text that the formatter writes before a document.
+-- The output for a part of a document. The part consists of the text `front` without the first `told` bytes, and of the
+-- given bytes. If `told` is 0, the output begins with the text that the formatter writes before a document.
 abbrev pub part_text : Words → List ℕ → ℕ → List ℕ → List ℕ
 part_text w front told bytes = cond (told == 0) (before w) [] ++ (drop told front ++ bytes)
 
@@ -59,11 +59,11 @@ rest_text w text told = drop told text ++ behind w
 abbrev pub with_document : Words → List ℕ → Words
 with_document w text = counted_up (id_kept w (id_of text))
 
--- Whether the formatter's request body of lists is full.
+-- Whether the formatter's request body has lists of revisions, and is full.
 abbrev pub is_over : Words → Bool
 is_over w = has_lists w.form && (nat_lt 0 w.count && w.count == w.size)
 
--- The text that closes a full request body of lists before the next document.
+-- The text that closes a full request body with lists of revisions before the next document, or the empty text.
 abbrev pub over_text : Words → List ℕ
 over_text w = cond (is_over w) (closing w.form) []
 
@@ -78,7 +78,7 @@ first_rev_text w text =
 abbrev pub with_first_rev : Words → Words
 with_first_rev w = record (counted_up (over w)) { listed = true }
 
--- Whether the next revision belongs to a document's list that has a revision already.
+-- Whether the next revision is added to a document's list of revisions that already has a revision.
 abbrev pub is_further : Words → Bool
 is_further w = has_lists w.form && w.listed
 
@@ -102,7 +102,7 @@ words_then w Rev text = with_rev w
 
 -- ---- all items
 
--- The texts that the formatter writes for items, in order.
+-- The text that the formatter writes for the given items, in order.
 abbrev pub texts : Words → List Piece → List ℕ
 texts w [] = []
 texts w (p ∷ more) = text_for w p.0 p.1 ++ texts (words_then w p.0 p.1) more
@@ -124,11 +124,12 @@ words_of form begins size = record { form = form; begins = begins; id = []; list
 abbrev pub loads_of : List ℕ → Words
 loads_of db = words_of Loads (codes "{\"do\":\"load\",\"db\":\"" ++ (db ++ codes "\",\"doc\":")) 0
 
--- The formatter of request bodies for `size` leaves each.
+-- The formatter of `_bulk_get` request bodies, each of which requests at most `size` leaves, or any number if `size` is
+-- 0.
 abbrev pub asked_of : ℕ → Words
 asked_of size = words_of Asked (codes "{\"id\":") size
 
--- The formatter of `_revs_diff` request bodies of `size` documents each.
+-- The formatter of `_revs_diff` request bodies with at most `size` documents each, or with any number if `size` is 0.
 abbrev pub diffs_of : ℕ → Words
 diffs_of size = words_of Diffs [] size
 
@@ -136,6 +137,6 @@ diffs_of size = words_of Diffs [] size
 abbrev pub docs_of : List ℕ → Words
 docs_of db = words_of Docs (codes "{\"do\":\"doc\",\"db\":\"" ++ (db ++ codes "\",\"id\":")) 0
 
--- The formatter of `_bulk_docs` request bodies of `size` documents each.
+-- The formatter of `_bulk_docs` request bodies with at most `size` documents each, or with any number if `size` is 0.
 abbrev pub bodies_of : ℕ → Words
 bodies_of size = words_of Bodies [] size

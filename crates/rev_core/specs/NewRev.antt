@@ -8,12 +8,12 @@ use Rattle.rev_core.specs.Text.{rev_text}
 use Rattle.rev_core.specs.declared.fault.RevFault.{RevFault}
 use Rattle.rev_core.specs.declared.fault.RevFault.TheVariants as faults
 
--- The generation of a new revision: 1 without a parent, else the parent's generation plus 1.
+-- The generation of a new revision: 1 if there is no parent, else the parent's generation plus 1.
 abbrev pub next_generation : Option RevId → ℕ
 next_generation None = 1
 next_generation (Some parent) = parent.generation + 1
 
--- The string of the parent's revision id, or an empty string without a parent.
+-- The string of the parent's revision id, or an empty string if there is no parent.
 abbrev pub parent_text : Option RevId → List ℕ
 parent_text None = []
 parent_text (Some parent) = rev_text parent
@@ -23,7 +23,8 @@ abbrev pub kind_text : Bool → List ℕ
 kind_text true = codes "deleted"
 kind_text false = codes "live"
 
--- The bytes of an edit that are hashed: the parent, `live` or `deleted`, and the body, separated by line feeds.
+-- The bytes of an edit that are hashed: the parent's string, then `live` or `deleted`, then the body, separated by line
+-- feeds.
 abbrev pub edit_text : Option RevId → Bool → List ℕ → List ℕ
 edit_text parent deleted body = parent_text parent ++ 10 ∷ (kind_text deleted ++ 10 ∷ body)
 

@@ -10,7 +10,7 @@ pub record RevId : Type 0 where
   pub generation : ℕ
   pub sig : List ℕ
 
--- A revision id is valid: its generation is from 1 to 2^32 - 1, and its signature is valid.
+-- A valid revision id has a generation from 1 to 2^32 - 1 and a valid signature.
 pub record IsRev (r : RevId) : Type 0 where
   pub low : 1 ≤ r.generation
   pub high : r.generation < 2 ^ 32

@@ -10,7 +10,7 @@ is_sig_byte b =
     nat_le 97 b && nat_le b 122 || nat_le 65 b && nat_le b 90 || nat_le 48 b && nat_le b 57 || b == 45 || b == 95
     || b == 46
 
--- Whether a string is a signature: 1 to 64 bytes that a signature may have.
+-- Whether a string is a signature: 1 to 64 bytes, each an ASCII letter, a digit, `-`, `_` or `.`.
 abbrev pub is_sig : List ℕ → Bool
 is_sig text = nat_le 1 (length text) && nat_le (length text) 64 && list_all is_sig_byte text
 

@@ -29,7 +29,7 @@ generation_read text = if is_generation text then Some (value_of text) else None
 abbrev pub is_dash : ℕ → Bool
 is_dash c = c == 45
 
--- The revision id of a parsed generation and the string after the `-`, or the error of either part.
+-- The revision id with the parsed generation and the string after the `-`, or the error of the first invalid part.
 abbrev pub with_sig : Option ℕ → List ℕ → Result RevId RevFault
 with_sig None text = Err faults.BadGeneration
 with_sig (Some n) text = if is_sig text then Ok (record { generation = n; sig = text }) else Err faults.BadSig
@@ -43,6 +43,6 @@ cut_at text (Some i) = with_sig (generation_read (take i text)) (drop (i + 1) te
 abbrev pub rev_read : List ℕ → Result RevId RevFault
 rev_read text = cut_at text (position is_dash text)
 
--- The string of a revision id: the generation in decimal, `-`, the signature.
+-- The string of a revision id: the generation in decimal, `-`, and the signature.
 abbrev pub rev_text : RevId → List ℕ
 rev_text r = decimal r.generation ++ 45 ∷ r.sig

@@ -14,7 +14,7 @@ use Rattle.rev_core.specs.Rev.{RevId, IsRev}
 use Rattle.rev_core.specs.Text.{is_digit, with_digit, value_of, is_generation, generation_read, is_dash, with_sig, cut_at, rev_read, rev_text}
 use Rattle.rev_core.specs.declared.fault.RevFault.TheVariants as faults
 
--- The function `value_of` computes the value of a numeral as the standard library defines it.
+-- The function `value_of` computes the value that the standard library defines for a numeral.
 decimals : IsNumeralModel (λ ds. list_all is_digit ds ≡ true) value_of
 decimals = numerals_by_fold _ (search rules) (fold with_digit) (search rules)
 

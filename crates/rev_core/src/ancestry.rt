@@ -7,9 +7,9 @@ use crate::sig::Sig;
 use std::alloc::{AllocError, Global};
 use std::marker::Model;
 
-/// A revision and its known ancestors, newest first. Each ancestor is one generation below the revision before it.
+/// A revision and its known ancestors, newest first. The generations fall by one from each revision to the next.
 ///
-/// The oldest revision of an ancestry may be above generation 1, because older ancestors may be unknown.
+/// The oldest revision of an ancestry may have a generation above 1, because older ancestors may be unknown.
 #[derive(Debug, Drop)]
 pub struct Ancestry {
     revs: Vec<Rev>,

@@ -6,7 +6,7 @@ ghost use Rattle.rev_core.specs.declared.fault.RevFault.TheVariants.{Memory};
 use std::alloc::{AllocError, AllocFailed};
 use thiserror::Error;
 
-/// The reason why a call rejected a string or a list, or the failure of an allocation.
+/// The reason why a call of this crate failed: the call rejected its arguments, or an allocation failed.
 #[derive(Clone, Copy, Debug, PartialEq, Eq, Error)]
 pub enum RevFault {
     /// The string has no `-`, or the part before the first `-` is not a generation.

@@ -10,9 +10,9 @@ use std::marker::Model;
 
 /// A compact revision, which takes 24 bytes instead of the 72 bytes of a `Rev`, for lists of many revisions.
 ///
-/// A revision with a short signature is stored in the `KeptRev` itself. A revision with another signature is stored in
-/// a heap block. A signature is short if it has at most 16 bytes, or consists of the 32 lower-case hexadecimal digits
-/// of a digest. Most signatures are digests.
+/// A revision with a short signature is stored in the `KeptRev` itself. A revision whose signature is not short is
+/// stored in a heap block. A signature is short if it has at most 16 bytes, or consists of the 32 lower-case
+/// hexadecimal digits of a digest. Most signatures are digests.
 #[derive(Debug)]
 pub struct KeptRev {
     form: Form,

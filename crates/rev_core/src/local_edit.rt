@@ -38,7 +38,8 @@ pub fn new_rev(
     Ok(Rev::new(generation + 1, sig))
 }
 
-/// Computes the digest of the parent's string, `live` or `deleted`, and the body, separated by line feeds.
+/// Computes the digest of three strings, separated by line feeds: the parent's string, `live` or `deleted`, and the
+/// body.
 fn edit_sig(
     alloc: Global,
     parent: Option<Rev>,

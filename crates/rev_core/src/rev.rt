@@ -49,8 +49,8 @@ impl Rev {
         Rev { generation, sig }
     }
 
-    /// Parses a revision id. The call splits the string at its first `-`. If `parse` converts a string to a revision,
-    /// `write` returns this string for the revision.
+    /// Parses a revision id. `parse` splits the string at the first `-`. If `parse` returns a revision for a string,
+    /// `write` returns the same string for this revision.
     ///
     /// # Errors
     ///

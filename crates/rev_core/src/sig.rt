@@ -1,4 +1,4 @@
-//! Signatures are the parts of revision ids after the `-`.
+//! A signature is the part of a revision id after the first `-`.
 ghost use Rattle.std.specs.Prelude.{◌≡◌, ◌≤◌, ◌∷◌, [], true, length, nat_eq};
 ghost use Rattle.std.specs.List.{list_all};
 ghost use Rattle.std.specs.Ordering.{nat_cmp, as_partial_cmp};
@@ -169,7 +169,7 @@ fn padded(text: &[u8]) -> [u8; 64]
 {
     let mut bytes = [0; 64];
     if text.len() == 32 {
-        // Most signatures are the 32 digits of a digest, for which the compiler can inline a copy of fixed length.
+        // Most signatures are the 32 digits of a digest. The compiler can inline a copy of this fixed length.
         bytes[..32].copy_from_slice(text);
     } else {
         bytes[..text.len()].copy_from_slice(text);

@@ -15,12 +15,12 @@ const MAX_READS: u32 = 4294967295;
 /// The maximum number of bytes that one read requests.
 const CHUNK: usize = 65536;
 
-/// The state of reading a reader's input in chunks, with the buffer for a chunk.
+/// A chunk reader: the buffer with the last chunk, and the number of reads.
 #[derive(Drop)]
 pub struct Chunks {
     /// The buffer for a chunk.
     room: Vec<u8>,
-    /// The length of the chunk that was read last, which is stored at the start of the buffer.
+    /// The length of the last chunk. The last chunk is stored at the start of the buffer.
     count: usize,
     /// The number of reads that were made.
     turns: u32,

@@ -18,8 +18,8 @@ use std::process::ExitCode;
 use std::sync::Wait;
 use std::thread::Threads;
 
-/// Runs the script on standard input with the default settings. Returns whether no line failed, and both streams. The
-/// contract names the bytes that went through the streams.
+/// Runs the script on standard input with the default settings. Returns the script's result, the reader of standard
+/// input, and the writer of standard output. The contract names the bytes that were read and written.
 ///
 /// # Errors
 ///

@@ -15,7 +15,7 @@ hidden_ranges =
     ∷ (0xFFFE, 0xFFFF) ∷ (0x110BD, 0x110BD) ∷ (0x110CD, 0x110CD) ∷ (0x13430, 0x1343F) ∷ (0x1BCA0, 0x1BCA3)
     ∷ (0x1D173, 0x1D17A) ∷ (0xE0000, 0xE0FFF) ∷ []
 
--- Whether a character is hidden: a control character or in one of the hidden ranges.
+-- Whether a character is hidden, that is, is a control character, or is in one of the hidden ranges.
 unfoldable pub is_hidden : ℕ → Bool
 is_hidden c = is_control c || list_any (λ r. is_in_range r.0 r.1 c) hidden_ranges
 
@@ -42,7 +42,7 @@ visible_char c = if is_hidden c then escape_of c else c ∷ []
 abbrev pub visible : List ℕ → List ℕ
 visible cs = flat_map visible_char cs
 
--- The form of a character in a JSON string without hidden characters.
+-- The text for one character of a JSON string without hidden characters.
 abbrev pub quoted_char : ℕ → List ℕ
 quoted_char c = if c == 34 then 92 ∷ 34 ∷ [] else if c == 92 then 92 ∷ 92 ∷ [] else visible_char c
 

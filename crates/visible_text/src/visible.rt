@@ -28,7 +28,7 @@ pub fn is_hidden(c: char) -> bool
 }
 
 /// Appends the JSON escape of a character, which is `\u` with four hexadecimal digits (RFC 8259, section 7). For a
-/// character above U+FFFF, the call appends two such escapes.
+/// character above U+FFFF, the call appends the escapes of the character's two surrogates.
 ///
 /// # Errors
 ///
@@ -67,7 +67,7 @@ fn hex_digit(digit: u32) -> char
     }
 }
 
-/// Appends a character, or its escape if it is hidden.
+/// Appends a character, or the character's escape if the character is hidden.
 fn push_visible_char(out: &mut String, c: char) -> Result<(), AllocError>
     ensures { OnOk result (string_bytes out.new ≡ string_bytes out.old ++ encode_utf8_all (visible_char c)) }
 {
@@ -91,8 +91,8 @@ pub fn push_visible(out: &mut String, text: &str) -> Result<(), AllocError>
     Ok(())
 }
 
-/// Appends a character of a JSON string. The call appends a backslash before a quotation mark or a backslash, and the
-/// escape of a hidden character.
+/// Appends a character of a JSON string. The call puts a backslash before a quotation mark or a backslash, and replaces
+/// a hidden character by its escape.
 fn push_quoted_char(out: &mut String, c: char) -> Result<(), AllocError>
     ensures { OnOk result (string_bytes out.new ≡ string_bytes out.old ++ encode_utf8_all (quoted_char c)) }
 {
@@ -103,7 +103,7 @@ fn push_quoted_char(out: &mut String, c: char) -> Result<(), AllocError>
     }
 }
 
-/// Appends the characters of a JSON string, without its quotation marks.
+/// Appends the characters of a JSON string, without quotation marks around the string.
 fn push_quoted_chars(out: &mut String, text: &str) -> Result<(), AllocError>
     ensures { OnOk result (string_bytes out.new ≡ string_bytes out.old ++ encode_utf8_all (quoted_chars (chars text.now))) }
 {

@@ -137,7 +137,7 @@ fn a_refused_descendant_covers(rt: HostRuntime) {
         (Call::Covered(TARGET, "d", "1-a"), "true"),
         (Call::Record(TARGET, S1, 11), "1"),
     ];
-    // The target has no tree of the refused document d, so the second session also requests and refuses d.
+    // The target has no tree of the document d, so the second session also requests and refuses d.
     const LAST: Rows = &[
         (
             Call::Diff(TARGET, SECOND),

@@ -208,7 +208,8 @@ fn windows_done_out_of_order(rt: HostRuntime) {
     assert_eq!(rt; gate.at_first.load(Ordering::SeqCst), 4);
 }
 
-// This test detects a run that takes the count of fetched documents from the report, which has the count 0.
+// This test detects a run that returns the session's count of read documents as the count of fetched documents. Here
+// the session has read 0 documents.
 #[test]
 fn fetched_is_counted_where_a_run_stops(rt: HostRuntime) {
     const HALTED: &str = "Halted(Fetched(0)), fetched 2";

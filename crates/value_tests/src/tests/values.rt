@@ -91,7 +91,7 @@ fn owned(alloc: Global, value: &LineValue<'_>) -> Option<Value> {
 
 /// Copies an array.
 #[cycle(owned)]
-fn owned_items(alloc: Global, items: &Vec<LineValue<'_>>) -> Option<Value> {
+fn owned_items(alloc: Global, items: &[LineValue<'_>]) -> Option<Value> {
     let mut list = Vec::new(alloc);
     for item in items {
         let Ok(()) = serde_json::push(&mut list, owned(alloc, item)?) else {
@@ -103,7 +103,7 @@ fn owned_items(alloc: Global, items: &Vec<LineValue<'_>>) -> Option<Value> {
 
 /// Copies an object.
 #[cycle(owned)]
-fn owned_members(alloc: Global, members: &Vec<(&str, LineValue<'_>)>) -> Option<Value> {
+fn owned_members(alloc: Global, members: &[(&str, LineValue<'_>)]) -> Option<Value> {
     let mut object = Map::new(alloc);
     for member in members {
         let Ok(()) = serde_json::put(&mut object, alloc, member.0, owned(alloc, &member.1)?) else {
