@@ -17,7 +17,7 @@ fn id(alloc: Global, text: &str) -> Option<DocId> {
     }
 }
 
-/// Returns a list that has two ids, one of them twice.
+/// Returns a list of three ids, two of which are equal.
 fn ids(alloc: Global) -> Option<Vec<DocId>> {
     let mut ids = Vec::new(alloc);
     for text in ["f", "d", "f"] {
@@ -44,7 +44,7 @@ fn choose(alloc: Global) -> Option<Chosen> {
     }
 }
 
-/// Returns the length of the text of a replication id with a selection.
+/// Returns the length of the string of a replication id that has a selection.
 fn named(alloc: Global, chosen: &Chosen) -> Option<usize> {
     let Ok(rep) = RepId::new(1, 2, Some(chosen)).ok()?.copy(alloc) else {
         return None;
@@ -144,9 +144,9 @@ fn fill(alloc: Global, source: &mut Peer<Rules>) -> Option<()> {
     Some(())
 }
 
-/// The observed values of a replication of selected documents. The first values are the length of the replication id,
-/// the number of rows of the page, and the recorded sequence. The last values are the target's update sequence, and
-/// whether the target has only the selected documents.
+/// The observed values of a replication of selected documents. The first three values are the length of the replication
+/// id, the number of rows of the page, and the recorded sequence. The last two values are the target's update sequence,
+/// and whether the target has only the selected documents.
 type Seen = (usize, usize, u64, u64, bool);
 
 /// Returns the observed values of two peers after a replication of selected documents.
@@ -177,8 +177,8 @@ fn ended(alloc: Global, source: &mut Peer<Rules>, target: &mut Peer<Rules>) -> O
     ))
 }
 
-/// Replicates into a target. The function is separate from its caller, because each variable that is live at the same
-/// time as a peer lengthens the proof.
+/// Replicates into a target. The function is separate from its caller, because each further variable of a function that
+/// owns a peer lengthens the proof.
 fn into_target(alloc: Global, source: &mut Peer<Rules>) -> Option<Seen> {
     let mut target = Peer::new(alloc, 2, Rules { deny: None });
     ended(alloc, source, &mut target)

@@ -39,7 +39,7 @@ fn doc_id(alloc: Global, text: &str) -> Result<DocId> {
     }
 }
 
-/// Returns the update sequence, and the numbers of revisions and leaves and the winner of a document.
+/// Returns a database's update sequence, and a document's number of revisions, number of leaves, and winner.
 fn reading(db: &Database, id: &DocId) -> (u64, usize, usize, Option<Rev>) {
     match db.tree(id) {
         Some(tree) => (
@@ -52,7 +52,7 @@ fn reading(db: &Database, id: &DocId) -> (u64, usize, usize, Option<Rev>) {
     }
 }
 
-/// Returns the sum of the sequences of a feed's rows, each multiplied by the row's position.
+/// Returns the sequences of a feed's rows as the digits of a number in base 1000, modulo 2^64.
 fn feed(alloc: Global, db: &Database) -> Result<u64> {
     if db.update_seq() == 0 {
         return Ok(0);
@@ -194,7 +194,7 @@ fn prepare(alloc: Global, parcel: &mut Parcel, window: &Window) -> Result<()> {
     }
 }
 
-/// Puts those fetched documents whose id is the id of a row.
+/// Puts those fetched documents that have the row's id.
 fn put_row(alloc: Global, db: &mut Database, docs: &[Doc], row: &Row) -> Result<()> {
     let origin = Origin::Feed(SessionId(1), row.seq());
     for doc in docs {
@@ -244,7 +244,7 @@ fn counted(alloc: Global, db: &Database, empty: &Database, window: &Window) -> R
     })
 }
 
-/// Replicates the complete feed of a database into an empty database, with calls on databases.
+/// Replicates the complete feed of a database into an empty database, with calls on databases instead of peers.
 fn exchanged(alloc: Global, db: &Database, empty: &Database) -> Result<Counts> {
     let page = page(alloc, db, 0, 10)?;
     let window = window_copied(alloc, &page)?;
@@ -272,8 +272,8 @@ fn session(alloc: Global, db: &mut Database, empty: &Database) -> Result<(u64, C
     copy_exchanged(alloc, db, empty)
 }
 
-/// Runs a session between two databases. The function has few variables, because each variable that is live at the same
-/// time as a database lengthens the proof.
+/// Calls `session` with two new databases. The function has few variables, because each further variable of a function
+/// that owns a database lengthens the proof.
 fn between(alloc: Global) -> Result<(u64, Counts)> {
     let mut db = Database::new(alloc, 7);
     let empty = Database::new(alloc, 8);

@@ -5,7 +5,8 @@ use rev_tree::SessionId;
 use std::alloc::{AllocError, Global};
 use test_support::bare_entry;
 
-/// Creates the entry of a session that read nothing. The session id and the recorded sequence are both `recorded`.
+/// Creates the entry of a session that read nothing. The parameter `recorded` is the session id and also the recorded
+/// sequence.
 fn entry(recorded: u64) -> Result<Entry, LogFault> {
     let at = Moment::new(1_381_384_598)?;
     Ok(bare_entry(SessionId(u128::from(recorded)), recorded, at))

@@ -123,7 +123,8 @@ fn opened(alloc: Global, peer: &Peer<Rules>, asked: &Asked) -> Option<Parcel> {
     }
 }
 
-/// Returns the parameters of a session from 0 to a goal, in life 0 of the source.
+/// Returns the parameters of a session that begins at sequence 0, and should end at sequence `goal` of the source's
+/// life 0.
 fn beginning(goal: u64) -> Beginning {
     let scope = Scope {
         rep: REP,
@@ -292,7 +293,7 @@ fn session(
 }
 
 /// Runs the session with a target that refuses documents. The function is separate from its caller, because each
-/// variable that is live at the same time as a peer lengthens the proof.
+/// further variable of a function that owns a peer lengthens the proof.
 fn into_target(
     alloc: Global,
     source: &mut Peer<Rules>,

@@ -1,6 +1,6 @@
 //! Calls the pool's `run` with one worker on the caller's thread, and with two fetchers and two writers on separate
 //! threads. After a failed allocation, the run returns both peers, an audit finds no uncovered leaf, and another run
-//! reaches the goal.
+//! succeeds.
 use crate::peers::load;
 use crate::replications::{is_clean, is_memory, plan};
 use anyhow::{Result, bail};
@@ -24,13 +24,13 @@ impl Gate for Separate {
     }
 }
 
-/// The parameters of a run: its gate and its number of workers.
+/// The parameters of a run: the gate and the number of workers.
 struct Kind<'a, G: Gate> {
     gate: &'a G,
     workers: u64,
 }
 
-/// Takes a peer out of its variable for a run.
+/// Takes a peer out of a variable for a run, and leaves a new peer in the variable.
 fn taken(alloc: Global, place: &mut Peer<Rules>) -> Peer<Rules> {
     mem::replace(place, Peer::new(alloc, 0, Rules { deny: None }))
 }
@@ -127,7 +127,7 @@ fn ended<G: Gate + Sync, R: Threads + Wait + Sync>(
     Some((report.recorded, target.db().update_seq(), clean))
 }
 
-/// Runs into a target. The function is separate from its caller, because each variable that is live at the same time as
+/// Runs into a target. The function is separate from its caller, because each further variable of a function that owns
 /// a peer lengthens the proof.
 fn into_target<G: Gate + Sync, R: Threads + Wait + Sync>(
     rt: &R,

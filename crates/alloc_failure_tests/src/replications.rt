@@ -1,5 +1,4 @@
-//! `replicate_alone`. After a failed allocation, an audit finds no uncovered leaf, and another replication reaches the
-//! goal.
+//! `replicate_alone`. After a failed allocation, an audit finds no uncovered leaf, and another replication succeeds.
 use crate::peers::load;
 use anyhow::{Result, bail};
 use repl_log::Moment;
@@ -28,7 +27,7 @@ pub(crate) fn is_memory(fault: TargetFault) -> bool {
     }
 }
 
-/// Audits, and retries if an allocation fails. Returns whether the audit is clean.
+/// Audits two peers, and retries if an allocation fails. Returns whether the audit is clean.
 pub(crate) fn is_clean(alloc: Global, source: &Peer<Rules>, target: &Peer<Rules>) -> bool {
     let found = match audit(alloc, source, target, None).ok() {
         Some(found) => Some(found),
@@ -99,8 +98,8 @@ fn ended(
     Some((report.recorded, target.db().update_seq(), clean))
 }
 
-/// Replicates into a target. The function is separate from its caller, because each variable that is live at the same
-/// time as a peer lengthens the proof.
+/// Replicates into a target. The function is separate from its caller, because each further variable of a function that
+/// owns a peer lengthens the proof.
 fn into_target(alloc: Global, source: &mut Peer<Rules>) -> Option<(u64, u64, bool)> {
     let mut target = Peer::new(alloc, 2, Rules { deny: None });
     ended(alloc, source, &mut target)

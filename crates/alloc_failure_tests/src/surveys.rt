@@ -1,5 +1,5 @@
 //! Tests queries about two peers. If an allocation fails in a query, the test repeats the query. The repeated query
-//! returns the result of a query without a failure.
+//! returns the same result as a query without a failed allocation.
 use crate::peers::{doc_id, load};
 use anyhow::{Result, bail};
 use couch_base::Database;
@@ -11,7 +11,7 @@ use repl_target::{Peer, Rules};
 use rev_tree::Tree;
 use std::alloc::{AllocError, Global};
 
-/// Two leaves of a document. The target has one leaf, and contradicts the ancestry of the other leaf.
+/// Two leaves of a document. The target has one of the two leaves, and contradicts the ancestry of the other leaf.
 const SOURCE: [&str; 2] = [
     r#"{"_id":"d","_revisions":{"start":3,"ids":["d","b","a"]}}"#,
     r#"{"_id":"d","_revisions":{"start":2,"ids":["c","a"]}}"#,

@@ -20,7 +20,8 @@ fn reading(tree: &Tree) -> (usize, usize, Option<Rev>) {
     (tree.leaf_count(), tree.rev_count(), tree.winner())
 }
 
-/// Merges, and retries if an allocation fails. Returns whether a call that ran out of memory changed the tree.
+/// Merges an ancestry, and retries if an allocation fails. Returns whether a call that ran out of memory changed the
+/// tree.
 fn merged(
     alloc: Global,
     tree: &mut Tree,
@@ -66,7 +67,7 @@ fn missing(alloc: Global, tree: &Tree, revs: &[Rev]) -> Result<Revs, AllocError>
     }
 }
 
-/// Creates the ancestry of a generation and signatures, and retries if an allocation fails.
+/// Creates an ancestry from a generation and signatures, and retries if an allocation fails.
 fn of_sigs(alloc: Global, start: u32, sigs: &[Sig]) -> Option<Ancestry> {
     match Ancestry::from_parts(alloc, start, sigs) {
         Ok(ancestry) => Some(ancestry),

@@ -1,6 +1,6 @@
 //! `World::run`. If an allocation fails in a step, the world is in the state before this step, or the step has settled
-//! a part of a parcel. The test then takes the remaining steps. The final result is the result of a run without a
-//! failure.
+//! a part of a parcel. After a failed step, the test takes the remaining steps. The final result is the same as after a
+//! run without a failed allocation.
 use crate::peers::{body, doc, doc_id};
 use anyhow::{Result, bail};
 use repl_log::Moment;
@@ -30,7 +30,7 @@ struct Seen {
 /// Each row has values that the test may observe after a step has failed, and the index of the step with which the test
 /// then continues. The step that settles a parcel has several rows, because the step may fail after it has settled a
 /// part of the parcel. The test does not observe the source's log and backups, because it may repeat the steps that
-/// store entries and back up.
+/// store a log entry or back up the source.
 static BEFORE: &[(
     u64,
     u64,
@@ -103,7 +103,7 @@ fn writes(alloc: Global, steps: &mut Vec<Step>) -> Option<()> {
         .ok()
 }
 
-/// Returns the step of a replication that has the given index.
+/// Returns the step at the given index of a replication.
 fn step(at: Moment, place: usize) -> Step {
     let (window, asked, parcel, entry) = (0, 0, 0, 1);
     let session = SESSION;
@@ -213,7 +213,7 @@ fn take(alloc: Global, world: &mut World<Rules>, steps: &[Step]) -> Option<()> {
     world.run(alloc, steps.get(place..)?).ok()
 }
 
-/// Audits, and retries if an allocation fails. Returns whether the audit is clean.
+/// Audits two peers, and retries if an allocation fails. Returns whether the audit is clean.
 fn is_clean(alloc: Global, world: &World<Rules>) -> bool {
     let found = match audit(alloc, world.source(), world.target(), None).ok() {
         Some(found) => Some(found),

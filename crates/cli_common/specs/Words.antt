@@ -24,7 +24,8 @@ IsFlag text flag =
     ((text ≡ None) → flag ≡ false) × ((text ≡ Some (codes "true")) → flag ≡ true)
     × ((text ≡ Some (codes "false")) → flag ≡ false)
 
--- For each argument, `clap` returns as its first value and as its only value what the command line `words` gives.
+-- For each argument, `clap` returns the first value and the only value that the argument has in the command line
+-- `words`.
 abbrev pub IsFound : App → List (List ℕ) → ArgMatches → Type 0
 IsFound line words m =
     (first_value (found_of m) ≡ λ id. first_of id (matches_of line words))

@@ -25,8 +25,8 @@ pub fn read_id(alloc: Global, text: &str) -> Result<DocId, Refusal>
 }
 
 /// Parses a list of document ids, in order.
-fn read_ids(alloc: Global, texts: &Vec<LineValue<'_>>) -> Result<Vec<DocId>, Refusal>
-    ensures { GivesOrMemory (seen_as (λ ids. ids.items) result) (ids_given (texts_of (line_items texts.now.items))) }
+fn read_ids(alloc: Global, texts: &[LineValue<'_>]) -> Result<Vec<DocId>, Refusal>
+    ensures { GivesOrMemory (seen_as (λ ids. ids.items) result) (ids_given (texts_of (line_items texts.now))) }
 {
     let mut ids = Vec::new(alloc);
     for item in texts {
@@ -60,9 +60,9 @@ fn choose(ids: Vec<DocId>) -> Result<Option<Chosen>, Refusal>
 /// `NoneChosen` or `TooManyChosen`.
 pub fn read_choice(
     alloc: Global,
-    ids: Option<&Vec<LineValue<'_>>>,
+    ids: Option<&[LineValue<'_>]>,
 ) -> Result<Option<Chosen>, Refusal>
-    ensures { GivesOrMemory result (choice_given (option_map (λ v. texts_of (line_items v.now.items)) ids.entry)) }
+    ensures { GivesOrMemory result (choice_given (option_map (λ v. texts_of (line_items v.now)) ids.entry)) }
 {
     let Some(texts) = ids else {
         return Ok(None);
@@ -105,7 +105,7 @@ pub fn read_content_or_empty(
 {
     match body {
         Some(part) => read_content(alloc, part),
-        None => read_content(alloc, &Line::empty_object(alloc).part()),
+        None => read_content(alloc, &Line::empty_object().part()),
     }
 }
 

@@ -61,8 +61,8 @@ pub fn optional_text<'v>(value: &'v LineValue<'_>, key: &str) -> Option<Option<&
 pub fn optional_texts<'v, 'a>(
     value: &'v LineValue<'a>,
     key: &str,
-) -> Option<Option<&'v Vec<LineValue<'a>>>>
-    ensures { option_map (option_map (λ v. texts_of (line_items v.now.items))) result
+) -> Option<Option<&'v [LineValue<'a>]>>
+    ensures { option_map (option_map (λ v. texts_of (line_items v.now))) result
         ≡ optional as_texts key.now (line_view value.now) }
 {
     let Some(member) = value.get(key) else {
@@ -78,8 +78,8 @@ pub fn optional_texts<'v, 'a>(
 }
 
 /// Whether every item of a list is a string.
-fn are_texts(items: &Vec<LineValue<'_>>) -> bool
-    ensures { result ≡ are_texts (line_items items.now.items) }
+fn are_texts(items: &[LineValue<'_>]) -> bool
+    ensures { result ≡ are_texts (line_items items.now) }
 {
     for item in items {
         if item.as_str().is_none() {
@@ -140,8 +140,8 @@ pub fn has_only_members(value: &LineValue<'_>, keys: &[&str]) -> bool
 }
 
 #[inline(always)]
-fn are_all_among(members: &Vec<(&str, LineValue<'_>)>, allowed: &[&str]) -> bool
-    ensures { result ≡ list_all (λ m. list_any (λ k. bytes_eq m.0.now k.now) allowed.now) members.now.items }
+fn are_all_among(members: &[(&str, LineValue<'_>)], allowed: &[&str]) -> bool
+    ensures { result ≡ list_all (λ m. list_any (λ k. bytes_eq m.0.now k.now) allowed.now) members.now }
 {
     for member in members {
         if !is_one_of(member.0, allowed) {

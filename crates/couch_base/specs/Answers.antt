@@ -10,7 +10,7 @@ abbrev pub GivesUnlessMemory : {A : Type 0} → Result A BaseFault → Result A 
 GivesUnlessMemory (Err faults.Memory) expected = IsOk expected
 GivesUnlessMemory result expected = result ≡ expected
 
--- The error of an edit whose new revision could not be computed. The error is `Memory` if an allocation failed, and
+-- The error of an edit if the new revision cannot be computed. The error is `Memory` if an allocation failed, and
 -- `GenerationFull` otherwise.
 abbrev pub edit_refusal : RevFault → BaseFault
 edit_refusal revs.Memory = faults.Memory

@@ -1,4 +1,4 @@
--- Lemmas about the trees of documents: a merge keeps their invariant.
+-- Lemmas about the trees of documents: a merge keeps the invariant of the tree.
 use Rattle.std.proofs.Common.{◌≡◌, ◌<◌, ◌||◌, cond, inl, inr, subst, false, Some, None, List, [], ◌∷◌, true, length, map, filter, sym, ap, ◌∙◌, arith}
 use Rattle.std.proofs.lemmas.List.{nil_from_length}
 use Rattle.std.specs.FinMap.{FinMap, empty, entries, find, get, get-empty, len-entries, len-empty}

@@ -31,8 +31,8 @@ edit_id before deleted body = named faults.GenerationFull (edit_rev before delet
 abbrev pub edit_revs : Option RevId → Bool → List ℕ → Result (List RevId) BaseFault
 edit_revs before deleted body = edit_id before deleted body >>= λ rev. Ok (rev ∷ option_to_list before)
 
--- The new revision of an edit and the revision's parent, or the edit's error, without checking whether a sequence is
--- left.
+-- The new revision of an edit and the revision's parent, or the edit's error. `edited` does not check whether a
+-- sequence is left.
 abbrev pub edited : DatabaseValue → Id → Option RevId → Bool → List ℕ → Result (RevId × Option RevId) BaseFault
 edited db id parent deleted body = do
   before ← parent_answer (tree_in db.docs id) parent
@@ -61,7 +61,7 @@ after_edited db id deleted body o (Err fault) = db
 abbrev pub after_edit : DatabaseValue → Id → Option RevId → Bool → List ℕ → Origin → DatabaseValue
 after_edit db id parent deleted body o = after_edited db id deleted body o (edited db id parent deleted body)
 
--- Whether the result of an edit depends on the new revision, whose computation allocates.
+-- Whether the result of an edit depends on the new revision. Computing the new revision allocates memory.
 abbrev pub needs_id : {A : Type 0} → Result A BaseFault → Bool
 needs_id (Err faults.NoSuchDocument) = false
 needs_id (Err faults.Conflict) = false

@@ -1,4 +1,4 @@
--- Lemmas about lists: tests of at least one or of all elements, and lists without duplicates.
+-- Lemmas about lists: whether at least one element or all elements pass a test, and lists without duplicates.
 use Rattle.std.specs.Prelude.{◌≡◌, ℕ, Bool, true, false, ◌||◌, List, [], ◌∷◌, ◌++◌, map, filter, refl}
 use Rattle.std.proofs.Common.{ap, ◌∙◌}
 use Rattle.std.proofs.lemmas.Bool.{or_right, cond_both, or_parts, and_from, or_left, or_from}
@@ -6,7 +6,8 @@ use Rattle.std.proofs.lemmas.Slice.Eq.{bytes_eq-Decides}
 use Rattle.std.proofs.lemmas.List.Folds.{list_any-append, list_all-append}
 use Rattle.std.specs.Str.{bytes_eq}
 use Rattle.std.specs.List.{list_any, list_all, AllByRecursion}
--- Higher crates cite lemmas of the standard library by the names `both_false`, `some_is` and `none_some`.
+-- Crates that use `couch_base` cite lemmas of the standard library by the names `both_false`, `some_is` and
+-- `none_some`.
 pub use Rattle.std.proofs.lemmas.Bool.{or_parts as both_false}
 pub use Rattle.std.proofs.lemmas.Option.{same_Some as some_is, none-some as none_some}
 use Rattle.rev_core.specs.Rev.{RevId}

@@ -4,7 +4,7 @@ use Rattle.std.specs.List.{find, list_any, list_all, AllByRecursion}
 use Rattle.std.proofs.lemmas.Bool.{or_left, or_right, or_cases, and_parts, false≢true}
 use Rattle.std.proofs.lemmas.Option.{same_Some, none-some}
 use Rattle.couch_base.specs.Lists.{Among}
--- Higher crates cite two lemmas about list indexes by the names `at-append` and `at-end`.
+-- Crates that use `couch_base` cite two lemmas about list indexes by the names `at-append` and `at-end`.
 pub use Rattle.rev_tree.proofs.Places.{slice_get-append as at-append, slice_get-last as at-end}
 
 -- ---- concatenated and mapped lists

@@ -52,13 +52,13 @@ coded_parcel =
 
 -- ---- requesting
 
--- The requested revisions of document `id`, if there are any, followed by the requested revisions of the other
--- documents.
+-- The requests `others` for other documents, preceded by a request for the given revisions of document `id` if there
+-- are any.
 abbrev pub want_first : Id → List RevId → List WantedValue → List WantedValue
 want_first id [] others = others
 want_first id (r ∷ revs) others = record { id = id; revs = r ∷ revs } ∷ others
 
--- The leaves in feed rows that are not in the trees of the given documents, in the order of the rows.
+-- The leaves of the given feed rows that the trees of the given documents lack, in the order of the rows.
 abbrev pub wanted : List DocumentValue → List RowValue → List WantedValue
 wanted ds [] = []
 wanted ds (r ∷ rows) = want_first r.id (missing (tree_of ds r.id) r.leaves) (wanted ds rows)
@@ -88,7 +88,7 @@ document_in id t r =
 abbrev pub document_at : DatabaseValue → Id → RevId → Option Document
 document_at db id r = document_in id (tree_of db.docs id) r
 
--- The leaves of document `id` at or above the requested revisions, winner first.
+-- The leaves of document `id` that are requested revisions or descend from requested revisions, winner first.
 abbrev pub opened : Id → TreeValue → List RevId → List Document
 opened id t revs = map (leaf_document id t) (leaves_above t revs)
 
@@ -107,12 +107,12 @@ open_revs db a = record { asked = a; docs = fetched db.docs a.docs; gone = gone_
 
 -- ---- invariants
 
--- The revisions requested of a document are not empty, and have no duplicates.
+-- At least one revision of the document is requested, and no revision is requested twice.
 pub record IsWanted (w : WantedValue) : Type 0 where
   pub some : 0 < length w.revs
   pub distinct : EachOnce (eq_by_cmp rev_cmp) w.revs
 
--- A request names each document once.
+-- A request names no document twice, and the requested revisions of each named document satisfy `IsWanted`.
 pub record IsAsked (a : AskedValue) : Type 0 where
   pub distinct : EachOnce bytes_eq (map (λ w. w.id) a.docs)
   pub docs : AllByRecursion IsWanted a.docs

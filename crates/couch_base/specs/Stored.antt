@@ -1,6 +1,6 @@
 -- The stored form of a database: a table of documents by id, and an index of their positions by sequence. Each change
--- of a document appends a row to the index of a database. A row of a database's index is live if its document has no
--- later change. The live rows of a database's index form the changes feed.
+-- of a document appends a row to the index of the document's database. A row of a database's index is live if its
+-- document has no later change. The live rows of a database's index form the changes feed.
 use Rattle.std.specs.Prelude.{◌≡◌, ℕ, ◌+◌, ◌*◌, ◌/◌, ◌<◌, ◌≤◌, ◌==◌, nat_lt, nat_le, Bool, false, not, List, [], ◌∷◌, cond, if◌then◌else◌, map, filter, length, slice_get, unwrap_or, Option, Some, None, IfSome, refl}
 use Rattle.std.specs.Coded.{Coded, code_by, coded×, coded_ℕ, coded_list}
 use Rattle.std.specs.Option.{option_map, option_map_or}
@@ -105,7 +105,7 @@ row_by docs e = row_of (document (found docs) (e.0, id_at (keys_of docs) e.1))
 abbrev pub row_of_kept : Id → Kept → RowValue
 row_of_kept id k = row_of (record { id = id; seq = k.seq; tree = k.tree })
 
--- The rows of table t's feed above sequence a and at or below sequence b.
+-- The feed rows of table t with sequences above a and at most b.
 abbrev pub rows_within : TableValue → ℕ → ℕ → List RowValue
 rows_within t a b = map (row_by t.entries) (live_upto t.entries b (above a t.rows))
 
@@ -155,7 +155,7 @@ Sets g h id k = (q : Id) → h q ≡ cond (bytes_eq id q) (Some k) (g q)
 abbrev pub feed_without : Id → List (ℕ × Id) → List (ℕ × Id)
 feed_without id index = filter (λ e. not (bytes_eq e.1 id)) index
 
--- The effect on a table of changing one document, which takes the next sequence.
+-- The effect on a table of a change of one document. The change takes the next sequence.
 pub record IsWritten (old new : TableValue) (id : Id) (tree : TreeValue) : Type 0 where
   pub kept : IsKept new
   pub value : (uuid life : ℕ) → database_of uuid life new ≡ with_tree (database_of uuid life old) id tree

@@ -8,7 +8,8 @@ use rev_tree::Revs;
 use std::alloc::{AllocError, Global};
 use std::marker::Model;
 
-/// A request for at least one revision of a document, without duplicates.
+/// The id of a document, and the revisions that are requested of this document. In an `Asked`, the list of revisions is
+/// not empty and has no duplicates.
 pub struct Wanted {
     id: DocId,
     revs: Revs,
@@ -64,8 +65,8 @@ impl Wanted {
     }
 }
 
-/// A request for the window `(lo, hi]` of a feed. The request names documents without duplicates, each with the
-/// requested revisions.
+/// A request for the window `(lo, hi]` of a feed. The request names no document twice, and has the requested revisions
+/// of each named document.
 pub struct Asked {
     lo: u64,
     hi: u64,
@@ -99,7 +100,7 @@ impl Model for Asked {
 impl Asked {
     ghost use Rattle.couch_base.specs.Messages.{AskedValue, IsAsked};
 
-    /// Creates a request from parts that satisfy its invariant.
+    /// Creates a request from parts that satisfy the invariant of requests.
     pub(crate) fn new(lo: u64, hi: u64, docs: Vec<Wanted>) -> Asked
         requires { IsAsked (record { lo = lo; hi = hi; docs = docs.items }) }
         ensures { result ≡ record { lo = lo; hi = hi; docs = docs.items } }
@@ -107,7 +108,7 @@ impl Asked {
         Asked { lo, hi, docs }
     }
 
-    /// Returns the sequence above which the window's changes begin.
+    /// Returns the exclusive lower bound of the window's sequences.
     pub fn lo(&self) -> u64
         ensures value { result ≡ self.now.lo }
         ensures asked { IsAsked self.now }
@@ -115,7 +116,7 @@ impl Asked {
         self.lo
     }
 
-    /// Returns the sequence at which the window ends, inclusively.
+    /// Returns the inclusive upper bound of the window's sequences.
     pub fn hi(&self) -> u64
         ensures value { result ≡ self.now.hi }
         ensures asked { IsAsked self.now }

@@ -4,7 +4,7 @@ ghost use Rattle.std.specs.Fn.{FnReturnsAt};
 
 use std::alloc::{AllocError, Global};
 
-/// Copies a list by calling `copy` for each element.
+/// Copies a list by calling the function `copy` for each element.
 pub(crate) fn copied<T: Drop, F: Fn(&T) -> Result<T, AllocError>>(
     alloc: Global,
     items: &[T],

@@ -89,14 +89,14 @@ fn edit_rev(
     Ok(new_rev(alloc, parent, deleted, body.text())?)
 }
 
-/// Creates the ancestry of a revision and of its parent, if the revision has a parent.
+/// Creates the ancestry that consists of a revision and, if the revision has a parent, the parent.
 fn ancestry_of(alloc: Global, rev: Rev, parent: Option<Rev>) -> Result<Ancestry, AllocError>
     requires { rev.generation ≡ next_generation parent }
     ensures ancestry { IfOk result (λ a. a ≡ rev ∷ option_to_list parent) }
 {
     let mut revs = Vec::with_capacity(alloc, 2)?;
-    // The calls of `generation` have no effect at run time: their contract gives proofs the fact that `rev` and
-    // `parent` are revisions.
+    // The calls of `generation` have no effect at run time. This function's proof needs the contract of `generation`,
+    // which says that `rev` and `parent` are valid revisions.
     let _generation = rev.generation();
     revs.push(rev)?;
     let Some(parent) = parent else {
@@ -107,7 +107,7 @@ fn ancestry_of(alloc: Global, rev: Rev, parent: Option<Rev>) -> Result<Ancestry,
     Ok(Ancestry::from_revs(revs))
 }
 
-/// Creates the content of a document, which shares the body with the document.
+/// Creates a content from a deleted flag and a body. The content shares the body instead of copying it.
 pub(crate) fn content_of(deleted: bool, body: &Body) -> Result<Content, AllocError>
     ensures content { IfOk result (λ c. c ≡ content_of deleted body.now) }
     ensures body { IfOk result (λ c. IsBody c.body) }

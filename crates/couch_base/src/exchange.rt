@@ -34,8 +34,8 @@ impl Database {
     }
 
     /// Returns the documents for a request, and the requested revisions that this database does not have. For each
-    /// requested document, the result has each leaf that is or descends from a requested revision, with its known
-    /// ancestry and its content.
+    /// requested document, the result has each leaf that is a requested revision or descends from one, with the leaf's
+    /// known ancestry and content.
     ///
     /// The result has the documents in the order of the request, and the leaves of a document winner first.
     pub fn open_revs(&self, alloc: Global, asked: &Asked) -> Result<Parcel, AllocError>
@@ -72,7 +72,7 @@ impl Database {
         Ok(count)
     }
 
-    /// Returns the number of documents for the requested revisions of one document.
+    /// Returns the number of documents that `open_revs` would return for the requested revisions of one document.
     fn count_wanted(
         &self,
         alloc: Global,
@@ -120,8 +120,8 @@ impl Database {
         Ok(())
     }
 
-    /// Appends the documents for the requested revisions of one document, and the requested revisions that its tree
-    /// does not have.
+    /// For the requested revisions of one document, appends the fetched documents, and the requested revisions that the
+    /// document's tree does not have.
     fn fetch(
         &self,
         alloc: Global,
@@ -165,7 +165,7 @@ impl Database {
     }
 }
 
-/// Appends the document of each given leaf of a document to a list.
+/// For each of the given leaves, appends the leaf as a document to a list.
 fn add_documents(
     alloc: Global,
     id: &DocId,
@@ -185,7 +185,7 @@ fn add_documents(
     Ok(())
 }
 
-/// Returns the document of a leaf. A leaf always has a content.
+/// Returns a leaf as a document. A leaf always has a content.
 fn leaf_document(alloc: Global, id: &DocId, tree: &Tree, leaf: Rev) -> Result<Doc, AllocError>
     requires document { IsDocumentTree tree.now }
     requires leaf { is_leaf tree.now leaf ≡ true }
@@ -195,7 +195,7 @@ fn leaf_document(alloc: Global, id: &DocId, tree: &Tree, leaf: Rev) -> Result<Do
     Ok(found.unwrap())
 }
 
-/// Returns the document at a revision, if the revision has a content.
+/// Returns a revision as a document, if the revision has a content.
 fn document_in(alloc: Global, id: &DocId, tree: &Tree, rev: Rev) -> Result<Option<Doc>, AllocError>
     requires document { IsDocumentTree tree.now }
     ensures document { IfOk result (λ d. d ≡ document_in id.now tree.now rev) }

@@ -30,16 +30,16 @@ pub enum BaseFault {
     /// has another parent in the tree.
     #[error("a revision has another parent in the document's tree")]
     Contradiction { child: Rev, known: Rev, given: Rev },
-    /// The update sequence is the greatest one, 9,007,199,254,740,991.
+    /// The update sequence has reached the maximum, 9,007,199,254,740,991.
     #[error("no sequence after 9007199254740991")]
     SeqFull,
-    /// The requested update sequence exceeds the greatest one, 9,007,199,254,740,991.
+    /// The requested update sequence exceeds the maximum, 9,007,199,254,740,991.
     #[error("an update sequence above 9007199254740991")]
     SeqTooLarge,
     /// The limit of a page is 0.
     #[error("a page has at least one row")]
     BadLimit,
-    /// The goal of a page is not above its start.
+    /// The goal of a page is not above the page's start.
     #[error("the goal is not above the start")]
     BadRange,
     /// The goal of a page is above the update sequence.

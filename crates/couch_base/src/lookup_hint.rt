@@ -1,6 +1,6 @@
 //! Hints for looking up documents in order.
 
-/// A hint, which is the position after the document that the previous lookup found.
+/// A hint for the next lookup: the position after the document that the previous lookup found.
 ///
 /// Documents are often looked up in the order in which they are stored. A lookup computes no hash if the document is at
 /// the position of the hint. Hints do not affect the results of lookups.

@@ -56,7 +56,7 @@ impl Model for Parcel {
 impl Parcel {
     ghost use Rattle.couch_base.specs.Messages.{ParcelValue, IsParcel};
 
-    /// Creates a parcel from parts that satisfy its invariant.
+    /// Creates a parcel from parts that satisfy the invariant of parcels.
     pub(crate) fn new(
         alloc: Global,
         asked: Asked,
@@ -74,7 +74,7 @@ impl Parcel {
         }
     }
 
-    /// Returns the sequence above which the window's changes begin.
+    /// Returns the exclusive lower bound of the window's sequences.
     pub fn lo(&self) -> u64
         ensures value { result ≡ self.now.asked.lo }
         ensures parcel { IsParcel self.now }
@@ -82,7 +82,7 @@ impl Parcel {
         self.asked.lo()
     }
 
-    /// Returns the sequence at which the window ends, inclusively.
+    /// Returns the inclusive upper bound of the window's sequences.
     pub fn hi(&self) -> u64
         ensures value { result ≡ self.now.asked.hi }
         ensures parcel { IsParcel self.now }
@@ -107,7 +107,7 @@ impl Parcel {
         &self.docs
     }
 
-    /// Returns the requested revisions that their documents' trees do not have.
+    /// Returns the gone revisions: requested revisions that are not in the trees of their documents.
     pub fn gone(&self) -> &[(DocId, Rev)]
         ensures value { result.now ≡ self.now.gone }
         ensures parcel { IsParcel self.now }
@@ -138,9 +138,9 @@ impl Parcel {
         (asked, docs, gone, made)
     }
 
-    /// Builds the trees that the documents would have as new documents. The origin of each tree is a session and the
-    /// sequence of the document's row. Preparing a parcel does not change the parcel's value in contracts. The call
-    /// `Database::put_prepared` can store the prepared trees.
+    /// Builds the trees that the parcel's documents would have if the documents were new at the target. The origin of
+    /// each tree is a session and the sequence of the document's row. Preparing a parcel does not change the parcel's
+    /// value in contracts. The call `Database::put_prepared` can store the prepared trees.
     pub fn prepare(
         &mut self,
         alloc: Global,
@@ -165,8 +165,9 @@ impl Parcel {
     }
 }
 
-/// Builds the trees that documents would have as new documents. The call searches the window's rows in order. If a
-/// document has no row, the call builds no tree for it and for the documents after it.
+/// Builds the trees that the given documents would have if the documents were new at the target. The call searches the
+/// window's rows in order. If a document has no row, the call builds no tree for this document and the documents after
+/// it.
 fn make_all(
     alloc: Global,
     session: SessionId,
@@ -188,7 +189,8 @@ fn make_all(
     Ok(all)
 }
 
-/// Returns the index of the first row with the id at or after index `from`, or the number of rows if there is none.
+/// Returns the index of the first row with the given id at or after index `from`, or the number of rows if there is no
+/// such row.
 fn row_from(rows: &[Row], id: &DocId, from: usize) -> usize {
     for place in from..rows.len() {
         if rows[place].id() == id {

@@ -33,8 +33,8 @@ use Rattle.couch_journal.specs.declared.options.NoTask.TheVariants.{Words, Unkno
 
 -- ---- the tasks on responses
 
--- A JSON value is the response that a task reads. The task prints `text`, and `refused` is true if the response says
--- that a document was rejected.
+-- A JSON value is the response that a task reads. The task prints `text`, and `refused` is true exactly if the response
+-- says that a document was rejected.
 abbrev pub Shows : Response → Json → List ℕ → Bool → Type 0
 Shows (Page several) j text refused = (page_in several j ≡ Some text) × (refused ≡ false)
 Shows Refused j text refused =
@@ -47,8 +47,8 @@ ShowsNothing (Page several) j = page_in several j ≡ None
 ShowsNothing Refused j = as_array j ≡ None
 ShowsNothing Info j = is_info j ≡ false
 
--- The input is the response that a task reads. The task prints `text`, and `refused` is true if the response says that
--- a document was rejected.
+-- The input is the response that a task reads. The task prints `text`, and `refused` is true exactly if the response
+-- says that a document was rejected.
 abbrev pub IsShown : Response → List ℕ → List ℕ → Bool → Type 0
 IsShown response input text refused = (j : Json) × (response_in input ≡ Some j) × Shows response j text refused
 

@@ -61,7 +61,8 @@ IsDone task left held held' result = Converts result (wanted_of task) (words_of_
 -- The guarantees of a task if its input has the form that the task expects. A `load` task writes a `load` line for each
 -- document in CouchDB responses, in order, with the document's text or envelope. The tasks `ids` and `diff` write each
 -- leaf of a response into a request body. A task for script output writes the output's documents into request bodies,
--- or each leaf of its changes into a `doc` line. A task does not reject input of the expected form.
+-- or each leaf of its changes into a `doc` line. A task does not reject input of the expected form. If a task returns an
+-- error, it may have written only a part of this output (`ReadsAnswers`).
 abbrev pub Makes : Task → Option (List ℕ) → Option (List ℕ) → Option (List ℕ) → Result ℕ AnswerFault → Type 0
 Makes (Load db whole) left held held' result = (answers : List ℕ) → (documents : List Piece) → left ≡ Some answers
     → IsAnswered (wanted_of (Load db whole)) answers documents → ReadsAnswers (loads_of (string_bytes db)) documents held held' result
@@ -75,9 +76,9 @@ Makes (Bulk n whole) left held held' result = (answers : List ℕ) → (document
     → IsScript (wanted_of (Bulk n whole)) answers documents → ReadsAnswers (bodies_of n) documents held held' result
 Makes (Trees db svg) left held held' result = ⊥
 
--- The effect of a run of `couch_lines` with the command line `words`. If the command line has no task, or an allocation
--- fails while its arguments are parsed, the run reads and writes no byte. If the command line has a task, the task is
--- run. Only the task `trees` draws a picture.
+-- The effect of a run of `couch_lines` with the command line `words`. If the command line names no task, or an
+-- allocation fails before the task starts, the run reads and writes no byte. If a task starts, it is a task that the
+-- command line names. Only the task `trees` draws a picture.
 abbrev pub RunsWords : List (List ℕ) → Option (List ℕ) → Option (List ℕ) → Option (List ℕ) → Option (List ℕ) → Ended → Type 0
 RunsWords words left left' held held' (NotRun why) = Refuses words why × (left' ≡ left) × (held' ≡ held)
 RunsWords words left left' held held' (Ran run) =

@@ -91,23 +91,25 @@ Asks word second third whole svg task = (n : Named) × (word ≡ Some (word_of n
 
 -- ---- arguments without a task
 
--- The reason why task n cannot be built from an argument and flags, which is `Wrong` if n does not accept them, or
--- `Memory`.
+-- The reason why task n cannot be built from an argument and flags. The reason is `Wrong` only if n does not accept the
+-- argument and flags. The reason `Memory` is possible for every argument.
 abbrev pub FitsNone : Named → Option (List ℕ) → Bool → Bool → NoTask → Type 0
 FitsNone n word whole svg (Words error) = ⊥
 FitsNone n word whole svg Unknown = ⊥
 FitsNone n word whole svg (Wrong m) = (m ≡ n) × ((t : Task) → Fits n word whole svg t → ⊥)
 FitsNone n word whole svg Memory = Unit {0}
 
--- The reason why an argument of task n is not accepted, which is `Wrong` if it is not a database name, or `Memory`.
+-- The reason why task n does not accept an argument. The reason is `Wrong` only if the argument is absent or is not a
+-- database name. The reason `Memory` is possible for every argument.
 abbrev pub NamesNone : Named → Option (List ℕ) → NoTask → Type 0
 NamesNone n word (Words error) = ⊥
 NamesNone n word Unknown = ⊥
 NamesNone n word (Wrong m) = (m ≡ n) × ((db : List ℕ) → IsNamed word db → ⊥)
 NamesNone n word Memory = Unit {0}
 
--- The reason why arguments name no task. The reason is `Unknown` if the first argument is not the name of a task,
--- `Wrong` if the named task does not accept the further arguments, or `Memory`.
+-- The reason why arguments name no task. The reason is `Unknown` only if the first argument is not the name of a task.
+-- The reason is `Wrong` only if the named task does not accept the further arguments. The reason `Memory` is possible
+-- for all arguments.
 abbrev pub AskNothing : Option (List ℕ) → Option (List ℕ) → Option (List ℕ) → Bool → Bool → NoTask → Type 0
 AskNothing word second third whole svg (Words error) = ⊥
 AskNothing word second third whole svg Unknown = (n : Named) → word ≡ Some (word_of n) → ⊥

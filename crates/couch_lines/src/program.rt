@@ -19,7 +19,7 @@ use std::{io, str};
 
 /// Runs the program, and returns its exit status. The status is 0 on success, and 2 for a usage error. The status is 1
 /// if the program skipped an object without a document, or if `trees` lacked memory for a line. The status is 3 if the
-/// input is not a response, or if reading, writing or another allocation failed.
+/// program rejects the input, or if reading, writing or another allocation failed.
 pub fn run_program<H: AllocGlobal + Env + Input + Print + Eprint>(rt: &H) -> u8
     ensures { result ≤ 3 }
 {

@@ -11,6 +11,7 @@ pub mod TakeSteps
 pub mod TakeFronts
 pub mod Printed
 pub mod PrintedMembers
+pub mod PrintedEnvelopes
 pub mod Round
 pub mod Fronts
 pub mod LikeTokens

@@ -1,10 +1,9 @@
 -- One more member of a printed object, and members that are printed.
-use Rattle.proof_prelude.proofs.{◌≡◌, ℕ, ◌+◌, ◌-◌, ◌≤◌, ◌<◌, ◌&&◌, ◌||◌, ◌==◌, nat_lt, suc, List, [], ◌∷◌, ◌++◌, length, take, drop, prefix_len, list_all, Bool, true, false, cond, codes, refl, sym, ap, subst, ◌∙◌, append_assoc, append-nil, arith, common_steps, and_parts, take_all, drop-cons, add-one, fold, get_or, max, Result, Ok, Err, OnOk, Some, is_utf8, IsAscii, IsUtf8, IsUtf8-append, IsUtf8-from_ascii, IsUtf8-from_is_utf8, is_utf8-from_IsUtf8, IsCharBoundary-before_ascii, append_cancel_right, take-append_seam, take-append-drop, get_or-append_seam}
-use Rattle.json.specs.Token.{Token, begin_object, begin_array, end_object, end_array, key, string as string_token, number as number_token}
+use Rattle.proof_prelude.proofs.{◌≡◌, ℕ, ◌≤◌, ◌<◌, ◌&&◌, ◌==◌, nat_lt, suc, List, [], ◌∷◌, ◌++◌, length, Bool, true, false, cond, codes, refl, sym, ap, subst, ◌∙◌, append_assoc, append-nil, arith, common_steps, and_parts, fold, get_or, Result, Ok, Err, OnOk, Some, is_utf8, IsUtf8, IsUtf8-append, IsUtf8-from_is_utf8, is_utf8-from_IsUtf8, IsCharBoundary-before_ascii, append_cancel_right, take-append_seam, get_or-append_seam}
+use Rattle.json.specs.Token.{Token, end_object, key}
 use Rattle.json.specs.Json.{Json, null, boolean, number, string, array, object, Items, no_items, item, Members, no_members, member, document, max_depth}
-use Rattle.json.specs.Print.{print, print_from, ends, separator, token_text, quoted, escape, escape_byte}
-use Rattle.json.specs.Run.{is_plain}
-use Rattle.json.specs.Tree.{json_tokens, items_tokens, members_tokens, depth, items_depth, members_depth, HasNumbers, ItemsHaveNumbers, MembersHaveNumbers}
+use Rattle.json.specs.Print.{print, print_from, ends, token_text, quoted, escape, escape_byte}
+use Rattle.json.specs.Tree.{json_tokens, items_tokens, members_tokens, depth, members_depth, HasNumbers, MembersHaveNumbers}
 use Rattle.json.proofs.Printed.Tokens.{print_from-append}
 use Rattle.json.proofs.Printed.Trees.{document-print}
 use Rattle.json.proofs.Printed.Utf8.{IsUtf8-are_ascii, IsUtf8-quoted}
@@ -217,7 +216,7 @@ whole_member h u = record {
   stands = refl;
 }
 
-added_by : (b : Bool) (t m n : List ℕ) → cond b (t ++ 44 ∷ m) (t ++ m) ++ n ≡ cond b (t ++ 44 ∷ (m ++ n)) (t ++ (m ++ n))
+pub added_by : (b : Bool) (t m n : List ℕ) → cond b (t ++ 44 ∷ m) (t ++ m) ++ n ≡ cond b (t ++ 44 ∷ (m ++ n)) (t ++ (m ++ n))
 added_by true t m n = append_assoc t (44 ∷ m) n
 added_by false t m n = append_assoc t m n
 

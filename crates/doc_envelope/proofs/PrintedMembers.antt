@@ -1,16 +1,16 @@
 -- Members that are written as the kit writes them, in the form that CouchDB gives them.
-use Rattle.proof_prelude.proofs.{◌≡◌, ℕ, ◌+◌, ◌-◌, ◌≤◌, ◌<◌, ◌&&◌, ◌==◌, nat_lt, suc, List, [], ◌∷◌, ◌++◌, length, take, drop, prefix_len, list_all, Bool, true, false, cond, codes, refl, sym, ap, subst, ◌∙◌, append_assoc, append-nil, arith, common_steps, drop-cons, and_parts, take_all, get_or, max, length-append, Bor, Option, Some, None, MatchOption, IfSome, IsAscii, IsUtf8, IsUtf8-append, IsUtf8-from_ascii, take-append-drop}
+use Rattle.proof_prelude.proofs.{◌≡◌, ℕ, ◌+◌, ◌-◌, ◌<◌, ◌==◌, nat_lt, suc, List, [], ◌∷◌, ◌++◌, length, take, drop, prefix_len, Bool, true, false, cond, codes, refl, sym, ap, subst, ◌∙◌, append_assoc, append-nil, arith, common_steps, drop-cons, take_all, get_or, max, length-append, Bor, Option, Some, None, MatchOption, IfSome, IsAscii, IsUtf8, IsUtf8-append, IsUtf8-from_ascii, take-append-drop}
 use Rattle.std.specs.Bool.{MatchBool}
 use Rattle.std.specs.Str.{IsNotAscii}
-use Rattle.json.specs.Token.{Token, end_object, key, string as string_token}
-use Rattle.json.specs.Json.{Json, null, boolean, number, string, array, object, Items, no_items, item, Members, no_members, member, max_depth}
+use Rattle.json.specs.Token.{end_object, key, string as string_token}
+use Rattle.json.specs.Json.{Json, boolean, number, string, array, object, Items, no_items, item, no_members, member}
 use Rattle.json.specs.Print.{print, print_from, token_text, quoted, escape, escape_byte}
 use Rattle.json.specs.Run.{is_plain}
-use Rattle.json.specs.Tree.{json_tokens, items_tokens, depth, items_depth, HasNumbers, ItemsHaveNumbers}
+use Rattle.json.specs.Tree.{json_tokens, items_tokens, items_depth, ItemsHaveNumbers}
 use Rattle.json.proofs.Printed.Utf8.{IsUtf8-are_ascii, IsUtf8-quoted}
 use Rattle.json.proofs.Printed.Tokens.{print_from-append}
 use Rattle.doc_envelope.specs.{may_stand}
-use Rattle.doc_envelope.specs.Printed.{AreIds, BeginsWithString, IsDigits, IsPrintedMember, IsPrintedValue, IsStarted, last_id, more_ids}
+use Rattle.doc_envelope.specs.Printed.{AreIds, BeginsWithString, IsPrintedMember, IsPrintedValue, IsStarted, last_id, more_ids}
 use Rattle.doc_envelope.proofs.Printed.{end_text, ended, string_text}
 
 pub some_of : {T : Type 0} (o : Option T) (P : Type 0) (Q : T → Type 0) → MatchOption o P Q → IfSome o Q
@@ -38,7 +38,7 @@ plain_by x k xs true e f =
     subst (λ z. escape (take z (x ∷ xs)) ≡ take z (x ∷ xs)) (sym one) (ap (λ l. l ++ escape (take k xs)) (escape_plain_byte x e) ∙ ap (λ l. x ∷ l) f)
 plain_by x k xs false e f = refl
 
-escape_plain : (xs : List ℕ) → escape (take (prefix_len is_plain xs) xs) ≡ take (prefix_len is_plain xs) xs
+pub escape_plain : (xs : List ℕ) → escape (take (prefix_len is_plain xs) xs) ≡ take (prefix_len is_plain xs) xs
 escape_plain [] = refl
 escape_plain (x ∷ xs) = plain_by x (prefix_len is_plain xs) xs (is_plain x) refl (escape_plain xs)
 

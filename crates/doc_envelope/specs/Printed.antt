@@ -3,7 +3,7 @@ use Rattle.std.specs.Prelude.{◌≡◌, ℕ, ◌≤◌, ◌<◌, List, [], ◌�
 use Rattle.std.specs.Str.{IsUtf8}
 use Rattle.json.specs.Json.{Json, max_depth}
 use Rattle.json.specs.Token.{key}
-use Rattle.json.specs.Print.{print, token_text, quoted, IsNumber}
+use Rattle.json.specs.Print.{print, token_text, quoted, escape, IsNumber}
 use Rattle.json.specs.Tree.{json_tokens, depth, HasNumbers}
 use Rattle.doc_envelope.specs.Envelopes.{is_envelope_value, may_stand}
 
@@ -58,3 +58,20 @@ pub record IsStarted (t : List ℕ) : Type 0 where
   pub number : IsDigits digits
   pub strings : AreIds ids
   pub text : t ≡ digits ++ (codes ",\"ids\":[" ++ ids)
+
+-- The text t is a string as the kit's JSON library writes it.
+pub record IsQuoted (t : List ℕ) : Type 0 where
+  pub utf8 : IsUtf8 t
+  pub string : List ℕ
+  pub text : t ≡ quoted string
+
+-- The text t is the content of a string and the closing quotation mark, as the kit's JSON library writes them.
+pub record EndsPrinted (t : List ℕ) : Type 0 where
+  pub string : List ℕ
+  pub text : t ≡ escape string ++ 34 ∷ []
+
+-- The text t is what the kit's JSON library writes for a member that an envelope may have, and the closing brace.
+pub record EndsEnvelope (t : List ℕ) : Type 0 where
+  pub member : List ℕ
+  pub printed : IsPrintedMember member
+  pub text : t ≡ member ++ 125 ∷ []

@@ -6,6 +6,7 @@
 mod envelope;
 mod members;
 mod names;
+mod printed_envelopes;
 mod printing;
 mod puts;
 mod streaming;
@@ -14,3 +15,4 @@ mod values;
 
 pub use envelope::Envelope;
 pub use names::{id_of, is_log};
+pub use printed_envelopes::is_printed_envelope;

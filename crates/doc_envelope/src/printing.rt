@@ -15,7 +15,8 @@ pub(crate) fn still_printed(printed: bool, member: &[u8]) -> bool
 }
 
 /// Returns true only if a member may be in an envelope and has the text that the kit's JSON library prints.
-fn is_printed_member(member: &[u8]) -> bool
+#[inline(always)]
+pub(crate) fn is_printed_member(member: &[u8]) -> bool
     ensures { result ≡ true → IsPrintedMember member.now }
 {
     is_id(member) || is_rev(member) || is_revs(member) || is_deleted(member)
@@ -68,7 +69,7 @@ fn is(text: &[u8], other: &[u8]) -> bool
 
 /// Returns the text after a prefix, or `None` if the text does not begin with the prefix.
 #[inline(always)]
-fn after<'a>(text: &'a [u8], prefix: &[u8]) -> Option<&'a [u8]>
+pub(crate) fn after<'a>(text: &'a [u8], prefix: &[u8]) -> Option<&'a [u8]>
     ensures { IfSome result (λ rest. text.now ≡ prefix.now ++ rest.now) }
 {
     text.strip_prefix(prefix)

@@ -49,8 +49,8 @@ pub(crate) trait JsonValue<'v>: Sized + 'v {
         ensures { option_map (λ n. number_view n.now) result ≡ as_number (seen self.now) };
 
     /// Returns the items, if the value is an array.
-    fn as_array(&'v self) -> Option<&'v Vec<Self>>
-        ensures { option_map (λ v. items_of (map seen v.now.items)) result ≡ as_array (seen self.now) };
+    fn as_array(&'v self) -> Option<&'v [Self]>
+        ensures { option_map (λ v. items_of (map seen v.now)) result ≡ as_array (seen self.now) };
 
     /// Returns the members, if the value is an object.
     fn as_object(&'v self) -> Option<&'v Self::Object>

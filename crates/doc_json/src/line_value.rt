@@ -16,19 +16,19 @@ use std::alloc::AllocError;
 use std::slice;
 
 impl<'v, 'a: 'v> JsonValue<'v> for LineValue<'a> {
-    type Object = Vec<(&'a str, LineValue<'a>)>;
+    type Object = &'a [(&'a str, LineValue<'a>)];
 
     type Members = slice::Iter<'v, (&'a str, LineValue<'a>)>;
 
     ghost seen = { line_view };
 
-    ghost members_seen = { λ members. line_members members.items };
+    ghost members_seen = { λ members. line_members members.now };
 
     ghost left = { λ it. line_members (iter_rest it) };
 
     ghost in_order = { λ v. IsOrdered (line_view v) };
 
-    ghost members_in_order = { λ members. IsInOrderOfNames (line_members members.items) };
+    ghost members_in_order = { λ members. IsInOrderOfNames (line_members members.now) };
 
     ghost left_in_order = { λ it. IsInOrderOfNames (line_members (iter_rest it)) };
 
@@ -51,13 +51,16 @@ impl<'v, 'a: 'v> JsonValue<'v> for LineValue<'a> {
     }
 
     #[inline(always)]
-    fn as_array(&'v self) -> Option<&'v Vec<LineValue<'a>>> {
+    fn as_array(&'v self) -> Option<&'v [LineValue<'a>]> {
         self.as_array()
     }
 
     #[inline(always)]
-    fn as_object(&'v self) -> Option<&'v Vec<(&'a str, LineValue<'a>)>> {
-        self.as_object()
+    fn as_object(&'v self) -> Option<&'v &'a [(&'a str, LineValue<'a>)]> {
+        match self {
+            LineValue::Object(members) => Some(members),
+            _ => None,
+        }
     }
 
     #[inline(always)]
@@ -67,7 +70,7 @@ impl<'v, 'a: 'v> JsonValue<'v> for LineValue<'a> {
 
     #[inline(always)]
     fn walk(
-        members: &'v Vec<(&'a str, LineValue<'a>)>,
+        members: &'v &'a [(&'a str, LineValue<'a>)],
     ) -> slice::Iter<'v, (&'a str, LineValue<'a>)> {
         members.iter()
     }
@@ -112,8 +115,8 @@ pub fn has_fraction(value: &LineValue<'_>) -> bool
 /// Whether one of an array's items is or contains a number that is neither an i64 nor a u64.
 #[cycle(fraction)]
 #[inline(never)]
-fn items_have_fraction(items: &Vec<LineValue<'_>>) -> bool
-    ensures { result ≡ items_have_float (line_items items.now.items) }
+fn items_have_fraction(items: &[LineValue<'_>]) -> bool
+    ensures { result ≡ items_have_float (line_items items.now) }
 {
     for item in items {
         if has_fraction(item) {
@@ -126,8 +129,8 @@ fn items_have_fraction(items: &Vec<LineValue<'_>>) -> bool
 /// Whether the value of an object's member is or contains a number that is neither an i64 nor a u64.
 #[cycle(fraction)]
 #[inline(never)]
-fn members_have_fraction(members: &Vec<(&str, LineValue<'_>)>) -> bool
-    ensures { result ≡ members_have_float (line_members members.now.items) }
+fn members_have_fraction(members: &[(&str, LineValue<'_>)]) -> bool
+    ensures { result ≡ members_have_float (line_members members.now) }
 {
     for entry in members {
         if has_fraction(&entry.1) {
@@ -161,14 +164,14 @@ fn push_value(value: &LineValue<'_>, plain: PlainTexts, out: &mut Vec<u8>) -> Re
 #[cycle(push)]
 #[inline(never)]
 fn push_items(
-    items: &Vec<LineValue<'_>>,
+    items: &[LineValue<'_>],
     plain: PlainTexts,
     out: &mut Vec<u8>,
 ) -> Result<(), AllocError>
-    requires { items_have_float (line_items items.now.items) ≡ false }
-    ensures text { OnOk result (AreItemsPlain plain (line_items items.now.items)
-        → out.new.items ≡ out.old.items ++ 91 ∷ items_text false (line_items items.now.items)) }
-    ensures numbers { OnOk result (ItemsReadBack (line_items items.now.items)) }
+    requires { items_have_float (line_items items.now) ≡ false }
+    ensures text { OnOk result (AreItemsPlain plain (line_items items.now)
+        → out.new.items ≡ out.old.items ++ 91 ∷ items_text false (line_items items.now)) }
+    ensures numbers { OnOk result (ItemsReadBack (line_items items.now)) }
 {
     out.push(b'[')?;
     let mut later = false;
@@ -185,15 +188,15 @@ fn push_items(
 #[cycle(push)]
 #[inline(never)]
 fn push_members(
-    members: &Vec<(&str, LineValue<'_>)>,
+    members: &[(&str, LineValue<'_>)],
     plain: PlainTexts,
     out: &mut Vec<u8>,
 ) -> Result<(), AllocError>
-    requires { members_have_float (line_members members.now.items) ≡ false }
+    requires { members_have_float (line_members members.now) ≡ false }
     ensures text { OnOk result
-        (AreMembersPlain plain (line_members members.now.items)
-        → out.new.items ≡ out.old.items ++ 123 ∷ members_text false (line_members members.now.items)) }
-    ensures numbers { OnOk result (MembersReadBack (line_members members.now.items)) }
+        (AreMembersPlain plain (line_members members.now)
+        → out.new.items ≡ out.old.items ++ 123 ∷ members_text false (line_members members.now)) }
+    ensures numbers { OnOk result (MembersReadBack (line_members members.now)) }
 {
     out.push(b'{')?;
     let mut later = false;

@@ -51,8 +51,11 @@ impl<'v> JsonValue<'v> for Value {
         self.as_number()
     }
 
-    fn as_array(&'v self) -> Option<&'v Vec<Value>> {
-        self.as_array()
+    fn as_array(&'v self) -> Option<&'v [Value]> {
+        match self.as_array() {
+            Some(items) => Some(items.as_slice()),
+            None => None,
+        }
     }
 
     fn as_object(&'v self) -> Option<&'v Map<String, Value>> {

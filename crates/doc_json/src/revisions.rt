@@ -111,12 +111,12 @@ pub(crate) fn matched(
 fn numbered_from<'v, V: JsonValue<'v>>(
     alloc: Global,
     start: u64,
-    ids: &'v Vec<V>,
+    ids: &'v [V],
 ) -> Result<Option<Ancestry>, AllocError>
     ensures some { IfOk result (λ o. IfSome o
-        (λ a. numbered_from (Some start) (sigs_of (items_of (map V.seen ids.now.items))) ≡ Ok a)) }
+        (λ a. numbered_from (Some start) (sigs_of (items_of (map V.seen ids.now))) ≡ Ok a)) }
     ensures none { IfOk result (λ o. IfNone o
-        (numbered_from (Some start) (sigs_of (items_of (map V.seen ids.now.items))) ≡ Err DocFault.BadRevisions)) }
+        (numbered_from (Some start) (sigs_of (items_of (map V.seen ids.now))) ≡ Err DocFault.BadRevisions)) }
 {
     let count = ids.len() as u64;
     if start > 4_294_967_295 || count < 1 || count > start {
@@ -132,11 +132,11 @@ fn numbered_from<'v, V: JsonValue<'v>>(
 fn numbered<'v, V: JsonValue<'v>>(
     alloc: Global,
     start: u32,
-    ids: &'v Vec<V>,
+    ids: &'v [V],
 ) -> Result<Option<Vec<Rev>>, AllocError>
-    requires { length ids.now.items ≤ start }
+    requires { length ids.now ≤ start }
     ensures { IfOk result (λ o. option_map (λ revs. revs.items) o
-        ≡ option_map (numbered start) (sigs_of (items_of (map V.seen ids.now.items)))) }
+        ≡ option_map (numbered start) (sigs_of (items_of (map V.seen ids.now)))) }
 {
     let mut revs = Vec::with_capacity(alloc, ids.len())?;
     let mut generation = start;
@@ -153,13 +153,13 @@ fn numbered<'v, V: JsonValue<'v>>(
 /// Returns an error unless the generation `start` and the list of signatures form an ancestry that agrees with `_rev`.
 fn check_numbered<'v, V: JsonValue<'v>>(
     start: u64,
-    ids: &'v Vec<V>,
+    ids: &'v [V],
     rev: Option<Rev>,
 ) -> Result<(), DocFault>
     ensures ok { OnOk result
-        (IsOk (numbered_beside rev (Some start) (sigs_of (items_of (map V.seen ids.now.items))))) }
+        (IsOk (numbered_beside rev (Some start) (sigs_of (items_of (map V.seen ids.now))))) }
     ensures err { IfErr result
-        (λ e. numbered_beside rev (Some start) (sigs_of (items_of (map V.seen ids.now.items))) ≡ Err e) }
+        (λ e. numbered_beside rev (Some start) (sigs_of (items_of (map V.seen ids.now))) ≡ Err e) }
 {
     if !are_ids(start, ids) {
         return Err(DocFault::BadRevisions);
@@ -178,16 +178,16 @@ fn start_of<'v, V: JsonValue<'v>>(value: &'v V) -> Option<u64>
 }
 
 /// Returns the list of the member `ids`.
-fn ids_of<'v, V: JsonValue<'v>>(value: &'v V) -> Option<&'v Vec<V>>
-    ensures { option_map (λ v. items_of (map V.seen v.now.items)) result
+fn ids_of<'v, V: JsonValue<'v>>(value: &'v V) -> Option<&'v [V]>
+    ensures { option_map (λ v. items_of (map V.seen v.now)) result
         ≡ option_and_then as_array (get (codes "ids") (V.seen value.now)) }
 {
     value.get("ids")?.as_array()
 }
 
 /// Whether `start` is a generation, and the list has 1 to `start` items, all of which are signatures.
-fn are_ids<'v, V: JsonValue<'v>>(start: u64, ids: &'v Vec<V>) -> bool
-    ensures { result ≡ is_ok (numbered_from (Some start) (sigs_of (items_of (map V.seen ids.now.items)))) }
+fn are_ids<'v, V: JsonValue<'v>>(start: u64, ids: &'v [V]) -> bool
+    ensures { result ≡ is_ok (numbered_from (Some start) (sigs_of (items_of (map V.seen ids.now)))) }
 {
     if start > 4_294_967_295 {
         return false;
@@ -200,8 +200,8 @@ fn are_ids<'v, V: JsonValue<'v>>(start: u64, ids: &'v Vec<V>) -> bool
 }
 
 /// Whether each item of a list is a signature.
-fn are_sigs<'v, V: JsonValue<'v>>(items: &'v Vec<V>) -> bool
-    ensures { result ≡ is_some (sigs_of (items_of (map V.seen items.now.items))) }
+fn are_sigs<'v, V: JsonValue<'v>>(items: &'v [V]) -> bool
+    ensures { result ≡ is_some (sigs_of (items_of (map V.seen items.now))) }
 {
     for item in items {
         if sig_of(item).is_none() {
@@ -212,8 +212,8 @@ fn are_sigs<'v, V: JsonValue<'v>>(items: &'v Vec<V>) -> bool
 }
 
 /// Whether the member `_rev` is missing or is the newest revision of the member `_revisions`.
-fn agrees<'v, V: JsonValue<'v>>(rev: Option<Rev>, start: u64, ids: &'v Vec<V>) -> bool
-    ensures { (revs : List RevId) → numbered_from (Some start) (sigs_of (items_of (map V.seen ids.now.items))) ≡ Ok revs
+fn agrees<'v, V: JsonValue<'v>>(rev: Option<Rev>, start: u64, ids: &'v [V]) -> bool
+    ensures { (revs : List RevId) → numbered_from (Some start) (sigs_of (items_of (map V.seen ids.now))) ≡ Ok revs
         → result ≡ agrees rev revs }
 {
     match rev {
@@ -226,8 +226,8 @@ fn agrees<'v, V: JsonValue<'v>>(rev: Option<Rev>, start: u64, ids: &'v Vec<V>) -
 }
 
 /// Returns the first item of a list as a signature.
-fn first_sig<'v, V: JsonValue<'v>>(items: &'v Vec<V>) -> Option<Sig>
-    ensures { result ≡ option_and_then (λ v. sig_of (as_str (V.seen v))) (slice_get items.now.items 0) }
+fn first_sig<'v, V: JsonValue<'v>>(items: &'v [V]) -> Option<Sig>
+    ensures { result ≡ option_and_then (λ v. sig_of (as_str (V.seen v))) (slice_get items.now 0) }
 {
     match items.first() {
         Some(first) => sig_of(first),

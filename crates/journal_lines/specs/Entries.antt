@@ -6,8 +6,8 @@ use Rattle.journal_lines.specs.Leafs.{HeadView, head_view, line_head}
 use Rattle.journal_lines.specs.declared.entry.Entry.{Entry}
 use Rattle.journal_lines.specs.declared.entry.Entry.TheVariants as entries
 
--- The content of a journal line: the leaves (`state`) or requested leaves (`lacks`) of a document, the head of a
--- document (`leaf`), or `wrong` for any other line.
+-- The content of a journal line: the leaves (`state`) or requested leaves (`lacks`) of a document, or the head of a
+-- document (`leaf`). The content of any other line is `wrong`.
 pub data EntryView : Type 0 where
   state : LeavesView → EntryView
   lacks : LeavesView → EntryView
@@ -40,6 +40,7 @@ abbrev pub state_or_other : List ℕ → Option (List ℕ) → EntryView
 state_or_other line (Some rest) = state_or_wrong (leaves_in rest)
 state_or_other line None = lacks_or_leaf line (after (codes "lacks ") line)
 
--- The content of a journal line, which begins with `state ` or `lacks `, or has a document, or is `wrong`.
+-- The content of a journal line. A line that begins with `state ` or `lacks ` lists leaves or is `wrong`. Any other line
+-- has a document or is `wrong`.
 abbrev pub entry_in : List ℕ → EntryView
 entry_in line = state_or_other line (after (codes "state ") line)

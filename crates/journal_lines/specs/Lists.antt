@@ -62,8 +62,8 @@ list_in seq list = option_and_then (named_in seq) (document list)
 abbrev pub token : List ℕ → Option (List ℕ)
 token text = if is_token text then Some text else None
 
--- The leaves of a line, given its sequence and the text of its JSON list, or `None` if the sequence or the text is
--- absent.
+-- The leaves of a line, given its sequence and the text of its JSON list. The result is `None` if the sequence or the
+-- text is absent, or if the text is not a list of an id and revisions.
 abbrev pub leaves_at : Option (List ℕ) → Option (List ℕ) → Option LeavesView
 leaves_at None list = None
 leaves_at (Some seq) None = None

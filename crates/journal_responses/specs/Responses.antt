@@ -10,7 +10,8 @@ use Rattle.journal_responses.specs.declared.said.Said.TheVariants.{Error, NotJso
 abbrev pub response_in : List ℕ → Option Json
 response_in body = option_and_then document (text_in body)
 
--- The error of reading a server's response, which is `NotJson` if the response has no JSON value, or `Memory`.
+-- The error of reading a server's response. The error is `NotJson` only if the response has no JSON value. The error
+-- `Memory` is possible for every response.
 abbrev pub IsUnread : Option Json → Said → Type 0
 IsUnread value (Error error reason) = ⊥
 IsUnread value NotJson = value ≡ None
@@ -27,8 +28,8 @@ IsErrorOf error reason NotJson = ⊥
 IsErrorOf error reason Other = ⊥
 IsErrorOf error reason Memory = ⊥
 
--- The error for a JSON value that is not the requested response. The error is `Error` for an error of CouchDB and
--- `Other` for other values, or `Memory` for any value.
+-- The error for a JSON value that is not the requested response. The error is `Error` only for an error of CouchDB, and
+-- `Other` only for other values. The error `Memory` is possible for every value.
 abbrev pub IsSaid : Json → Said → Type 0
 IsSaid j (Error error reason) = error_in j ≡ Some (string_bytes error, string_bytes reason)
 IsSaid j NotJson = ⊥

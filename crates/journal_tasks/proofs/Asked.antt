@@ -1,7 +1,7 @@
 -- The items of a `_bulk_get` request.
-use Rattle.proof_prelude.proofs.{◌≡◌, ℕ, Bool, true, false, if◌then◌else◌, codes, List, [], ◌∷◌, ◌++◌, refl, sym, ap, subst, ◌∙◌, append_assoc, append-nil, ◌+◌}
+use Rattle.proof_prelude.proofs.{◌≡◌, ℕ, Bool, true, false, if◌then◌else◌, codes, List, [], ◌∷◌, ◌++◌, refl, sym, ap, ◌∙◌, append_assoc, append-nil, ◌+◌}
 use Rattle.journal_lines.specs.Entries.{EntryView, entry_in}
-use Rattle.journal_tasks.specs.{HasAsked, IsAsking, IsCounting, asked_items, asked_leaf, ask_body, counted_as, failed_end, has_begun, is_wrong, is_wrong_entry, leaves_in, listed, wrong_line}
+use Rattle.journal_tasks.specs.{HasAsked, IsAsking, asked_items, asked_leaf, counted_as, failed_end, has_begun, is_wrong, is_wrong_entry, leaves_in, listed}
 use Rattle.journal_tasks.proofs.Counts.{count_end, count_line}
 use Rattle.journal_tasks.specs.declared.ask.Ask.{Ask}
 use Rattle.journal_tasks.specs.declared.count.Count.{Count}

@@ -1,5 +1,5 @@
 -- The count of lines, after one line more and at the end of the input.
-use Rattle.proof_prelude.proofs.{◌≡◌, ℕ, suc, ◌+◌, Bool, true, false, if◌then◌else◌, nat_eq, List, [], ◌∷◌, ◌++◌, length, Option, None, Some, option_map, option_or, refl, sym, ap, subst, ◌∙◌, arith, add-one, length-append}
+use Rattle.proof_prelude.proofs.{◌≡◌, ℕ, suc, ◌+◌, Bool, true, false, if◌then◌else◌, nat_eq, List, [], ◌∷◌, ◌++◌, length, Option, None, Some, option_map, option_or, refl, sym, ap, ◌∙◌, arith, add-one, length-append}
 use Rattle.journal_core.specs.{first_index}
 use Rattle.journal_core.proofs.{first_index-push}
 use Rattle.journal_tasks.specs.{IsCounting, counted_as, failed, failed_end, wrong_line}

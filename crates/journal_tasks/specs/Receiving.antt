@@ -1,7 +1,124 @@
 -- Definitions that say which requested revisions were received.
-use Rattle.std.specs.Prelude.{ℕ, Bool, ◌||◌, List, string_bytes}
-use Rattle.journal_lines.specs.Leafs.{LeafView, knows_rev}
+use Rattle.std.specs.Prelude.{◌≡◌, ℕ, Bool, true, false, ◌&&◌, ◌||◌, not, if◌then◌else◌, is_none, is_some, List, [], ◌∷◌, ◌++◌, length, nat_eq, filter, flat_map, fold, map, Option, None, Some, option_map, unwrap_or, bytes_eq, codes, String, string_bytes}
+use Rattle.std.specs.Global.{Global}
+use Rattle.std.specs.HashMap.{get_by_text}
+use Rattle.std.specs.List.{list_any}
+use Rattle.indexmap.specs.IndexMap.{IndexMap}
+use Rattle.journal_lines.specs.Docs.{add_rev}
+use Rattle.journal_lines.specs.Entries.{EntryView, entry_in, state, lacks, leaf, wrong}
+use Rattle.journal_lines.specs.Leafs.{HeadView, LeafView, knows_rev}
+use Rattle.journal_lines.specs.Lists.{LeavesView, leaves_line, leaves_view, texts_of}
+use Rattle.journal_tasks.specs.Counting.{IsCounting, wrong_line}
+use Rattle.journal_tasks.specs.Halves.{first_part, has_second_part, second_part}
+use Rattle.journal_tasks.specs.declared.received.Doc.{Doc}
+use Rattle.journal_tasks.specs.declared.received.Received.{Received}
 use Rattle.journal_tasks.specs.declared.received.Wanted.{Wanted}
+
+-- ---- the request and the response
+
+-- The leaves that a line of a request names.
+abbrev pub named : EntryView → List LeavesView
+named (state leaves) = leaves ∷ []
+named (lacks leaves) = leaves ∷ []
+named (leaf head) = []
+named wrong = []
+
+-- The leaves that the lines of a request name, in order.
+abbrev pub requested_in : List (List ℕ) → List LeavesView
+requested_in lines = flat_map (λ line. named (entry_in line)) lines
+
+-- The head of the document that a line of a response has.
+abbrev pub head_of : EntryView → List HeadView
+head_of (state leaves) = []
+head_of (lacks leaves) = []
+head_of (leaf head) = head ∷ []
+head_of wrong = []
+
+-- The heads of the documents that the lines of a response have, in order.
+abbrev pub heads_in : List (List ℕ) → List HeadView
+heads_in lines = flat_map (λ line. head_of (entry_in line)) lines
+
+-- Whether a line of a request names a document.
+abbrev pub is_requested : List LeavesView → List ℕ → Bool
+is_requested requested id = list_any (λ leaves. bytes_eq leaves.1 id) requested
+
+-- Whether a revision was received, which is whether a received leaf is the revision or has the revision as an ancestor.
+abbrev pub is_received : List HeadView → List ℕ → List ℕ → Bool
+is_received heads id rev = list_any (λ head. bytes_eq head.0 id && knows_rev head.1 rev) heads
+
+-- The received leaves of a document, each once.
+abbrev pub received_leaves : List HeadView → List ℕ → List (List ℕ)
+received_leaves heads id = fold (λ revs head. if bytes_eq head.0 id then add_rev revs head.1.0 else revs) [] heads
+
+-- The revisions of a line of a request that were not received.
+abbrev pub missing_in : List HeadView → LeavesView → List (List ℕ)
+missing_in heads leaves = filter (λ rev. not (is_received heads leaves.1 rev)) leaves.2
+
+-- ---- the output
+
+-- Whether a line of a response has a document that was requested.
+abbrev pub is_answer : List LeavesView → EntryView → Bool
+is_answer requested (state leaves) = false
+is_answer requested (lacks leaves) = false
+is_answer requested (leaf head) = is_requested requested head.0
+is_answer requested wrong = false
+
+-- Whether a line of a request has a wrong form.
+abbrev pub is_unnamed : EntryView → Bool
+is_unnamed (state leaves) = false
+is_unnamed (lacks leaves) = false
+is_unnamed (leaf head) = true
+is_unnamed wrong = true
+
+-- Whether each line of the input is wrong. The first empty line separates the request and the response.
+abbrev pub wrong_flags : List (List ℕ) → List Bool
+wrong_flags lines =
+    map (λ line. is_unnamed (entry_in line)) (first_part lines)
+    ++ (if has_second_part lines then false ∷ map (λ line. not (is_answer (requested_in (first_part lines)) (entry_in line))) (second_part lines) else [])
+
+-- The number of the first wrong line of the input.
+abbrev pub wrong_received : List (List ℕ) → List ℕ → Option ℕ
+wrong_received lines rest = wrong_line (λ wrong. wrong) (wrong_flags lines) rest
+
+-- A line of a response as it is printed. The argument `only` says that only missing leaves are printed.
+abbrev pub passed_line : Bool → List LeavesView → List ℕ → List ℕ
+passed_line only requested line = if is_answer requested (entry_in line) && not only then line ++ codes "\n" else []
+
+-- The text that is printed before the end of the input: the requested documents of the response.
+abbrev pub passed_on : Bool → List (List ℕ) → List ℕ
+passed_on only lines = flat_map (passed_line only (requested_in (first_part lines))) (second_part lines)
+
+abbrev pub is_empty : List (List ℕ) → Bool
+is_empty revs = nat_eq (length revs) 0
+
+-- The lines that are printed for a line of the request, of which the revisions `missing` were not received. The argument
+-- `received` is the received leaves of the line's document.
+abbrev pub told_of : Bool → List (List ℕ) → List (List ℕ) → LeavesView → List ℕ
+told_of true received missing leaves =
+    if is_empty missing then [] else leaves_line (codes "state") leaves.0 leaves.1 missing
+told_of false received missing leaves =
+    leaves_line (codes "state") leaves.0 leaves.1 received
+    ++ (if is_empty missing then [] else leaves_line (codes "lacks") leaves.0 leaves.1 leaves.2)
+
+-- The lines that are printed for a line of the request.
+abbrev pub told : Bool → List HeadView → LeavesView → List ℕ
+told only heads leaves = told_of only (received_leaves heads leaves.1) (missing_in heads leaves) leaves
+
+-- The text that is printed at the end of the input, if no line is wrong.
+abbrev pub told_in : Bool → List (List ℕ) → List ℕ
+told_in only lines = flat_map (told only (heads_in (second_part lines))) (requested_in (first_part lines))
+
+-- Whether a requested revision was not received.
+abbrev pub lacks_any : List (List ℕ) → Bool
+lacks_any lines =
+    list_any (λ leaves. not (is_empty (missing_in (heads_in (second_part lines)) leaves))) (requested_in (first_part lines))
+
+-- The output for the complete input. If a line is wrong, only the lines of the response are printed.
+abbrev pub received_text : Bool → List (List ℕ) → List ℕ → List ℕ
+received_text only lines rest =
+    passed_on only lines ++ (if is_none (wrong_received lines rest) then told_in only lines else [])
+
+-- ---- what is stored
 
 -- A requested revision, and whether it was received.
 abbrev pub WantedView : Type 0
@@ -10,7 +127,102 @@ WantedView = List ℕ × Bool
 abbrev pub wanted_view : Wanted → WantedView
 wanted_view wanted = (string_bytes wanted.rev, wanted.received)
 
+-- The requested revisions of a document, and its received leaves.
+abbrev pub DocView : Type 0
+DocView = List WantedView × List (List ℕ)
+
+abbrev pub doc_view : Doc → DocView
+doc_view doc = (map wanted_view doc.wanted.items, texts_of doc.leaves.keys)
+
+-- What is stored for a document with the given id, if it was requested.
+abbrev pub doc_at : {S : Type 0} → IndexMap (String Global) Doc S → List ℕ → Option DocView
+doc_at docs id = option_map doc_view (get_by_text docs id)
+
+abbrev pub doc_or_new : Option DocView → DocView
+doc_or_new doc = unwrap_or doc ([], [])
+
 -- The state of a requested revision after a leaf was received. If a leaf was received, the leaf and its ancestors count
 -- as received.
 abbrev pub received_by : LeafView → WantedView → WantedView
-received_by leaf wanted = (wanted.0, wanted.1 || knows_rev leaf wanted.0)
+received_by arrived wanted = (wanted.0, wanted.1 || knows_rev arrived wanted.0)
+
+-- A document after revisions of it were requested.
+abbrev pub with_wanted : List (List ℕ) → DocView → DocView
+with_wanted revs doc = (doc.0 ++ map (λ rev. (rev, false)) revs, doc.1)
+
+-- A document after a leaf of it was received.
+abbrev pub with_leaf : LeafView → DocView → DocView
+with_leaf arrived doc = (map (received_by arrived) doc.0, add_rev doc.1 arrived.0)
+
+-- The documents after leaves of one of them were requested.
+abbrev pub wanted_at : LeavesView → (List ℕ → Option DocView) → List ℕ → Option DocView
+wanted_at leaves docs id =
+    if bytes_eq leaves.1 id then Some (with_wanted leaves.2 (doc_or_new (docs leaves.1))) else docs id
+
+-- The documents after a line of the request.
+abbrev pub requested_by : EntryView → (List ℕ → Option DocView) → List ℕ → Option DocView
+requested_by (state leaves) docs id = wanted_at leaves docs id
+requested_by (lacks leaves) docs id = wanted_at leaves docs id
+requested_by (leaf head) docs id = docs id
+requested_by wrong docs id = docs id
+
+-- The documents after a leaf of one of them was received.
+abbrev pub leaf_at : HeadView → (List ℕ → Option DocView) → List ℕ → Option DocView
+leaf_at head docs id = if bytes_eq head.0 id then option_map (with_leaf head.1) (docs head.0) else docs id
+
+-- The documents after a line of the response.
+abbrev pub answered_by : EntryView → (List ℕ → Option DocView) → List ℕ → Option DocView
+answered_by (state leaves) docs id = docs id
+answered_by (lacks leaves) docs id = docs id
+answered_by (leaf head) docs id = leaf_at head docs id
+answered_by wrong docs id = docs id
+
+-- Whether a line of the response has a document that is stored.
+abbrev pub is_stored : EntryView → (List ℕ → Option DocView) → Bool
+is_stored (state leaves) docs = false
+is_stored (lacks leaves) docs = false
+is_stored (leaf head) docs = is_some (docs head.0)
+is_stored wrong docs = false
+
+-- Whether a revision is stored as received.
+abbrev pub is_marked : List WantedView → List ℕ → Bool
+is_marked wanted rev = list_any (λ item. item.1 && bytes_eq item.0 rev) wanted
+
+-- The revisions of a list that are not stored as received.
+abbrev pub unmarked : List WantedView → List (List ℕ) → List (List ℕ)
+unmarked wanted revs = filter (λ rev. not (is_marked wanted rev)) revs
+
+-- The lines that are printed for a line of the request, by what is stored for its document.
+abbrev pub told_by : Bool → Option DocView → LeavesView → List ℕ
+told_by only None leaves = []
+told_by only (Some doc) leaves = told_of only doc.1 (unmarked doc.0 leaves.2) leaves
+
+-- Whether a revision of a line of the request was not received, by what is stored for its document.
+abbrev pub lacks_by : Option DocView → LeavesView → Bool
+lacks_by None leaves = false
+lacks_by (Some doc) leaves = not (is_empty (unmarked doc.0 leaves.2))
+
+-- The revisions of a document that the lines of a request name.
+abbrev pub wanted_revs : List LeavesView → List ℕ → List (List ℕ)
+wanted_revs requested id = flat_map (λ leaves. if bytes_eq leaves.1 id then leaves.2 else []) requested
+
+-- What is stored for a document after the given request and response.
+abbrev pub doc_of : List LeavesView → List HeadView → List ℕ → Option DocView
+doc_of requested heads id =
+    if is_requested requested id then Some (map (λ rev. (rev, is_received heads id rev)) (wanted_revs requested id), received_leaves heads id) else None
+
+-- The given lines were read, and the documents of the response that were requested are printed.
+pub record IsReceiving (only : Bool) (lines : List (List ℕ)) (text : List ℕ) (task : Received) : Type 0 where
+  pub counting : IsCounting (λ wrong. wrong) (wrong_flags lines) task.count
+  pub only_is : task.only_lacks ≡ only
+  pub part : task.in_response ≡ has_second_part lines
+  pub lines_are : map leaves_view task.lines.items ≡ requested_in (first_part lines)
+  pub docs_are : (id : List ℕ) → doc_at task.docs id ≡ doc_of (requested_in (first_part lines)) (heads_in (second_part lines)) id
+  pub text_is : text ≡ passed_on only lines
+
+-- The complete input was read: the output is complete, and the number of the first wrong line is known. If no line is
+-- wrong, it is also known whether a requested revision was not received.
+pub record HasReceived (only : Bool) (lines : List (List ℕ)) (rest text : List ℕ) (task : Received) : Type 0 where
+  pub text_is : text ≡ received_text only lines rest
+  pub wrong : task.count.wrong ≡ wrong_received lines rest
+  pub lacks : task.count.wrong ≡ None → task.lacks ≡ lacks_any lines

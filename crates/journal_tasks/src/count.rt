@@ -1,6 +1,6 @@
 //! Counts the lines that a task has read.
-ghost use Rattle.std.specs.Prelude.{◌≡◌, ◌+◌, OnOk, None, is_none};
-ghost use Rattle.journal_tasks.specs.Counting.{failed, failed_end};
+ghost use Rattle.std.specs.Prelude.{◌≡◌, ◌+◌, OnOk, None, is_none, not};
+ghost use Rattle.journal_tasks.specs.Counting.{counted_as, failed, failed_end};
 
 use journal_core::added;
 use std::alloc::AllocError;
@@ -43,6 +43,15 @@ impl Count {
     {
         if self.wrong.is_none() {
             self.wrong = Some(self.lines);
+        }
+    }
+
+    /// Records whether the last counted line has the right form.
+    pub(crate) fn check(&mut self, right: bool)
+        ensures { self.new ≡ counted_as (not right) self.old }
+    {
+        if !right {
+            self.fail();
         }
     }
 

@@ -23,6 +23,6 @@ pub use diff::Diff;
 pub use lacking::Lacking;
 pub use name::Name;
 pub use parts::Parts;
-pub use received::Received;
+pub use received::{Received, receive_leaves};
 pub use select::{Filter, Select};
 pub use states::States;

@@ -1,5 +1,5 @@
 -- Values of a line, level by level: lists that grow at their end, and inserted members.
-use Rattle.proof_prelude.proofs.{◌≡◌, ℕ, List, [], ◌∷◌, ◌++◌, Option, Some, None, Ordering, Less, Equal, Greater, nat_cmp, Vec, Bor, Global, refl, ap, rules, match_ordering, slice_cmp}
+use Rattle.proof_prelude.proofs.{◌≡◌, ℕ, List, [], ◌∷◌, ◌++◌, Option, Some, None, Ordering, Less, Equal, Greater, nat_cmp, Bor, refl, ap, rules, match_ordering, slice_cmp}
 use Rattle.json.specs.Token.{Token}
 use Rattle.json.specs.Json.{parse_map}
 use Rattle.serde_json.specs.Data.{array, object, Items, no_items, item, member, put}
@@ -8,10 +8,10 @@ use Rattle.json_values.specs.{line_view, line_items, line_members, Entry, put_en
 abbrev pub Named : Type 0
 Named = Entry LineValue
 
-pub view-Array : (v : Vec LineValue Global) → line_view (Array v) ≡ array (line_items v.items)
+pub view-Array : (v : Bor (List LineValue)) → line_view (Array v) ≡ array (line_items v.now)
 view-Array v = search (rules, the_lemmas)
 
-pub view-Object : (v : Vec Named Global) → line_view (Object v) ≡ object (line_members v.items)
+pub view-Object : (v : Bor (List Named)) → line_view (Object v) ≡ object (line_members v.now)
 view-Object v = search (rules, the_lemmas)
 
 -- appends the data of values

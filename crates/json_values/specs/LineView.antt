@@ -16,8 +16,8 @@ line_step LineValue-F.Null = null
 line_step (LineValue-F.Bool b) = boolean b
 line_step (LineValue-F.Number x) = number (number_view x)
 line_step (LineValue-F.String s) = string s.now
-line_step (LineValue-F.Array v) = array (items_of v.items)
-line_step (LineValue-F.Object v) = object (members_of v.items)
+line_step (LineValue-F.Array v) = array (items_of v.now)
+line_step (LineValue-F.Object v) = object (members_of v.now)
 
 abbrev pub line_view : LineValue → Data
 line_view = fold-LineValue Data line_step

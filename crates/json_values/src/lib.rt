@@ -1,6 +1,7 @@
 //! A reader for a sequence of JSON values.
 #![tactic(auto)]
 
+mod arena;
 mod capacities;
 mod fault;
 mod lexer;

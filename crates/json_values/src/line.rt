@@ -7,44 +7,16 @@ ghost use Rattle.json_values.specs.LineView.{line_view, line_items, line_members
 use serde_json::Number;
 
 /// A JSON value that was read from a line. Its strings are slices of the line or, if they had escapes, of the reader's
-/// buffer. The members of an object are in byte order of their names, and each name occurs once.
+/// buffer. Its arrays and objects are slices of the reader's arena. The members of an object are in byte order of their
+/// names, and each name occurs once.
+#[derive(Clone, Copy, Drop)]
 pub enum LineValue<'a> {
     Null,
     Bool(bool),
     Number(Number),
     String(&'a str),
-    Array(Vec<LineValue<'a>>),
-    Object(Vec<(&'a str, LineValue<'a>)>),
-}
-
-// `Drop` is implemented by hand, so that dropping a value that owns no memory needs no call.
-impl<'a> Drop for LineValue<'a> {
-    #[cycle(dropping)]
-    #[inline(always)]
-    fn drop(self) {
-        match self {
-            LineValue::Null => {}
-            LineValue::Bool(_) => {}
-            LineValue::Number(_) => {}
-            LineValue::String(_) => {}
-            LineValue::Array(items) => drop_items(items),
-            LineValue::Object(members) => drop_members(members),
-        }
-    }
-}
-
-/// Drops the items of an array.
-#[cycle(dropping)]
-#[inline(never)]
-fn drop_items(items: Vec<LineValue<'_>>) {
-    let _items = items;
-}
-
-/// Drops the members of an object.
-#[cycle(dropping)]
-#[inline(never)]
-fn drop_members(members: Vec<(&str, LineValue<'_>)>) {
-    let _members = members;
+    Array(&'a [LineValue<'a>]),
+    Object(&'a [(&'a str, LineValue<'a>)]),
 }
 
 impl<'a> LineValue<'a> {
@@ -59,11 +31,11 @@ impl<'a> LineValue<'a> {
     }
 
     /// Returns the members, if the value is an object.
-    pub fn as_object(&self) -> Option<&Vec<(&'a str, LineValue<'a>)>>
-        ensures { option_map (λ m. line_members m.now.items) result ≡ as_object (line_view self.now) }
+    pub fn as_object(&self) -> Option<&'a [(&'a str, LineValue<'a>)]>
+        ensures { option_map (λ m. line_members m.now) result ≡ as_object (line_view self.now) }
     {
         if let LineValue::Object(members) = self {
-            Some(members)
+            Some(*members)
         } else {
             None
         }
@@ -77,11 +49,11 @@ impl<'a> LineValue<'a> {
     }
 
     /// Returns the items, if the value is an array.
-    pub fn as_array(&self) -> Option<&Vec<LineValue<'a>>>
-        ensures { option_map (λ v. line_items v.now.items) result ≡ as_array (line_view self.now) }
+    pub fn as_array(&self) -> Option<&'a [LineValue<'a>]>
+        ensures { option_map (λ v. line_items v.now) result ≡ as_array (line_view self.now) }
     {
         if let LineValue::Array(items) = self {
-            Some(items)
+            Some(*items)
         } else {
             None
         }
@@ -121,8 +93,8 @@ impl<'a> LineValue<'a> {
 }
 
 /// Finds the member with a name in a sorted list of members.
-fn find<'v, 'a>(members: &'v Vec<(&'a str, LineValue<'a>)>, name: &str) -> Option<&'v LineValue<'a>>
-    ensures { option_map (λ v. line_view v.now) result ≡ get_member name.now (line_members members.now.items) }
+fn find<'v, 'a>(members: &'v [(&'a str, LineValue<'a>)], name: &str) -> Option<&'v LineValue<'a>>
+    ensures { option_map (λ v. line_view v.now) result ≡ get_member name.now (line_members members.now) }
 {
     for member in members {
         if is_same_text(name, member.0) {

@@ -8,7 +8,6 @@ ghost use Rattle.json_values.specs.Plain.{ArePlain};
 
 use crate::line::LineValue;
 use crate::plain_texts::PlainTexts;
-use std::alloc::Global;
 use std::marker::Model;
 
 /// A line that was read: a JSON value, and facts about whether its strings need escapes. Clauses see the value. The
@@ -47,14 +46,14 @@ impl<'a> Line<'a> {
     }
 
     /// Creates a line whose value is an empty object.
-    pub fn empty_object(alloc: Global) -> Line<'a>
+    pub fn empty_object() -> Line<'a>
         ensures { line_view result ≡ object no_members }
     {
         let plain = PlainTexts {
             names: true,
             values: true,
         };
-        Line::new(LineValue::Object(Vec::new(alloc)), plain)
+        Line::new(LineValue::Object(&[]), plain)
     }
 
     /// Returns the value.

@@ -5,6 +5,8 @@ ghost use Rattle.std.specs.Cmp.Lexicographic.{slice_cmp};
 ghost use Rattle.json_values.specs.Entries.{ComesLast, IsRising, IsPlaceOf, IsGapFor, MovesLast, put_entry};
 ghost use Rattle.json_values.specs.Members.{entries_of};
 
+use bumpalo::Bump;
+use bumpalo::collections::into_bump_slice;
 use std::alloc::{AllocError, Global};
 use std::cmp::Ordering;
 use std::collections::BTreeMap;
@@ -17,29 +19,35 @@ const FEW: usize = 64;
 #[derive(Drop)]
 pub(crate) enum Members<'a, T> {
     /// A list of members, which is used if there are few members or if they came in order of their names.
-    Listed(Vec<(&'a str, T)>),
+    Listed(Vec<(&'a str, T), &'a Bump>),
     /// A map of members, which is used for many members that came out of order.
     Mapped(BTreeMap<&'a str, T>),
 }
 
 impl<'a, T: Drop> Members<'a, T> {
-    /// Creates an empty list of members with the given capacity.
+    /// Creates an empty list of members with the given capacity, in an arena.
     #[inline(always)]
-    pub(crate) fn new(alloc: Global, room: usize) -> Result<Members<'a, T>, AllocError>
+    pub(crate) fn new(values: &'a Bump, room: usize) -> Result<Members<'a, T>, AllocError>
         ensures { IfOk result (λ members. entries_of members ≡ []) }
     {
-        Ok(Members::Listed(Vec::with_capacity(alloc, room)?))
+        Ok(Members::Listed(Vec::with_capacity(values, room)?))
     }
 
     /// Inserts a member. If the object already has a member with the name, this member keeps its position and gets the
     /// new value.
     #[inline(always)]
-    pub(crate) fn put(&mut self, alloc: Global, name: &'a str, value: T) -> Result<(), AllocError>
+    pub(crate) fn put(
+        &mut self,
+        alloc: Global,
+        values: &'a Bump,
+        name: &'a str,
+        value: T,
+    ) -> Result<(), AllocError>
         requires { IsRising (entries_of self.old) }
         ensures { OnOk result (entries_of self.new ≡ put_entry name.entry value (entries_of self.old)) }
     {
         if self.is_full(name) {
-            self.go_over(alloc)?;
+            self.go_over(alloc, values)?;
         }
         match self {
             Members::Listed(entries) => put_listed(entries, name, value),
@@ -60,25 +68,25 @@ impl<'a, T: Drop> Members<'a, T> {
 
     /// Converts the list to a map.
     #[inline(never)]
-    fn go_over(&mut self, alloc: Global) -> Result<(), AllocError>
+    fn go_over(&mut self, alloc: Global, values: &'a Bump) -> Result<(), AllocError>
         requires { IsRising (entries_of self.old) }
         ensures { OnOk result (entries_of self.new ≡ entries_of self.old) }
     {
         if let Members::Listed(entries) = self {
-            let entries = mem::replace(entries, Vec::new(alloc));
+            let entries = mem::replace(entries, Vec::new(values));
             *self = Members::Mapped(map_of(alloc, entries)?);
         }
         Ok(())
     }
 
-    /// Returns the members in byte order of their names.
+    /// Returns the members in byte order of their names, as a slice in the arena.
     #[inline(always)]
-    pub(crate) fn into_vec(self, alloc: Global) -> Result<Vec<(&'a str, T)>, AllocError>
-        ensures { IfOk result (λ v. v.items ≡ entries_of self.entry) }
+    pub(crate) fn into_slice(self, values: &'a Bump) -> Result<&'a [(&'a str, T)], AllocError>
+        ensures { IfOk result (λ v. v.now ≡ entries_of self.entry) }
     {
         match self {
-            Members::Listed(entries) => Ok(entries),
-            Members::Mapped(map) => map.into_iter().collect(alloc),
+            Members::Listed(entries) => Ok(into_bump_slice(entries)),
+            Members::Mapped(map) => Ok(into_bump_slice(map.into_iter().collect(values)?)),
         }
     }
 }
@@ -86,7 +94,7 @@ impl<'a, T: Drop> Members<'a, T> {
 /// Creates a map from members that are in order of their names.
 fn map_of<'a, T: Drop>(
     alloc: Global,
-    entries: Vec<(&'a str, T)>,
+    entries: Vec<(&'a str, T), &'a Bump>,
 ) -> Result<BTreeMap<&'a str, T>, AllocError>
     requires { IsRising entries.items }
     ensures { IfOk result (λ map. map.entries ≡ entries.entry.items) }
@@ -114,7 +122,7 @@ fn put_mapped<'a, T: Drop>(
 /// Inserts a member into a list. The call appends the member, and then moves it to its position.
 #[inline(always)]
 fn put_listed<'a, T: Drop>(
-    entries: &mut Vec<(&'a str, T)>,
+    entries: &mut Vec<(&'a str, T), &'a Bump>,
     name: &'a str,
     value: T,
 ) -> Result<(), AllocError>
@@ -137,7 +145,7 @@ fn put_listed<'a, T: Drop>(
 /// Moves the last member to an index by repeated swaps with the member before it. Few swaps are needed, because members
 /// usually come nearly in order of their names.
 #[inline(always)]
-fn move_last<'a, T>(entries: &mut Vec<(&'a str, T)>, place: usize)
+fn move_last<'a, T>(entries: &mut Vec<(&'a str, T), &'a Bump>, place: usize)
     requires { place < length entries.old.items }
     ensures { MovesLast entries.old.items place entries.new.items }
 {

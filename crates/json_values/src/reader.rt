@@ -6,12 +6,14 @@ ghost use Rattle.json_values.specs.Lexer.{has_backslash};
 ghost use Rattle.json_values.specs.LineView.{line_view};
 ghost use Rattle.json_values.specs.LineOrder.{IsOrdered};
 
+use crate::arena::clear;
 use crate::capacities::LONG_TEXT;
 use crate::fault::ReadFault;
 use crate::line_part::Line;
 use crate::tokens::Tokens;
 use crate::utf8::text_of;
 use crate::values;
+use bumpalo::Bump;
 use std::alloc::{AllocError, Global};
 
 /// The maximum nesting depth.
@@ -23,6 +25,8 @@ const MAX_DEPTH: usize = 127;
 pub struct ValueReader {
     /// The buffer for unescaped strings.
     room: Vec<u8>,
+    /// The arena for the arrays and objects of a line.
+    values: Bump,
 }
 
 impl ValueReader {
@@ -30,6 +34,7 @@ impl ValueReader {
     pub fn new(alloc: Global) -> ValueReader {
         ValueReader {
             room: Vec::new(alloc),
+            values: Bump::new(alloc),
         }
     }
 
@@ -56,7 +61,8 @@ impl ValueReader {
             return Err(ReadFault::NotJson);
         };
         make_room(&mut self.room, text)?;
-        read_whole(alloc, text, self.room.as_mut_slice())
+        clear(alloc, &mut self.values);
+        read_whole(alloc, &self.values, text, self.room.as_mut_slice())
     }
 }
 
@@ -78,7 +84,12 @@ fn make_room(room: &mut Vec<u8>, text: &str) -> Result<(), AllocError>
 }
 
 /// Reads a text that is one JSON value, whose strings are slices of the text or of the buffer.
-fn read_whole<'a>(alloc: Global, text: &'a str, room: &'a mut [u8]) -> Result<Line<'a>, ReadFault>
+fn read_whole<'a>(
+    alloc: Global,
+    values: &'a Bump,
+    text: &'a str,
+    room: &'a mut [u8],
+) -> Result<Line<'a>, ReadFault>
     requires { has_backslash text.now ≡ true → length text.now ≤ length room.old }
     ensures ok { IfOk result (λ line. read_text text.now ≡ Some (line_view line)) }
     ensures nests { IfOk result (λ line. depth (line_view line) ≤ max_depth) }
@@ -87,7 +98,7 @@ fn read_whole<'a>(alloc: Global, text: &'a str, room: &'a mut [u8]) -> Result<Li
     ensures memory { result ≡ Err ReadFault.Memory → 0 < length text.now }
 {
     let mut reader = Tokens::new(text, room);
-    let value = values::read_value(alloc, &mut reader, MAX_DEPTH)?;
+    let value = values::read_value(alloc, values, &mut reader, MAX_DEPTH)?;
     let plain = reader.plain();
     if reader.next().is_some() {
         return Err(ReadFault::NotJson);

@@ -8,11 +8,13 @@ ghost use Rattle.json_values.specs.Plain.{AreItemsPlain, AreMembersPlain, ArePla
 ghost use Rattle.json_values.specs.Members.{entries_of};
 ghost use Rattle.json_values.specs.Place.{ends_object};
 
+use crate::arena::array;
 use crate::fault::ReadFault;
 use crate::line::LineValue;
 use crate::members::Members;
 use crate::numbers::read_number;
 use crate::tokens::Tokens;
+use bumpalo::Bump;
 use json::Token;
 use std::alloc::Global;
 
@@ -22,6 +24,7 @@ use std::alloc::Global;
 #[inline(always)]
 pub(crate) fn read_value<'a>(
     alloc: Global,
+    values: &'a Bump,
     reader: &mut Tokens<'a>,
     depth: usize,
 ) -> Result<LineValue<'a>, ReadFault>
@@ -35,7 +38,7 @@ pub(crate) fn read_value<'a>(
 {
     match reader.take_text() {
         Ok(Some(text)) => Ok(LineValue::String(text)),
-        Ok(None) => read_no_text(alloc, reader, depth),
+        Ok(None) => read_no_text(alloc, values, reader, depth),
         Err(_) => Err(ReadFault::NotJson),
     }
 }
@@ -46,6 +49,7 @@ pub(crate) fn read_value<'a>(
 #[inline(always)]
 fn read_no_text<'a>(
     alloc: Global,
+    values: &'a Bump,
     reader: &mut Tokens<'a>,
     depth: usize,
 ) -> Result<LineValue<'a>, ReadFault>
@@ -59,7 +63,7 @@ fn read_no_text<'a>(
 {
     match reader.take_integer() {
         Some(number) => Ok(LineValue::Number(number)),
-        None => read_other(alloc, reader, depth),
+        None => read_other(alloc, values, reader, depth),
     }
 }
 
@@ -69,6 +73,7 @@ fn read_no_text<'a>(
 #[inline(never)]
 fn read_other<'a>(
     alloc: Global,
+    values: &'a Bump,
     reader: &mut Tokens<'a>,
     depth: usize,
 ) -> Result<LineValue<'a>, ReadFault>
@@ -96,13 +101,14 @@ fn read_other<'a>(
             if depth == 0 {
                 return Err(ReadFault::NotJson);
             }
-            Ok(LineValue::Array(read_items(alloc, reader, depth - 1)?))
+            let items = read_items(alloc, values, reader, depth - 1)?;
+            Ok(array(values, &items)?)
         }
         Token::BeginObject => {
             if depth == 0 {
                 return Err(ReadFault::NotJson);
             }
-            Ok(LineValue::Object(read_members(alloc, reader, depth - 1)?))
+            Ok(LineValue::Object(read_members(alloc, values, reader, depth - 1)?))
         }
     }
 }
@@ -112,6 +118,7 @@ fn read_other<'a>(
 #[inline(never)]
 fn read_items<'a>(
     alloc: Global,
+    values: &'a Bump,
     reader: &mut Tokens<'a>,
     depth: usize,
 ) -> Result<Vec<LineValue<'a>>, ReadFault>
@@ -126,7 +133,7 @@ fn read_items<'a>(
 {
     let mut found = Vec::with_capacity(alloc, reader.room(false, depth))?;
     'items: while !reader.take_end_array() {
-        let item = read_value(alloc, reader, depth)?;
+        let item = read_value(alloc, values, reader, depth)?;
         found.push(item)?;
     }
     reader.note(false, depth, found.len());
@@ -138,46 +145,47 @@ fn read_items<'a>(
 #[inline(never)]
 fn read_members<'a>(
     alloc: Global,
+    values: &'a Bump,
     reader: &mut Tokens<'a>,
     depth: usize,
-) -> Result<Vec<(&'a str, LineValue<'a>)>, ReadFault>
+) -> Result<&'a [(&'a str, LineValue<'a>)], ReadFault>
     ensures ok { IfOk result
         (λ found. converted (λ ms. of_members ms no_members)
         (members (value depth) (length reader.old.tokens) reader.old.tokens)
-        ≡ Some (line_members found.items, reader.new.tokens)) }
+        ≡ Some (line_members found.now, reader.new.tokens)) }
     ensures plain { IfOk result (λ found. Narrows reader.old.plain reader.new.plain
-        × AreMembersPlain reader.new.plain (line_members found.items)) }
+        × AreMembersPlain reader.new.plain (line_members found.now)) }
     ensures shorter { OnOk result (length reader.new.tokens < length reader.old.tokens) }
     ensures refused { result ≡ Err ReadFault.NotJson
         → converted (λ ms. of_members ms no_members)
         (members (value depth) (length reader.old.tokens) reader.old.tokens) ≡ None }
 {
-    let mut found = Members::new(alloc, reader.room(true, depth))?;
+    let mut found = Members::new(values, reader.room(true, depth))?;
     'members: loop {
         let Some(name) = reader.take_key() else {
-            let all = end_members(alloc, reader, found)?;
+            let all = end_members(values, reader, found)?;
             reader.note(true, depth, all.len());
             return Ok(all);
         };
-        let member = read_value(alloc, reader, depth)?;
-        found.put(alloc, name, member)?;
+        let member = read_value(alloc, values, reader, depth)?;
+        found.put(alloc, values, name, member)?;
     }
 }
 
 /// Reads the closing brace of an object, and returns the members of the object.
 #[inline(always)]
 fn end_members<'a>(
-    alloc: Global,
+    values: &'a Bump,
     reader: &mut Tokens<'a>,
     found: Members<'a, LineValue<'a>>,
-) -> Result<Vec<(&'a str, LineValue<'a>)>, ReadFault>
+) -> Result<&'a [(&'a str, LineValue<'a>)], ReadFault>
     ensures ok { OnOk result (read_key reader.old.tokens ≡ Some (None, reader.new.tokens)) }
-    ensures found { IfOk result (λ v. v.items ≡ entries_of found.entry) }
+    ensures found { IfOk result (λ v. v.now ≡ entries_of found.entry) }
     ensures plain { OnOk result (reader.new.plain ≡ reader.old.plain) }
     ensures refused { result ≡ Err ReadFault.NotJson → ends_object reader.old.tokens ≡ false }
 {
     if !reader.take_end_object() {
         return Err(ReadFault::NotJson);
     }
-    Ok(found.into_vec(alloc)?)
+    Ok(found.into_slice(values)?)
 }

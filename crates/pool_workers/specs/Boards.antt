@@ -12,7 +12,7 @@ use Rattle.pool_workers.specs.declared.fault.Halt.{Halt}
 abbrev pub WorksAt : Board → BoardSeat → Type 0
 WorksAt b s = CameWith b s × (s.works ≡ true)
 
--- The counters of seat s are 0, and the seat has seen no documents read or settled.
+-- The worker's counters in seat s are 0, and the sums of read and of settled documents that the seat has seen are 0.
 abbrev pub HasNothing : BoardSeat → Type 0
 HasNothing s = (s.read ≡ 0) × (s.settled ≡ 0) × (seen_read s ≡ 0) × (seen_settled s ≡ 0)
 
@@ -26,14 +26,14 @@ AreRisen b [] [] = Unit {0}
 AreRisen b (s ∷ given) (t ∷ now) = IsRisen b s t × AreRisen b given now
 AreRisen b given now = ⊥
 
--- The number of documents that all seats show as read.
+-- The total number of documents that the seats of a list show as read.
 abbrev pub read_on : List BoardSeat → ℕ
 read_on seats = total (λ (s : BoardSeat). s.read) seats
 
 abbrev pub settled_on : List BoardSeat → ℕ
 settled_on seats = total (λ (s : BoardSeat). s.settled) seats
 
--- From the seats `given` to the seats `now`, the numbers of read and of settled documents have both risen by n.
+-- The seats `now` show n more read documents and n more settled documents than the seats `given`.
 abbrev pub HaveRisenBy : ℕ → List BoardSeat → List BoardSeat → Type 0
 HaveRisenBy n given now = (read_on now ≡ read_on given + n) × (settled_on now ≡ settled_on given + n)
 
@@ -49,8 +49,8 @@ abbrev pub AreSeated : Option Board → List BoardSeat → Type 0
 AreSeated None seats = seats ≡ []
 AreSeated (Some b) seats = All (WorksAt b) seats
 
--- If there is a board, all seats of the list are worker seats of the board. The list's length plus `out` is at least
--- the number of workers. Without a board, the list has no seats.
+-- If there is a board, all seats of the list are worker seats of the board. The number of seats in the list, plus the
+-- number `out` of seats in use, is at least the number of workers. Without a board, the list has no seats.
 abbrev pub AreSeats : Option Board → ℕ → ℕ → List BoardSeat → Type 0
 AreSeats None out workers seats = seats ≡ []
 AreSeats (Some b) out workers seats = (workers ≤ length seats + out) × All (WorksAt b) seats
@@ -60,8 +60,8 @@ abbrev pub AreBack : Option Board → List BoardSeat → List BoardSeat → Type
 AreBack None given now = (given ≡ []) × (now ≡ [])
 AreBack (Some b) given now = AreRisen b given now
 
--- If there is a board, the seats `now` show n more settled documents than the seats `given`. If also no writer was
--- stopped, the seats `now` show n more read documents than the seats `given`.
+-- If there is a board, the seats `now` show n more settled documents than the seats `given`. If there is a board and no
+-- writer was stopped, the seats `now` show n more read documents than the seats `given`.
 abbrev pub HaveShown : Option Board → ℕ → Option Halt → List BoardSeat → List BoardSeat → Type 0
 HaveShown None n stopped given now = Unit {0}
 HaveShown (Some b) n stopped given now =
@@ -74,7 +74,7 @@ IsSeated None None = Unit {0}
 IsSeated (Some b) (Some s) = WorksAt b s
 IsSeated board seat = ⊥
 
--- If there is a board, seat t is seat s with n more documents read. Without a board, t equals s.
+-- If there is a board, seat t is seat s after n more documents were read. Without a board, seat t equals seat s.
 abbrev pub HasRead : Option Board → ℕ → Option BoardSeat → Option BoardSeat → Type 0
 HasRead None n s t = t ≡ s
 HasRead (Some b) n (Some s) (Some t) =
@@ -91,15 +91,16 @@ abbrev pub HasRoom : Option Board → ℕ → Option BoardSeat → Type 0
 HasRoom (Some b) n (Some s) = s.settled + n ≤ s.read
 HasRoom board n seat = Unit {0}
 
--- If there is a board, seat t is seat s with z - a more documents settled. Without a board, t equals s.
+-- If there is a board, seat t is seat s after z - a more documents were settled. Without a board, seat t equals seat s.
 abbrev pub HasSettled : Option Board → ℕ → ℕ → Option BoardSeat → Option BoardSeat → Type 0
 HasSettled None a z s t = t ≡ s
 HasSettled (Some b) a z (Some s) (Some t) =
     WorksAt b t × (t.number ≡ s.number) × (t.read ≡ s.read) × (t.settled + a ≡ s.settled + z)
 HasSettled (Some b) a z s t = ⊥
 
--- If there is a board, seat t is seat s with z - a more documents settled. The read counter of t is at least the read
--- counter of s. If no writer was stopped, t has z - a more documents read than s. Without a board, t equals s.
+-- If there is a board, seat t is seat s after z - a more documents were settled. The read counter of t is at least the
+-- read counter of s. If the writer was not stopped, seat t shows z - a more read documents than seat s. Without a
+-- board, seat t equals seat s.
 abbrev pub HasWritten : Option Board → ℕ → ℕ → Option Halt → Option BoardSeat → Option BoardSeat → Type 0
 HasWritten None a z stopped s t = t ≡ s
 HasWritten (Some b) a z stopped (Some s) (Some t) =
@@ -114,7 +115,7 @@ halt_in (Err halt) = Some halt
 
 -- ---- seats in use
 
--- The seats of the elements of a list, from the last element to the first.
+-- The seats that f gives for the elements of a list, from the last element to the first.
 abbrev pub held : {X : Type 0} → (X → Option BoardSeat) → List X → List BoardSeat
 held f [] = []
 held f (x ∷ xs) = held f xs ++ option_to_list (f x)

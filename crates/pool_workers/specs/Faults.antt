@@ -9,7 +9,7 @@ use Rattle.pool_workers.specs.declared.fault.PoolFault.{PoolFault}
 use Rattle.pool_workers.specs.declared.fault.PoolFault.TheVariants as faults
 
 -- The errors that a run with a valid plan may return. The error is `Halted` only if the gate allows the halt, and
--- `BoardFull` only if a board can be full. The error is never `Hole`.
+-- `BoardFull` only if `may_fill` is true. The error is never `Hole`.
 abbrev pub IsLateOn : Type 0 → (Place → Type 0) → PoolFault → Type 0
 IsLateOn may_fill may_stop faults.NoWorkers = ⊥
 IsLateOn may_fill may_stop faults.TooManyWorkers = ⊥

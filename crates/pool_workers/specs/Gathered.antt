@@ -12,14 +12,15 @@ use Rattle.pool_workers.specs.declared.gather.WrittenAll.{WrittenAll}
 use Rattle.pool_workers.specs.declared.parcels.ParcelView.{ParcelView}
 use Rattle.pool_workers.specs.declared.windows.WindowView.{WindowView}
 
--- What is known of the fetchers after they have ended. If no fetcher was stopped, the fetchers' counts are the numbers
--- of sent parcels and of the parcels' documents. The sent parcels then have the numbers of the taken windows.
+-- What is known of the fetchers after they have ended. If no fetcher was stopped, the fetchers have counted all sent
+-- parcels and all documents of these parcels. If no fetcher was stopped, the sent parcels have the numbers of the taken
+-- windows.
 abbrev pub FetchedKnows : WindowView → ParcelView → FetchedAll → Type 0
 FetchedKnows w p t =
     t.stopped ≡ None → (sum t.counts.items ≡ amounts p.sent) × (t.sent ≡ length p.sent) × (w.taken ≡ names p.sent)
 
--- What is known of the writers after they have ended. If no writer was stopped, the writers' counts are the numbers of
--- received parcels and of the parcels' documents.
+-- What is known of the writers after they have ended. If no writer was stopped, the writers have counted all received
+-- parcels and all documents of these parcels.
 abbrev pub WrittenKnows : ParcelView → ℕ → WrittenAll → Type 0
 WrittenKnows p amount t = t.stopped ≡ None → (amount ≡ amounts p.got) × (t.got ≡ length p.got)
 

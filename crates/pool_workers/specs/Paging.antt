@@ -1,4 +1,5 @@
--- The windows of a run of the pool during the run, as specified in docs/PROFILE.md, "Goal and windows" and "The pool".
+-- The windows that a run of the pool has stored so far, as specified in docs/PROFILE.md, "Goal and windows" and "The
+-- pool".
 use Rattle.std.specs.Prelude.{◌≡◌, ℕ, ◌+◌, ◌<◌, Bool, true, List, [], length, Option, Some, None}
 use Rattle.rev_tree.specs.declared.origin.SessionId.{SessionId}
 use Rattle.couch_base.specs.Lists.{Among}
@@ -19,7 +20,7 @@ AllowsMore None n more = more ≡ None
 AllowsMore (Some stop_after) n None = ⊥
 AllowsMore (Some stop_after) n (Some more) = n + more ≡ stop_after
 
--- If the number of windows is limited, `less` is one less than `more`.
+-- If the number of windows is limited, `less` is `more` minus one.
 abbrev pub IsOneLess : Option ℕ → Option ℕ → Type 0
 IsOneLess None less = less ≡ None
 IsOneLess (Some more) None = ⊥

@@ -29,8 +29,8 @@ module _ {S : Type 0} where
   abbrev pub has_got : ParcelView → ParcelMessage S → ParcelView
   has_got v x = parcel_view v.parts v.sent (v.got ++ parcels (x ∷ []))
 
-  -- The sent parcels are the received and the queued parcels. Each parcel, with its number and its number of documents,
-  -- occurs among the sent parcels exactly as often as among the received and queued parcels.
+  -- The sent parcels are exactly the received and the queued parcels. Each parcel, with its number and its number of
+  -- documents, occurs among the sent parcels exactly as often as among the received and queued parcels.
   abbrev pub Balanced : List (ParcelMessage S) → List ParcelView → Type 0
   Balanced items views =
       (total (λ (v : ParcelView). v.parts) views ≡ 1024)

@@ -17,9 +17,9 @@ use Rattle.pool_workers.specs.Parcels.{parcel_view}
 use Rattle.pool_workers.specs.Windows.{window_view}
 use Rattle.pool_workers.specs.Workers.{FetcherKnows, WriterKnows}
 
--- What the caller's thread has before it starts the workers. Before a run, the caller's thread has capacity for each
--- fetcher's count, the complete passes of both unused channels, and all parts of the ledger. The ledger's total is 0.
--- Before a run with a board, the caller's thread has a seat for each writer.
+-- What the caller's thread has before the thread starts the workers. Before a run, the caller's thread has capacity for
+-- each fetcher's count, the complete passes of both unused channels, and all parts of the ledger. The ledger's total is
+-- 0. Before a run with a board, the caller's thread has a seat for each writer.
 pub record IsReady {S L : Type 0} (channels : Channels S) (board : Option Board) (workers : ℕ) (o : Owned S L) : Type 0
   where
     pub counts : (o.counts.items ≡ []) × (workers ≤ vec_capacity o.counts)
@@ -30,7 +30,8 @@ pub record IsReady {S L : Type 0} (channels : Channels S) (board : Option Board)
 
 -- What the caller's thread has after the workers have ended. After the workers have ended, the caller's thread has the
 -- board's seats again. If all workers were started, the caller's thread has the complete passes of both channels, and
--- all parts of the ledger. The caller's thread then also knows the workers' counts, and the reasons why workers halted.
+-- all parts of the ledger. If all workers were started, the caller's thread also knows the workers' counts, and the
+-- reasons why workers halted.
 pub record HaveEnded {S L : Type 0} (channels : Channels S) (board : Option Board) (may_stop : Place → Type 0)
     (workers : ℕ) (given : List BoardSeat) (ended : Option (Ended S L)) (seats : List BoardSeat) : Type 0 where
   pub window_seat : IfSome ended (λ e. IsSeatAt (sends_on channels.to_fetchers) e.windows)

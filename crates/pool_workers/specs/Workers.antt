@@ -39,9 +39,9 @@ HasCounted x f =
     × (f.fetched ≡ amounts (view f.parcels).sent + x.1)
     × ((view f.windows).taken ≡ names (view f.parcels).sent ++ x.0 ∷ [])
 
--- What a writer knows between two messages. If a writer was not stopped, its count is the number of received parcels,
--- and its share of the ledger is the number of the parcels' documents. The count and the share do not include parcels
--- in progress.
+-- What a writer knows between two messages. If a writer was not stopped, it has counted all received parcels, and its
+-- share of the ledger is the number of these parcels' documents. The count and the share do not include parcels in
+-- progress.
 abbrev pub WriterKnows : {S L : Type 0} → List (ℕ × ℕ) → Writer S L → Type 0
 WriterKnows in_hand w =
     (view w.parcels ≡ parcel_view 1 [] (view w.parcels).got)

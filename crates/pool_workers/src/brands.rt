@@ -1,8 +1,8 @@
 //! Brands are type parameters whose ghost members state facts about the source and the target of a run. The call of
 //! `repl_pool` that starts a run chooses the brands of the run.
 //!
-//! About a value that a lock protects or a channel carries, a contract knows only the invariant of the value's type.
-//! The invariant of a type may refer to a brand's ghost members.
+//! If a lock protects a value, or a channel carries a value, contracts know only the invariant of the value's type. The
+//! invariant of a type may refer to a brand's ghost members.
 use std::marker::Brand;
 
 /// The brand whose ghost members are the source's database, and the plan by which the run reads this database.

@@ -98,7 +98,7 @@ impl<
     }
 
     /// Starts a writer. The argument `others` is the number of writers that already run. If a thread cannot be created,
-    /// the call sends an end message to each writer, receives one end message, and returns the seat as an error.
+    /// the call sends an end message to each writer, receives one end message, and returns the seat in the error.
     pub fn start_writer<'s, E>(
         &'e self,
         scope: &Scope<'s, E>,

@@ -57,8 +57,9 @@ pub enum PoolFault {
     /// The gate returned `Stop` at the variant's place.
     #[error("stopped by the gate")]
     Halted(Place),
-    /// The first leaf of the source's feed above the start that is not covered after a run. No run returns the error
-    /// `Hole`. The contract of a run excludes `Hole` (clause `runs`, field `early`), and no code creates this variant.
+    /// The first leaf of the source's feed above the session's start that the target does not cover after a run. No run
+    /// returns the error `Hole`. The contract of a run excludes `Hole` (clause `runs`, field `early`), and no code
+    /// creates this variant.
     #[error("a leaf of the source is not covered")]
     Hole { seq: u64, id: DocId, rev: Rev },
     /// A fetcher's count of documents would exceed 9,007,199,254,740,991.

@@ -165,7 +165,8 @@ impl<F: WriteFilter, S: SourceBrand, T: TargetBrand<F>, L: Ledger, G: Gate, R: W
     G,
     R,
 > {
-    /// Computes the request for the leaves of a page that the target lacks, and releases the target's lock.
+    /// Takes the target's lock, computes the request for the leaves of a page that the target lacks, and releases the
+    /// lock.
     fn ask(&self, page: &Paged<S>) -> Result<Asked, AllocError> {
         self.target.lock(self.rt).diff(self.alloc, page)
     }

@@ -3,7 +3,8 @@ ghost use Rattle.pool_workers.specs.declared.gate.Place.{Place};
 
 use std::sync::Wait;
 
-/// A place in a run, which is a stage of the window with a given number. The windows of a run are numbered from 0.
+/// A place of a run: a stage that the run has reached with a window, and the number of this window. The windows of a
+/// run are numbered from 0.
 #[derive(Clone, Copy, Debug)]
 pub enum Place {
     /// A fetcher took the window.

@@ -24,7 +24,7 @@ use repl_target::WriteFilter;
 use std::sync::ledger::{Ledger, Share};
 use std::thread::Threads;
 
-/// The results of the fetchers: the number of documents of each fetcher, the number of all parcels, and the reason why
+/// The results of the fetchers: each fetcher's number of documents, the total number of sent parcels, and the reason if
 /// a fetcher stopped.
 #[derive(Drop)]
 pub struct FetchedAll {
@@ -33,7 +33,7 @@ pub struct FetchedAll {
     pub stopped: Option<Halt>,
 }
 
-/// The results of the writers: the number of all parcels, and the reason why a writer stopped.
+/// The results of the writers: the total number of settled parcels, and the reason if a writer stopped.
 #[derive(Drop)]
 pub struct WrittenAll {
     pub got: u64,
@@ -61,7 +61,7 @@ fn count_up(
 }
 
 impl FetchedAll {
-    /// Creates the result of a group without fetchers.
+    /// Creates the results of a group that has no fetchers yet.
     pub fn new(counts: Vec<u64>) -> FetchedAll
         ensures { result ≡ record { counts = counts; sent = 0; stopped = None } }
     {
@@ -120,7 +120,7 @@ impl FetchedAll {
 }
 
 impl WrittenAll {
-    /// Creates the result of a group without writers.
+    /// Creates the results of a group that has no writers yet.
     pub fn new() -> WrittenAll
         ensures { result ≡ record { got = 0; stopped = None } }
     {
@@ -221,8 +221,8 @@ impl<F: WriteFilter, S: SourceBrand, T: TargetBrand<F>, L: Ledger, G: Gate, R: T
         fetched
     }
 
-    /// Joins the writers' threads and collects their results, in reverse order so that the seats of the board are
-    /// returned in order.
+    /// Joins the writers' threads and collects their results. The call joins the threads in reverse order, so that the
+    /// seats of the board are returned in order.
     pub fn join_writers(
         &self,
         handles: Vec<WriterHandle<'_, S, L, G>>,

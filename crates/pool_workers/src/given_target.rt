@@ -1,4 +1,4 @@
-//! The facts about the run's target that are known without its lock.
+//! The facts about the run's target that are known without the target's lock.
 ghost use Rattle.std.specs.Prelude.{◌≡◌, [], Some, length, IfOk, IfSome};
 ghost use Rattle.std.specs.Option.{ForSome};
 ghost use Rattle.couch_base.specs.Database.{DatabaseValue};
@@ -41,7 +41,8 @@ impl<F: WriteFilter, T: TargetBrand<F>> GivenTarget<F, T> {
     }
 
     /// Returns the request for the leaves of a page that the given target lacked, if the update sequence of the given
-    /// target was 0. The request then has all leaves of the page's rows, and needs no lock. Otherwise returns `None`.
+    /// target was 0. The request then has all leaves of the page's rows, and the call needs no lock. Otherwise returns
+    /// `None`.
     pub fn diff<S: SourceBrand>(
         &self,
         alloc: Global,

@@ -1,4 +1,4 @@
-//! The workers of a run of the pool, with the workers' messages, steps, and combined effect.
+//! The workers of a run of the pool: the workers' messages and steps, and the combined effect of all workers.
 //!
 //! The rules are in docs/PROFILE.md, "The pool".
 #![tactic(auto)]

@@ -18,7 +18,7 @@ use std::marker::{Model, PhantomData};
 /// The number of bytes by which the heap of a thread grows, which is enough for a parcel of 500 small documents.
 const HEAP_STEP: usize = 512 * 1024;
 
-/// Half of the number of free bytes that a heap keeps at its end.
+/// Half of the number of free bytes that a heap may keep at its end (`keep_heaps`).
 const HEAP_KEPT: usize = 1024 * 1024;
 
 /// A page of the source's feed that was read for the run's plan, with only the rows of selected documents.
@@ -41,7 +41,7 @@ impl<S: SourceBrand> Model for Paged<S> {
 }
 
 impl<S: SourceBrand> Paged<S> {
-    /// Reads the next page of the source above a sequence, for a plan.
+    /// Reads the source's next page above a sequence, with the window size and the selection of a plan.
     pub fn read<F: WriteFilter>(
         alloc: Global,
         source: &Peer<F>,
@@ -70,14 +70,14 @@ impl<S: SourceBrand> Paged<S> {
         self.ready.window()
     }
 
-    /// Builds the shorter form of a window that a target keeps after the window is done (`ReadyWindow::prepare`).
+    /// Builds the shortened copy of the window that the target keeps after the window is done (`ReadyWindow::prepare`).
     pub fn prepare(&mut self, alloc: Global)
         ensures { self.new ≡ self.old }
     {
         self.ready.prepare(alloc);
     }
 
-    /// Returns the window with its prepared shorter form.
+    /// Returns the window, with the window's shortened copy if `prepare` has built it.
     pub fn into_ready(self) -> ReadyWindow
         ensures value { result ≡ self }
         ensures page { IsNext S.source S.plan self }
@@ -85,7 +85,7 @@ impl<S: SourceBrand> Paged<S> {
         self.ready
     }
 
-    /// Copies the page, without its prepared shorter form.
+    /// Copies the page, but not a shortened copy that `prepare` has built.
     pub fn copy(&self, alloc: Global) -> Result<Paged<S>, AllocError>
         ensures { IfOk result (λ p. p ≡ self.now) }
     {
@@ -97,7 +97,7 @@ impl<S: SourceBrand> Paged<S> {
     }
 }
 
-/// The source's documents for a request, if they are counted but not yet read.
+/// The source's documents for a request. The documents are counted, but not yet read.
 #[derive(Drop)]
 pub struct Found<S: SourceBrand> {
     page: Paged<S>,
@@ -119,7 +119,7 @@ impl<S: SourceBrand> Model for Found<S> {
 }
 
 impl<S: SourceBrand> Found<S> {
-    /// Counts the source's documents for a request for the leaves of a page.
+    /// Counts the documents that the source would return for a request for leaves of a page.
     pub fn count<F: WriteFilter>(
         alloc: Global,
         source: &Peer<F>,
@@ -137,8 +137,8 @@ impl<S: SourceBrand> Found<S> {
         })
     }
 
-    /// Counts the source's documents for a request for all leaves of a page. The source has one document for each leaf,
-    /// so the call needs no lookup in the source.
+    /// Counts the documents that the source would return for a request for all leaves of a page. The source has one
+    /// document for each leaf, so the call needs no lookup in the source.
     pub fn whole<F: WriteFilter>(source: &Peer<F>, asked: Asked, page: Paged<S>) -> Found<S>
         requires source { S.source ≡ source.now.1.db }
         requires whole { (db : DatabaseValue) × (db.docs ≡ []) × (asked ≡ revs_diff db page) }
@@ -160,12 +160,13 @@ impl<S: SourceBrand> Found<S> {
         self.documents
     }
 
-    /// Returns the page of the request.
+    /// Copies the page whose leaves are requested.
     pub fn page(&self, alloc: Global) -> Result<Paged<S>, AllocError> {
         self.page.copy(alloc)
     }
 
-    /// Reads the documents at the source, and prepares them for a session of the target if the caller names a session.
+    /// Reads the documents at the source. If the caller names a session of the target, the call also prepares the
+    /// documents for this session.
     pub fn fetch<F: WriteFilter>(
         self,
         alloc: Global,
@@ -204,8 +205,8 @@ impl<S: SourceBrand> Model for Fetched<S> {
 }
 
 impl<S: SourceBrand> Fetched<S> {
-    /// Reads the source's documents for a request for the leaves of a page, and prepares the documents for a session,
-    /// if one is given.
+    /// Reads the documents that the source returns for a request for leaves of a page. If a session is given, the call
+    /// also prepares the documents for this session.
     pub fn fetch<F: WriteFilter>(
         alloc: Global,
         source: &Peer<F>,
@@ -243,7 +244,7 @@ impl<S: SourceBrand> Fetched<S> {
     }
 }
 
-/// Prepares the documents of a parcel for a session, if one is given.
+/// Prepares the documents of a parcel for a session, if a session is given.
 fn prepare(
     alloc: Global,
     ready: &mut PreparedParcel,
@@ -282,9 +283,9 @@ fn grow_heap(alloc: Global) {
 
 /// Makes the heap of each thread keep freed memory of the size of a parcel.
 ///
-/// The C library releases the free memory at the end of a heap if it exceeds 128 KiB. The C library allocates large
-/// blocks directly from the system. After a large block was freed, each heap keeps free memory of up to twice the size
-/// of that block.
+/// By default, the C library releases the free memory at the end of a heap if this memory exceeds 128 KiB. The C
+/// library allocates large blocks directly from the system. After a large block was freed, each heap keeps free memory
+/// of up to twice the size of that block.
 pub fn keep_heaps(alloc: Global) {
     if let Ok(room) = Vec::<u8>::with_capacity(alloc, HEAP_KEPT) {
         drop(room);

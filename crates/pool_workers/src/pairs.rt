@@ -1,7 +1,7 @@
 //! Pairs are threads that each alternate between the work of a fetcher and of a writer.
 //!
-//! If the gate never blocks a worker, half as many threads do the work of both groups, because each thread fetches
-//! windows and settles parcels.
+//! If the gate never blocks a worker, half as many threads do the work of the fetchers and the writers, because each
+//! thread both fetches windows and settles parcels.
 ghost use Rattle.std.specs.Prelude.{◌≡◌, ℕ, ◌+◌, ◌-◌, ◌<◌, ◌≤◌, ◌++◌, [], true, length, None, IfSome, IfOk, IfErr, vec_len, vec_capacity, option_copied, option_to_list};
 ghost use Rattle.std.specs.List.{All};
 ghost use Rattle.crossbeam_channel.specs.Claims.{view, IsSeatAt};
@@ -33,7 +33,8 @@ use std::sync::Wait;
 use std::sync::ledger::{Ledger, Share};
 use std::thread::{Promise, PromisedHandle, Scope, Threads};
 
-/// The guarantee of a pair whose writer was given a seat of the board.
+/// The guarantee of a pair whose thread has ended. If there is a board, the pair's writer was started with the seat
+/// `seat`.
 #[derive(Drop)]
 pub struct PairPromise<'a, S: SourceBrand, G: Gate> {
     pub channels: &'a Channels<S>,
@@ -60,7 +61,7 @@ impl<
     R: Wait + Sync,
 > Context<'e, F, S, T, L, G, R> {
     /// Starts a pair. The argument `others` is the number of pairs that already run. If a thread cannot be created, the
-    /// call sends an end message to each pair, receives one end message, and returns the seat as an error.
+    /// call sends an end message to each pair, receives one end message, and returns the seat in the error.
     fn start_pair<'s, E>(
         &'e self,
         scope: &Scope<'s, E>,
@@ -112,9 +113,10 @@ impl<
         }
     }
 
-    /// Splits off two passes and a part of the ledger, takes the last seat, and starts a pair (`start_pair`). `others`
-    /// is the number of pairs that were started before. If a thread cannot be created, the call returns `None`, and the
-    /// seat stays in the list of seats.
+    /// For a new pair, splits off one pass of the channel of windows, two passes of the channel of parcels, and a part
+    /// of the ledger. The call then takes the last seat, and starts the pair (`start_pair`). `others` is the number of
+    /// pairs that were started before. If a thread cannot be created, the call returns `None`, and the seat stays in
+    /// the list of seats.
     fn spawn_pair<'s, E>(
         &'e self,
         scope: &Scope<'s, E>,
@@ -231,8 +233,8 @@ impl<
     G: Gate + Sync,
     R: Threads + Wait + Sync,
 > Context<'e, F, S, T, L, G, R> {
-    /// Joins the pairs' threads and collects their results, in reverse order so that the seats of the board are
-    /// returned in order.
+    /// Joins the pairs' threads and collects their results. The call joins the threads in reverse order, so that the
+    /// seats of the board are returned in order.
     fn join_pairs(
         &self,
         handles: Vec<PairHandle<'_, S, L, G>>,

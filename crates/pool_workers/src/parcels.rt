@@ -15,9 +15,9 @@ pub enum ParcelMessage<S: SourceBrand> {
     End,
 }
 
-/// A thread's facts about the channel of parcels. The field `parts` is the thread's share, in 1,024ths, of the right to
-/// know all facts about the channel. The fields `sent` and `got` list the parcels that the thread has sent and
-/// received, with their numbers and numbers of documents. No `ParcelView` exists at run time.
+/// A thread's facts about the channel of parcels. The field `parts` says how many of the 1,024 parts of the channel's
+/// pass the thread has. The fields `sent` and `got` list the parcels that the thread has sent and received, each as a
+/// pair of the parcel's number and its number of documents. No `ParcelView` exists at run time.
 pub struct ParcelView {
     pub parts: u64,
     pub sent: LinkedList<(u64, u64)>,
@@ -37,7 +37,7 @@ impl<S: SourceBrand> Protocol<ParcelMessage<S>, ParcelView> for Conserved {
     ghost first = { parcel_view 1024 [] [] };
 }
 
-/// Calls that split off a pass for a worker, and later take the pass back.
+/// The split of a pass into two, one of which is for a worker, and the later join of both passes.
 pub struct ParcelCut;
 
 impl Split<ParcelView> for ParcelCut {

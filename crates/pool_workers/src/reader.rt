@@ -52,7 +52,7 @@ fn send_window<S: SourceBrand, R: Wait>(
         .is_ok()
 }
 
-/// Sends windows, which get numbers from `number` on. Returns the next number.
+/// Sends windows, numbered from `number` on. Returns the number after the last window's number.
 fn send_all<S: SourceBrand, R: Wait>(
     rt: &R,
     channels: &Channels<S>,
@@ -89,8 +89,9 @@ impl<F: WriteFilter, S: SourceBrand, T: TargetBrand<F>, L: Ledger, G, R: Wait> C
     G,
     R,
 > {
-    /// Stores pages at the target in order, and releases the target's lock. Returns the number of stored pages, and the
-    /// reason if a page was not stored. The reason for an unstored page is `Lost` if the plan allows no further window.
+    /// Takes the target's lock, stores pages at the target in order, and releases the lock. Returns the number of
+    /// stored pages, and the reason if a page was not stored. The reason for an unstored page is `Lost` if the plan
+    /// allows no further window.
     fn store_all(&self, pages: Vec<Paged<S>>) -> (usize, Option<Halt>)
         ensures refused { IfSome result.1 (λ halt. (halt ≡ Halt.Lost)
             ⊎ (fault : TargetFault) × (halt ≡ Halt.Refused fault) × IsStepFault fault) }
@@ -182,9 +183,9 @@ impl<F: WriteFilter, S: SourceBrand, T: TargetBrand<F>, L: Ledger, G, R: Wait> C
         ahead
     }
 
-    /// Reads at most `most` pages above a sequence, stores all pages under one lock of the target, and sends the pages.
-    /// The call sends the stored pages even if storing a later page fails. Returns the end of the last page, and the
-    /// number of the next window.
+    /// Reads at most `most` pages above a sequence, stores all pages while it holds the target's lock, and then sends
+    /// the pages. The call sends the stored pages even if storing a later page fails. Returns the end of the last page,
+    /// and the number of the next window.
     pub fn read_some(
         &self,
         windows: &mut WindowPass<S>,
@@ -226,8 +227,8 @@ impl<F: WriteFilter, S: SourceBrand, T: TargetBrand<F>, L: Ledger, G, R: Wait> C
         }
     }
 
-    /// Reads windows from a start until no further window is due, stores each window at the target, and sends each
-    /// window. The call reads one window first, then two, then four, and then eight windows at a time.
+    /// Reads windows from a start until the goal or the plan's limit is reached, stores each window at the target, and
+    /// sends each window. The call reads one window first, then two, then four, and then eight windows at a time.
     pub fn read_windows(&self, start: u64, windows: &mut WindowPass<S>) -> Option<Halt>
         requires source { S.source ≡ self.now.source.now.1.db }
         requires plan { S.plan ≡ self.now.plan.now }

@@ -30,7 +30,7 @@ pub fn show_read(
     }
 }
 
-/// Shows documents as settled. The seat must not show more documents as settled than as read after the call.
+/// Shows documents as settled. After the call, the seat must not show more settled documents than read documents.
 pub fn show_settled(board: Option<&Board>, seat: &mut Option<BoardSeat>, documents: u64)
     requires seat { IsSeated (option_copied board) seat.old }
     requires room { HasRoom (option_copied board) documents seat.old }

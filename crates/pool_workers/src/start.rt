@@ -38,7 +38,8 @@ impl<
     G: Gate + Sync,
     R: Wait + Sync,
 > Context<'e, F, S, T, L, G, R> {
-    /// Splits a pass off the pass of each channel, and starts a fetcher with the two new passes.
+    /// For each channel, splits a new pass (a ghost right to use the channel) off the given pass. The call then starts
+    /// a fetcher with both new passes.
     fn spawn_fetcher<'s, E>(
         &'e self,
         scope: &Scope<'s, E>,
@@ -110,9 +111,9 @@ impl<
         started
     }
 
-    /// Splits off a pass and a part of the ledger, takes the last seat, and starts a writer (`start_writer`). `others`
-    /// is the number of writers that were started before. If a thread cannot be created, the call returns `None`, and
-    /// the seat stays in the list of seats.
+    /// For a new writer, splits off a pass of the channel of parcels and a part of the ledger, and takes the last seat.
+    /// The call then starts the writer (`start_writer`). `others` is the number of writers that were started before. If
+    /// a thread cannot be created, the call returns `None`, and the seat stays in the list of seats.
     fn spawn_writer<'s, E>(
         &'e self,
         scope: &Scope<'s, E>,

@@ -37,7 +37,8 @@ pub struct Owned<S: SourceBrand, L: Ledger> {
 }
 
 /// What the caller's thread owns after all workers have ended: the complete passes of both channels, the complete share
-/// of the ledger, and the workers' results. If reading ended early, the caller's thread also owns the reason.
+/// of the ledger, and the workers' results. If reading the windows ended early, the caller's thread also owns the
+/// reason.
 #[derive(Drop)]
 pub struct Ended<S: SourceBrand, L: Ledger> {
     pub windows: WindowPass<S>,
@@ -59,7 +60,7 @@ impl<
 > Context<'e, F, S, T, L, G, R> {
     /// Starts the fetchers, reads the windows, and joins the fetchers. Returns the fetchers' results, and the reason if
     /// reading the windows ended early. If not all fetchers can be started (`start_fetchers`), the call returns `None`
-    /// and reads no window. The call then sends the end messages of the missing fetchers to the writers.
+    /// and reads no window. The call then sends an end message to the writers for each fetcher that was not started.
     fn fetch_in_scope<'s, E>(
         &'e self,
         scope: &Scope<'s, E>,

@@ -46,7 +46,7 @@ impl<F: WriteFilter, S: SourceBrand, T: TargetBrand<F>, L: Ledger, G: Gate, R: W
     G,
     R,
 > {
-    /// Splits a pass off the pass of each channel, for a fetcher on this thread.
+    /// For a fetcher on this thread, splits a pass off the given pass of each channel.
     pub fn fetcher_here(
         &self,
         windows: &mut WindowPass<S>,
@@ -73,7 +73,8 @@ impl<F: WriteFilter, S: SourceBrand, T: TargetBrand<F>, L: Ledger, G: Gate, R: W
         Fetcher::new(its_windows, its_parcels)
     }
 
-    /// Splits off a pass and a part of the ledger for a writer on this thread, and takes a seat if there is a board.
+    /// For a writer on this thread, splits off a pass of the channel of parcels and a part of the ledger, and takes a
+    /// seat if there is a board.
     pub fn writer_here(
         &self,
         parcels: &mut ParcelPass<S>,
@@ -106,7 +107,7 @@ impl<F: WriteFilter, S: SourceBrand, T: TargetBrand<F>, L: Ledger, G: Gate, R: W
     }
 
     /// Receives and fetches a window, and settles a parcel if the fetcher sent one. Returns false if the fetcher
-    /// received the end message of the windows.
+    /// received the end message of the channel of windows.
     fn take_turn(&self, pair: &mut Pair<S, L>) -> bool
         requires source { S.source ≡ self.now.source.now.1.db }
         requires stand { StandBy self.now.channels.now (option_copied self.now.board) (G.may_stop self.now.gate.now)
@@ -143,8 +144,8 @@ impl<F: WriteFilter, S: SourceBrand, T: TargetBrand<F>, L: Ledger, G: Gate, R: W
         pair
     }
 
-    /// Reads windows from a start until no further window is due. Each window is stored at the target and taken through
-    /// both channels.
+    /// Reads windows from a start until the goal or the plan's limit is reached. The call stores each window at the
+    /// target, and takes the window through both channels.
     fn read_in_turn(
         &self,
         start: u64,

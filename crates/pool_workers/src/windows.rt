@@ -14,10 +14,10 @@ pub enum WindowMessage<S: SourceBrand> {
     End,
 }
 
-/// A thread's facts about the channel of windows. The field `parts` is the thread's share, in 1,024ths, of the right to
-/// know all facts about the channel. The field `reads` is 1 for the page reader and 0 for other threads, and `count` is
-/// the number of windows that the page reader has sent. The field `taken` has the numbers of the windows that the
-/// thread has taken. No `WindowView` exists at run time.
+/// A thread's facts about the channel of windows. The field `parts` says how many of the 1,024 parts of the channel's
+/// pass the thread has. The field `reads` is 1 for the page reader and 0 for other threads, and `count` is the number
+/// of windows that the page reader has sent. The field `taken` has the numbers of the windows that the thread has
+/// taken. No `WindowView` exists at run time.
 pub struct WindowView {
     pub parts: u64,
     pub reads: u64,
@@ -38,7 +38,7 @@ impl<S: SourceBrand> Protocol<WindowMessage<S>, WindowView> for InTurn {
     ghost first = { window_view 1024 1 0 [] };
 }
 
-/// Calls that split off a pass for a fetcher, and later take the pass back.
+/// The split of a pass into two, one of which is for a fetcher, and the later join of both passes.
 pub struct WindowCut;
 
 impl Split<WindowView> for WindowCut {

@@ -65,7 +65,7 @@ impl<F: WriteFilter, S: SourceBrand, T: TargetBrand<F>, L: Ledger, G: Gate, R: W
     G,
     R,
 > {
-    /// Settles a parcel, and shows the parcel's documents as settled.
+    /// Settles a parcel, and shows the number of settled documents on the board.
     fn settle_and_show(
         &self,
         share: &mut Share<L>,
@@ -93,7 +93,8 @@ impl<F: WriteFilter, S: SourceBrand, T: TargetBrand<F>, L: Ledger, G: Gate, R: W
         }
     }
 
-    /// Records the session's low water at the target, and releases the target's lock. Returns the recorded sequence.
+    /// Takes the target's lock, records the session's low water at the target, and releases the lock. Returns the
+    /// recorded sequence.
     fn record(&self) -> Result<u64, Halt>
         ensures { IfErr result (λ halt. (fault : TargetFault) × (halt ≡ Halt.Refused fault) × IsStepFault fault) }
     {
@@ -104,8 +105,8 @@ impl<F: WriteFilter, S: SourceBrand, T: TargetBrand<F>, L: Ledger, G: Gate, R: W
     }
 
     /// Settles a parcel and records the low water at the target. The writer stops if the gate stops the writer or a
-    /// call fails. The board shows the documents as read before they are settled, and as settled before the gate is
-    /// called.
+    /// call fails. The call shows the documents as read on the board before it settles the documents. The call shows
+    /// the documents as settled before it calls the gate.
     fn settle_and_record(
         &self,
         share: &mut Share<L>,
@@ -127,16 +128,16 @@ impl<F: WriteFilter, S: SourceBrand, T: TargetBrand<F>, L: Ledger, G: Gate, R: W
         show_read(self.board, seat, documents)?;
         self.settle_and_show(share, seat, fetched, &mut spent)?;
         pass(self.rt, self.gate, Place::Settled(number))?;
-        // After settling, the writer usually gets the lock without waiting, because another waiting writer takes a
+        // After settling, the writer usually gets the lock again without waiting, because a waiting writer takes a
         // while to wake up.
         let recorded = self.record()?;
         drop(spent);
         pass(self.rt, self.gate, Place::Recorded(number, recorded))
     }
 
-    /// Returns the session for which a parcel is prepared before the lock is taken. Returns `None` if one thread does
-    /// all work, because no other thread waits for the lock. If the same thread builds and stores data, the data stays
-    /// in the processor's cache.
+    /// Returns the session for which a parcel is prepared before the lock is taken. Returns `None` if the run has only
+    /// one writer, because no other writer waits for the lock. If the same thread builds and stores data, the data
+    /// stays in the processor's cache.
     fn session_ahead(&self) -> Option<SessionId> {
         if self.workers > 1 {
             Some(self.plan.session)

@@ -47,15 +47,15 @@ SeesRead v i n w =
     × (slice_index v.reads i ≤ n) × (n ≤ most) × (v.works ≡ true → v.number ≡ i → n ≡ slice_index v.reads i)
 
 -- A seat loaded n from worker i's settled counter. The seat's lower bound of worker i's settled counter rises to n, or
--- was n already. The seat's lower bound of worker i's read counter is then at least n. If the seat is worker i's own
--- seat, the bound of the settled counter was n already.
+-- was n already. After the load, the seat's lower bound of worker i's read counter is at least n. If the seat is worker
+-- i's own seat, the bound of the settled counter was n already.
 abbrev pub SeesSettled : SeatView → ℕ → ℕ → SeatView → Type 0
 SeesSettled v i n w =
     (w ≡ seat_view v.deals v.works v.number (slice_set v.reads i (max (slice_index v.reads i) n))
     (slice_set v.settles i n))
     × (slice_index v.settles i ≤ n) × (n ≤ most) × (v.works ≡ true → v.number ≡ i → n ≡ slice_index v.settles i)
 
--- The knowledge of a seat about the board's counters is true.
+-- What a seat knows about the board's counters is true.
 pub record Fits (k : ℕ) (words : List ℕ) (v : SeatView) : Type 0 where
   pub read_size : length v.reads ≡ k
   pub settle_size : length v.settles ≡ k
@@ -72,7 +72,7 @@ pub record Fits (k : ℕ) (words : List ℕ) (v : SeatView) : Type 0 where
 abbrev pub InOrder : ℕ → List ℕ → Type 0
 InOrder k words = (j : ℕ) → j < k → (slice_index words (k + j) ≤ slice_index words j) × (slice_index words j ≤ most)
 
--- The invariant of a board: no settled counter exceeds its worker's read counter, the knowledge of each seat is true,
+-- The invariant of a board: no settled counter exceeds the same worker's read counter, what each seat knows is true,
 -- and the workers' numbers are distinct.
 pub record Kept (k : ℕ) (words : List ℕ) (views : List SeatView) : Type 0 where
   pub size : length words ≡ k + k

@@ -20,7 +20,7 @@ seen_read s = sum s.place.me.0.reads
 abbrev pub seen_settled : BoardSeat → ℕ
 seen_settled s = sum s.place.me.0.settles
 
--- Between a seat's views v and w, no lower bound of a counter has decreased.
+-- From a seat's view v to the seat's later view w, no lower bound of a counter has decreased.
 abbrev pub IsLater : SeatView → SeatView → Type 0
 IsLater v w =
     ((j : ℕ) → slice_index v.reads j ≤ slice_index w.reads j)
@@ -30,7 +30,7 @@ IsLater v w =
 abbrev pub SameSeat : BoardSeat → BoardSeat → Type 0
 SameSeat s t = (t.works ≡ s.works) × (t.number ≡ s.number) × (t.read ≡ s.read) × (t.settled ≡ s.settled)
 
--- If seat s is a worker's, the worker's own counters are at most the given totals.
+-- If seat s belongs to a worker, the worker's own counters are at most the given totals.
 abbrev pub SeesItself : BoardSeat → ℕ → ℕ → Type 0
 SeesItself s settled read = s.works ≡ true → (s.settled ≤ settled) × (s.read ≤ read)
 

@@ -6,8 +6,8 @@ use crate::fault::BoardFault;
 use crate::seat::BoardSeat;
 use crate::steps::{BoardTable, add_to_read, add_to_settled, look_at_read, look_at_settled};
 
-/// A board of counters that threads share. The board counts, for each worker, the documents that the worker has read
-/// and the documents that it has settled.
+/// A board of counters that threads share. For each worker, the board counts the documents that the worker has read and
+/// the documents that the worker has settled.
 #[derive(Drop)]
 pub struct Board {
     table: BoardTable,

@@ -40,7 +40,7 @@ impl Board {
     }
 }
 
-/// Creates a table of counters at 0, with the seat that creates other seats.
+/// Creates a table of counters at 0, and the dealer (the seat that creates all other seats).
 fn lay(alloc: Global, workers: usize) -> Result<(BoardTable, Place), AllocError>
     requires { (0 < workers) × (workers ≤ 64) }
     ensures { IfOk result
@@ -51,7 +51,7 @@ fn lay(alloc: Global, workers: usize) -> Result<(BoardTable, Place), AllocError>
     lay_words(alloc, words.as_slice(), workers)
 }
 
-/// Creates a table of given counters, with the seat that creates other seats.
+/// Creates a table of given counters, and the dealer (the seat that creates all other seats).
 fn lay_words(
     alloc: Global,
     words: &[u64],

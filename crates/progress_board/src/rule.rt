@@ -67,7 +67,7 @@ impl Play<(), SeatView> for LooksAtSettled {
     ghost then = { λ st v n w. SeesSettled v.0 (st.word - length v.0.reads) n w.0 × (w.1 ≡ v.1) };
 }
 
-/// The seat that creates all other seats creates a worker's seat with the worker's number.
+/// The dealer (the seat that creates all other seats) creates a worker's seat with the worker's number.
 pub struct ToWorker;
 
 impl Split<SeatView> for ToWorker {
@@ -78,7 +78,7 @@ impl Split<SeatView> for ToWorker {
     ghost right = { hired };
 }
 
-/// The seat that creates all other seats creates a viewer's seat.
+/// The dealer (the seat that creates all other seats) creates a viewer's seat.
 pub struct ToViewer;
 
 impl Split<SeatView> for ToViewer {

@@ -21,8 +21,8 @@ use Rattle.read_commands.specs.declared.audit.Audit.{Audit}
 
 -- ---- its parameters
 
--- The parameters of `audit`. For a selection of documents, the command checks that the target covers what the common
--- checkpoint claims.
+-- The parameters of `audit`. For a selection of documents, `audit` checks that the target covers every leaf that the
+-- common checkpoint claims.
 pub record AuditAsk : Type 0 where
   pub source : List ℕ
   pub target : List ℕ
@@ -32,7 +32,7 @@ abbrev pub audit_asked : Audit → AuditAsk
 audit_asked ask = record {
   source = ask.source.now;
   target = ask.target.now;
-  doc_ids = option_map (λ v. texts_of (line_items v.now.items)) ask.doc_ids;
+  doc_ids = option_map (λ v. texts_of (line_items v.now)) ask.doc_ids;
 }
 
 abbrev pub audit_in : Data → Result AuditAsk Refusal

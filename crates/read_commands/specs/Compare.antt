@@ -26,7 +26,8 @@ use Rattle.read_commands.specs.declared.compare.CompareRest.{CompareRest}
 
 -- ---- its parameters
 
--- The parameters of `compare`. The command prints what a target lacks of a source's feed, for a selection of documents.
+-- The parameters of `compare`, which prints the differences between a source and a target, for a selection of
+-- documents.
 pub record CompareAsk : Type 0 where
   pub source : List ℕ
   pub target : List ℕ
@@ -36,7 +37,7 @@ abbrev pub compare_asked : Compare → CompareAsk
 compare_asked ask = record {
   source = ask.source.now;
   target = ask.target.now;
-  doc_ids = option_map (λ v. texts_of (line_items v.now.items)) ask.doc_ids;
+  doc_ids = option_map (λ v. texts_of (line_items v.now)) ask.doc_ids;
 }
 
 abbrev pub compare_in : Data → Result CompareAsk Refusal

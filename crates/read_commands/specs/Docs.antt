@@ -34,7 +34,7 @@ abbrev pub docs_asked : Docs → DocsAsk
 docs_asked ask = record {
   db = ask.db.now;
   since = ask.since;
-  doc_ids = option_map (λ v. texts_of (line_items v.now.items)) ask.doc_ids;
+  doc_ids = option_map (λ v. texts_of (line_items v.now)) ask.doc_ids;
 }
 
 abbrev pub docs_in : Data → Result DocsAsk Refusal

@@ -37,7 +37,7 @@ log_asked ask = record {
   source = ask.source.now;
   target = ask.target.now;
   side = ask.side;
-  doc_ids = option_map (λ v. texts_of (line_items v.now.items)) ask.doc_ids;
+  doc_ids = option_map (λ v. texts_of (line_items v.now)) ask.doc_ids;
 }
 
 abbrev pub side_of : List ℕ → Option Side

@@ -16,19 +16,20 @@ rest_left s (Compare r) = compare_left s r.value
 rest_left s (Conflicts r) = conflicts_left s r.value
 rest_left s (Docs r) = docs_left s r.value
 
--- The totals in a command's remaining output are the totals of the rows of state s that the command has printed.
+-- A command's totals so far are the totals of the feed rows of state s that the command has processed. The command
+-- `docs` counts nothing.
 abbrev pub FitsRest : State → Rest → Type 0
 FitsRest s (Compare r) = FitsCompare s r.value
 FitsRest s (Conflicts r) = FitsConflicts s r.value
 FitsRest s (Docs r) = Unit {0}
 
--- The result of a line before the first piece of its output: the complete output, or the name of the error.
+-- The result of a line that has printed nothing yet: the complete output, or the name of the error.
 abbrev pub told_from : State → Result Rest Refusal → Told
 told_from s (Ok rest) = Ok (rest_left s rest)
 told_from s (Err refusal) = Err (name_of refusal)
 
--- The result of a line after the pieces `text` of its output: these pieces and the remaining output, or the name of the
--- error.
+-- The result of a line that has already printed the pieces `text`: the pieces `text` and the remaining output, or the
+-- name of the error.
 abbrev pub told_begun : State → Result (Option Rest) Refusal → List ℕ → Told
 told_begun s (Ok rest) text = Ok (text_with (rest_left s) text rest)
 told_begun s (Err refusal) text = Err (name_of refusal)

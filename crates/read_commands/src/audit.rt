@@ -1,4 +1,4 @@
-//! `audit`: checks that the target covers what the common checkpoint claims.
+//! `audit`: checks that the target covers every leaf that the common checkpoint claims.
 ghost use Rattle.std.specs.Prelude.{◌≡◌, ◌++◌, OnOk};
 ghost use Rattle.repl_target.specs.Audit.{hole_of};
 ghost use Rattle.json_values.specs.LineView.{line_view};
@@ -22,7 +22,7 @@ pub struct Audit<'v, 'a> {
     pub source: &'v str,
     pub target: &'v str,
     /// The ids of the selected documents, which are strings. If the line gives no ids, all documents are selected.
-    pub doc_ids: Option<&'v Vec<LineValue<'a>>>,
+    pub doc_ids: Option<&'v [LineValue<'a>]>,
 }
 
 impl<'v, 'a> Command<&'v Line<'a>> for Audit<'v, 'a> {

@@ -22,7 +22,7 @@ pub struct Compare<'v, 'a> {
     pub source: &'v str,
     pub target: &'v str,
     /// The ids of the selected documents, which are strings. If the line gives no ids, all documents are selected.
-    pub doc_ids: Option<&'v Vec<LineValue<'a>>>,
+    pub doc_ids: Option<&'v [LineValue<'a>]>,
 }
 
 impl<'v, 'a> StreamingCommand<&'v Line<'a>> for Compare<'v, 'a> {

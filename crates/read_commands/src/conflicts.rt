@@ -115,7 +115,8 @@ fn push_counts(answer: &mut Vec<u8>, census: &Census) -> Result<(), AllocError>
     answer.extend_from_slice(b" documents\n")
 }
 
-/// Prints each row's document, with its live leaves, if the document is in conflict. Counts all documents of the rows.
+/// Prints each document in conflict, with the document's live leaves, and counts the documents of all rows, in conflict
+/// or not.
 #[derive(Drop)]
 struct ConflictRows<'a> {
     database: &'a Database,

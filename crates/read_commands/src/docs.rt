@@ -24,7 +24,7 @@ pub struct Docs<'v, 'a> {
     /// The sequence after which the command prints changed documents.
     pub since: u64,
     /// The ids of the selected documents, which are strings. If the line gives no ids, all documents are selected.
-    pub doc_ids: Option<&'v Vec<LineValue<'a>>>,
+    pub doc_ids: Option<&'v [LineValue<'a>]>,
 }
 
 impl<'v, 'a> StreamingCommand<&'v Line<'a>> for Docs<'v, 'a> {

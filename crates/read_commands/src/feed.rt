@@ -15,7 +15,7 @@ const PIECE: usize = 65_536;
 /// A position in a changes feed.
 #[derive(Drop)]
 pub struct Walk {
-    /// The sequence up to which the rows of the feed are printed.
+    /// The sequence after which the rows of the feed are still to be printed.
     pub since: u64,
     /// The selected documents. If there is no selection, the feed has all documents.
     pub chosen: Option<Chosen>,
@@ -29,10 +29,10 @@ pub trait RowPrinter {
     /// The counts.
     type Tally;
 
-    // The text that the type prints for a row.
+    // The text that is printed for a row of the feed.
     ghost row_text: { Self → RowValue → List ℕ };
 
-    // The given value of `Tally` has the counts of the given rows.
+    // Whether a value of type `Tally` has the counts of a list of rows.
     ghost counts: { Self → Self.Tally → List RowValue → Type 0 } = { λ _ _ _. Unit {0} };
 
     /// Prints and counts a row of the feed.
@@ -104,7 +104,7 @@ pub fn print_feed<P: RowPrinter>(
     Ok(())
 }
 
-/// Prints the rows of one page of at most `limit` rows.
+/// Prints one page of the feed, which has at most `limit` rows.
 fn step<P: RowPrinter>(
     alloc: Global,
     piece: &mut Vec<u8>,
@@ -132,8 +132,8 @@ fn step<P: RowPrinter>(
     Ok(())
 }
 
-/// Returns the number of rows that a page scans. If at most `limit` documents are selected, a page returns at most
-/// `limit` rows, and therefore scans all rows that are left.
+/// Returns the maximum number of feed rows that the read of one page scans. If at most `limit` documents are selected,
+/// a page cannot have more than `limit` rows, so the read scans all remaining rows.
 fn scan_limit(limit: u64, chosen: Option<&Chosen>) -> u64
     requires { 0 < limit }
     ensures { 0 < result }

@@ -138,7 +138,7 @@ fn push_rev_of(answer: &mut Vec<u8>, word: &[u8], id: &str, rev: Rev) -> Result<
     push_rev(answer, &rev)
 }
 
-/// Appends the known and the given parent of a revision.
+/// Appends a revision's two parents: the parent in the target's tree, and the parent in the ledger's document.
 fn push_parents(answer: &mut Vec<u8>, known: Rev, given: Rev) -> Result<(), AllocError>
     ensures { OnOk result (answer.new.items ≡ answer.old.items ++ parents_part (rev_text known) (rev_text given)) }
 {

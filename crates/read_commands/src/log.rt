@@ -23,7 +23,7 @@ pub struct Log<'v, 'a> {
     pub target: &'v str,
     pub side: Side,
     /// The ids of the selected documents, which are strings. If the line gives no ids, all documents are selected.
-    pub doc_ids: Option<&'v Vec<LineValue<'a>>>,
+    pub doc_ids: Option<&'v [LineValue<'a>]>,
 }
 
 /// The side of a replication, which is its source or its target.

@@ -22,7 +22,7 @@ pub trait StreamingCommand<L>: Sized + Drop {
     // The JSON value of a line.
     ghost seen: { L → Data };
 
-    // The values by which contracts describe the command's parameters.
+    // The type that contracts use for the command's parameters.
     ghost Ask: { Type 0 };
 
     ghost asked: { Self → Ask };

@@ -20,8 +20,9 @@ abbrev pub is_too_large : Side → ℕ → Bool
 is_too_large Target status = status == 413
 is_too_large Source status = false
 
--- Whether a response to a `carry` request refuses the given leaf. A rejection by the target as too large refuses the
--- leaf if the request has only the leaf's document. A `carry` request transfers documents to the target.
+-- Whether a response to a `carry` request refuses the given leaf. If the target rejects a request as too large, and the
+-- request has only the leaf's document, the response refuses the leaf. A `carry` request transfers documents to the
+-- target.
 abbrev pub rejects : RequestView → ResponseView → Text → Text → Bool
 rejects (carry_docs docs) (row_errors_response rows) id leaf = refuses rows id leaf
 rejects (carry_docs docs) (rejected_response side status words) id leaf = is_too_large side status && is_alone docs id
@@ -48,13 +49,14 @@ abbrev pub log_in : ResponseView → Option LogView
 log_in (log_response log) = Some log
 log_in r = None
 
--- The replication log of one side after an exchange, given the log of this side before the exchange.
+-- After an exchange, the log that one server (the source or the target) has last returned. The log `before` is the log
+-- that this server had last returned before the exchange.
 abbrev pub log_after : Side → RequestView → ResponseView → Option LogView → Option LogView
 log_after Source (get_log Source) r before = log_in r
 log_after Target (get_log Target) r before = log_in r
 log_after side q r before = before
 
--- The replication log of one side, as the side's server last returned it.
+-- The log that one server (the source or the target) has last returned in a history.
 abbrev pub last_log : Side → List Exchange → Option LogView
 last_log side [] = None
 last_log side (e ∷ h) = log_after side e.request e.response (last_log side h)
@@ -68,8 +70,8 @@ abbrev pub newest_common : List EntryView → List EntryView → Option (Text ×
 newest_common [] source = None
 newest_common (e ∷ target) source = if has_pair source e.session e.seq then Some (e.session, e.seq) else newest_common target source
 
--- The sequence at which a run begins, given the newest pair of session and sequence in both logs, or 0 without such a
--- pair.
+-- The sequence at which a window begins: the sequence of the newest pair of session and sequence in both logs, or 0
+-- without such a pair.
 abbrev pub seq_of : Option (Text × Text) → Text
 seq_of None = codes "0"
 seq_of (Some pair) = pair.1
@@ -89,8 +91,8 @@ abbrev pub log_of : Side → LogView → LogView → LogView
 log_of Target target source = target
 log_of Source target source = source
 
--- The replication logs of both sides were read after some pages, and the pages lead from the newest common pair of both
--- logs to sequence s.
+-- The replication logs of both servers were read after some pages, and the pages lead from the newest common pair of
+-- both logs to sequence s.
 pub record AreReady (h : List Exchange) (target source : LogView) (s : Text) (failures : ℕ) : Type 0 where
   pub before : List Exchange
   pub later : List Exchange
@@ -101,8 +103,8 @@ pub record AreReady (h : List Exchange) (target source : LogView) (s : Text) (fa
   pub reached : Reached (seq_of (newest_common target.history source.history)) before s rejected
   pub counted : min rejected (2 ^ 64 - 1) ≤ failures
 
--- The relay may request that a server's log record the sequence s, because pages of changes have reached s. The history
--- of a written log is the new entry, followed by the history of the log that was last read.
+-- The condition under which the relay may request that a server's log record the sequence s: pages of changes have
+-- reached s. The history of a written log is the new entry, followed by the history of the log that was last read.
 pub record IsReady (h : List Exchange) (side : Side) (log : LogView) (s : Text) (failures : ℕ) : Type 0 where
   pub target : LogView
   pub source : LogView

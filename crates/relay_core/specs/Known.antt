@@ -46,8 +46,8 @@ asked_of phase = option_map_or (λ n. tell (notice_view n)) (slice_get phase.not
 
 -- ---- what is known
 
--- Pages of changes lead from sequence `begin` to sequence `since`, and `failures` counts the refused leaves of the
--- pages.
+-- Pages of changes lead from sequence `begin` to sequence `since`. The number `failures` is at least the number of the
+-- pages' leaves that the target refused and lacks, or at least 2^64 - 1.
 pub record IsReachedFrom (h : List Exchange) (begin since : Text) (failures : ℕ) : Type 0 where
   pub rejected : ℕ
   pub reached : Reached begin h since rejected
@@ -64,9 +64,9 @@ pub record IsRead (h : List Exchange) (begin since : Text) (failures : ℕ) (tar
   pub target_is : last_log Target later ≡ Some target
   pub reached : IsReachedFrom before begin since failures
 
--- The source returned a page of changes, and the transfer of the page is in progress. The documents `missing` are the
--- leaves that the target lacked when the relay requested its missing leaves after the page. The target refused each
--- leaf that the error rows of a transfer name.
+-- The source returned a page of changes, and the transfer of the page is in progress. The documents `missing` have the
+-- leaves of the page that no response after the page shows to be at the target. The target refused each leaf that the
+-- error rows `rows` name.
 pub record IsOpen (h : List Exchange) (begin since last : Text) (failures : ℕ) (missing : List DocView) (rows : List RowErrorView) : Type 0 where
   pub before : List Exchange
   pub after : List Exchange

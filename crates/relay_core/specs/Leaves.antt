@@ -48,7 +48,7 @@ abbrev pub doc_if_any : Text → List Text → List DocView
 doc_if_any id [] = []
 doc_if_any id (r ∷ revs) = (id, r ∷ revs) ∷ []
 
--- The given documents with only the leaves that pass a test, without documents that then have no leaf.
+-- The given documents with only the leaves that pass a test. Documents without a leaf that passes the test are omitted.
 abbrev pub docs_where : (Text → Text → Bool) → List DocView → List DocView
 docs_where p [] = []
 docs_where p (d ∷ ds) = doc_if_any d.0 (filter (λ r. p d.0 r) d.1) ++ docs_where p ds

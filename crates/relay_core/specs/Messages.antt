@@ -41,9 +41,9 @@ pub data FaultView : Type 0 where
   bad_answer : Operation → FaultView
   bad_log : Side → FaultView
   refused : Text → Side → ℕ → Text → FaultView
-  -- The fault of missing leaves that the target has not refused. The fault has the id and revision of the first of the
-  -- leaves, and the number of the leaves. The fault also has the error and reason of the document's first error row
-  -- with another error than `forbidden` and `unauthorized`, if any.
+  -- The fault of missing leaves that the target has not refused. The fault has the id and revision of the first of
+  -- these leaves, and the number of these leaves. The fault also has the error and reason of the document's first error
+  -- row whose error is neither `forbidden` nor `unauthorized`, if such a row exists.
   unaccounted : Text → Text → Option (Text × Text) → ℕ → FaultView
   log_changed : FaultView
 
@@ -62,7 +62,7 @@ pub data NoticeView : Type 0 where
 
 pub data RequestView : Type 0 where
   get_log : Side → RequestView
-  -- The request of the changes after a sequence, by longpoll if there is a timeout.
+  -- The request for the changes after a sequence. The request is a longpoll request if it has a timeout.
   get_changes : Text → Option ℕ → RequestView
   revs_diff : List DocView → RequestView
   carry_docs : List DocView → RequestView

@@ -45,7 +45,7 @@ fn has_all(leaves: &LeafSet<'_>, docs: &[DocLeaves]) -> bool
     true
 }
 
-/// Whether the documents `docs` list each leaf that the documents `named` list.
+/// Whether each leaf in the list `named` is also in the list `docs`.
 pub fn name_all(alloc: Global, docs: &[DocLeaves], named: &[DocLeaves]) -> Result<bool, AllocError>
     ensures { IfOk result (λ b. b ≡ name_all (docs_view docs.now) (docs_view named.now)) }
 {
@@ -53,7 +53,7 @@ pub fn name_all(alloc: Global, docs: &[DocLeaves], named: &[DocLeaves]) -> Resul
     Ok(has_all(&leaves, named))
 }
 
-/// Returns the given leaves of one document, without the leaves that a set of leaves lacks.
+/// Returns those of the given leaves of one document that a set of leaves has.
 fn revs_in(
     alloc: Global,
     leaves: &LeafSet<'_>,
@@ -88,7 +88,8 @@ fn push_doc(
     Ok(())
 }
 
-/// Returns the given documents with only those leaves that a set of leaves has.
+/// Returns the given documents with only the leaves that a set of leaves has. Documents without a leaf in the set are
+/// omitted.
 fn leaves_in(
     alloc: Global,
     docs: &[DocLeaves],
@@ -104,7 +105,8 @@ fn leaves_in(
     Ok(kept)
 }
 
-/// Returns the given documents with only those leaves that a response names as missing.
+/// Returns the given documents with only the leaves that a response names as missing. Documents without a missing leaf
+/// are omitted.
 pub fn missing_of(
     alloc: Global,
     docs: &[DocLeaves],

@@ -76,7 +76,7 @@ pub enum Fault {
     BadDiff,
     /// A response does not have the form that the given kind of request requires.
     BadAnswer(Operation),
-    /// The replication log of a server has no `_rev`, or its history is not a list.
+    /// The replication log of a server has no `_rev`, or the log's history is not a list.
     BadLog(Side),
     /// A server rejected the transfer of a single document. The fault has the document's id, the server, the status,
     /// and the server's error and reason.
@@ -92,7 +92,7 @@ pub enum Fault {
 pub struct Unaccounted {
     pub id: String,
     pub rev: String,
-    /// The error and the reason of the document's first `_bulk_docs` row that has another error than `forbidden` and
+    /// The error and the reason of the document's first `_bulk_docs` row whose error is neither `forbidden` nor
     /// `unauthorized`.
     pub error: Option<(String, String)>,
     /// The number of leaves of the page that the target lacks and has not refused.
@@ -170,10 +170,10 @@ pub enum Notice {
 pub enum Request<'a> {
     /// A request for the replication log of a server.
     GetLog(Side),
-    /// A request for the source's changes after a sequence. If a request for changes has a timeout (in milliseconds),
-    /// it is a longpoll request.
+    /// A request for the source's changes after a sequence. A request for changes with a timeout (in milliseconds) is a
+    /// longpoll request.
     GetChanges(&'a str, Option<u32>),
-    /// A request that the target say which of the given leaves it lacks.
+    /// A request that asks the target which of the given leaves the target lacks.
     RevsDiff(&'a [DocLeaves]),
     /// A carry, a request to copy the given leaves from the source to the target.
     Carry(&'a [DocLeaves]),

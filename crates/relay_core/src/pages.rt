@@ -40,7 +40,7 @@ pub(crate) fn behind(settings: &Settings, mut run: Run, notices: Vec<Notice>) ->
     }
 }
 
-/// Continues a run after the target has, or has refused, each leaf of a page.
+/// Continues a run once the target has, or has refused, each leaf of a page.
 fn onward(settings: &Settings, run: Run, notices: Vec<Notice>) -> Phase
     ensures { (h : List Exchange) → IsReached h run → Knows h result }
 {
@@ -55,7 +55,7 @@ fn onward(settings: &Settings, run: Run, notices: Vec<Notice>) -> Phase
     behind(settings, run, notices)
 }
 
-/// Adds a page's numbers of leaves to the counts of a run.
+/// Adds the numbers of a page's checked leaves, missing leaves and write failures to the counts of a run.
 fn counted(counts: Counts, checked: u64, found: u64, failures: u64) -> Counts
     ensures { result.doc_write_failures ≡ min (counts.doc_write_failures + failures) (2 ^ 64 - 1) }
 {
@@ -88,7 +88,7 @@ fn notices_of(
     Ok(notices)
 }
 
-/// Counts a page after the target has, or has refused, each leaf of the page. The call then continues the run.
+/// Counts a page once the target has, or has refused, each leaf of the page. The call then continues the run.
 fn accounted(
     alloc: Global,
     settings: &Settings,
@@ -119,8 +119,8 @@ fn accounted(
     Ok(onward(settings, run, notices))
 }
 
-/// Requests the transfer of the next documents. If all documents were transferred, the call requests again that the
-/// target say which leaves it lacks.
+/// Requests the transfer of the next documents. If all documents were transferred, the call asks the target again which
+/// leaves the target lacks.
 fn ask_carry(alloc: Global, run: Run, mut transfer: Transfer) -> Phase
     ensures { (h : List Exchange) → IsOpenAt h run transfer → Knows h result }
 {
@@ -133,7 +133,7 @@ fn ask_carry(alloc: Global, run: Run, mut transfer: Transfer) -> Phase
 }
 
 /// Continues a run after a part of a transfer is done. The call raises the maximum number of documents of later parts
-/// to twice the number of this part, but not above `settings.carry`.
+/// to twice the number of documents of this part, but not above `settings.carry`.
 fn advance(alloc: Global, settings: &Settings, mut run: Run, mut transfer: Transfer) -> Phase
     ensures { (h : List Exchange) → IsOpenAt h run transfer → Knows h result }
 {
@@ -307,7 +307,8 @@ pub(crate) fn after_carry(
     }
 }
 
-/// Requests a page again, or ends the run with `Unaccounted` because the target neither has nor has refused a leaf.
+/// Requests a page again, because the target neither has nor has refused a leaf of the page. After the last try, the
+/// call ends the run with `Unaccounted`.
 fn retry(
     alloc: Global,
     mut run: Run,
@@ -330,7 +331,7 @@ fn retry(
     Ok(quiet(alloc, run, Stage::Changes))
 }
 
-/// Continues a run after the target says which leaves of a page it still lacks.
+/// Continues a run after the target's `_revs_diff` response that follows a transfer.
 pub(crate) fn after_again(
     alloc: Global,
     settings: &Settings,

@@ -34,11 +34,11 @@ pub struct Run {
     pub begin: Option<Recorded>,
     /// The sequence up to which the target has, or has refused, each leaf.
     pub since: String,
-    /// Whether the current window is open, which means that the run must still record it in both logs.
+    /// Whether the current window is open. The run must still record an open window in both logs.
     pub is_open: bool,
     /// The number of pages with rows in the current window.
     pub pages: u64,
-    /// Whether the last page was the end of the feed.
+    /// Whether the page that was read last was the last page of the feed.
     pub has_ended: bool,
     /// Whether the run requests the next page by longpoll.
     pub waits: bool,
@@ -70,15 +70,15 @@ pub struct PageEnd {
 #[derive(Drop)]
 pub struct Transfer {
     pub end: PageEnd,
-    /// The leaves of the page that the target lacked.
+    /// The leaves of the page that the target lacked before the transfer.
     pub missing: Vec<DocLeaves>,
-    /// The number of documents that were transferred.
+    /// The number of documents in the parts of the transfer that are done.
     pub carried: usize,
     /// The number of documents in the current part of the transfer.
     pub size: usize,
-    /// The `_bulk_docs` rows so far that refuse a leaf.
+    /// The `_bulk_docs` rows of the transfer so far that refuse a leaf.
     pub refused: Vec<RowError>,
-    /// The `_bulk_docs` rows so far that report errors other than refusals.
+    /// The `_bulk_docs` rows of the transfer so far that report other errors than refusals.
     pub others: Vec<RowError>,
 }
 
@@ -91,11 +91,11 @@ pub enum Stage {
     SourceLog(ReplicationLog),
     /// The run waits for a page of changes.
     Changes,
-    /// The run waits for the leaves of a page that the target lacks.
+    /// The run waits for a response that names the leaves of a page that the target lacks.
     Diff(ChangesPage),
-    /// The run waits for the rows of a transfer.
+    /// The run waits for the response to a transfer of documents.
     Carry(Transfer),
-    /// After a transfer, the run waits for the leaves that the target still lacks.
+    /// After a transfer, the run waits for a response that names the leaves that the target still lacks.
     Again(Transfer),
     /// The run waits for the target's response to a request to store its log. The source's log is stored after the
     /// target's log.
@@ -159,7 +159,7 @@ impl Phase {
         ))
     }
 
-    /// Returns the next request of the run, which is a notice as long as one is left.
+    /// Returns the next request of the run. As long as a notice is left, the request is to print the notice.
     pub fn request(&self) -> Request<'_>
         ensures { request_view result ≡ asked_of self.now }
     {
@@ -193,7 +193,7 @@ pub(crate) fn failed(alloc: Global, run: Run, fault: Fault) -> Phase
     quiet(alloc, run, Stage::Done(Some(fault)))
 }
 
-/// Returns the timeout for the request of the next page, if it is a longpoll request.
+/// Returns the timeout of the request for the next page, if this request is a longpoll request.
 fn wait_of(run: &Run) -> Option<u32>
     ensures { result ≡ wait_of run.now }
 {

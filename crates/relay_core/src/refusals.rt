@@ -31,7 +31,7 @@ pub(crate) fn sort_rows(
     Ok(())
 }
 
-/// Returns the error row for a leaf whose document is too large for the target.
+/// Returns the error row that the relay creates for a leaf whose document is too large for the target.
 fn too_large_row(alloc: Global, id: &str, leaf: &str) -> Result<RowError, AllocError>
     ensures { IfOk result (λ r. row_error_view r ≡ too_large_row id.now leaf.now) }
 {
@@ -57,8 +57,8 @@ pub(crate) fn push_too_large(
     Ok(())
 }
 
-/// Whether an error row with the revision `rev` concerns a leaf. A row without a revision concerns every leaf of its
-/// document.
+/// Whether an error row with the revision `rev` concerns a leaf. A row without a revision concerns every leaf of the
+/// row's document.
 fn is_about(rev: &Option<String>, leaf: &str) -> bool
     ensures { result ≡ is_about (option_map string_bytes rev.now) leaf.now }
 {
@@ -104,8 +104,8 @@ pub(crate) fn cover(rows: &[RowError], docs: &[DocLeaves]) -> bool
     true
 }
 
-/// Returns the first error row of a document that names the given leaf, or else the document's first row that names no
-/// revision.
+/// Returns a document's first error row that names the given leaf. If no row names the leaf, returns the document's
+/// first row that names no revision.
 fn row_about<'a>(rows: &'a [RowError], id: &str, leaf: &str) -> Option<&'a RowError> {
     let mut general = None;
     for row in rows {
@@ -127,7 +127,7 @@ fn row_about<'a>(rows: &'a [RowError], id: &str, leaf: &str) -> Option<&'a RowEr
     general
 }
 
-/// Returns a refused leaf, with the error and the reason of the row that concerns it.
+/// Returns a refused leaf, with the error and the reason of the error row that concerns the leaf.
 fn refused_leaf(
     alloc: Global,
     rows: &[RowError],

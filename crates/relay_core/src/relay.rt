@@ -1,4 +1,4 @@
-//! One step of a run, from a response to the next phase.
+//! One step of a run, which computes the next phase from a phase and the response to the phase's request.
 ghost use Rattle.std.specs.Prelude.{◌≡◌, ◌∷◌, List, IfOk, is_some, slice_get};
 ghost use Rattle.relay_core.specs.Messages.{Exchange, exchange_of};
 ghost use Rattle.relay_core.specs.Views.{response_view};

@@ -13,17 +13,17 @@ use Rattle.rev_tree.specs.Tree.{TreeValue, leaves, ancestors, missing, first_con
 use Rattle.rev_tree.specs.declared.fault.Contradiction.{Contradiction}
 
 -- The comparison of a source's document with the target's document. The fields are the number of the source's leaves,
--- the leaves that the target's tree lacks, an optional contradiction, and the leaves whose known contents differ.
--- Contents are compared only if both sides know them. The contradiction is at the first revision in the missing leaves'
--- ancestries that has another parent at the target.
+-- the leaves that the target's tree lacks, an optional contradiction, and the leaves whose known contents differ. The
+-- contents of a leaf are compared only if both trees have a content of the leaf. The contradiction is at the first
+-- revision in the missing leaves' ancestries whose parents at source and target differ.
 pub record ComparisonValue : Type 0 where
   pub leaves : ℕ
   pub missing : List RevId
   pub contradiction : Option Contradiction
   pub differing : List RevId
 
--- The first contradiction between the ancestries of the given leaves and the target's tree. The leaves are searched in
--- order, and each ancestry from its newest revision on.
+-- The first contradiction between the ancestries of the given leaves and the target's tree. The search takes the leaves
+-- in order, and each leaf's ancestry from its newest revision to its oldest.
 abbrev pub contradiction_under : TreeValue → TreeValue → List RevId → Option Contradiction
 contradiction_under source target [] = None
 contradiction_under source target (leaf ∷ leaves) =

@@ -12,6 +12,6 @@ live tree = filter (λ r. not (is_deleted tree r)) (leaves tree)
 abbrev pub in_conflict : TreeValue → Bool
 in_conflict tree = nat_le 2 (length (live tree))
 
--- The leaves in conflict: the live leaves of a tree, if there are two or more.
+-- The leaves in conflict: the live leaves of a tree, if the tree has two or more live leaves.
 abbrev pub conflicting : TreeValue → List RevId
 conflicting tree = if in_conflict tree then live tree else []

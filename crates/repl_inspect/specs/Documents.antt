@@ -5,7 +5,7 @@ use Rattle.doc_json.specs.Document.{Document}
 use Rattle.couch_base.specs.Database.{Id, DatabaseValue, tree_of}
 use Rattle.couch_base.specs.Messages.{leaf_document}
 
--- Each leaf of a tree as a document with its ancestors and its content, winner first.
+-- The leaves of a tree, winner first, each as a document with the leaf's ancestors and content.
 abbrev pub documents_in : Id → TreeValue → List Document
 documents_in id tree = map (leaf_document id tree) (leaves tree)
 

@@ -8,8 +8,8 @@ use Rattle.repl_inspect.specs.declared.ledger.LedgerRow.{LedgerRow}
 use Rattle.repl_inspect.specs.declared.ledger.LedgerRow.TheVariants as rows
 
 -- The explanation of a ledger row. If the filter refused a document, the explanation is the document's newest revision.
--- If a document's ancestry contradicts the tree, the explanation is the newest revision with another parent in the
--- tree, its parent in the tree, and its parent in the ancestry.
+-- If a document's ancestry contradicts the tree, the explanation is the newest revision with different parents in the
+-- tree and in the ancestry, and both parents.
 abbrev pub Says : RefusedValue → LedgerRow → Type 0
 Says x (rows.Denied rev) = (x.reason ≡ reasons.Filtered) × (head_of x.doc.ancestry ≡ Some rev)
 Says x (rows.Contradicted rev known given) = x.reason ≡ reasons.Contradicting rev known given

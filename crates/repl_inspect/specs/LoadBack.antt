@@ -12,7 +12,8 @@ use Rattle.repl_peer.specs.peer.Writing.{after_load}
 use Rattle.repl_target.specs.replication.Replication.{IsEmpty, SameDocuments}
 use Rattle.repl_inspect.specs.Documents.{documents_at}
 
--- The documents of all leaves in a database's selected feed, in the feed's order, winner first.
+-- The leaves of all documents in a database's selected feed, each as a document. The documents are in the feed's order,
+-- and the leaves of a document are in winning order.
 abbrev pub all_documents : Choice → DatabaseValue → List Document
 all_documents chosen db = flat_map (λ r. documents_at db r.id) (chosen_feed chosen db 0 db.update_seq)
 
@@ -26,8 +27,9 @@ abbrev pub AllTaken : PeerValue → List Document → Type 0
 AllTaken p [] = Unit {0}
 AllTaken p (d ∷ ds) = IsOk (put_answer p.db d) × AllTaken (after_load p d) ds
 
--- An empty peer with enough free sequences accepts the documents of all selected leaves. After the loads, each selected
--- document has the same revisions, parents, contents of leaves and winner at the peer and in the database.
+-- An empty peer with enough free sequences accepts the leaves of all selected documents, loaded in order. After the
+-- loads, each selected document has the same revisions, parents, contents of leaves and winner at the peer and in the
+-- database.
 abbrev pub LoadBack : DatabaseValue → Type 0
 LoadBack db =
     (chosen : Choice) (p : PeerValue) → IsEmpty p → p.db.update_seq + length (all_documents chosen db) ≤ most

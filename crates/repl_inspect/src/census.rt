@@ -11,7 +11,7 @@ use couch_base::{Database, Row};
 use rev_tree::Tree;
 use std::alloc::{AllocError, Global};
 
-/// The number of feed rows in one page that the call reads.
+/// The maximum number of feed rows in one page that `census_of` reads.
 const PAGE: u64 = 1000;
 
 /// The counts of documents, leaves and revisions in a set of documents. Each count is capped at 9,007,199,254,740,991.
@@ -21,7 +21,7 @@ pub struct Census {
     pub documents: u64,
     /// The number of documents without a live leaf.
     pub deleted: u64,
-    /// The number of documents in conflict, which have two or more live leaves.
+    /// The number of documents in conflict: documents with two or more live leaves.
     pub conflicts: u64,
     /// The number of leaves.
     pub leaves: u64,
@@ -43,7 +43,7 @@ impl Census {
         }
     }
 
-    /// Adds a document's tree to the counts. If an allocation fails, the call adds nothing.
+    /// Adds a document's tree to the counts. If an allocation fails, the counts stay unchanged.
     pub fn add(&mut self, alloc: Global, tree: &Tree) -> Result<(), AllocError>
         ensures ok { OnOk result ((earlier : List TreeValue) → self.old ≡ census_of earlier
             → self.new ≡ census_of (earlier ++ tree.now ∷ [])) }

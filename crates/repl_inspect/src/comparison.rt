@@ -61,16 +61,16 @@ impl Comparison {
         self.missing.as_slice()
     }
 
-    /// Returns the first revision in the missing leaves' ancestries that has another parent at the target. The call
-    /// searches the missing leaves in order, and each leaf's ancestry from the newest revision on. The target would
-    /// refuse the missing leaf whose ancestry has the returned revision.
+    /// Returns the first revision in the missing leaves' ancestries whose parents at source and target differ, and both
+    /// parents. The missing leaves are searched in order, and each leaf's ancestry from its newest revision to its
+    /// oldest. The target would refuse the missing leaf whose ancestry has the returned revision.
     pub fn contradiction(&self) -> Option<Contradiction>
         ensures { result ≡ self.now.contradiction }
     {
         self.contradiction
     }
 
-    /// Returns the source's leaves whose contents differ at the target, winner first.
+    /// Returns the source's leaves whose contents at source and target differ, winner first.
     pub fn differing(&self) -> &[Rev]
         ensures { result.now ≡ self.now.differing }
     {
@@ -98,8 +98,8 @@ pub(crate) fn compare_trees(
     })
 }
 
-/// Returns the first revision in the given leaves' ancestries that has another parent in the target's tree. The given
-/// leaves are leaves of the source's document.
+/// Returns the first revision in the given leaves' ancestries whose parents at source and target differ, and both
+/// parents. The given leaves are leaves of the source's document.
 fn first_under(
     alloc: Global,
     source: &Tree,
@@ -118,7 +118,7 @@ fn first_under(
     Ok(None)
 }
 
-/// Returns the revisions whose contents differ between the two trees.
+/// Returns the given leaves whose contents differ between the two trees.
 fn differing_of(
     alloc: Global,
     source: &Tree,

@@ -27,7 +27,7 @@ pub(crate) fn live(alloc: Global, tree: &Tree) -> Result<Vec<Rev>, AllocError>
     live_of(alloc, tree, leaves.as_slice())
 }
 
-/// Returns the given revisions that do not delete the document.
+/// Returns those of the given revisions that do not delete the document.
 fn live_of(alloc: Global, tree: &Tree, revs: &[Rev]) -> Result<Vec<Rev>, AllocError>
     ensures { IfOk result (λ v. v.items ≡ filter (λ r. not (is_deleted tree.now r)) revs.now) }
 {

@@ -1,4 +1,5 @@
-//! Compares the complete feed of a source with a target. The contract relates missing leaves to covered leaves.
+//! Compares the feed of a source with a target. The contract of the comparison relates missing leaves to covered
+//! leaves.
 ghost use Rattle.std.specs.Prelude.{◌≡◌, IfOk};
 ghost use Rattle.std.specs.Option.{option_copied};
 ghost use Rattle.couch_base.specs.Feed.{chosen_feed};

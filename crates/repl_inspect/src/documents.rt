@@ -17,8 +17,8 @@ use std::alloc::{AllocError, Global};
 /// Returns the leaves of a document, winner first, each as a document with its known ancestry and its content. The list
 /// is empty if the database does not have the document.
 ///
-/// If the documents of all rows of a feed are loaded in order into an empty peer with enough free sequences, the peer
-/// accepts every document. After the last load, each selected document is the same in the peer and in the original
+/// If the leaves of all documents in a selected feed are loaded in order into an empty peer with enough free sequences,
+/// the peer accepts every leaf. After the last load, each selected document is the same in the peer and in the original
 /// database.
 pub fn documents_of(alloc: Global, database: &Database, id: &DocId) -> Result<Vec<Doc>, AllocError>
     ensures documents { IfOk result (λ v. v.items ≡ documents_at database.now id.now) }
@@ -48,7 +48,7 @@ fn documents_at(
     Ok(found)
 }
 
-/// Returns a leaf of a document as a document, with its ancestry and its content. A leaf always has a content.
+/// Returns a leaf as a document with the leaf's ancestry and content. A leaf always has a content.
 pub fn leaf_document(
     alloc: Global,
     database: &Database,

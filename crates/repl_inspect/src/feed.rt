@@ -14,7 +14,7 @@ use doc_json::{Chosen, DocId};
 use rev_tree::Tree;
 use std::alloc::{AllocError, Global};
 
-/// The number of feed rows in one page that the call reads.
+/// The maximum number of feed rows in one page that `compare_databases` reads.
 const PAGE: u64 = 1000;
 
 /// Compares the source's tree of a document with the target's tree of the document. The comparison ignores sessions and

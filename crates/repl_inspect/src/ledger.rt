@@ -4,17 +4,17 @@ ghost use Rattle.repl_inspect.specs.Ledgers.{Says};
 use repl_target::{Reason, Refused};
 use rev_core::Rev;
 
-/// The reason why a document was refused, and the revision that caused the refusal.
+/// Why a document was refused, and the revision that was the cause.
 #[derive(Clone, Copy, Debug)]
 pub enum LedgerRow {
     /// The write filter refuses the document. The variant names the document's newest revision.
     Denied { rev: Rev },
-    /// The ancestry of the document contradicts the tree, because a revision has another parent in the tree. The
-    /// variant names the newest revision with another parent in the tree, and both parents.
+    /// The ancestry of the document contradicts the tree, because a revision has different parents in the ancestry and
+    /// in the tree. The variant names the newest revision with different parents, and both parents.
     Contradicted { rev: Rev, known: Rev, given: Rev },
 }
 
-/// Returns the reason of a ledger row, with the revision that caused the refusal.
+/// Returns why the document of a ledger row was refused, and the revision that was the cause.
 pub fn ledger_row(refused: &Refused) -> LedgerRow
     ensures { Says refused.now result }
 {

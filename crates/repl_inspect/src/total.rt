@@ -6,7 +6,7 @@ ghost use Rattle.repl_inspect.specs.Totals.{total_of};
 use crate::comparison::Comparison;
 use crate::counting::{plus, plus_if};
 
-/// The sums of the differences over a set of compared documents. Each count is capped at 9,007,199,254,740,991.
+/// The sums of the differences that comparisons of documents found. Each count is capped at 9,007,199,254,740,991.
 #[derive(Clone, Copy, Debug, PartialEq, Eq)]
 pub struct Total {
     /// The number of compared documents.
@@ -17,7 +17,7 @@ pub struct Total {
     pub missing: u64,
     /// The number of documents that contradict the target's tree.
     pub contradicting: u64,
-    /// The number of the source's leaves whose content differs at the target.
+    /// The number of leaves whose contents at source and target differ.
     pub differing: u64,
 }
 

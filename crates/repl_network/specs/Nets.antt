@@ -1,5 +1,5 @@
 -- Networks of any number of peers, each at a numbered place, as specified in docs/PROFILE.md, "Nets", and in CouchDB,
--- "Replication and conflict model". Any two peers of a network may be replicated, in any order.
+-- "Replication and conflict model". Replications between any two peers of a network may be made, in any order.
 use Rattle.std.specs.Prelude.{◌≡◌, ◌≢◌, ◌⊎◌, ℕ, ◌<◌, Bool, true, List, [], ◌∷◌, map, length, Option, Some, Ok, slice_get}
 use Rattle.rev_core.specs.Rev.{RevId}
 use Rattle.rev_tree.specs.Tree.{TreeValue, has, merged, no_revisions}
@@ -122,12 +122,12 @@ Spread peers hops peers' =
 abbrev pub tree_alone : Document → TreeValue
 tree_alone d = merged no_revisions d.ancestry (content_of d.deleted d.body) (Local 0)
 
--- No revision has a parent or content in document d that differs from the revision's parent or content in a peer's
--- tree.
+-- No peer's tree disagrees with document d about a revision's parent or content.
 abbrev pub FitsIn : List PeerValue → Document → Type 0
 FitsIn peers d = (n : ℕ) (p : PeerValue) → IsAt peers n p → Agree (tree_of p.db.docs d.id) (tree_alone d)
 
--- The history of document d is complete, or ends at a revision that the given peer has.
+-- The ancestry of document d reaches generation 1, or the given database's tree of the document has the ancestry's
+-- oldest revision.
 abbrev pub IsRooted : DatabaseValue → Document → Type 0
 IsRooted db d =
     (r : RevId) → IsRoot (tree_alone d) r → (r.generation ≡ 1) ⊎ (has (tree_of db.docs d.id) r ≡ true)
@@ -135,9 +135,8 @@ IsRooted db d =
 abbrev pub IsRootedAt : List PeerValue → ℕ → Document → Type 0
 IsRootedAt peers place d = (p : PeerValue) → IsAt peers place p → IsRooted p.db d
 
--- No revision has a parent or content in the edited document that differs from the revision's parent or content in a
--- peer's tree. If only edits made the document, an edit violates `EditFits` only if two different edits have the same
--- MD5.
+-- No peer's tree disagrees with the edited document about a revision's parent or content. If only edits made the
+-- document, an edit violates `EditFits` only if two different edits have the same MD5.
 abbrev pub EditFits : List PeerValue → ℕ → Id → Option RevId → Bool → List ℕ → Type 0
 EditFits peers place id parent deleted body =
     (p : PeerValue) → IsAt peers place p → (e : RevId × Option RevId) → edited p.db id parent deleted body ≡ Ok e

@@ -20,14 +20,14 @@ use repl_target::{Peer, Plan, Report, TargetFault, WriteFilter, replicate_alone}
 use rev_core::Rev;
 use std::alloc::Global;
 
-/// Replicates along hops between the peers of a network, in order, until a hop fails. Each hop is a `replicate_alone`
-/// with the hop's plan.
+/// Replicates along hops between the peers of a network, in order, until a hop fails. Each hop is a call of
+/// `replicate_alone` with the hop's plan.
 ///
 /// If every two peers are consistent (docs/PROFILE.md, "Nets"), they stay consistent, even if the call fails. Suppose
 /// that the call succeeds, each plan selects a document, no peer has refused this document, and the document's trees
-/// agreed and had complete histories. After the call, the trees of the document at all peers still agree and have
-/// complete histories. If chains of hops lead from every peer to every other peer, all peers then have the same
-/// document with the same winner.
+/// agreed and had complete histories before the call. After the call, the trees of the document at all peers still
+/// agree and have complete histories. If chains of hops lead from every peer to every other peer, all peers then have
+/// the same document with the same winner.
 pub fn replicate_along<F: WriteFilter>(
     alloc: Global,
     peers: &mut [Peer<F>],
@@ -54,9 +54,9 @@ pub fn replicate_along<F: WriteFilter>(
 ///
 /// If every two peers are consistent, they stay consistent, even if the call fails. If the document's trees agreed and
 /// had complete histories before the call, the trees still agree and have complete histories after the call under two
-/// conditions. First, no revision has a parent or content in the stored document that differs from the revision's
-/// parent or content in a peer's tree. Second, the ancestry of the stored document is complete, or the peer's tree has
-/// the ancestry's oldest revision.
+/// conditions. First, no peer's tree disagrees with the stored document about a revision's parent or content. Second,
+/// the ancestry of the stored document is complete, or the ancestry's oldest revision is in the tree of the peer that
+/// stores the document.
 pub fn load_at<F: WriteFilter>(
     peers: &mut [Peer<F>],
     place: usize,
@@ -83,10 +83,10 @@ pub fn load_at<F: WriteFilter>(
 
 /// Edits a document at one peer of a network (`Peer::edit`).
 ///
-/// If every two peers are consistent, they stay consistent, even if the call fails. If the document's trees agreed and
-/// had complete histories, they still agree and have complete histories, unless a peer has the new revision with
-/// another parent or content. If only edits made the document, a peer has the new revision with another parent or
-/// content only if two different edits have the same MD5.
+/// If every two peers are consistent, they stay consistent, even if the call fails. The edit keeps the document's trees
+/// in agreement and with complete histories, unless a peer has the new revision with another parent or content. If only
+/// edits made the document, a peer has the new revision with another parent or content only if two different edits have
+/// the same MD5.
 pub fn edit_at<F: WriteFilter>(
     peers: &mut [Peer<F>],
     place: usize,

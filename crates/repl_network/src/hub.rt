@@ -11,13 +11,14 @@ use crate::hop::Hop;
 use repl_target::{Peer, Plan, WriteFilter};
 use std::alloc::{AllocError, Global};
 
-/// Replicates every peer of a network into the hub, which is the first peer, and then the hub into every other peer.
-/// One thread performs all replications, two for each peer other than the hub. For each direction, the caller gives a
-/// plan for each peer other than the hub, in order.
+/// Replicates all other peers of a network into the hub (the first peer), and then the hub into all other peers. One
+/// thread performs all replications, two for each peer other than the hub. For each direction, the caller gives a plan
+/// for each peer other than the hub, in order.
 ///
 /// If every two peers are consistent, they stay consistent, even if the call fails. Suppose that all plans select a
-/// document, no peer has refused this document, and the document's trees agreed and had complete histories. If the call
-/// succeeds, all peers then have the same document, and the document's trees still agree and have complete histories.
+/// document, no peer has refused this document, and the document's trees agreed and had complete histories before the
+/// call. If the call succeeds, all peers then have the same document, and the document's trees still agree and have
+/// complete histories.
 ///
 /// # Errors
 ///
@@ -45,7 +46,7 @@ pub fn sync_by_hub<F: WriteFilter>(
     replicate_along(alloc, peers, &hops)
 }
 
-/// Creates the hops from and to the hub that the given plans describe.
+/// Creates the hops to and from the hub, one hop for each given plan.
 fn hub_hops(alloc: Global, there: &[Plan], back: &[Plan]) -> Result<Vec<Hop>, AllocError>
     ensures { IfOk result (λ hops. hops.items ≡ gathers 0 there.now ++ spreads 0 back.now) }
 {

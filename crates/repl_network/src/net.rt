@@ -69,7 +69,7 @@ impl<F: WriteFilter> Net<F> {
     ///
     /// An error changes nothing:
     ///
-    /// - `SameUuid`: the peer at the named index has this UUID.
+    /// - `SameUuid`: the peer at the error's index has the given UUID.
     /// - `Memory`: an allocation failed.
     pub fn add(&mut self, alloc: Global, uuid: u128, filter: F) -> Result<usize, NetFault>
     where
@@ -149,7 +149,7 @@ impl<F: WriteFilter> Net<F> {
         replicate_along(alloc, &mut self.peers, hops)
     }
 
-    /// Replicates every peer into the first peer, and the first peer into every other peer (`sync_by_hub`).
+    /// Replicates all other peers into the first peer, and then the first peer into all other peers (`sync_by_hub`).
     pub fn sync_by_hub(
         &mut self,
         alloc: Global,

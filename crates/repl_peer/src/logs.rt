@@ -15,8 +15,9 @@ use repl_log::{Entry, Log, RepId};
 use rev_tree::SessionId;
 use std::alloc::{AllocError, Global};
 
-/// Returns the id of the replication from one peer into another. The id contains the UUIDs of both databases, and
-/// shares the selection with the caller. The contract also states that both peers satisfy their invariants.
+/// Returns the id of the replication from one peer into another. The id contains the UUIDs of both databases. The id
+/// and the argument `chosen` share one selection in memory. The contract also states that both peers satisfy their
+/// invariants.
 pub fn rep_between<F: WriteFilter, G: WriteFilter>(
     source: &Peer<F>,
     target: &Peer<G>,
@@ -29,9 +30,9 @@ pub fn rep_between<F: WriteFilter, G: WriteFilter>(
     RepId::new(source.db().uuid(), target.db().uuid(), chosen)
 }
 
-/// Returns the common checkpoint of a replication (docs/PROFILE.md, "Common checkpoint"). The common checkpoint is the
-/// newest session of the target's log that is also in the source's log, with the lesser of its two recorded sequences.
-/// Returns `None` if the logs share no session.
+/// Returns the common checkpoint of a replication (docs/PROFILE.md, "Common checkpoint"). The common checkpoint has the
+/// newest session of the target's log that is also in the source's log. The checkpoint's sequence is the lesser of the
+/// recorded sequences that the two logs have for this session. Returns `None` if the logs share no session.
 ///
 /// The call scans the target's sessions of the replication, newest first, until it finds the common session. Does not
 /// allocate.

@@ -162,8 +162,8 @@ impl<F: WriteFilter> Peer<F> {
     /// Stores a user's document with its ancestry as given. If the put changes the database, the put becomes the peer's
     /// next local write.
     ///
-    /// The call returns the errors of `Database::put`, and `Memory` only if that call may return `Memory`. An error
-    /// changes nothing.
+    /// The call returns the errors of `Database::put`. The call returns `Memory` only if the put would change the
+    /// database. An error changes nothing.
     pub fn load(&mut self, doc: &Doc) -> Result<Put, BaseFault>
         ensures answer { PutGives result (put_answer self.old.1.db doc.now) }
         ensures filter { self.new.0 ≡ self.old.0 }
@@ -176,8 +176,8 @@ impl<F: WriteFilter> Peer<F> {
 
     /// Edits a document, stores the edit as the next local write, and returns the new revision.
     ///
-    /// The call returns the errors of `Database::edit`, and `Memory` only if that call may return `Memory`. An error
-    /// changes nothing.
+    /// The call returns the errors of `Database::edit`. The call returns `Memory` only if `Database::edit` may return
+    /// `Memory`. An error changes nothing.
     pub fn edit(&mut self, id: &DocId, parent: Option<Rev>, deleted: bool, body: &Body) -> Revised
         ensures answer { EditGives result (edit_answer self.old.1.db id.now parent deleted body.now) }
         ensures filter { self.new.0 ≡ self.old.0 }
@@ -236,7 +236,7 @@ impl<F: WriteFilter> Peer<F> {
         self.db.open_revs(alloc, asked)
     }
 
-    /// Does the same as `open_revs`, but moves the request into the parcel.
+    /// Does the same as `open_revs`, but moves the request into the parcel instead of copying it.
     pub fn open_asked(&self, alloc: Global, asked: Asked) -> Result<Parcel, AllocError>
         ensures parcel { IfOk result (λ p. p ≡ open_revs self.now.1.db asked) }
     {
@@ -328,8 +328,8 @@ impl<F: WriteFilter> Peer<F> {
         self.append_prepared(id, ReadyWindow::new(window))
     }
 
-    /// Does the same as `append` for a prepared window. A prepared window may already have the shorter form that the
-    /// session keeps once the window is done.
+    /// Does the same as `append` for a prepared window. A prepared window may already have the form without leaves,
+    /// which the session keeps once the window is done.
     pub fn append_prepared(&mut self, id: SessionId, ready: ReadyWindow) -> Result<(), TargetFault>
         ensures answer { GivesUnlessMemory result (append_answer self.old.1 id ready) }
         ensures filter { self.new.0 ≡ self.old.0 }
@@ -370,8 +370,9 @@ impl<F: WriteFilter> Peer<F> {
         self.settle_into(id, PreparedParcel::new(alloc, parcel), &mut spent)
     }
 
-    /// Does the same as `settle`, but moves the parts of the parcel into `spent`, instead of dropping them, if all
-    /// documents are settled. A caller that holds the peer's lock can drop these parts after it releases the lock.
+    /// Does the same as `settle` for a prepared parcel. If all documents are settled, the call moves the parts of the
+    /// parcel into `spent` instead of dropping the parts. A caller that holds the peer's lock can drop `spent` after
+    /// the caller releases the lock.
     pub fn settle_into(
         &mut self,
         id: SessionId,

@@ -6,7 +6,7 @@ use Rattle.repl_target.specs.declared.replication.Plan.{Plan}
 use Rattle.pool_workers.specs.declared.fault.PoolFault.{PoolFault}
 use Rattle.pool_workers.specs.declared.fault.PoolFault.TheVariants as faults
 
--- The result of checking a run's plan, in the order of the checks.
+-- The error of the first check that a run's plan fails, or `Ok` if the plan passes all checks.
 abbrev pub early_answer : PeerValue → PeerValue → Plan → Result (Unit {0}) PoolFault
 early_answer source target plan =
     if plan.workers == 0 then Err faults.NoWorkers

@@ -1,4 +1,5 @@
--- The windows of a run of the pool, as specified in docs/PROFILE.md, "Goal and windows" and "The pool".
+-- The windows of the source's feed that a run of the pool stores, as specified in docs/PROFILE.md, "Goal and windows"
+-- and "The pool".
 use Rattle.std.specs.Prelude.{◌≡◌, ℕ, ◌<◌, ◌≤◌, List, [], ◌∷◌, length, Option, Some, None}
 use Rattle.couch_base.specs.Database.{DatabaseValue}
 use Rattle.couch_base.specs.Feed.{WindowValue}
@@ -18,7 +19,8 @@ AreAllowed None n = Unit {0}
 AreAllowed (Some stop_after) n = n ≤ stop_after
 
 -- The windows of the run's session are consecutive pages of the source's selected feed, starting at the common
--- checkpoint. The limit of each window is the plan's batch, and the plan allows the number of windows.
+-- checkpoint. The limit of each window is the plan's batch, and the session has at most as many windows as the plan
+-- allows.
 pub record IsPaged (source target target' : PeerValue) (plan : Plan) : Type 0 where
   pub session : SessionValue
   pub held : session_in target'.sessions plan.session ≡ Some session

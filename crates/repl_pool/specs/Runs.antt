@@ -56,14 +56,14 @@ pub data IsRecorded (plan : Plan) (fault : Option PoolFault) (complete : Bool) (
   refused : {why : TargetFault} → fault ≡ None → complete ≡ true → conclude_answer before plan.session ≡ Err why
       → after ≡ closed before plan → IsRecorded plan fault complete before after (faults.Refused why)
 
--- The outcome of a run before and after the run stores its entry at the source. A successful run returns `Memory`
--- instead if the allocation for the entry fails. A failed run keeps its error.
+-- The outcome of a run before the run stores the session's entry at the source, and the outcome afterwards. A run that
+-- was successful so far returns `Memory` if the allocation for the entry fails. A failed run keeps its error.
 abbrev pub UnlessMemory : Result Report PoolFault → Result Report PoolFault → Type 0
 UnlessMemory (Ok report) result = (result ≡ Ok report) ⊎ (result ≡ Err faults.Memory)
 UnlessMemory (Err why) result = result ≡ Err why
 
--- The source stores the entry of the target's session, unless the entry is older than the stored entry or the
--- allocation for the entry fails. If a run succeeded, the allocation for the entry at the source did not fail.
+-- The source stores the entry of the target's session, unless the source has stored a newer entry or the allocation for
+-- the entry fails. If a run succeeded, the allocation for the entry at the source did not fail.
 pub record PutsEntry (source target source' : PeerValue) (plan : Plan) (outcome : Result Report PoolFault) : Type 0
   where
     pub entry : EntryValue
@@ -88,7 +88,7 @@ pub data ClosesRun (plan : Plan) (fault : Option PoolFault) (complete : Bool)
 -- The end of a run of the pool, and what a proof knows about the run's workers. At the end of a run, the target has
 -- grown from the given target, and the windows of the run's session are pages of the source. If a worker halted, the
 -- gate allows the halt, or a call of the worker failed. If no worker stopped and all parcels were received, the session
--- has read the documents that the fetchers counted.
+-- has read as many documents as the fetchers counted.
 pub record EndsRun {F : Type 0} (refuses : F → Document → Bool) (may_fill : Type 0) (may_stop : Place → Type 0)
     (plan : Plan) (source : PeerValue) (given : F × PeerValue) (counts : List ℕ) (source' after : PeerValue)
     (outcome : Result Report PoolFault) : Type 0 where
@@ -121,7 +121,7 @@ IsUnbegunFor source target plan fault =
     ⊎ (fault ≡ faults.Refused refusals.Memory)
     ⊎ (why : TargetFault) × (begins_answer source target plan ≡ Err why) × (fault ≡ faults.Refused why)
 
--- The session of a run has not begun, and the run returns the error that is the reason.
+-- The session of a run has not begun, and the run returns the reason as its error.
 pub record IsUnbegun (source target : PeerValue) (plan : Plan) (outcome : Result Report PoolFault) : Type 0 where
   pub fault : PoolFault
   pub told : outcome ≡ Err fault
@@ -153,7 +153,8 @@ LeavesOrPuts plan source target source' target' outcome =
 -- The guarantees of a successful run. A successful run returns the report of the plan's session, which began at the
 -- common checkpoint and has recorded the source's update sequence. After a successful run, the target covers the
 -- source's selected feed above the common checkpoint. If the target was empty and refused no document, each selected
--- document is the same on both sides. After a successful run, the fetchers' counts add up to the documents read.
+-- document is the same on both sides. After a successful run, the fetchers' counts add up to the number of documents
+-- read.
 pub record EndsWell (source target target' : PeerValue) (plan : Plan) (n : ℕ) (report : Report) : Type 0 where
   pub reported : IsReported source target target' plan report
   pub covered : CoversFrom source target' plan.chosen (start_between source target plan.chosen)
@@ -169,9 +170,9 @@ LeftPeer refuses source given plan now = (now.0 ≡ given.0) × IsLeft (refuses 
 pub record RunsOn {F : Type 0} (refuses : F → Document → Bool) (may_fill : Type 0) (may_stop : Place → Type 0)
     (plan : Plan) (source target source' target' : F × PeerValue) (fetched : List ℕ) (outcome : Result Report PoolFault)
     : Type 0 where
-  -- Each of the four errors of a plan is returned exactly if its condition is true. A run with a valid plan never
-  -- returns `Hole`. A run with a valid plan returns `Halted` only if the gate allows the halt, and `BoardFull` only if
-  -- `may_fill` is true.
+  -- A run returns each of the four errors of a plan exactly if the error's condition is true. A run with a valid plan
+  -- never returns `Hole`. A run with a valid plan returns `Halted` only if the gate allows the halt, and `BoardFull`
+  -- only if `may_fill` is true.
   pub early : EarlyOrLate may_fill may_stop (early_answer source.1 target.1 plan) source target source' target' fetched
       outcome
   -- At the source, a run changes only the outgoing logs.
@@ -206,7 +207,7 @@ pub record RunsOn {F : Type 0} (refuses : F → Document → Bool) (may_fill : T
       (λ _. IsTiedPair source.1 target.1 plan.chosen
       → CoversFeed source.1 target'.1 plan.chosen source.1.db.update_seq)
 
--- The result of a run without a progress board, and the two peers that it returns.
+-- The result of a run without a progress board, and the two peers that the run returns.
 abbrev pub Runs : {F : Type 0} → (F → Document → Bool) → (Place → Type 0) → Plan → F × PeerValue → F × PeerValue
     → F × PeerValue → F × PeerValue → List ℕ → Result Report PoolFault → Type 0
 Runs refuses may_stop plan source target source' target' fetched outcome =

@@ -10,7 +10,7 @@ use repl_target::{Peer, Plan, TargetFault, WriteFilter, check_plan};
 ///
 /// # Errors
 ///
-/// Checked in this order:
+/// The call checks for the errors in this order:
 ///
 /// - `NoWorkers`: the plan has no workers.
 /// - `TooManyWorkers`: the plan has more than 64 workers.

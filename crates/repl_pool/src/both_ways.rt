@@ -14,7 +14,7 @@ use std::sync::Wait;
 use std::thread::Threads;
 use thiserror::Error;
 
-/// The run that failed (forward or reverse), and the reason why it failed.
+/// Which of the two runs failed (forward or reverse), and why.
 #[derive(Debug, Drop, Error)]
 pub enum SyncFault {
     /// The run from the first peer into the second failed. If the forward run failed, the reverse run did not begin.
@@ -25,7 +25,7 @@ pub enum SyncFault {
     Back(PoolFault),
 }
 
-/// The result of replicating in both directions, which has both peers, and the reports or the error.
+/// The result of replicating in both directions: both peers, and the reports of the two runs or the error.
 #[derive(Drop)]
 pub struct SyncRan<F: WriteFilter> {
     /// The first peer.
@@ -37,14 +37,14 @@ pub struct SyncRan<F: WriteFilter> {
 }
 
 /// Replicates in both directions with a pool of threads. The first `run` replicates `a` into `b`. If the first run
-/// succeeds, a second `run` replicates `b` into `a`. Each run has a separate plan. Both runs use the same gate.
+/// succeeds, a second `run` replicates `b` into `a`. The two runs have separate plans, and use the same gate.
 ///
 /// A successful call has all guarantees of `sync_alone`. Suppose that the peers are consistent in both directions
-/// (docs/PROFILE.md, "Tied peers"). Consider a document that both plans select and neither side has refused. After a
-/// successful call, each side has the other side's leaves of the document. If the document's two trees agreed before
-/// the call and had complete histories, both sides have the same document. If the peers are consistent in both
-/// directions, they stay consistent for every result of the call. `a` stays consistent with third peers that do not
-/// have `b`'s UUID, and `b` stays consistent with third peers that do not have `a`'s UUID.
+/// (docs/PROFILE.md, "Tied peers"). After a successful call, each side has the other side's leaves of every document
+/// that both plans select and neither side has refused. If the two trees of such a document agreed before the call and
+/// had complete histories, both sides have the same document after the call. If the peers are consistent in both
+/// directions, they stay consistent for every result of the call. `a` stays consistent with third peers whose UUID
+/// differs from `b`'s UUID, and `b` stays consistent with third peers whose UUID differs from `a`'s UUID.
 ///
 /// The call blocks until both runs end. The contract does not guarantee that the two runs end.
 pub fn sync<F: WriteFilter + Send + Sync, G: Gate + Sync, R: Threads + Wait + Sync>(

@@ -11,7 +11,7 @@ use crate::running::Ran;
 use pool_workers::{PoolFault, Summed};
 use repl_target::{Peer, Plan, Report, TargetFault, WriteFilter, record_at_source};
 
-/// Records the session's low water at the target, and returns the error for a run that did not reach its goal.
+/// Records the session's low water at the target. Returns `Unfinished` with the low water, or the error of recording.
 fn record<F: WriteFilter>(target: &mut Peer<F>, plan: &Plan) -> PoolFault
     ensures told { result ≡ unfinished_at (record_answer target.old.1 plan.now.session) }
     ensures peer { target.new.1 ≡ after_record target.old.1 plan.now.session plan.now.at }
@@ -51,11 +51,11 @@ fn close_target<F: WriteFilter>(
     }
 }
 
-/// Stores the entry of a run's session, which the target has, in the source's log. If the source's log has a newer
+/// Stores the entry of a run's session in the source's log. The target has the session. If the source's log has a newer
 /// entry of the session, the call stores nothing.
 ///
-/// The call returns the outcome of the run. If the outcome is `Ok` and the allocation for the entry fails, the call
-/// returns `Memory`.
+/// The call returns the given outcome of the run. If the outcome is `Ok` and the allocation for the entry fails, the
+/// call returns `Memory`.
 fn put_entry<F: WriteFilter>(
     source: &mut Peer<F>,
     target: &Peer<F>,

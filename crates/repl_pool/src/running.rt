@@ -26,11 +26,11 @@ use std::sync::ledger::{Blank, Ledger};
 use std::sync::{Mutex, Wait};
 use std::thread::Threads;
 
-/// The result of a run, which has both peers, each fetcher's number of documents, the writers' seats, and the report or
+/// The result of a run: both peers, each fetcher's number of documents, the writers' seats, and the report or the
 /// error.
 #[derive(Drop)]
 pub struct Ran<F: WriteFilter> {
-    /// The source of the run. The run has changed at most the source's outgoing logs.
+    /// The source. At the source, a run changes at most the outgoing logs.
     pub source: Peer<F>,
     /// The target.
     pub target: Peer<F>,
@@ -53,7 +53,7 @@ pub struct Progress<'a> {
     pub seats: Vec<BoardSeat>,
 }
 
-/// A run whose session has begun at the target. A begun run has both peers, the session's start, and the number of
+/// A run whose session has begun at the target. The record has both peers, the session's start, and the number of
 /// fetchers, which is also the number of writers.
 #[derive(Drop)]
 struct Begun<F: WriteFilter> {
@@ -63,8 +63,9 @@ struct Begun<F: WriteFilter> {
     crew: u64,
 }
 
-/// Returns the number of fetchers of a run, which is also the number of writers. The result is the plan's number of
-/// workers, but at most the maximum number of windows. If the run has no window to read, the result is 1.
+/// Returns the number of fetchers of a run, which is also the number of writers. The result is the smaller of the
+/// plan's number of workers and the maximum number of windows that the run can read. If the run has no window to read,
+/// the result is 1.
 fn crew_of(plan: &Plan, start: u64, goal: u64) -> u64
     requires workers { 0 < plan.now.workers }
     requires batch { is_batch plan.now.batch ≡ true }
@@ -276,29 +277,31 @@ fn run_with<F: WriteFilter + Send + Sync, G: Gate + Sync, R: Threads + Wait + Sy
 
 /// Replicates the source's documents into the target with a pool of threads. The caller's thread begins the session at
 /// the common checkpoint of the two logs, and reads the source's feed in windows. The caller's thread stores each
-/// window at the target, and sends the window to a fetcher. A run has `plan.workers` fetchers, but at most the maximum
-/// number of windows, and equally many writers. Fetchers request the missing leaves at the target, count documents at
-/// the source, and send parcels to writers. The writers read and settle the parcels, and record the session. The target
-/// is behind a lock, and the source is shared. Workers call the gate at each place (stage of a window), and hold no
-/// lock during the call. If the gate never blocks, a fetcher and a writer share one thread and take turns.
+/// window at the target, and sends the window to a fetcher. A run has `plan.workers` fetchers, or fewer if the run can
+/// only read fewer windows, and one writer for each fetcher. A fetcher asks the target which leaves are missing, counts
+/// the requested documents at the source, and sends the request to a writer. A writer reads the requested parcel,
+/// settles the parcel, and records the session. A lock protects the target, and the workers share the source read-only.
+/// Workers call the gate at each place (stage of a window), and hold no lock during the call. If the gate never blocks,
+/// a fetcher and a writer share one thread and take turns.
 ///
 /// After all workers have ended, the caller's thread concludes the session. If the session cannot be concluded, the
 /// caller's thread records the session's low water. The caller's thread then stores the session's entry in the source's
 /// log, unless the log has a newer entry of the session. The call does not scan the feed again, because each leaf was
-/// checked when its window was marked as done. The proof shows that every leaf above the start is covered if the
-/// session is concluded. The error `Hole`, which names an uncovered leaf, is therefore never returned.
+/// checked when its window was marked as done. The proof shows that the target covers every leaf above the session's
+/// start if the session is concluded. The call therefore never returns the error `Hole`, which names an uncovered leaf.
 ///
-/// If the run succeeds, each leaf of the source's selected feed above the start is covered at the target. The call
-/// returns the report of the session, which began at the common checkpoint and has recorded the source's update
-/// sequence. The fetchers' numbers of documents add up to the report's number of read documents. If the run succeeds
-/// without refusing a document, and the target was empty, each selected document has the source's revisions, parents
-/// and contents of leaves. If the run succeeds and the peers were consistent (docs/PROFILE.md, "Tied peers"), each leaf
-/// of the source's selected feed is covered, even below the start.
+/// If the run succeeds, the target covers each leaf of the source's selected feed above the session's start. A
+/// successful call returns the report of the session, which began at the common checkpoint and has recorded the
+/// source's update sequence. The fetchers' numbers of documents add up to the report's number of read documents. If the
+/// run succeeds without refusing a document, and the target was empty, the target has the source's revisions, parents
+/// and contents of leaves of each selected document. If the run succeeds and the peers were consistent
+/// (docs/PROFILE.md, "Tied peers"), the target covers each leaf of the source's selected feed, even below the session's
+/// start.
 ///
-/// For every result, the run changes only the outgoing logs of the source. The target is unchanged, or has changed only
-/// by beginning the session and by calls with messages of the source. The target keeps all its documents, sessions and
-/// logs. If the peers were consistent, they stay consistent. A third peer that was consistent with the source or the
-/// target stays consistent with that peer, under two conditions (`KeepsOthersTied`). A third peer that is another
+/// At the source, the run changes only the outgoing logs, for every result. The target is unchanged, or has changed
+/// only by beginning the session and by calls with messages of the source. The target keeps all its documents, sessions
+/// and logs. If the peers were consistent, they stay consistent. A third peer that was consistent with the source or
+/// the target stays consistent with that peer, under two conditions (`KeepsOthersTied`). A third peer that is another
 /// source of the target must not have the source's UUID. A third peer that is another target of the source must not
 /// have the target's UUID. If the peers were consistent, an audit after the run finds no uncovered leaf.
 ///
@@ -306,15 +309,15 @@ fn run_with<F: WriteFilter + Send + Sync, G: Gate + Sync, R: Threads + Wait + Sy
 ///
 /// # Errors
 ///
-/// - `NoWorkers`, `TooManyWorkers`, `BadBatch`, `SamePeer`: the errors of `check_run`, in this order. Both peers stay
-///   unchanged.
-/// - `Refused`: a step failed. The error is `Refused` of `Unfinished` if no worker failed or stopped, but the windows
-///   that the plan allows end below the source's update sequence.
-/// - `Halted`: the gate returned `Stop` at this place.
+/// - `NoWorkers`, `TooManyWorkers`, `BadBatch`, `SamePeer`: the errors of `check_run`, in this order. After an error of
+///   `check_run`, both peers are unchanged.
+/// - `Refused`: a step failed. The error is `Refused(Unfinished)` if no worker failed or stopped, but the plan's
+///   `stop_after` ended the windows below the source's update sequence.
+/// - `Halted`: the gate returned `Stop` at the place that the error names.
 /// - `CountFull`: a fetcher's count of documents would exceed 9,007,199,254,740,991.
 /// - `Memory`: an allocation failed, or a thread cannot be created.
 ///
-/// If several workers failed or were stopped, the run returns one of their errors.
+/// If several workers failed or were stopped, the run returns the error of one of these workers.
 pub fn run<F: WriteFilter + Send + Sync, G: Gate + Sync, R: Threads + Wait + Sync>(
     rt: &R,
     alloc: Global,
@@ -335,14 +338,14 @@ pub fn run<F: WriteFilter + Send + Sync, G: Gate + Sync, R: Threads + Wait + Syn
 }
 
 /// Performs a `run` that shows its progress on a board. Viewers may read the progress on the board during the run
-/// (`Board::read`). Each writer updates the board through the seat of one of the board's workers. Before a writer
-/// settles a parcel, it adds the parcel's documents to its read counter. After settling, and before the gate is called
-/// at `Settled`, the writer adds the settled documents to its settled counter. Updating and reading the board takes no
-/// lock.
+/// (`Board::read`). Each writer updates the board through a separate seat. Before a writer settles a parcel, the writer
+/// adds the number of the parcel's documents to its read counter. After settling, and before the gate is called at
+/// `Settled`, the writer adds the number of settled documents to its settled counter. Updating and reading the board
+/// takes no lock.
 ///
 /// The caller must give one seat for each worker of the plan. For every outcome, the call returns the seats in order,
-/// and no counter of a seat has decreased. If the run succeeds, the sums of the seats' read counters and settled counters
-/// have each risen by the report's number of read documents.
+/// and no counter of a seat has decreased. If the run succeeds, the sum of the seats' read counters and the sum of
+/// their settled counters have both risen by the report's number of read documents.
 ///
 /// In addition to the errors of `run`, the call returns `BoardFull` if a writer's read counter would exceed
 /// 9,007,199,254,740,991. The run does not settle the parcel that would make the counter exceed its maximum.

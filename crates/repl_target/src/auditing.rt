@@ -39,7 +39,8 @@ pub fn audit<F: WriteFilter, G: WriteFilter>(
     }
 }
 
-/// Returns the first leaf of the source's selected feed above a sequence that the target does not cover, or `Clean`.
+/// Searches the source's selected feed above a sequence for a leaf that the target does not cover. Returns the first
+/// such leaf, or `Clean` if every leaf is covered.
 ///
 /// The call reads the source's feed without copying it.
 pub fn hole_above<F: WriteFilter, G: WriteFilter>(
@@ -63,8 +64,8 @@ pub fn hole_above<F: WriteFilter, G: WriteFilter>(
     )
 }
 
-/// Returns the first leaf of the source's selected feed above one sequence and at or below another that the target does
-/// not cover, or `Clean`.
+/// Searches the source's selected feed, above sequence `above` and at or below sequence `upto`, for a leaf that the
+/// target does not cover. Returns the first such leaf, or `Clean` if every leaf is covered.
 ///
 /// The call reads the source's feed without copying it.
 pub fn hole_within<F: WriteFilter, G: WriteFilter>(

@@ -32,11 +32,11 @@ pub const MOST_ROWS: u64 = 10_000;
 pub struct Plan {
     /// The id of the new session.
     pub session: SessionId,
-    /// The number of fetchers, and the number of writers. `replicate_alone` ignores the number of workers.
+    /// The number of fetchers, which is also the number of writers. `replicate_alone` ignores this number.
     pub workers: u64,
     /// The maximum number of rows of a window: 1 to 10,000.
     pub batch: u64,
-    /// The number of windows after which the replication stops, even if they end below its goal.
+    /// The number of windows after which the replication stops, even if the windows end below the goal.
     pub stop_after: Option<u64>,
     /// The timestamp to record.
     pub at: Moment,
@@ -74,10 +74,10 @@ impl Plan {
 ///
 /// Consistent peers (docs/PROFILE.md, "Tied peers") stay consistent for every selection and every result, so an audit
 /// after the call finds no uncovered leaf. If the peers are consistent and the call succeeds, each leaf of the source's
-/// complete selected feed is covered, including leaves below the start. A third peer that was consistent with one of
-/// the two peers stays consistent with that peer, as a source and as a target. If the third peer is another source of
-/// the target, it must not have the source's UUID. If the third peer is another target of the source, it must not have
-/// the target's UUID (`KeepsOthersTied`).
+/// complete selected feed is covered, including leaves below the start. A third peer that was consistent with the
+/// source or the target stays consistent with that peer, under two conditions (`KeepsOthersTied`). If the third peer is
+/// another source of the target, the third peer's UUID must not be the source's UUID. If the third peer is another
+/// target of the source, the third peer's UUID must not be the target's UUID.
 ///
 /// # Errors
 ///
@@ -85,10 +85,9 @@ impl Plan {
 ///
 /// - `BadBatch`: the batch is not 1 to 10,000.
 /// - `SamePeer`: the two databases have the same UUID.
-/// - The error of a step of the replication. The effects of the steps before the failed step, and of the failed step,
-///   stay.
-/// - `Unfinished`: the plan's `stop_after` windows were read, and they end below the goal. Both sides have recorded the
-///   session.
+/// - The error of a step of the replication. The effects of the failed step and of all earlier steps remain.
+/// - `Unfinished`: the plan's `stop_after` windows were read, and they end below the goal. When the call returns
+///   `Unfinished`, both sides have recorded the session.
 ///
 /// If the source's log has a newer entry of the session, the call stores no entry and returns no error.
 pub fn replicate_alone<F: WriteFilter, G: WriteFilter>(

@@ -29,13 +29,13 @@ pub data AreChanges : List ℕ → List Piece → Type 0 where
       → AreChanges (codes "change " ++ (n ++ (32 ∷ 34 ∷ (k ++ (32 ∷ (r ++ t)))))) ((Id, 34 ∷ k) ∷ (ps ++ qs))
   -- A document or a log in a script's output.
   object : {o u t : List ℕ} {ps : List Piece} → IsPlainDocument o u → AreChanges t ps → AreChanges (o ++ t) ps
-  -- A line of a script's output that begins with a lower-case letter and is not a change, of one word or more.
+  -- A line of a script's output, of one or more words, that begins with a lower-case letter and is not a change.
   word : {b : ℕ} (w : List ℕ) {t : List ℕ} {ps : List Piece} → is_lower b ≡ true → is_space b ≡ false → list_all is_word_byte w ≡ true
       → bytes_eq (b ∷ w) (codes "change") ≡ false → AreChanges t ps → AreChanges (b ∷ (w ++ 10 ∷ t)) ps
   words : {b : ℕ} (w x : List ℕ) {t : List ℕ} {ps : List Piece} → is_lower b ≡ true → is_space b ≡ false → list_all is_word_byte w ≡ true
       → bytes_eq (b ∷ w) (codes "change") ≡ false → InOneLine x → AreChanges t ps
       → AreChanges (b ∷ (w ++ (32 ∷ (x ++ 10 ∷ t)))) ps
 
--- The output of a script, with or without the last line end, and the ids and revisions of its changes.
+-- The output of a script, with or without the last line end, and the ids and revisions of the changes in the output.
 abbrev pub IsChangeScript : List ℕ → List Piece → Type 0
 IsChangeScript text held = AreChanges (text ++ 10 ∷ []) held

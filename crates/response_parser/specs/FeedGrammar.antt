@@ -1,8 +1,9 @@
 -- Responses to `_changes` and `_revs_diff`, with the leaves in them, as specified in docs/PROFILE.md, "CouchDB's
 -- answers", and in CouchDB's API, "/{db}/_changes" and "/{db}/_revs_diff".
 --
--- In this file, k is a name after its opening quotation mark, s is white space, and d is the number of open lists and
--- objects. In this file, t is a value up to the comma or brace after it, and u is the same value on one line.
+-- In this file, k is a name without its opening quotation mark, s is white space, and d is the number of open lists and
+-- objects. In this file, t is the text of a value up to the comma or brace that follows the value, and u is the same
+-- value on one line.
 use Rattle.std.specs.Prelude.{◌≡◌, ℕ, ◌==◌, slice_index, List, [], ◌∷◌, ◌++◌, Bool, true, false, codes}
 use Rattle.doc_envelope.specs.Texts.{Spaces, EndsString, Closed, is_space, is_json}
 use Rattle.response_parser.specs.Names.{name_of}
@@ -55,13 +56,13 @@ is_skipped names.Other = true
 is_skipped names.Foreign = false
 
 -- A member that is skipped. The flags `inner` and `entry` say whether a member is in a document's list of revisions,
--- and whether it is in the entry of a document.
+-- and whether the member is in the entry of a document.
 pub data IsSkipped (inner entry : Bool) (d : ℕ) : List ℕ → Type 0 where
   skipped : {k t u : List ℕ} {name : Name} (s s' : List ℕ) → EndsString k → is_json (34 ∷ k) ≡ true
       → name_of Leaves false inner entry d (34 ∷ k) ≡ name → is_skipped name ≡ true → Spaces s → Spaces s' → IsValue t u
       → IsSkipped inner entry d (34 ∷ (k ++ (s ++ 58 ∷ (s' ++ t))))
 
--- A skipped member of an outermost object, if the member's value is not an object.
+-- A skipped member that is in an outermost object, and whose value is not an object.
 pub data IsSkippedOutside : List ℕ → Type 0 where
   skipped_outside : {k t u : List ℕ} {b : ℕ} {name : Name} (s s' : List ℕ) → EndsString k → is_json (34 ∷ k) ≡ true
       → name_of Leaves false false false 1 (34 ∷ k) ≡ name → is_skipped name ≡ true → Spaces s → Spaces s'
@@ -97,7 +98,7 @@ pub data IsPageMember : Bool → Bool → List ℕ → List Piece → Type 0 whe
 
 -- ---- missing revisions
 
--- The missing revisions of a list, up to the list's closing bracket.
+-- The items of a list of missing revisions, up to the list's closing bracket.
 pub data AreMissing : List ℕ → List Piece → Type 0 where
   last_missing : {r : List ℕ} (s : List ℕ) → EndsString r → is_json (34 ∷ r) ≡ true → Spaces s → AreMissing (34 ∷ (r ++ (s ++ 93 ∷ []))) ((Rev, 34 ∷ r) ∷ [])
   missing : {r t : List ℕ} {ps : List Piece} (s s' : List ℕ) → EndsString r → is_json (34 ∷ r) ≡ true → Spaces s → Spaces s' → AreMissing t ps
@@ -109,7 +110,7 @@ pub data IsEntryMember : Bool → Bool → List ℕ → List Piece → Type 0 wh
       → IsEntryMember false false (named_by (codes "missing\"") s s' (91 ∷ (s'' ++ (l ++ s''')))) ps
   skipped_entry : {t : List ℕ} → IsSkipped false true 2 t → IsEntryMember false false t []
 
--- A member of a `_revs_diff` response: an id, and the entry of its document.
+-- A member of a `_revs_diff` response: a document's id, and the document's entry.
 pub data IsDiffMember : Bool → Bool → List ℕ → List Piece → Type 0 where
   entry_of : {k o : List ℕ} {ps : List Piece} (s s' s'' : List ℕ) → EndsString k → is_json (34 ∷ k) ≡ true → Spaces s → Spaces s'
       → IsObjectOf IsEntryMember o ps → Spaces s'' → IsDiffMember false false (named_by k s s' (o ++ s'')) ((Id, 34 ∷ k) ∷ ps)

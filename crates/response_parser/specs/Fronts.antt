@@ -11,12 +11,12 @@ use Rattle.response_parser.specs.Values.{document_found}
 use Rattle.response_parser.specs.declared.place.Wanted.{Wanted}
 use Rattle.response_parser.specs.declared.place.Wanted.TheVariants.{Documents, Enveloped, Bodies, Unfolded, Leaves, Changes}
 
--- The minimum number of bytes of a document before the first run that the parser does not store.
+-- The minimum number of bytes that a document has before the first run that the parser does not store.
 abbrev pub long : ℕ
 long = 262144
 
--- A run of bytes that the parser does not store may follow the beginning s of a document. The output for each document
--- that begins with s begins with S.
+-- A document's beginning s may be followed by a run of bytes that the parser does not store. The output for each
+-- document that begins with s begins with S.
 abbrev pub IsStart : Wanted → List ℕ → List ℕ → Type 0
 IsStart Documents s S = ⊥
 IsStart Enveloped s S = IsPutStart s S
@@ -25,7 +25,8 @@ IsStart Unfolded s S = IsTakeStart s S
 IsStart Leaves s S = ⊥
 IsStart Changes s S = ⊥
 
--- The beginning of a document up to the end of a run: its text, its text without the runs, and the outputs for both.
+-- A document's beginning that ends with a run: the complete text, the text without the runs, and the outputs for these
+-- two texts.
 pub record Cut : Type 0 where
   pub full : List ℕ
   pub stored : List ℕ
@@ -45,8 +46,8 @@ pub record HasWritten (s : State) (written : List ℕ) : Type 0 where
   pub is : written ≡ cut.written
 
 -- The parser has just found a document in the state s, and `written` is the output for a long beginning of the
--- document. An unwrapped member follows the beginning. If the runs are left out, the output for the document therefore
--- does not begin with the output for the beginning (`cut.front`).
+-- document. A member that the document's envelope does not wrap follows the document's long beginning. Without the
+-- runs, the document's output therefore does not begin with the beginning's output (`cut.front`).
 pub record IsLate (s : State) (written : List ℕ) : Type 0 where
   pub cut : Cut
   pub rest : List ℕ

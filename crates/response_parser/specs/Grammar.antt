@@ -13,14 +13,15 @@ use Rattle.response_parser.specs.declared.place.Found.TheVariants as found
 
 -- ---- values and names
 
--- A JSON value t, up to the comma or brace after it, and the same value u on one line.
+-- The text t of a JSON value, up to the comma or brace that follows the value, and the text u of the same value on one
+-- line.
 pub record IsValue (t u : List ℕ) : Type 0 where
   pub closed : Closed 0 t u
   pub first : is_space (slice_index t 0) ≡ false
   pub json : is_json u ≡ true
 
--- A name after its opening quotation mark. The other parameters of `IsNamed` are whether the name is the first of its
--- object, the number d of open lists and objects, and the name's meaning.
+-- A name k without its opening quotation mark. The other parameters of `IsNamed` are whether the name is the first of
+-- its object, the number d of open lists and objects, and the name's meaning.
 pub record IsNamed (wanted : Wanted) (first : Bool) (d : ℕ) (k : List ℕ) (name : Name) : Type 0 where
   pub string : EndsString k
   pub json : is_json (34 ∷ k) ≡ true
@@ -59,8 +60,8 @@ mutual
         → IsObject wanted d (123 ∷ (s ++ t)) ps
     itself : {d : ℕ} {o : List ℕ} {ps : List Piece} → d < 8 → IsDocument wanted o ps → IsObject wanted d o ps
 
-  -- The members of an object, from a name to the closing brace, with a flag that says whether the name is the first one
-  -- of the object.
+  -- The members of an object, from a name to the closing brace. A flag says whether the name is the first name of the
+  -- object.
   pub data IsMembers (wanted : Wanted) : Bool → ℕ → List ℕ → List Piece → Type 0 where
     last_value : {f : Bool} {d : ℕ} {k : List ℕ} (s s' : List ℕ) {t u : List ℕ} {name : Name} {ps : List Piece} → IsNamed wanted f d k name → Holds wanted name u ps
         → Spaces s → Spaces s' → IsValue t u → IsMembers wanted f d (34 ∷ (k ++ (s ++ 58 ∷ (s' ++ (t ++ 125 ∷ []))))) ps

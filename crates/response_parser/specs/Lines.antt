@@ -11,7 +11,7 @@ use Rattle.response_parser.specs.declared.place.LinePlace.TheVariants.{Word, Res
 use Rattle.response_parser.specs.declared.place.Refusal.TheVariants.{NotJson, NoAnswer}
 use Rattle.response_parser.specs.declared.place.Found.TheVariants as found
 
--- The parser's state s after byte b, which begins a text in a line.
+-- The parser's state after byte b, the first byte of a text in a line. The state before b is s.
 abbrev pub text_begun : LinePlace → State → ℕ → State
 text_begun place s b = record s { place = Line place; text = b ∷ [] }
 
@@ -31,7 +31,7 @@ change_begun s b = cond (b == 32) (record s { place = Line Seq; text = [] }) (re
 abbrev pub is_change : State → Bool
 is_change s = wants_changes s.wanted && bytes_eq s.text (codes "change")
 
--- The parser's state after the first word of a line. The parser counts a line that begins with `refused` as skipped.
+-- The parser's state after the first word of a line. The parser counts a line whose first word is `refused` as skipped.
 abbrev pub word_passed : State → State
 word_passed s = record s { passed = cond (bytes_eq s.text (codes "refused")) (more s.passed) s.passed }
 
@@ -74,7 +74,7 @@ after_id s b = cond (b == 32) (at (Line BeforeRev) s) (refused NoAnswer s)
 abbrev pub is_rev_byte : ℕ → Bool
 is_rev_byte b = is_digit b || is_lower b || nat_le 65 b && nat_le b 90 || b == 45 || b == 95 || b == 46
 
--- The parser's state after the first byte of a revision, before which the parser adds a quotation mark.
+-- The parser's state after the first byte of a revision. The parser stores a quotation mark before the first byte.
 abbrev pub before_rev : State → ℕ → State
 before_rev s b = cond (is_rev_byte b) (record s { place = Line Rev; text = 34 ∷ b ∷ [] }) (refused NoAnswer s)
 

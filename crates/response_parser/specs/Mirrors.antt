@@ -12,7 +12,7 @@ use Rattle.response_parser.specs.declared.place.Name.{Name}
 use Rattle.response_parser.specs.declared.place.Name.TheVariants as names
 use Rattle.response_parser.specs.declared.place.Found.TheVariants.{Nothing}
 
--- Whether the parser does not read its text at a place.
+-- Whether the parser does not use its stored text at the given place.
 abbrev pub is_idle : Place → Bool
 is_idle Start = false
 is_idle Begin = false
@@ -36,7 +36,7 @@ is_idle (Revs place) = false
 is_idle (Line place) = false
 is_idle (Refused why) = true
 
--- The states a and b are equal, except for a text that the parser does not read.
+-- The states a and b are equal, except that the stored texts may differ if the parser does not use its stored text.
 pub data Like (a b : State) : Type 0 where
   equal : a ≡ b → Like a b
   alike : a ≡ record b { text = a.text } → is_idle b.place ≡ true → Like a b
@@ -71,8 +71,8 @@ pub record InDocument (name : Name) (s : State) : Type 0 where
   pub nested : is_plain name ≡ true → (s.nesting == 0) ≡ false
   pub found : s.found ≡ Nothing
 
--- The full state and the stored state of a parser in a document. The states differ only in their texts, and the texts
--- differ only in the beginning `cut`, which has all runs.
+-- The full state and the stored state of a parser in a document. The states differ only in their texts. The texts
+-- differ only in the document's beginning: `cut.full` has the runs, and `cut.stored` lacks the runs.
 pub record Mirrors (cut : Cut) (name : Name) (full stored : State) : Type 0 where
   pub place : IsWithin name stored.place
   pub same : full ≡ record stored { text = full.text }
@@ -86,7 +86,8 @@ pub record Mirrors (cut : Cut) (name : Name) (full stored : State) : Type 0 wher
   pub stored_length : long ≤ length cut.stored
   pub log : is_plain name ≡ true → is_log cut.stored ≡ false
 
--- The full state and the stored state of a parser that has rejected a byte of a document, whose output has begun.
+-- The full state and the stored state of a parser that has rejected a byte of a document after the document's output
+-- has begun.
 pub record Rejected (cut : Cut) (full stored : State) : Type 0 where
   pub like : Like full stored
   pub refused : is_refused stored.place ≡ true

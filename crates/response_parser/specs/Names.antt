@@ -24,7 +24,8 @@ document_name first t =
 
 -- The meaning of a name t if leaves are requested. If leaves are requested, only the name `rev` has a meaning in a
 -- document's list of revisions. If leaves are requested, only the name `missing` has a meaning in the entry of a
--- document. The flags `inner` and `entry` say whether a name is in a document's list of revisions or in its entry.
+-- document. The flags `inner` and `entry` say whether a name is in a document's list of revisions or in a document's
+-- entry.
 abbrev pub leaf_name : Bool → Bool → List ℕ → Name
 leaf_name inner entry t =
     cond entry (cond (bytes_eq t (codes "\"missing\"")) Missing Other)
@@ -130,8 +131,8 @@ is_error Reason = false
 is_error Other = false
 is_error Foreign = false
 
--- The kind of item that is found if a name has a value with the given first byte. The text of a document begins with a
--- brace, and the text of an id or a revision begins with a quotation mark.
+-- The kind of item that the parser finds in a name's value, given the value's first byte. The text of a document begins
+-- with a brace, and the text of an id or a revision begins with a quotation mark.
 abbrev pub found_of : Name → ℕ → Found
 found_of Plain first = found.Nothing
 found_of Document first = cond (first == 123) found.Document found.Nothing
@@ -147,7 +148,7 @@ found_of Reason first = found.Nothing
 found_of Other first = found.Nothing
 found_of Foreign first = found.Nothing
 
--- Whether the parser counts the value of a name, whose first byte is given, as a skipped document.
+-- Whether the parser counts a name's value as a skipped document, given the value's first byte.
 abbrev pub passes : Name → ℕ → Bool
 passes Plain first = false
 passes Document first = cond (first == 123) false true
@@ -163,8 +164,8 @@ passes Reason first = false
 passes Other first = false
 passes Foreign first = false
 
--- The error for a name's value, if there is one. The value of a name gives an error if it must be an id or a revision
--- but is not a string. The reason of CouchDB's error gives an error, too.
+-- The error for a name's value, if there is one. The value of a name gives an error if the value must be an id or a
+-- revision but is not a string. A string `reason` gives the error `CouchError` if the response has a member `error`.
 abbrev pub refusal_of : Name → ℕ → Bool → Option Refusal
 refusal_of Plain first failed = None
 refusal_of Document first failed = None

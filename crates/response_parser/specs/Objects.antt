@@ -38,8 +38,8 @@ list_closed s = closed AfterMember (record s { inner = false })
 abbrev pub behind_object : State → Place
 behind_object s = cond (s.diff && s.depth == 2) AfterMember AfterItem
 
--- The parser's state after an object closes. The parser skips or rejects an object without a known member, which
--- contains no document.
+-- The parser's state after an object closes. An object without a known member contains no document, so the parser skips
+-- or rejects the object.
 abbrev pub object_closed : State → State
 object_closed s =
     cond s.known (closed (behind_object s) s)
@@ -161,7 +161,8 @@ abbrev pub value_begun : Name → State → State
 value_begun name s =
     record s { place = value_place name; known = s.known || is_known name; named = s.named || is_id name; inner = s.inner || is_changes name; text = []; nesting = 0 }
 
--- The parser's state after a name and its colon. In a feed row, the revisions of a document must come after its id.
+-- The parser's state after a name and its colon. In a feed row, the revisions of a document must come after the
+-- document's id.
 abbrev pub begun_as : Name → State → State
 begun_as names.Plain s = value_begun names.Plain s
 begun_as names.Document s = value_begun names.Document s

@@ -1,4 +1,4 @@
--- A run of bytes that the parser reads without storing it.
+-- Runs of bytes that the parser reads without storing them.
 use Rattle.std.specs.Prelude.{◌≡◌, ◌⊎◌, ℕ, ◌≤◌, ◌==◌, nat_eq, length, List, true, false}
 use Rattle.std.specs.List.{starts_with}
 use Rattle.doc_envelope.specs.Names.{is_log}
@@ -11,15 +11,15 @@ use Rattle.response_parser.specs.Mirrors.{InDocument}
 use Rattle.response_parser.specs.declared.place.Place.TheVariants.{Quoted}
 use Rattle.response_parser.specs.declared.place.Name.{Name}
 
--- The value of a name is a long document.
+-- The parser is in a long document, which is the value of the given name.
 pub record IsLong (name : Name) (s : State) : Type 0 where
   pub document : InDocument name s
   pub length_is : long ≤ length s.text
   pub log : is_plain name ≡ true → is_log s.text ≡ false
 
--- A run may follow the text of the state s. The text has not grown since its front was built, or a new front is built
--- that begins with the earlier front. The arguments of `FollowsFront` are the fronts and their lengths, before and
--- after.
+-- A run that is not stored may follow the text of the state s. The text has not grown since its front was built, or a
+-- new front is built that begins with the earlier front. The arguments of `FollowsFront` are the earlier and the later
+-- front, each with the length of the text from which the front was built.
 abbrev pub FollowsFront : State → List ℕ → ℕ → List ℕ → ℕ → Type 0
 FollowsFront s front at front' at' =
     (((length front == 0) ≡ false) × (length s.text ≡ at) × (front' ≡ front) × (at' ≡ at))

@@ -92,7 +92,7 @@ has_rest (Revs place) = false
 has_rest (Line place) = true
 has_rest (Refused why) = false
 
--- The line end that the parser adds to a last line without one, or the empty list.
+-- A line end if the last line of the input lacks a line end, otherwise the empty list.
 abbrev pub last_end : State → List ℕ
 last_end s = cond (has_rest s.place) (10 ∷ []) []
 

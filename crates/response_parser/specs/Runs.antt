@@ -17,7 +17,7 @@ abbrev pub in_value_of : Name → Bool → Place
 in_value_of name true = Quoted name
 in_value_of name false = Value name
 
--- The parser is in the value of a name, which has begun, and in which `nesting` brackets are open.
+-- The parser is in the value of a name, and has stored a part of the value. In the value, `nesting` brackets are open.
 pub record IsInValue (s : State) (name : Name) (quoted : Bool) (nesting : ℕ) : Type 0 where
   pub place : s.place ≡ in_value_of name quoted
   pub nesting_is : s.nesting ≡ nesting
@@ -34,9 +34,9 @@ pub record Copies (s : State) (bytes : List ℕ) (name : Name) (quoted : Bool) (
   pub state : after s bytes ≡ copied s bytes name quoted nesting
   pub none : pieces s bytes ≡ []
 
--- If the parser copied a value up to the position `from` of the bytes, it copies the value up to the position `to`. For
--- both positions, parameters of `Continues` say whether the position is within a string, and how many brackets are
--- open.
+-- If the parser can copy the given bytes up to position `from` into a value, the parser can also copy the bytes up to
+-- position `to`. For both positions, parameters of `Continues` say whether the position is within a string, and how
+-- many brackets are open.
 abbrev pub Continues : List ℕ → ℕ → Bool → ℕ → ℕ → Bool → ℕ → Type 0
 Continues bytes from q n to q' n' =
     (s : State) → (name : Name) → (q0 : Bool) → (n0 : ℕ) → IsInValue s name q0 n0 → Copies s (take from bytes) name q n

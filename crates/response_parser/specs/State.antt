@@ -29,7 +29,8 @@ pub record State : Type 0 where
   pub failed : Bool
   -- The number of brackets that are open within the parser's current value.
   pub nesting : ℕ
-  -- The part of the current name or value that was read, which is complete after the end of the name or value.
+  -- The part of the current name or value that the parser has stored. The text is complete after the end of the name or
+  -- value.
   pub text : List ℕ
   -- The text of CouchDB's error, from the last member `error`.
   pub error : List ℕ

@@ -1,4 +1,4 @@
--- The values in contracts that a stored parser and a stored front represent.
+-- The values by which contracts describe a stored parser and a stored front.
 use Rattle.std.specs.Prelude.{ℕ, List}
 use Rattle.response_parser.specs.State.{State}
 use Rattle.response_parser.specs.declared.reading.Reading.{Reading}

@@ -32,7 +32,7 @@ told found.Rev s = record s { found = found.Rev }
 abbrev pub passed_by : Name → ℕ → State → State
 passed_by name first s = record s { passed = cond (passes name first) (more s.passed) s.passed }
 
--- The parser's state after the value of a name. The parser stores a value that is the string of CouchDB's error.
+-- The parser's state after the value of a name. The parser stores the value if it is a string, and the name is `error`.
 abbrev pub error_kept : Name → ℕ → State → State
 error_kept name first s = cond (is_error name && first == 34) (record s { failed = true; error = s.text }) s
 
@@ -60,7 +60,8 @@ plain_ended s = cond (is_json s.text) (plain_found (object_closed (record s { kn
 
 -- ---- bytes of a value
 
--- The parser's state after an opening bracket in a value. A value in which too many brackets are open is rejected.
+-- The parser's state after an opening bracket in a value. The parser rejects a value in which more than 128 brackets
+-- are open.
 abbrev pub deeper : State → ℕ → State
 deeper s b = cond (nat_lt s.nesting 128) (record s { nesting = s.nesting + 1; text = s.text ++ b ∷ [] }) (refused NotJson s)
 

@@ -30,8 +30,8 @@ wants_changes Unfolded = false
 wants_changes Leaves = false
 wants_changes Changes = true
 
--- Whether a request rejects, instead of skips, an object without a document. A request that rejects objects without
--- documents also accepts empty input.
+-- Whether a request rejects objects without a document, instead of skipping such objects. A request that rejects
+-- objects without documents also accepts empty input.
 abbrev pub is_strict : Wanted → Bool
 is_strict Documents = false
 is_strict Enveloped = false
@@ -43,7 +43,8 @@ is_strict Changes = true
 abbrev pub first_place : Wanted → Place
 first_place wanted = cond (is_strict wanted) Begin Start
 
--- The reported form of a document: its text, its envelope, or the document in its envelope.
+-- The form in which the parser reports a document: the document's text, an envelope with the document, or the document
+-- from an envelope.
 abbrev pub covered : Wanted → List ℕ → Option (List ℕ)
 covered Documents t = Some t
 covered Enveloped t = enveloped t

@@ -6,12 +6,12 @@ ghost use Rattle.response_parser.specs.Names.{found_of, passes, refusal_of, is_e
 ghost use Rattle.response_parser.specs.Values.{error_kept, told, judged, value_passed, value_ended, deeper, shallower, spaced, plain_ended, in_value, in_quoted, in_escaped};
 
 use crate::members::is_plain;
-use crate::place::{Found, Name, Place, Refusal};
+use crate::place::{Found, Name, Place, Refusal, Wanted};
 use crate::reading::Reading;
 use crate::spelling::{is_space, more};
 use crate::strings::is_plain_string;
 use crate::wanted::wants_documents;
-use doc_envelope::is_log;
+use doc_envelope::{is_log, is_printed_envelope};
 use std::alloc::AllocError;
 
 /// The maximum number of brackets of a value that are open at the same time.
@@ -24,6 +24,9 @@ impl Reading {
         ensures same { OnOk result (state_of self.new ≡ state_of self.old) }
     {
         if is_plain_string(self.text.as_slice()) {
+            return Ok(true);
+        }
+        if self.wanted == Wanted::Unfolded && is_printed_envelope(self.text.as_slice()) {
             return Ok(true);
         }
         let Ok(text) = simdutf8::basic::from_utf8(self.text.as_slice()) else {

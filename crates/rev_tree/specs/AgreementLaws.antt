@@ -81,8 +81,8 @@ leaf_kept old other t grown l top there =
       | inr none ↦ and_from _ _ there (ap not none)
     ]
 
--- If tree `other` has all leaves of tree `old`, `other` also has all leaves of a tree that has grown from `old` by data
--- of `other`.
+-- If tree `other` has all leaves of tree `old`, and tree t has grown from `old` by data of `other`, then `other` has
+-- all leaves of t.
 pub leaves_known : (old other t : TreeValue) → IsGrownBy old other t → ((l : RevId) → is_leaf old l ≡ true → has other l ≡ true) → (l : RevId) → is_leaf t l ≡ true → has other l ≡ true
 leaves_known old other t grown all l top =
     elim (grown.revs l (and_parts _ _ top).0) [
@@ -183,7 +183,7 @@ same_by_leaves s t ours theirs agree whole_s whole_t there back = record {
 
 -- ---- leaves of equal trees
 
--- If two orders agree on element k and the elements of a list, both insert k at the same position.
+-- If two orders compare k with each element of a list equally, both insert k into the list at the same position.
 same_placed : {K : Type 0} (R S : K → K → Ordering) → IsTotalOrder R → (k : K) (ys : List K) → ((y : K) → list_any (eq_by_cmp R y) ys ≡ true → R k y ≡ S k y) → placed R k ys ≡ placed S k ys
 same_placed R S total k [] h = refl
 same_placed R S total k (y ∷ ys) h =
@@ -197,8 +197,8 @@ same_order R S r s (k ∷ xs) h =
     ∙ same_placed R S r k (in_order R xs) (λ y m. h k y (ap (λ b. b || list_any (eq_by_cmp R k) xs) ((eq_by_cmp_equiv r).refl k)) (or_right _ _ (sym (any-in_order r xs y) ∙ m)))
     ∙ ap (placed S k) (same_order R S r s xs (λ a b m n. h a b (or_right _ _ m) (or_right _ _ n))) ∙ sym (in_order-cons s k xs)
 
--- The leaves that `leaves t` sorts are exactly the leaves of tree t, even if revisions are compared in the leaf order
--- of another tree u.
+-- Revision r is in the unsorted list of leaves of tree t exactly if r is a leaf of t. The comparison of r with the
+-- list's elements may use the leaf order of any tree u.
 any_leaf : (u t : TreeValue) (r : RevId) → list_any (eq_by_cmp (leaf_cmp u) r) (filter (is_leaf t) (keys t.origins)) ≡ is_leaf t r
 any_leaf u t r =
     let all = filter (is_leaf t) (keys t.origins) in

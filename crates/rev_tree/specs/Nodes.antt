@@ -77,7 +77,7 @@ pub record IsLinked (nodes : List NodeValue) : Type 0 where
 abbrev pub deletes : NodeValue → Bool
 deletes n = option_map_or (λ (b : ContentValue). b.deleted) n.content false
 
--- Whether leaf n goes before the best leaf so far in the winner's order, or there is no best leaf so far.
+-- Whether there is no best leaf yet, or leaf n goes before the best leaf in the winner's order.
 abbrev pub goes_before : NodeValue → Option NodeValue → Bool
 goes_before n None = true
 goes_before n (Some best) = is_lt (ordering_then (bool_cmp (deletes n) (deletes best)) (rev_cmp best.rev n.rev))
@@ -96,21 +96,22 @@ pub record IsLed (nodes : List NodeValue) (best : ℕ) : Type 0 where
   pub tree : IsTree (tree_of nodes)
   pub first : slice_get (revs_in nodes) best ≡ first_of (leaves (tree_of nodes))
 
--- A list of nodes, with the numbers of nodes and of index entries that fit without allocating.
+-- A list of nodes, with the number of nodes that fit into the list and the number of entries that fit into the index
+-- without allocating.
 pub record NodesValue : Type 0 where
   pub items : List NodeValue
   pub capacity : ℕ
   pub index_capacity : ℕ
 
 -- A list of nodes has space for `more` further nodes. If the list with `more` further nodes is too long to be scanned,
--- the index has space for the entries of all these nodes.
+-- the index has space for an entry of each node.
 pub record HasRoom (v : NodesValue) (more : ℕ) : Type 0 where
   pub few : length v.items + more < 2 ^ 32
   pub nodes : length v.items + more ≤ v.capacity
   pub places : HasIndexRoom (length v.items + more) v.index_capacity
 
--- The effect of adding revision r to a list of nodes. Afterwards the node of r is at position k, and the earlier nodes
--- have kept their positions. Adding r uses the space for one node if r is new, and otherwise no space.
+-- The effect of adding revision r to a list of nodes. After adding r, the node of r is at position k, and the earlier
+-- nodes have kept their positions. Adding r uses the space for one node if r is new, and otherwise no space.
 pub record HasGained (old new : NodesValue) (r : RevId) (origin : Origin) (k : ℕ) : Type 0 where
   pub tree : tree_of new.items ≡ with_rev (tree_of old.items) r origin
   pub at : slice_get (revs_in new.items) k ≡ Some r

@@ -114,7 +114,7 @@ given_is s leaf b h = λ i. record {
   body = option_map_or (λ (x : ContentValue). x.body) (h i) [];
 }
 
--- A leaf's ancestry gives a content only to the leaf, and the content is the leaf's content in tree s.
+-- Merging a leaf's ancestry gives a content only to the leaf: the leaf's content in tree s.
 pub at_leaf : (s : TreeValue) (leaf q : RevId) → is_some (find rev_cmp q (at_head (ancestors s leaf) (given s leaf))) ≡ true → (q ≡ leaf) × (find rev_cmp q (at_head (ancestors s leaf) (given s leaf)) ≡ Some (given s leaf))
 at_leaf s leaf q h =
     let begins = walk_begins s.parents leaf.generation leaf in

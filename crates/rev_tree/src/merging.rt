@@ -15,12 +15,12 @@ use crate::origin::Origin;
 use rev_core::Rev;
 
 impl Nodes {
-    /// Whether the tree knows a parent of every child of an ancestry. Returns an error with the first child whose
-    /// parent in the tree differs from the given parent.
+    /// Whether the tree has a parent for each child in an ancestry. Returns an error with the first child whose parent
+    /// in the tree differs from its parent in the ancestry.
     ///
     /// If the tree has the complete ancestry, the call needs only one lookup, because each node stores the index of its
-    /// parent. If a child has no known parent, the call looks up the given parent, and first tries the parent of the
-    /// tree's last node.
+    /// parent. If the tree has no parent for a child, the call looks up the child's parent in the ancestry, and first
+    /// tries the parent of the tree's last node.
     pub(crate) fn knows_edges(&self, revs: &[Rev]) -> Result<bool, Contradiction>
         requires some { 0 < length revs.now }
         ensures edges { IfOk result (λ b. b ≡ list_all (has_edge (tree_of self.now.items)) (edges_of revs.now)) }
@@ -56,9 +56,9 @@ impl Nodes {
         Ok(all)
     }
 
-    /// Returns a guess for the index of a child's parent. The guess is the child's known parent. If the child has no
-    /// known parent, the guess is the parent of the node before the child, because consecutive nodes are often leaves
-    /// with the same parent.
+    /// Returns a guess for the index of a child's parent. The guess is the index of the child's parent in the tree. If
+    /// the child has no known parent, the guess is the parent of the node that precedes the child's node, because
+    /// consecutive nodes are often leaves with the same parent.
     fn near(&self, child: usize) -> Option<usize>
         requires { child < length self.now.items }
         ensures { IfSome result (λ i. i < length self.now.items) }
@@ -69,7 +69,8 @@ impl Nodes {
         }
     }
 
-    /// Returns the index of the known parent of the revision at an index.
+    /// Returns the index of a node's parent, or `None` if no parent is known. `place` is the index of the node, if
+    /// there is a node.
     fn parent_at(&self, place: Option<usize>) -> Option<usize>
         requires within { IfSome place (λ i. i < length self.now.items) }
         ensures within { IfSome result (λ i. i < length self.now.items) }
@@ -126,7 +127,8 @@ impl Nodes {
         }
     }
 
-    /// Inserts an ancestry, some of whose revisions may have nodes already, and returns the index of its head's node.
+    /// Inserts an ancestry and returns the index of the head's node. Some revisions of the ancestry may already have
+    /// nodes.
     fn put_among(&mut self, revs: &[Rev], content: Content, origin: Origin) -> usize
         requires some { 0 < length revs.now }
         requires room { HasRoom self.old (count_new (revs_in self.old.items) revs.now) }
@@ -148,8 +150,9 @@ impl Nodes {
         head
     }
 
-    /// Appends a node for a revision with an origin, unless the revision has a node, and returns the node's index. The
-    /// call looks for the revision first in the node at index `near`. The caller has reserved the space for the node.
+    /// Returns the index of a revision's node, after appending a node with the given origin if the revision has no
+    /// node. The call first checks whether the node at index `near` holds the revision. The caller has reserved the
+    /// space for the node.
     fn add(&mut self, near: Option<usize>, rev: Rev, origin: Origin) -> usize
         requires near { IfSome near (λ i. i < length self.old.items) }
         requires room { HasRoom self.old (unless_among (revs_in self.old.items) rev) }
@@ -161,7 +164,8 @@ impl Nodes {
         }
     }
 
-    /// Returns the index of a revision's node. The call looks for the revision first in the node at index `near`.
+    /// Returns the index of a revision's node. The call first checks whether the node at index `near` holds the
+    /// revision.
     fn place_near(&self, near: Option<usize>, rev: &Rev) -> Option<usize>
         requires near { IfSome near (λ i. i < length self.now.items) }
         ensures place { result ≡ place_of self.now.items rev.now }

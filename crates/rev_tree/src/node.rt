@@ -15,10 +15,10 @@ use std::marker::Model;
 /// The number of values of a 64-bit integer, 2^64. A session's 128-bit number is stored as two 64-bit integers.
 const HALF: u128 = 1 << 64;
 
-/// A revision, the index of its parent if the parent is known, its origin, and the other data of the node.
+/// A node: a revision, the revision's origin, and in `known` the node's flags, the index of the parent and the content.
 ///
-/// A tree may have millions of nodes, so a node is small. A session's number is stored in halves because a `u128` is
-/// aligned to 16 bytes.
+/// A tree may have millions of nodes, so a node is small. A session's number is stored as two 64-bit halves because a
+/// `u128` is aligned to 16 bytes.
 #[derive(Drop)]
 pub(crate) struct Node {
     rev: Rev,

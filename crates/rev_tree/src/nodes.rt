@@ -21,8 +21,8 @@ use std::marker::Model;
 /// generation below the previous node.
 pub(crate) const MOST_WALKED: usize = 8;
 
-/// The maximum sum of the number of nodes and the number of given revisions for which a merge counts the missing
-/// revisions. Up to this sum, a merge reserves space only for the missing revisions.
+/// A merge counts the missing revisions only if the tree's nodes and the given revisions together are at most this
+/// number. A merge that counts the missing revisions reserves space only for them.
 const MOST_COUNTED: usize = 4;
 
 /// The maximum number of nodes of a tree. The index of a parent, counted from 1, has 32 bits.
@@ -34,7 +34,7 @@ ghost use Rattle.rev_tree.specs.Nodes.{Distinct, HasGained, HasRoom, IsLinked, c
 /// Nodes with their index. A tree never removes a node, so the positions of nodes do not change.
 ///
 /// The invariant of a tree's nodes is that no revision has two nodes, and that the index of each parent is in range. By
-/// the invariant, a node is marked as a parent exactly if another node names it as its parent.
+/// the invariant, a node is marked as a parent exactly if it is the parent of another node.
 #[derive(Drop)]
 pub(crate) struct Nodes {
     list: Vec<Node>,
@@ -112,10 +112,10 @@ impl Nodes {
         walked_to(&self.list, rev)
     }
 
-    /// Reserves space for inserting an ancestry. If the sum of the numbers of nodes and of given revisions is at most
-    /// `MOST_COUNTED`, the call reserves space only for the revisions that the tree lacks. If the sum is greater, but
-    /// at most `MOST_WALKED`, the call reserves exactly the space for all given revisions. The call fails if the tree
-    /// could get more than `MOST_NODES` nodes.
+    /// Reserves space for inserting an ancestry. If nodes and given revisions together are at most `MOST_COUNTED`, the
+    /// call reserves space only for the revisions that the tree lacks. If nodes and given revisions together are more
+    /// than `MOST_COUNTED` but at most `MOST_WALKED`, the call reserves exactly the space for all given revisions. The
+    /// call fails if the tree could get more than `MOST_NODES` nodes.
     #[tactic(auto, using(crate::proofs::Rooms::count_within))]
     pub(crate) fn make_room(&mut self, revs: &[Rev]) -> Result<(), AllocError>
         ensures items { self.new.items ≡ self.old.items }
@@ -183,7 +183,8 @@ impl Nodes {
     }
 
     /// Returns the index of the winner's node, which the tournament among the leaves finds. Returns `None` if the tree
-    /// has few nodes or no index, or if the tournament has no result. The caller must then scan the nodes.
+    /// has few nodes or no index, or if the tournament has no result. If the result is `None`, the caller must scan the
+    /// nodes.
     pub(crate) fn tournament_winner(&mut self) -> Option<usize>
         ensures items { self.new.items ≡ self.old.items }
         ensures first { IfSome result (λ place. (r : RevId)
@@ -251,8 +252,8 @@ fn walked_to(nodes: &[Node], rev: &Rev) -> Option<usize>
     None
 }
 
-/// Turns the index of the first `known` nodes into the index of all nodes. The caller has reserved the space in the
-/// index.
+/// Turns the index of the first `known` nodes into the index of all nodes. The caller has reserved the space that the
+/// index needs.
 fn index_rest(nodes: &[Node], places: &mut Places, known: usize)
     requires known { known ≤ length nodes.now }
     requires begun { places.old.entries ≡ index_for (revs_in (take known nodes.now)) }
@@ -275,7 +276,8 @@ fn index_rest(nodes: &[Node], places: &mut Places, known: usize)
     index_from(nodes, places, 0);
 }
 
-/// Whether each node is one generation below the previous node. The caller has already checked the first `known` nodes.
+/// Whether each node is one generation below the previous node. If `known` is more than `MOST_WALKED`, the caller has
+/// already checked the first `known` nodes.
 #[inline(never)]
 fn all_fall(nodes: &[Node], known: usize) -> bool
     requires known { known ≤ length nodes.now }
@@ -312,8 +314,8 @@ fn is_below(upper: &Node, lower: &Node) -> bool
     upper.generation() - 1 == lower.generation()
 }
 
-/// Adds the nodes from position `first` on to the index of positions, which already has all earlier nodes. The caller
-/// has reserved the space in the index.
+/// Adds the nodes at position `first` and later positions to the index, which already has all earlier nodes. The caller
+/// has reserved the space that the index needs.
 fn index_from(nodes: &[Node], places: &mut Places, first: usize)
     requires first { first ≤ length nodes.now }
     requires begun { places.old.entries ≡ noted_from [] 0 (revs_in (take first nodes.now)) }
@@ -353,9 +355,10 @@ fn once_new(nodes: &[Node], rev: &Rev) -> usize
     }
 }
 
-/// Reserves space in the list for the revisions of an ancestry. If the sum of the numbers of nodes and of given
-/// revisions is at most `MOST_COUNTED`, the call reserves space only for the revisions that the list lacks. If the sum
-/// is greater, but at most `MOST_WALKED`, the call reserves exactly the space for all given revisions.
+/// Reserves space in the list for the revisions of an ancestry. If nodes and given revisions together are at most
+/// `MOST_COUNTED`, the call reserves space only for the revisions that the list lacks. If nodes and given revisions
+/// together are more than `MOST_COUNTED` but at most `MOST_WALKED`, the call reserves exactly the space for all given
+/// revisions.
 #[tactic(auto, using(crate::proofs::Rooms::count_within))]
 fn reserve_nodes(list: &mut Vec<Node>, revs: &[Rev]) -> Result<(), AllocError>
     ensures items { list.new.items ≡ list.old.items }
@@ -391,7 +394,7 @@ fn fit_index(places: &mut Places)
     }
 }
 
-/// Reserves space in the index for `nodes` nodes, unless `nodes` nodes are few enough to be scanned.
+/// Reserves space in the index for `nodes` entries, unless `nodes` is at most `MOST_WALKED`.
 fn reserve_index(alloc: Global, places: &mut Places, nodes: usize) -> Result<(), AllocError>
     requires { length places.old.entries ≤ nodes }
     ensures index { places.new.entries ≡ places.old.entries }

@@ -8,7 +8,7 @@ use std::marker::Model;
 use std::ops::DerefSlice;
 use std::slice;
 
-/// A list of revisions. A list of one revision stores the revision in itself, without allocating.
+/// A list of revisions. A list of one revision stores the revision inline, without allocating.
 ///
 /// Most documents have one leaf, and most requests name one revision.
 #[derive(Debug)]

@@ -6,12 +6,12 @@ use crate::node::Node;
 use crate::winner::goes_before;
 use std::alloc::Global;
 
-/// The winners of the matches of a tournament, in which the leaves of a tree are compared by the order that decides the
+/// The winners of a tournament's matches. Each match compares two leaves of a tree by the order that decides the
 /// winning revision.
 ///
-/// Match `i` is between the players at `2 * i` and `2 * i + 1`, and match 1 is the final. The tournament is a binary
-/// tree of matches, and the winner of match `i` is the player at index `i`. If node `n` takes part in the tournament
-/// and is a leaf, it is the player at index `winners.len() + n` of the tree of matches.
+/// Match `i` is between the players at the indexes `2 * i` and `2 * i + 1`, and match 1 is the final. The tournament is
+/// a binary tree of matches, and the winner of match `i` is the player at index `i`. If node `n` takes part in the
+/// tournament and is a leaf, it is the player at index `winners.len() + n` of the tree of matches.
 ///
 /// The winner of a match is stored as its node's index, counted from 1, or as 0 if the match has no player. If a stored
 /// winner is no longer a leaf, it stays stored until its matches are played again.
@@ -34,10 +34,11 @@ impl Tournament {
         }
     }
 
-    /// Returns the node index of the winner among the leaves. The call first adds the nodes that do not take part in
-    /// the tournament yet.
+    /// Returns the index of the winning leaf's node. The call first adds the nodes that do not take part in the
+    /// tournament yet.
     ///
-    /// Returns `None` if an allocation fails or the tournament finds no winner. The caller must then scan the nodes.
+    /// Returns `None` if an allocation fails or the tournament finds no winner. If the result is `None`, the caller
+    /// must scan the nodes.
     pub(crate) fn first(&mut self, nodes: &[Node]) -> Option<usize>
         requires few { length nodes.now < 2 ^ 32 }
         requires played { IsPlayed nodes.now self.old.winners.items self.old.entered 0 }
@@ -106,7 +107,7 @@ impl Tournament {
         true
     }
 
-    /// Plays the matches of a node's player again, from its first match to the final.
+    /// Plays all matches of a node's player again, from the player's first match to the final.
     fn replay(&mut self, nodes: &[Node], place: usize)
         requires few { length nodes.now < 2 ^ 32 }
         requires place { place < self.old.entered }

@@ -13,8 +13,7 @@ use rev_core::{Ancestry, Rev};
 use std::alloc::{AllocError, Global};
 use std::marker::Model;
 
-/// A tree's data about one of its revisions: the revision with its known ancestors, and its content if the content is
-/// known.
+/// What a tree stores about a revision: the revision with its known ancestors, and its content if the content is known.
 #[derive(Drop)]
 pub struct RevInfo<'a> {
     pub ancestry: Ancestry,
@@ -141,8 +140,8 @@ impl Tree {
         Ok(Ancestry::from_revs(revs))
     }
 
-    /// Returns the known ancestor at a distance from a revision. The distance is 0 for the revision itself and 1 for
-    /// its parent. Returns `None` if the tree does not know an ancestor at this distance.
+    /// Returns a revision's known ancestor at a given distance. The distance is 0 for the revision itself and 1 for its
+    /// parent. Returns `None` if the tree does not know an ancestor at this distance.
     pub fn ancestor(&self, rev: Rev, place: usize) -> Option<Rev>
         requires { has self.now rev ≡ true }
         ensures { result ≡ slice_get (ancestors self.now rev) place }
@@ -177,7 +176,7 @@ impl Tree {
         Some(*node.rev())
     }
 
-    /// Returns the leaves, winner first. The call does not allocate for a single leaf.
+    /// Returns the leaves, winner first. The call does not allocate if the tree has only one leaf.
     pub fn leaves(&self, alloc: Global) -> Result<Revs, AllocError>
         ensures { IfOk result (λ out. out ≡ leaves self.now) }
     {
@@ -253,8 +252,8 @@ impl Tree {
         Ok(Revs::from(self.nodes.those_above(alloc, &leaves, revs)?))
     }
 
-    /// Returns the given revisions that are not in the tree, in the given order. The call does not allocate for a
-    /// single given revision.
+    /// Returns the given revisions that are not in the tree, in the given order. The call does not allocate if only one
+    /// revision is given.
     pub fn missing(&self, alloc: Global, revs: &[Rev]) -> Result<Revs, AllocError>
         ensures { IfOk result (λ out. out ≡ missing self.now revs.now) }
     {
@@ -293,8 +292,9 @@ impl Tree {
         })
     }
 
-    /// Returns the result that merging the ancestry would have, without allocating. The result is `Same` if the tree
-    /// has all revisions, their edges and a content of the head, and else `Changed`.
+    /// Returns the result that merging the ancestry would have, without merging and without allocating. The result is
+    /// `Same` if the tree has all revisions and edges of the ancestry and a content of its head, and otherwise
+    /// `Changed`.
     ///
     /// # Errors
     ///
@@ -322,7 +322,7 @@ impl Tree {
     ///
     /// # Errors
     ///
-    /// - `Contradiction`: a child of the ancestry has another parent in the tree, as for `merge_answer`.
+    /// - `Contradiction`: a revision has different parents in the tree and in the ancestry, as for `merge_answer`.
     /// - `Memory`: an allocation failed. The call returns `Memory` only if the merge would change the tree.
     ///
     /// After an error the tree is unchanged.

@@ -17,8 +17,8 @@ impl Nodes {
         requires tree { IsTree (tree_of self.now.items) }
         ensures { IfOk result (λ v. v.items ≡ ancestors_at self.now.items start) }
     {
-        // The list has a revision and its ancestors. Its length is at most the number of nodes, and at most the
-        // revision's generation.
+        // The list has a revision and its ancestors. The length of the list is at most the number of nodes, and at most
+        // the revision's generation.
         let most = self
             .all()
             .len()
@@ -37,7 +37,7 @@ impl Nodes {
         Ok(revs)
     }
 
-    /// Returns the known ancestor that is `steps` generations before the revision at an index.
+    /// Returns the known ancestor that is `steps` generations before the revision at index `start`.
     pub(crate) fn ancestor_at(&self, start: usize, steps: usize) -> Option<Rev>
         requires within { start < length self.now.items }
         requires tree { IsTree (tree_of self.now.items) }
@@ -51,7 +51,7 @@ impl Nodes {
     }
 
     /// Returns the leaves that are one of the given revisions or descend from one of them. The result keeps the order
-    /// of the leaves.
+    /// of the given leaves.
     ///
     /// The call stores a result for each visited node, and uses the result again for other leaves.
     pub(crate) fn those_above(
@@ -112,7 +112,7 @@ impl Nodes {
         answer
     }
 
-    /// Returns the first known result on the path from an index to its oldest ancestor, or false if no node on the path
+    /// Returns the first stored result on the path from a node to its oldest ancestor, or false if no node on the path
     /// has a result.
     fn first_told(&self, told: &[Option<bool>], start: usize) -> bool
         requires within { start < length self.now.items }
@@ -135,7 +135,8 @@ impl Nodes {
         false
     }
 
-    /// Stores a result for each node on the path from an index to the first node that already has a result.
+    /// Stores a result for each node on the path from index `start` to its oldest ancestor, up to the first node that
+    /// already has a result.
     fn tell(&self, told: &mut Vec<Option<bool>>, start: usize, answer: bool)
         requires within { start < length self.now.items }
         requires len { length told.old.items ≡ length self.now.items }

@@ -16,9 +16,8 @@ impl Nodes {
     /// was the winner before the merge.
     ///
     /// If the ancestry's head is a leaf and goes before the previous winner in the order of leaves, the head is the
-    /// winner. If the head is not the winner, the previous winner stays the winner if it is still a leaf. If the
-    /// previous winner is no longer a leaf, and no new leaf goes before it, the call looks for the winner among all
-    /// leaves.
+    /// winner. Unless the head is the winner, a previous winner that is still a leaf stays the winner. If the previous
+    /// winner is no longer a leaf, and no new leaf goes before it, the call looks for the winner among all leaves.
     pub(crate) fn winner_after(&mut self, before: usize, head: usize) -> usize
         requires before { before < length self.old.items }
         requires head { head < length self.old.items }
@@ -60,7 +59,7 @@ impl Nodes {
         None
     }
 
-    /// Returns the node index of the winner, from the tournament, or by scanning the nodes if the tournament has no
+    /// Returns the index of the winner's node, from the tournament, or by scanning the nodes if the tournament has no
     /// result.
     fn next_winner(&mut self) -> usize
         ensures items { self.new.items ≡ self.old.items }
@@ -74,7 +73,7 @@ impl Nodes {
         }
     }
 
-    /// Returns the node index of the winner, by scanning all nodes.
+    /// Finds the winner by scanning all nodes, and returns the index of the winner's node.
     #[inline(never)]
     fn first_leaf(&self) -> usize
         ensures { (r : RevId)
@@ -97,7 +96,7 @@ impl Nodes {
     }
 }
 
-/// Whether a leaf goes before the best leaf found so far, or no leaf was found so far. Live leaves go before deleted
+/// Whether a leaf goes before the best leaf found so far, or is the first leaf found. Live leaves go before deleted
 /// leaves, then greater generations before lesser ones, then greater signatures before lesser ones.
 pub(crate) fn goes_before(leaf: &Node, best: Option<&Node>) -> bool
     ensures { result ≡ goes_before leaf.now (option_copied best.entry) }

@@ -22,7 +22,7 @@ use Rattle.repl_target.specs.declared.replication.Plan.{Plan}
 use Rattle.script_databases.specs.Databases.{State, peer_at, with_peer}
 use Rattle.script_databases.specs.declared.watched.Watched.{Watched}
 
--- Whether a target refuses document d, because the id of d begins with the denied prefix.
+-- Whether the id of document d begins with the denied prefix, so that a target refuses d.
 abbrev pub deny_refuses : Option (List ℕ) → Document → Bool
 deny_refuses deny d = option_map_or (λ prefix. starts_with nat_eq d.id prefix) deny false
 
@@ -35,11 +35,11 @@ with_both old source target s t = with_peer (with_peer old source s) target t
 -- The guarantees of a replication by one thread, as specified in docs/PROFILE.md, "Replication by one thread" and "Tied
 -- peers".
 --
--- A replication by one thread changes only the log of the source. The target after the replication is a later state of
--- the target before (`IsLaterPeer`). For every selection and all backups of the source, peers that were tied before a
--- replication are tied after the replication. If a replication succeeded, the report is the report of its session. If a
--- replication succeeded and the two peers were tied before, the target covers the source's selected feed. If a
--- replication between tied peers failed, the error is one that `IsExpected` lists.
+-- At the source, a replication by one thread changes only the log. At the target, the state after the replication is
+-- later than the state before (`IsLaterPeer`). For every selection and all backups of the source, peers that were tied
+-- before a replication are tied after the replication. If a replication succeeded, the report is the report of its
+-- session. If a replication succeeded and the two peers were tied before, the target covers the source's selected feed.
+-- If a replication between tied peers failed, the error is one that `IsExpected` lists.
 pub record KeepsTied (s t : PeerValue) (plan : Plan) (result : Result Report TargetFault) (s' t' : PeerValue) : Type 0
   where
     pub log : s' ≡ record s { outgoing = s'.outgoing }

@@ -8,8 +8,8 @@ use repl_target::Backup;
 use std::alloc::{AllocError, Global};
 use std::marker::Model;
 
-/// The key of a backup, which has the name of its database and the name of the backup. Each database has at most one
-/// backup of a name.
+/// The key of a backup: the name of the database, and the name of the backup. A database has at most one backup with a
+/// given name.
 #[derive(Debug, Drop, PartialEq, Eq, Hash)]
 pub struct BackupName {
     db: String,

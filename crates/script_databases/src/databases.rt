@@ -254,9 +254,9 @@ impl Databases {
     ///
     /// # Errors
     ///
-    /// The call checks in this order for `NoDatabase` (the name is unknown), `NoBackup` (the database has no backup of
-    /// this name), and `IsTarget` (the database has been a replication target). Last, the call checks for `LifeFull`
-    /// (no life is left).
+    /// The call first checks for `NoDatabase` (the name is unknown), and then for `NoBackup` (the database has no backup
+    /// of this name). The next checks are for `IsTarget` (the database has been a replication target), and last for
+    /// `LifeFull` (no life is left).
     pub fn put_back(&mut self, db: &str, name: &str) -> Result<PutBack, Refusal>
         ensures answer { GivesOrMemory result
             (put_back_answer (peer_at self.old db.now) (backup_at self.old db.now name.now)) }
@@ -317,7 +317,8 @@ impl Databases {
     ///
     /// # Errors
     ///
-    /// The call returns the errors of `replicate`, and `Memory`, without any change, if the board cannot be allocated.
+    /// The call returns the errors of `replicate`. If the board cannot be allocated, the call returns `Memory` and
+    /// changes nothing.
     pub fn replicate_watched<H: Threads + Wait + Sync>(
         &mut self,
         rt: &H,

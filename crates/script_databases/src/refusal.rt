@@ -100,8 +100,8 @@ pub enum Refusal {
     NotObject,
     /// The stored log entry has a greater recorded sequence. No line is expected to fail with `Older`.
     Older,
-    /// A window or an entry has another life than the session or the database. No line is expected to fail with
-    /// `OtherLife`.
+    /// A window's life is not the session's life, or a log entry's life is not the database's life. No line is expected
+    /// to fail with `OtherLife`.
     OtherLife,
     /// A window ends above the goal. No line is expected to fail with `PastGoal`.
     PastGoal,

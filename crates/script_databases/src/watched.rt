@@ -16,7 +16,7 @@ use std::alloc::Global;
 pub struct Watched {
     /// The number of documents that all workers settled.
     pub settled: u64,
-    /// The number of documents that all workers read, at least `settled`.
+    /// The number of documents that all workers read, which is at least `settled`.
     pub read: u64,
     /// The report of the session.
     pub report: Report,

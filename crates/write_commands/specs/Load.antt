@@ -96,7 +96,7 @@ LoadsMade old db (Ok doc) told new =
     LoadsUntaken (drawn_one old) db (next_made old) (Ok doc) told new ⊎ Refuses why.Memory (drawn_one old) told new
 LoadsMade old db (Err refusal) told new = Refuses refusal old told new
 
--- The result of `load`, which depends on whether the database exists and whether a UUID is given.
+-- The result of `load`, for each case: the database exists or not, and a UUID is given or not.
 abbrev pub LoadsAt : State → List ℕ → Option PeerValue → Option ℕ → Result (Option Document) Refusal → Told → State
     → Type 0
 LoadsAt old db (Some l) (Some uuid) doc told new = Refuses why.DatabaseExists old told new

@@ -44,7 +44,7 @@ abbrev pub replicate_asked : Replicate → ReplicateAsk
 replicate_asked ask = record {
   source = ask.source.now;
   target = ask.target.now;
-  doc_ids = option_map (λ v. texts_of (line_items v.now.items)) ask.doc_ids;
+  doc_ids = option_map (λ v. texts_of (line_items v.now)) ask.doc_ids;
   options = ask.options;
 }
 
@@ -89,29 +89,30 @@ replicate_in d = do
 
 -- ---- its output
 
--- The session id, the start and the recorded sequence of a report, in the output of `replicate`.
+-- The part of the output of `replicate` that has a report's session id, start and recorded sequence.
 abbrev pub session_part : Report → List ℕ
 session_part r =
     codes "session " ++ id_digits r.session.0 ++ codes " from " ++ decimal r.start ++ codes " to " ++ decimal r.recorded
 
--- The number of checked leaves, and the number of checked leaves that the target lacked, in the output of `replicate`.
+-- The part of the output of `replicate` that has the number of checked leaves, and the number of checked leaves that
+-- the target lacked.
 abbrev pub checked_part : Report → List ℕ
 checked_part r = codes " checked " ++ decimal r.counts.checked ++ codes " found " ++ decimal r.counts.found
 
--- The numbers of documents that were read, written and refused, in the output of `replicate`.
+-- The part of the output of `replicate` that has the numbers of documents that were read, written and refused.
 abbrev pub documents_part : Report → List ℕ
 documents_part r =
     codes " read " ++ decimal r.counts.read ++ codes " written " ++ decimal r.counts.written ++ codes " failed " ++ decimal r.counts.failures
 
--- The line of `replicate` with the report of a session.
+-- The output line of `replicate` with the report of a session.
 abbrev pub report_line : Report → List ℕ
 report_line r = ended (session_part r ++ checked_part r ++ documents_part r)
 
--- The line of `replicate` with the board's counts of settled and of read documents.
+-- The output line of `replicate` with the board's counts of settled and of read documents.
 abbrev pub progress_line : Watched → List ℕ
 progress_line w = ended (codes "progress " ++ decimal w.settled ++ codes " of " ++ decimal w.read)
 
--- The line of `replicate` with the low water of a session that ended below its goal.
+-- The output line of `replicate` with the low water of a session that ended below the session's goal.
 abbrev pub stopped_line : SessionId → ℕ → List ℕ
 stopped_line session low_water = ended (codes "stopped " ++ id_digits session.0 ++ codes " at " ++ decimal low_water)
 
@@ -158,27 +159,30 @@ plan_of s options chosen = plan_with s.program options (session_of s options) ch
 
 -- ---- its result
 
--- The ending of a replication by one thread. A replication by one thread that returned `Unfinished` has not failed.
+-- How a replication by one thread ended, or the error with which it failed. A replication by one thread that returned
+-- `Unfinished` has not failed.
 abbrev pub ending_of : Result Report TargetFault → Result Ending Refusal
 ending_of (Ok report) = Ok (Done report)
 ending_of (Err fault) = do
   low_water ← stop_of fault
   Ok (Stopped low_water)
 
--- The ending of a replication by the pool. A replication by the pool that returned `Unfinished` has not failed.
+-- How a replication by the pool ended, or the error with which it failed. A replication by the pool that returned
+-- `Unfinished` has not failed.
 abbrev pub ending_of_run : Result Report PoolFault → Result Ending Refusal
 ending_of_run (Ok report) = Ok (Done report)
 ending_of_run (Err fault) = do
   low_water ← run_stop_of fault
   Ok (Stopped low_water)
 
--- The ending of a replication by the pool with a progress board.
+-- How a replication by the pool with a progress board ended, or the error with which it failed.
 abbrev pub ending_of_watched : Result Watched PoolFault → Result Ending Refusal
 ending_of_watched (Ok watched) = Ok (Shown watched)
 ending_of_watched (Err fault) = ending_of_run (Err fault)
 
--- The ending of a replication. One thread replicates if the first argument of `EndsBy` is true. If the first argument
--- of `EndsBy` is false, the pool replicates, with a board if the second argument is true.
+-- How a replication ended, or the error with which it failed. One thread replicates if the first argument of `EndsBy`
+-- is true. If the first argument of `EndsBy` is false, the pool replicates, with a board if the second argument is
+-- true.
 abbrev pub EndsBy : Bool → Bool → State → List ℕ → List ℕ → PeerValue → PeerValue → Plan → Result Ending Refusal → State
     → Type 0
 EndsBy true progress old source target s t plan ending new =
@@ -229,8 +233,8 @@ ReportsReplication old ask told new = ReplicatesFound old ask (both_of old ask) 
 
 -- ---- the guarantee of `replicate`, as specified in docs/PROFILE.md, "Tied databases"
 
--- The guarantee of a session that reached its goal and recorded sequence n. Sequence n is the source's update sequence,
--- and the target covers each leaf of the source's selected feed.
+-- The guarantee of a session that reached the session's goal and recorded sequence n. Sequence n is the source's update
+-- sequence, and the target covers each leaf of the source's selected feed.
 abbrev pub CoversIfDone : State → List ℕ → List ℕ → Choice → Ending → Type 0
 CoversIfDone s source target chosen (Done report) = CoversUpTo s source target chosen report.recorded
 CoversIfDone s source target chosen (Shown watched) = CoversUpTo s source target chosen watched.report.recorded
@@ -241,8 +245,8 @@ abbrev pub StopsIfAsked : Options → Ending → Type 0
 StopsIfAsked options (Stopped low_water) = options.alone ≡ true → (most : ℕ) × (options.stop_after ≡ Some most)
 StopsIfAsked options ending = Unit {0}
 
--- The errors with which a `replicate` line may fail. A database does not exist, the timestamp or the selection is
--- invalid, or the replication fails.
+-- The errors with which a `replicate` line may fail. The line fails only if a database does not exist, the timestamp or
+-- the selection is invalid, or the replication fails.
 abbrev pub MayFail : ReplicateAsk → Refusal → Type 0
 MayFail ask refusal =
     (refusal ≡ why.NoDatabase) ⊎ (refusal ≡ why.BadMoment) ⊎ (choice_given ask.doc_ids ≡ Err refusal)

@@ -32,7 +32,7 @@ restore_in d = do
 
 -- ---- its output
 
--- The update sequence and the life of the restored database, in the output of `restore`.
+-- The part of the output of `restore` that has the update sequence and the life of the restored database.
 abbrev pub left_part : PutBack → List ℕ
 left_part back = codes " at " ++ decimal back.seq ++ codes " life " ++ decimal back.life
 

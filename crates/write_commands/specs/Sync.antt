@@ -72,7 +72,8 @@ sync_in d = do
 
 -- ---- its result
 
--- The result of `sync` after the first direction: both outputs in order, or the second direction's error.
+-- The result of `sync` if the first direction succeeded: the outputs of both directions in order, or the second
+-- direction's error.
 abbrev pub both_told : List ℕ → Told → Told
 both_told text (Ok more) = Ok (text ++ more)
 both_told text (Err name) = Err name
@@ -84,7 +85,7 @@ SyncsBack mid ask (Ok text) told new =
     (second : Told) × MayTell ReportsReplication mid ask.back second new × (told ≡ both_told text second)
 SyncsBack mid ask (Err name) told new = (told ≡ Err name) × (new ≡ mid)
 
--- The results that `sync` may have: the results of two `replicate` lines in order.
+-- The results that `sync` may have: the results of two `replicate` lines, one for each direction, in order.
 abbrev pub Syncs : Answering State SyncAsk
 Syncs old ask told new =
     (first : Told) × (mid : State) × MayTell ReportsReplication old ask.there first mid × SyncsBack mid ask first told new
@@ -92,8 +93,8 @@ Syncs old ask told new =
 -- ---- the guarantee of `sync`, as specified in docs/PROFILE.md, "Tied databases"
 
 -- The guarantee for a `sync` line. Between the two directions of `sync`, all databases are consistent, and each
--- direction has the guarantee of a replication. A `sync` line fails only with an error with which one of its directions
--- may fail.
+-- direction has the guarantee of a `replicate` line (`IsCovered`). A `sync` line fails only with an error with which
+-- one of its directions may fail.
 abbrev pub IsMet : State → SyncAsk → Told → Type 0
 IsMet new ask (Ok text) =
     (mid : State) × (first : List ℕ) × (second : List ℕ) × (text ≡ first ++ second) × AllTied mid

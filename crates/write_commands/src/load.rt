@@ -110,8 +110,8 @@ fn load_given(
     }
 }
 
-/// Performs a `load` line without a UUID. If the line has a document, the call parses it before it looks up the
-/// database.
+/// Performs a `load` line without a UUID. If the line has a document, the call parses the document before it looks up
+/// the database.
 fn load_named(
     alloc: Global,
     databases: &mut Databases,

@@ -31,7 +31,7 @@ pub struct Replicate<'v, 'a> {
     pub target: &'v str,
     /// The ids of the selected documents, which are strings. If the line has no member `doc_ids`, all documents are
     /// selected.
-    pub doc_ids: Option<&'v Vec<LineValue<'a>>>,
+    pub doc_ids: Option<&'v [LineValue<'a>]>,
     pub options: Options,
 }
 
@@ -51,7 +51,8 @@ pub struct Options {
     pub at: Option<u64>,
     /// The number of windows after which the replication stops.
     pub stop_after: Option<u64>,
-    /// Whether the command prints the counts of the progress board. The option has no effect with one thread.
+    /// Whether the command prints the counts of the progress board. The option has no effect if the replication uses
+    /// only one thread.
     pub progress: bool,
 }
 
@@ -123,9 +124,9 @@ impl<'v, 'a> Command<&'v Line<'a>> for Replicate<'v, 'a> {
     }
 }
 
-/// Runs a replication, and prints its result. If the line gives no session id, the call generates an id after it has
-/// found both databases and before it parses the document ids. The call may block, unless the line requests a
-/// replication with one thread.
+/// Runs a replication, and prints the replication's result. If the line gives no session id, the call generates an id
+/// after it has found both databases and before it parses the document ids. The call may block, unless the line
+/// requests a replication with one thread.
 #[inline(never)]
 pub fn serve_replication<H: Threads + Wait + Sync>(
     rt: &H,
@@ -297,7 +298,7 @@ fn print(
     }
 }
 
-/// Prints the counters of a run.
+/// Prints the counts that the progress board of a run showed.
 fn print_progress(answer: &mut Vec<u8>, watched: &Watched) -> Result<(), AllocError>
     ensures { OnOk result (answer.new.items ≡ answer.old.items ++ progress_line watched.now) }
 {

@@ -1,4 +1,4 @@
-//! `restore`: replaces a database by its backup.
+//! `restore`: replaces a database by one of the database's backups.
 ghost use Rattle.std.specs.Prelude.{◌≡◌, ◌++◌, OnOk};
 ghost use Rattle.json_values.specs.LineView.{line_view};
 ghost use Rattle.write_commands.specs.Restore.{left_part, restored_line};

@@ -208,7 +208,7 @@ fn asked(rt: &impl Abort, alloc: Global, source: &Side, target: &Side) -> Asked 
 }
 
 /// Puts random documents on both sides, and compares requests and parcels with the reference. Returns the number of
-/// documents of the source.
+/// documents that the source returned.
 fn exchange(
     rt: &impl Abort,
     alloc: Global,

@@ -31,7 +31,7 @@ const FIRST: usize = 1;
 
 const SECOND: usize = 2;
 
-/// The indices of the two sources of a `Bench`.
+/// The numbers of the two sources of a `Bench`. The source with number n is `Bench::sides[n + 1]`.
 const SOURCE: usize = 0;
 
 const OTHER: usize = 1;

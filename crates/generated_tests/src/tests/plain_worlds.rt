@@ -140,8 +140,8 @@ fn count(masks: &Masks) -> u64 {
     all
 }
 
-/// Returns a page of a source's feed, with the given life of the source. The page has the selected rows above a
-/// sequence and at or below a goal.
+/// Returns a page of a source's feed, with the given life of the source. The call scans at most `limit` rows above
+/// `since` and at or below `goal`. The page has the selected rows of the scanned rows.
 fn page(side: &PlainSide, life: u64, since: u64, goal: u64, limit: u64, picked: Picked) -> Rows {
     let mut leaves = [0; IDS];
     let mut hi = since;
@@ -293,8 +293,8 @@ impl Sessions {
         }
     }
 
-    /// Returns the index of the session's stored window with the bounds of a request, if this window is not done and
-    /// has a row for each requested document.
+    /// Returns the index of the session's stored window with the bounds of a request. Returns `None` if no such window
+    /// exists, if it is done, or if it lacks a row for a requested document.
     fn window_for(&self, session: u128, asked: &Rows) -> Option<usize> {
         self.windows.iter().position(|window| {
             window.session == session
@@ -624,8 +624,8 @@ impl PlainWorld {
         }
     }
 
-    /// Stores an entry in the source's log, if the entry has the source's life and the log has no entry of the same
-    /// session with a greater recorded sequence.
+    /// Stores an entry in the source's log, if the entry has the source's life. If the log has an entry of the same
+    /// session with a greater recorded sequence, the call changes nothing.
     pub(crate) fn put_entry(&mut self, rt: &impl Abort, entry: usize) {
         if let Some(entry) = self.entries.get(entry) {
             if entry.life == self.log.life {

@@ -6,14 +6,15 @@ use Rattle.rev_core.specs.Ancestry.{FallsByOne, head_of}
 use Rattle.repl_peer.specs.declared.peer.ghost_revs.Came.{Came}
 use Rattle.repl_peer.specs.declared.peer.ghost_revs.Came.TheVariants as came
 
--- The revisions of a write: a document's complete ancestry, an edit's new revision and its parent if it has one, or the
--- revisions of the write that is copied.
+-- The revisions of a write: a document's complete ancestry, an edit's new revision and its parent (if any), or the
+-- revisions of a copied write.
 abbrev pub came_revs : Came → List RevId
 came_revs (came.Whole revs) = revs.now
 came_revs (came.Edit rev parent) = rev ∷ option_to_list parent
 came_revs (came.Again revs) = revs.now.revs
 
--- The list `revs` begins with revision `head`, has `count` revisions, and its generations fall by one.
+-- The list `revs` begins with revision `head`, and has `count` revisions. The generations of `revs` decrease by one
+-- from each revision to the next.
 pub record IsBegun (head : RevId) (count : ℕ) (revs : List RevId) : Type 0 where
   pub first : head_of revs ≡ Some head
   pub size : length revs ≡ count

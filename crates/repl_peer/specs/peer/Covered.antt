@@ -72,7 +72,7 @@ first_unknown known (row ∷ rows) = option_or (unknown_in known row) (first_unk
 abbrev pub first_uncovered : PeerValue → List RowValue → Option Leaf
 first_uncovered p rows = first_unknown (covers p) rows
 
--- Peer p covers every leaf in the rows of session s's windows whose sequence is at most n.
+-- In the windows of session s, peer p covers every leaf of every row whose sequence is at most n.
 abbrev pub Honest : PeerValue → SessionValue → ℕ → Type 0
 Honest p s n =
     (w : WindowValue) → Among w s.windows → (row : RowValue) → Among row w.rows → row.seq ≤ n → (leaf : RevId)

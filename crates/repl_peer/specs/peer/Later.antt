@@ -1,12 +1,13 @@
--- The relation between the states of a peer before and after calls. A revision that the peer covers stays covered.
+-- The relation between an earlier and a later state of a peer that was not restored in between. A revision that the
+-- peer covers stays covered.
 use Rattle.std.specs.Prelude.{◌≡◌, ℕ, ◌≤◌, Some, slice_get}
 use Rattle.couch_base.specs.Lists.{Among}
 use Rattle.couch_base.specs.WriteLaws.{IsLater}
 use Rattle.couch_base.specs.Feed.{WindowValue}
 use Rattle.repl_peer.specs.peer.Peer.{PeerValue, SessionValue, WrittenValue, RefusedValue}
 
--- Calls of a peer never change a session's id, scope and start. Calls only add windows, arrivals and ledger rows to a
--- session, and never lower its recorded sequence.
+-- Calls of a peer never change a session's id, scope or start. Calls may add windows, arrivals and ledger rows to a
+-- session, but never remove any, and never lower the session's recorded sequence.
 pub record Keeps (old new : SessionValue) : Type 0 where
   pub id : new.id ≡ old.id
   pub scope : new.scope ≡ old.scope
@@ -16,8 +17,8 @@ pub record Keeps (old new : SessionValue) : Type 0 where
   pub arrivals : (a : WrittenValue) → Among a old.arrivals → Among a new.arrivals
   pub ledger : (x : RefusedValue) → Among x old.ledger → Among x new.ledger
 
--- After calls, a peer's database is a later state of its database before. The peer still has each local write under the
--- same number, and each session.
+-- Peer `new` is a later state of peer `old`, without a restore in between. The database of `new` is a later state of the
+-- database of `old`. Peer `new` still has each session of `old`, and each local write of `old` under the same number.
 pub record IsLaterPeer (old new : PeerValue) : Type 0 where
   pub db : IsLater old.db new.db
   pub locals : (n : ℕ) (x : WrittenValue) → slice_get old.locals n ≡ Some x → slice_get new.locals n ≡ Some x

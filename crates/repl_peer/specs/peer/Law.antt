@@ -19,7 +19,7 @@ use Rattle.repl_peer.specs.peer.Origins.{HasOrigins}
 abbrev pub window_bounds : List WindowValue → List (ℕ × ℕ)
 window_bounds ws = map (λ w. (w.lo, w.hi)) ws
 
--- The invariant of a session's stored windows `ws`, its front f, its recorded sequence n and its goal.
+-- The invariant of a session's stored windows `ws`, front f, recorded sequence n and goal.
 pub record LawfulStore (f : FrontValue) (ws : List WindowValue) (n goal : ℕ) : Type 0 where
   -- A session's windows are consecutive from its start, end at or below the goal, and have rows with rising sequences.
   -- The front of a session has the bounds of the session's windows.
@@ -71,8 +71,9 @@ pub record LawfulSessions (refuses : Document → Bool) (p : PeerValue) : Type 0
   pub based : AllBased p.sessions
   pub distinct : IsDistinct nat_eq (session_numbers p.sessions)
 
--- The invariant of peer p: its sessions satisfy their invariant, and each of its revisions has an origin. In its
--- document's tree, each revision of a local write is the child of the next older revision of this write.
+-- The invariant of peer p. The sessions of p satisfy their invariant, and each revision of p has an origin. If a local
+-- write's generations decrease by one from each revision to the next, each revision's parent in the document's tree is
+-- the next revision of the write (`StandsIn`).
 pub record Lawful (refuses : Document → Bool) (p : PeerValue) : Type 0 where
   pub sessions : LawfulSessions refuses p
   pub origins : HasOrigins p

@@ -32,9 +32,9 @@ pub record RefusedValue : Type 0 where
   pub doc : Document
   pub reason : Reason
 
--- An incoming session of a peer. A session has a scope, which never changes, and its windows, with a front that says
--- which of them are done. A session also has its arrivals, its ledger of refused documents, its counts, its recorded
--- sequence, and its two timestamps.
+-- An incoming session of a peer. A session has a scope, which never changes. A session also has windows, and a front
+-- that says which windows are done. A session also has arrivals, a ledger of refused documents, counts, a recorded
+-- sequence, and two timestamps.
 pub record SessionValue : Type 0 where
   pub id : SessionId
   pub scope : Scope
@@ -84,7 +84,7 @@ session_in sessions id = find (is_of id) sessions
 abbrev pub holds : List SessionValue → SessionId → Bool
 holds sessions id = list_any (is_of id) sessions
 
--- A peer's sessions after the session with t's id is replaced by session t.
+-- A peer's sessions after session t has replaced the session with the same id.
 abbrev pub with_session : List SessionValue → SessionValue → List SessionValue
 with_session sessions t = map (λ s. if is_of t.id s then t else s) sessions
 

@@ -6,13 +6,14 @@ use Rattle.rev_core.specs.Ancestry.{FallsByOne}
 use Rattle.couch_base.specs.Database.{DatabaseValue, tree_of}
 use Rattle.repl_peer.specs.peer.Peer.{WrittenValue}
 
--- In the map of parents, the parent of each revision of a list is the next revision of the list.
+-- In the map of parents, the parent of each revision of a list, except the last revision, is the next revision of the
+-- list.
 abbrev pub Follows : FinMap rev_cmp RevId → List RevId → Type 0
 Follows parents [] = Unit {0}
 Follows parents (r ∷ []) = Unit {0}
 Follows parents (r ∷ (s ∷ rest)) = (get parents r ≡ Some s) × Follows parents (s ∷ rest)
 
--- If the generations of write w's revisions fall by one, each revision's parent in the document's tree is the next
--- revision of w.
+-- If write w's generations decrease by one from each revision to the next, each revision of w, except the last, has the
+-- next revision of w as its parent in the document's tree.
 abbrev pub StandsIn : DatabaseValue → WrittenValue → Type 0
 StandsIn db w = FallsByOne w.ancestry → Follows (tree_of db.docs w.id).parents w.ancestry

@@ -1,4 +1,4 @@
--- The value by which contracts describe a stored window, given the form in which the window is stored.
+-- The value that contracts use for a stored window, computed from the form in which the window is stored.
 use Rattle.std.specs.Prelude.{true, false}
 use Rattle.repl_peer.specs.session.Windows.{StoredWindowValue}
 use Rattle.repl_peer.specs.declared.session.window.Kept.{Kept}

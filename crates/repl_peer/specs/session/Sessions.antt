@@ -59,8 +59,8 @@ abbrev pub on_base : ℕ → Option SessionValue → Result (Unit {0}) TargetFau
 on_base start None = Err faults.NoSuchBase
 on_base start (Some s) = start_answer start s.recorded
 
--- The check of a session's start against the session's base, an earlier session. If a session has no base, its start
--- must be 0.
+-- The check of a session's base and start: the base must be a session of the given replication, and its recorded
+-- sequence must be at or above the start. If a session has no base, its start must be 0.
 abbrev pub base_answer : List SessionValue → RepId → Option SessionId → ℕ → Result (Unit {0}) TargetFault
 base_answer sessions rep None start = start_answer start 0
 base_answer sessions rep (Some base) start = on_base start (base_in sessions rep base)
@@ -135,7 +135,7 @@ record_answer p id = session_answer p id (λ s. Ok (low_water s.front))
 abbrev pub after_record : PeerValue → SessionId → ℕ → PeerValue
 after_record p id at = on_session p id (recorded_at at)
 
--- The report of session s, which concluding returns.
+-- The report that concluding session s returns.
 abbrev pub report_of : SessionValue → Report
 report_of s = record {
   session = s.id;

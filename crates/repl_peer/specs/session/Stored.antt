@@ -8,7 +8,7 @@ use Rattle.repl_peer.specs.peer.Law.{window_bounds}
 use Rattle.repl_peer.specs.session.Windows.{windows_of, IsThinnedWhereDone}
 use Rattle.repl_peer.specs.declared.session.Session.TheInside.{Inside}
 
--- The value of a stored session, which contracts use.
+-- The value that contracts use for a stored session.
 abbrev pub session_value : Inside → SessionValue
 session_value s = record {
   id = s.id;

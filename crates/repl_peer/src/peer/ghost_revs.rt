@@ -18,13 +18,13 @@ impl Model for GhostRevs {
     ghost also_owns = { λ _. ftrue };
 }
 
-// The compiler does not derive `Send` and `Sync` for a struct with a ghost member `also_owns`. `GhostRevs` owns
-// nothing.
+// The compiler does not implement `Send` and `Sync` automatically for a type whose `Model` defines `also_owns`.
+// `GhostRevs` owns nothing.
 unsafe impl Send for GhostRevs {}
 
 unsafe impl Sync for GhostRevs {}
 
-/// The source of the revisions of a write.
+/// The revisions from which `GhostRevs::of` creates the ghost value of a write.
 #[derive(Clone, Copy, Drop)]
 pub(crate) enum Came<'a> {
     /// The revisions of a document's complete ancestry.

@@ -1,4 +1,4 @@
-//! Settles in bulk the prepared documents with which a parcel begins.
+//! Settles the prepared documents at the beginning of a parcel in bulk.
 ghost use Rattle.std.specs.Prelude.{◌≡◌, ◌<◌, ◌≤◌, ◌+◌, ◌++◌, Some, Ok, true, false, map, length, take, drop, slice_get};
 ghost use Rattle.std.specs.List.{flat_map, list_all, list_any};
 ghost use Rattle.std.specs.Str.{bytes_eq};

@@ -13,14 +13,14 @@ use std::sync::Arc;
 
 /// The revisions in the ancestries of refused documents, by document id.
 ///
-/// For most ids, the ledgers have only one document. The index shares the first document of each id with the document's
-/// ledger row, and does not copy the document's revisions. For an id with several documents, the index stores the
-/// revisions of all later documents in one set, so that a lookup does not scan these documents.
+/// For most document ids, the ledgers have at most one document. The index shares the first document of each id with
+/// the document's ledger row, and does not copy the document's revisions. For an id with several documents, the index
+/// stores the revisions of all later documents in one set. A lookup therefore does not scan the later documents.
 #[derive(Drop)]
 pub(crate) struct LedgerIndex {
-    /// The first document with each id.
+    /// For each document id, the first ledger document with this id.
     first: IndexMap<DocId, Arc<Doc>>,
-    /// The revisions of the later documents with each id.
+    /// For each document id, the revisions of all later ledger documents with this id.
     later: IndexMap<DocId, IndexSet<Rev>>,
 }
 
@@ -45,7 +45,7 @@ impl LedgerIndex {
         self.is_in_first(id, rev) || self.is_in_later(id, rev)
     }
 
-    /// Whether a revision is in the ancestry of the first document with the given id.
+    /// Whether a revision is in the ancestry of the first ledger document with the given id.
     fn is_in_first(&self, id: &DocId, rev: Rev) -> bool
         ensures { result ≡ is_in_first self.now id.now rev }
     {
@@ -55,7 +55,7 @@ impl LedgerIndex {
         }
     }
 
-    /// Whether a revision is in the ancestry of a later document with the given id.
+    /// Whether a revision is in the ancestry of a later ledger document with the given id.
     fn is_in_later(&self, id: &DocId, rev: Rev) -> bool
         ensures { result ≡ is_in_later self.now id.now rev }
     {

@@ -6,8 +6,8 @@ use couch_base::Window;
 use std::alloc::Global;
 use std::marker::Model;
 
-/// A window, optionally with a prebuilt shorter form of the window. When the window is done, the session keeps only the
-/// shorter form. The shorter form is built before the peer is locked.
+/// A window, optionally with a prebuilt form of the window without leaves. When the window is done, the session keeps
+/// only the form without leaves. The form without leaves is built before the peer is locked.
 pub struct ReadyWindow {
     window: Window,
     done: Option<DoneWindow>,
@@ -33,15 +33,15 @@ impl Model for ReadyWindow {
 }
 
 impl ReadyWindow {
-    /// Creates a `ReadyWindow` of a window, without the shorter form.
+    /// Creates a `ReadyWindow` of a window. The form without leaves is not built.
     pub fn new(window: Window) -> ReadyWindow
         ensures { result ≡ window }
     {
         ReadyWindow { window, done: None }
     }
 
-    /// Builds the shorter form of the window. If the allocation fails, the session builds the shorter form later, when
-    /// the window is done.
+    /// Builds the form of the window without leaves. If the allocation fails, the session builds the form without
+    /// leaves later, when the window is done.
     pub fn prepare(&mut self, alloc: Global)
         ensures { self.new ≡ self.old }
     {
@@ -57,8 +57,8 @@ impl ReadyWindow {
         &self.window
     }
 
-    /// Takes the shorter form of the window, and builds the form if it was not prepared. Returns `None` if the
-    /// allocation fails.
+    /// Takes the form of the window without leaves, and builds the form first if it was not prepared. Returns `None` if
+    /// the allocation fails.
     pub(crate) fn take_done(&mut self, alloc: Global) -> Option<DoneWindow>
         ensures same { self.new ≡ self.old }
         ensures done { IfSome result (λ done. done ≡ self.old) }

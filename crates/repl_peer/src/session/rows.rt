@@ -32,7 +32,7 @@ fn row_in(rows: &[Row], id: &DocId) -> Option<usize>
 /// Returns the index of a row with an id. The call tries the row after index `from` first, then all rows from `from`
 /// on, and then the rows before `from`.
 ///
-/// In a parcel, the next document usually has the next row of the window, or the same row as the document before.
+/// For consecutive documents of a parcel, the rows are usually consecutive rows of the window, or the same row.
 pub(crate) fn row_from(rows: &[Row], id: &DocId, from: usize) -> Option<usize>
     requires { from ≤ length rows.now }
     ensures some { IfSome result (IsRowOf rows.now id.now) }
@@ -99,7 +99,7 @@ pub(crate) fn asked_count(docs: &[Wanted]) -> u64
     count
 }
 
-/// Whether a tree exists and has a revision.
+/// Whether a tree exists and has a given revision.
 pub(crate) fn has_in(tree: Option<&Tree>, rev: Rev) -> bool
     ensures { result ≡ has (unwrap_or (option_copied tree.entry) no_revisions) rev }
 {

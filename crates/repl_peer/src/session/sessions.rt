@@ -122,8 +122,9 @@ impl Sessions {
         Ok(log)
     }
 
-    /// Returns the newest session of a replication that is also in the source's log, with the lesser of its two
-    /// recorded sequences. The call scans only the sessions of the replication, until it finds the common session.
+    /// Returns the newest session of a replication that is also in the source's log, and a sequence. The sequence is
+    /// the lesser of the session's recorded sequences at the target and in the source's log. The call scans only the
+    /// sessions of the replication, until it finds the common session.
     pub(crate) fn shared_with(&self, rep: &RepId, source: &Log) -> Option<(SessionId, u64)>
         ensures { result ≡ common source.now (log_of self.now rep.now) }
     {

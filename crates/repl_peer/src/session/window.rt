@@ -15,7 +15,7 @@ use std::marker::Model;
 
 // ---- done windows
 
-/// A row of a done window, without its leaves. The leaves are ghost values that only contracts see.
+/// A row of a done window, without leaves. The leaves are ghost values that only contracts see.
 #[derive(Drop)]
 pub(crate) struct DoneRow {
     seq: u64,
@@ -194,7 +194,7 @@ impl StoredWindow {
         }
     }
 
-    /// Returns the rows by rising sequence, if the window still has the leaves of its rows.
+    /// Returns the rows in order of rising sequence, if the window still has the leaves of its rows.
     pub fn rows(&self) -> Option<&[Row]>
         ensures whole { is_some result ≡ self.now.whole }
         ensures rows { IfSome result (λ r. r.now ≡ self.now.window.rows) }
@@ -216,8 +216,8 @@ impl StoredWindow {
         }
     }
 
-    /// Drops the leaves of the rows. If the shorter form was not prepared and its allocation fails, the window keeps
-    /// the leaves of its rows.
+    /// Drops the leaves of the rows. If the form without leaves was not prepared, and the allocation for this form
+    /// fails, the window keeps the leaves of its rows.
     pub(crate) fn let_leaves_go(&mut self, alloc: Global)
         ensures { self.new.window ≡ self.old.window }
     {
@@ -229,7 +229,7 @@ impl StoredWindow {
     }
 }
 
-/// Drops the leaves of the window at an index, if the allocation for its shorter form succeeds.
+/// Drops the leaves of the window at an index, if the allocation for the form without leaves succeeds.
 pub(crate) fn let_leaves_go_at(windows: &mut Vec<StoredWindow>, place: usize)
     requires within { place < length windows.old.items }
     ensures windows { windows_of windows.new.items ≡ windows_of windows.old.items }

@@ -71,9 +71,9 @@ pub record IsPageOf (db : DatabaseValue) (chosen : Choice) (w : WindowValue) : T
   pub within : goal ≤ db.update_seq
   pub is : w ≡ page db since goal limit chosen
 
--- A call that a run of the pool makes on the target, for the run's session. A run begins no other session and makes no
--- local write. A run appends only pages of the source's selected feed, and settles only parcels that the source
--- returned.
+-- A call that a replication makes on the target for the session `run`, which has begun. The call begins no session and
+-- makes no local write. The call appends only a page of the source's selected feed, and settles only a parcel that the
+-- source returned.
 abbrev pub IsFrom : DatabaseValue → Choice → SessionId → Call → Type 0
 IsFrom source chosen run (Append session window) = (session ≡ run) × IsPageOf source chosen window
 IsFrom source chosen run (Settle session parcel) = (session ≡ run) × (parcel ≡ open_revs source parcel.asked)
@@ -86,7 +86,7 @@ abbrev pub AllFrom : DatabaseValue → Choice → SessionId → List Call → Ty
 AllFrom source chosen run [] = Unit {0}
 AllFrom source chosen run (c ∷ calls) = IsFrom source chosen run c × AllFrom source chosen run calls
 
--- Calls of a run have changed the target from the peer `given` to the peer `now`.
+-- Calls for the session `run` (`IsFrom`) have changed the target from the peer `given` to the peer `now`.
 abbrev pub IsGrown : (Document → Bool) → DatabaseValue → Choice → SessionId → PeerValue → PeerValue → Type 0
 IsGrown refuses source chosen run given now =
     (calls : List Call) × AllFrom source chosen run calls × (now ≡ after_calls refuses given calls)

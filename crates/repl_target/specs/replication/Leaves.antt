@@ -14,8 +14,8 @@ use Rattle.repl_target.specs.declared.replication.Plan.{Plan}
 use Rattle.repl_target.specs.ties.Ties.{IsTiedWith, IsSentEntry, KeepsOthersTied}
 use Rattle.repl_target.specs.replication.Calls.{IsLeft}
 
--- Each document's tree in database `now` has grown (`IsGrownBy`) from the document's tree in database `old` by data of
--- the document's tree in database `other`.
+-- For each document, its tree in database `now` is its tree in database `old`, grown by data from its tree in database
+-- `other` (`IsGrownBy`).
 abbrev pub HasGrownBy : DatabaseValue → DatabaseValue → DatabaseValue → Type 0
 HasGrownBy old other now = (id : Id) → IsGrownBy (tree_of old.docs id) (tree_of other.docs id) (tree_of now.docs id)
 

@@ -43,8 +43,8 @@ HasRefusedNone p id =
     (s : SessionValue) → Among s p.sessions → (x : RefusedValue) → Among x s.ledger → x.doc.id ≡ id → ⊥
 
 -- The effect of the replications in both directions on a document. After both replications, each side has the other
--- side's leaves of the document. If the document's trees agreed before and had complete histories, both sides have the
--- same document.
+-- side's leaves of the document. If the document's trees agreed and had complete histories before both replications,
+-- both sides have the same document afterwards.
 pub record Meets (a b a' b' : DatabaseValue) (id : Id) : Type 0 where
   pub there : KnowsLeaves b' a' id
   pub back : KnowsLeaves a' b' id
@@ -56,8 +56,8 @@ pub record Meets (a b a' b' : DatabaseValue) (id : Id) : Type 0 where
   pub whole : IsWhole (tree_of a.docs id) → IsWhole (tree_of b.docs id)
       → IsWhole (tree_of a'.docs id) × IsWhole (tree_of b'.docs id)
 
--- Each document that both plans select and neither side has ever refused satisfies `Meets` after both replications, if
--- the peers were tied in both directions before.
+-- If the peers were tied in both directions before both replications, each document that both plans select and neither
+-- side has ever refused satisfies `Meets` afterwards.
 abbrev pub MeetBoth : PeerValue → PeerValue → PeerValue → PeerValue → Plan → Plan → Type 0
 MeetBoth a b a' b' there back =
     IsTiedPair a b there.chosen → IsTiedPair b a back.chosen → (id : Id) → HasRefusedNone a' id → HasRefusedNone b' id

@@ -33,19 +33,19 @@ pub enum SyncFault {
     Back(TargetFault),
 }
 
-/// Replicates in both directions, on one thread. The first direction is `a` into `b`. If the first direction succeeds,
-/// the second follows, `b` into `a`. Each direction is a `replicate_alone` with a separate plan.
+/// Replicates in both directions, on one thread. The call first replicates `a` into `b`. If this replication succeeds,
+/// the call then replicates `b` into `a`. Each direction is a `replicate_alone` with a separate plan.
 ///
-/// Suppose that the peers are consistent in both directions (docs/PROFILE.md, "Tied peers"), and that the call
-/// succeeds. If both plans select a document and neither side has refused the document, each side then has the other
-/// side's leaves of the document. If the document's two trees agreed before the call and had complete histories, both
-/// sides have the same revisions, parents, contents of leaves and winner. Two trees agree if no revision has different
-/// parents or contents in the two trees. After the call, the document's two trees still agree and have complete
-/// histories.
+/// If the peers are consistent in both directions (docs/PROFILE.md, "Tied peers") and the call succeeds, each side then
+/// has the other side's leaves of each shared document. A document is shared if both plans select the document and
+/// neither side has ever refused it. If a shared document's two trees agreed before the call and had complete
+/// histories, both sides then have the same revisions, parents, contents of leaves and winner. Two trees agree if no
+/// revision has different parents or contents in the two trees. After the call, the two trees of this shared document
+/// still agree and have complete histories.
 ///
 /// If the peers are consistent in both directions, they stay consistent for every result of the call. `a` stays
-/// consistent with third peers that do not have `b`'s UUID, and `b` stays consistent with third peers that do not have
-/// `a`'s UUID.
+/// consistent with third peers whose UUID is not `b`'s, and `b` stays consistent with third peers whose UUID is not
+/// `a`'s.
 pub fn sync_alone<F: WriteFilter, G: WriteFilter>(
     alloc: Global,
     a: &mut Peer<F>,

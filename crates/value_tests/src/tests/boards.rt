@@ -6,7 +6,7 @@ use std::process::Abort;
 /// The result of adding to a worker's counter.
 type Added = Result<(), BoardFault>;
 
-/// Creates a board of two workers and a viewer, adds to its counters, reads the board, and returns the results.
+/// Creates a board of two workers and a viewer, adds to the board's counters, reads the board, and returns the results.
 fn two_workers(alloc: Global) -> Option<([Added; 4], [(u64, u64); 2])> {
     let Ok((board, mut seats)) = Board::new(alloc, 2, 1) else {
         return None;
@@ -40,7 +40,8 @@ fn board_read(rt: HostRuntime) {
     assert!(rt; added == wanted && seen == [(2, 3), (2, 3)]);
 }
 
-/// Returns the results on a board of one worker and a viewer after the worker has read the maximum.
+/// Creates a board of one worker and a viewer, and returns the results of adding the maximum and then 1 to the worker's
+/// read counter, of adding through the viewer's seat, and of reading the board.
 fn all_read(alloc: Global) -> Option<([Added; 3], (u64, u64))> {
     let Ok((board, mut seats)) = Board::new(alloc, 1, 1) else {
         return None;

@@ -1,5 +1,5 @@
-//! Worked examples of wrapping documents in envelopes and unwrapping them. Some calls get only a beginning, after which
-//! a run of bytes of a string may follow.
+//! Worked examples of wrapping documents in envelopes and unwrapping them. Some calls get only the beginning of a text,
+//! up to a point where a run of bytes of a string may follow.
 use doc_envelope::Envelope;
 use std::alloc::Global;
 use std::process::Abort;
@@ -39,7 +39,7 @@ fn run(rt: &impl Abort, envelope: &mut Envelope, rows: &[Row]) {
     }
 }
 
-/// Documents whose last member is `_attachments`, as CouchDB prints them, and their beginnings.
+/// Documents whose last member is `_attachments`, as CouchDB prints them, and beginnings of such documents.
 static WRAPPED: &[Row] = &[
     (
         Call::Put,
@@ -55,13 +55,13 @@ static WRAPPED: &[Row] = &[
             r#"{"_id":"a","_rev":"2-b","_revisions":{"start":2,"ids":["b","c"]},"whole":"\"x\":\"y\",\"_attachments\":{\"f\":{\"data\":\"QUJDREVGRw"#,
         ),
     ),
-    // The call returns `false`, because the member `_revisions` may follow.
+    // The call returns `false`, because the member `_revisions` may follow the input.
     (
         Call::BeginPut,
         r#"{"_id":"a","_rev":"2-b","_attachments":{"f":{"data":"QUJDREVGRw"#,
         None,
     ),
-    // The calls return `false`, because the input ends in another member than `_attachments`, outside of a string, or
+    // The calls return `false`, because the input ends in a member other than `_attachments`, outside of a string, or
     // shortly after a quotation mark.
     (
         Call::BeginPut,
@@ -97,7 +97,7 @@ static UNWRAPPED: &[Row] = &[
         r#"{"_id":"a","_rev":"2-b","whole":"\"x\":\"y\",\"_attachments\":{\"f\":{\"data\":\"QUJDREVGRw"#,
         Some(r#"{"_id":"a","_rev":"2-b","x":"y","_attachments":{"f":{"data":"QUJDREVGRw"#),
     ),
-    // The calls return `false`, because the input ends outside of a wrapped string, in another member than `whole`, or
+    // The calls return `false`, because the input ends outside of a wrapped string, in a member other than `whole`, or
     // shortly after an escape.
     (
         Call::BeginTake,

@@ -51,7 +51,7 @@ struct Bench {
 }
 
 impl Bench {
-    /// Creates the state of a test without logs.
+    /// Creates the state of a test, without any log.
     fn new(alloc: Global) -> Bench {
         Bench {
             alloc,
@@ -114,7 +114,7 @@ impl Bench {
         }
     }
 
-    /// Stores an entry in a log, if the entry exists.
+    /// Stores an entry in a log, if both the entry and the log exist.
     fn put(&mut self, at: usize, entry: Option<Entry>) -> Option<String> {
         match (self.logs.get_mut(at), entry) {
             (Some(log), Some(entry)) => shown(self.alloc, &log.put(entry)),

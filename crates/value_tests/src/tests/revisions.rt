@@ -23,14 +23,15 @@ enum Call<'a> {
     Contains(Parts<'a>, &'a str),
     /// Read the parent of a revision in the copy of an ancestry.
     Parent(Parts<'a>, &'a str),
-    /// Store a revision in compact form (`KeptRev`), and copy the compact revision. Read whether the signature is
-    /// short, and read the copy's string.
+    /// Store a revision in compact form (`KeptRev`), and copy the compact revision. Read whether the revision's
+    /// signature is short, and read the string of the copy.
     Keep(&'a str),
     /// Compute the hexadecimal digits of the digest of a string.
     Digest(&'a str),
     /// Decode hexadecimal digits.
     Decode(&'a str),
-    /// Compute the revision of an edit from the parent (an empty string for none), the deleted flag, and the body.
+    /// Compute the revision of an edit from the parent (an empty string if there is no parent), the deleted flag, and
+    /// the body.
     Edit(&'a str, bool, &'a str),
 }
 

@@ -91,7 +91,7 @@ fn owned(alloc: Global, value: &LineValue<'_>) -> Option<Value> {
 
 /// Copies an array.
 #[cycle(owned)]
-fn owned_items(alloc: Global, items: &Vec<LineValue<'_>>) -> Option<Value> {
+fn owned_items(alloc: Global, items: &[LineValue<'_>]) -> Option<Value> {
     let mut list = Vec::new(alloc);
     for item in items {
         let Ok(()) = serde_json::push(&mut list, owned(alloc, item)?) else {
@@ -103,7 +103,7 @@ fn owned_items(alloc: Global, items: &Vec<LineValue<'_>>) -> Option<Value> {
 
 /// Copies an object.
 #[cycle(owned)]
-fn owned_members(alloc: Global, members: &Vec<(&str, LineValue<'_>)>) -> Option<Value> {
+fn owned_members(alloc: Global, members: &[(&str, LineValue<'_>)]) -> Option<Value> {
     let mut object = Map::new(alloc);
     for member in members {
         let Ok(()) = serde_json::put(&mut object, alloc, member.0, owned(alloc, &member.1)?) else {
@@ -157,7 +157,7 @@ fn append_null(alloc: Global, text: &mut String, number: usize) -> Option<()> {
     }
 }
 
-/// Appends a member whose name and value are a given number, and then a given text.
+/// Appends a member whose name and value are a given number, and appends a given text after the member.
 fn append_number(alloc: Global, text: &mut String, number: usize, end: &str) -> Option<()> {
     match format!(in alloc; "\"{number:05}\":{number}{end}") {
         Ok(member) => text.push_str(member.as_str()).ok(),

@@ -11,4 +11,4 @@ joined ids (Err refusal) = Err refusal
 
 -- the ids so far and those of the rest are all ids
 abbrev pub invariant-loop-item : goal.invariant-loop-item
-invariant-loop-item l = joined l.ids.items (ids_given (texts_of (line_items (drop l.item-index l.item-items)))) ≡ ids_given (texts_of (line_items l.item-items))
+invariant-loop-item l = joined l.ids.items (ids_given (texts_of (line_items (drop l.item-index l.texts)))) ≡ ids_given (texts_of (line_items l.texts))

@@ -5,4 +5,4 @@ use Rattle.command_api.proofs.members.are_texts.Given as goal
 
 -- each item so far is a string
 abbrev pub invariant-loop-item : goal.invariant-loop-item
-invariant-loop-item l = are_texts (line_items (drop l.item-index l.item-items)) ≡ are_texts (line_items l.item-items)
+invariant-loop-item l = are_texts (line_items (drop l.item-index l.items)) ≡ are_texts (line_items l.items)

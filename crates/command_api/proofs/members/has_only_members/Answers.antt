@@ -6,5 +6,5 @@ use Rattle.command_api.proofs.members.has_only_members.Goals as goal
 
 pub returns-in-Some : goal.returns-in-Some
 returns-in-Some c =
-    c.are_all_among.ensures ∙ all_among-keys c.args.keys.now c.in-Some.members.now.items
+    c.are_all_among.ensures ∙ all_among-keys c.args.keys.now c.in-Some.members.now
     ∙ ap (λ o. option_map_or (all_among (map (λ x. x.now) c.args.keys.now)) o false) c.in-Some.ensures

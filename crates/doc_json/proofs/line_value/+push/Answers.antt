@@ -10,7 +10,7 @@ use Rattle.doc_json.proofs.line_value.+push.Goals as goal
 pub push_items-loop-item-preserved : goal.push_items-loop-item-preserved
 push_items-loop-item-preserved t c =
     let l = c.loop-item in
-    let xs = c.deref-item-items.result.now in
+    let xs = c.args.items.now in
     let x = c.item-item.result in
     let left = drop (l.item-index + 1) xs in
     let here : drop l.item-index xs ≡ x ∷ left = drop_more xs l.item-index x (omega arith) ∙ ap (λ y. y ∷ left) (sym c.item-item.is) in
@@ -28,7 +28,7 @@ push_items-loop-item-preserved t c =
 pub push_members-loop-entry-preserved : goal.push_members-loop-entry-preserved
 push_members-loop-entry-preserved t c =
     let l = c.loop-entry in
-    let xs = c.deref-entry-items.result.now in
+    let xs = c.args.members.now in
     let x = c.entry-item.result in
     let left = drop (l.entry-index + 1) xs in
     let here : drop l.entry-index xs ≡ x ∷ left = drop_more xs l.entry-index x (omega arith) ∙ ap (λ y. y ∷ left) (sym c.entry-item.is) in

@@ -7,15 +7,15 @@ use Rattle.doc_json.proofs.line_value.+push.Given as goal
 -- what is written and the remaining items are the array's text
 abbrev pub invariant-push_items-loop-item : goal.invariant-push_items-loop-item
 invariant-push_items-loop-item l =
-    let left = line_items (drop l.item-index l.item-items) in
-    (AreItemsPlain l.plain (line_items l.item-items)
-    → AreItemsPlain l.plain left × (l.out.items ++ items_text l.later left ≡ l.fn.out.items ++ 91 ∷ items_text false (line_items l.item-items)))
-    × (ItemsReadBack left → ItemsReadBack (line_items l.item-items)) × (items_have_float left ≡ false)
+    let left = line_items (drop l.item-index l.items) in
+    (AreItemsPlain l.plain (line_items l.items)
+    → AreItemsPlain l.plain left × (l.out.items ++ items_text l.later left ≡ l.fn.out.items ++ 91 ∷ items_text false (line_items l.items)))
+    × (ItemsReadBack left → ItemsReadBack (line_items l.items)) × (items_have_float left ≡ false)
 
 -- what is written and the remaining members are the object's text
 abbrev pub invariant-push_members-loop-entry : goal.invariant-push_members-loop-entry
 invariant-push_members-loop-entry l =
-    let left = line_members (drop l.entry-index l.entry-items) in
-    (AreMembersPlain l.plain (line_members l.entry-items)
-    → AreMembersPlain l.plain left × (l.out.items ++ members_text l.later left ≡ l.fn.out.items ++ 123 ∷ members_text false (line_members l.entry-items)))
-    × (MembersReadBack left → MembersReadBack (line_members l.entry-items)) × (members_have_float left ≡ false)
+    let left = line_members (drop l.entry-index l.members) in
+    (AreMembersPlain l.plain (line_members l.members)
+    → AreMembersPlain l.plain left × (l.out.items ++ members_text l.later left ≡ l.fn.out.items ++ 123 ∷ members_text false (line_members l.members)))
+    × (MembersReadBack left → MembersReadBack (line_members l.members)) × (members_have_float left ≡ false)

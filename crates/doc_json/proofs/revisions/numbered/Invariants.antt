@@ -7,8 +7,8 @@ use Rattle.doc_json.proofs.revisions.numbered.Given as goal
 -- the rest of the list gives the result for all of it
 abbrev pub invariant-loop-item : goal.invariant-loop-item
 invariant-loop-item g l = record {
-  revs : option_map (λ rest. l.revs.items ++ numbered l.generation rest) (sigs_of (items_of (map g.V.JsonValue.seen (drop l.item-index l.item-items)))) ≡ option_map (numbered l.start) (sigs_of (items_of (map g.V.JsonValue.seen l.item-items)));
+  revs : option_map (λ rest. l.revs.items ++ numbered l.generation rest) (sigs_of (items_of (map g.V.JsonValue.seen (drop l.item-index l.ids)))) ≡ option_map (numbered l.start) (sigs_of (items_of (map g.V.JsonValue.seen l.ids)));
   count : l.generation + l.item-index ≡ l.start;
-  within : length l.item-items ≤ l.start;
-  room : vec_len l.revs + length (drop l.item-index l.item-items) ≤ vec_capacity l.revs;
+  within : length l.ids ≤ l.start;
+  room : vec_len l.revs + length (drop l.item-index l.ids) ≤ vec_capacity l.revs;
 }

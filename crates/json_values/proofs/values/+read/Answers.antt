@@ -7,7 +7,7 @@ use Rattle.serde_json.specs.Data.{null, boolean, number, string, array, object}
 use Rattle.serde_json.specs.Read.{of_json, of_items, of_members, converted, number_of}
 use Rattle.serde_json.specs.View.{number_view}
 use Rattle.json_values.specs.{line_view, line_items, line_members, LineValue, String, Number, Bool, Null, the_lemmas, AreItemsPlain, AreMembersPlain, Narrows, IsRising, entries_of, begins_key}
-use Rattle.json_values.proofs.{narrows_on, items_still, members_still, items_more, members_more, rising_none, rising_put, items-one, items-refused, items-none, members-one, members-refused, members-no_key, members-none, Named, members-put, view-Array, view-Object, items_onto, items_onto-no_items, parse_map-items_onto, endless, neither, read-nothing, read-string, read-number, read-boolean, read-null, read-array, read-object, read-deep_array, read-deep_object}
+use Rattle.json_values.proofs.{narrows_on, items_still, members_still, items_more, members_more, rising_none, rising_put, items-one, items-refused, items-none, members-one, members-refused, members-no_key, members-none, Named, members-put, view-Object, items_onto, items_onto-no_items, parse_map-items_onto, endless, neither, read-nothing, read-string, read-number, read-boolean, read-null, read-array, read-object, read-deep_array, read-deep_object}
 use Rattle.json_values.proofs.values.+read.Goals as goal
 
 pub read_value-returns-in-Ok-Some-clause-ok : goal.read_value-returns-in-Ok-Some-clause-ok
@@ -37,8 +37,8 @@ read_other-returns-then-depth-eq0-clause-refused t c refused =
     let is = first ∙ ap (λ k. token_of k ∷ c.next.new.self.tokens) c.in-BeginArray.is in
     ap (λ ts. converted of_json (value c.args.depth ts)) is ∙ read-deep_array c.args.depth c.next.new.self.tokens (omega arith)
 
-pub read_other-returns-in_err-read_items-in-BeginArray-clause-refused : goal.read_other-returns-in_err-read_items-in-BeginArray-clause-refused
-read_other-returns-in_err-read_items-in-BeginArray-clause-refused t c refused =
+pub read_other-returns-in_err-items-in-BeginArray-clause-refused : goal.read_other-returns-in_err-items-in-BeginArray-clause-refused
+read_other-returns-in_err-items-in-BeginArray-clause-refused t c refused =
     let first : c.args.reader.now.tokens ≡ token_of c.in-Some.token ∷ c.next.new.self.tokens = grind arith in
     let is = first ∙ ap (λ k. token_of k ∷ c.next.new.self.tokens) c.in-BeginArray.is in
     ap (λ ts. converted of_json (value c.args.depth ts)) is ∙ read-array c.args.depth c.next.new.self.tokens (omega arith) ∙ ap (parse_map array) (c.read_items.ensures.refused (grind arith))
@@ -97,13 +97,13 @@ read_other-returns-in-EndObject-clause-refused t c refused =
     let none : value c.args.depth c.args.reader.now.tokens ≡ None = rw (value_is c.args.depth c.args.reader.now.tokens, first) (grind arith) in
     ap (converted of_json) none
 
-pub read_other-returns-in_ok-read_items-in-BeginArray-clause-ok : goal.read_other-returns-in_ok-read_items-in-BeginArray-clause-ok
-read_other-returns-in_ok-read_items-in-BeginArray-clause-ok t c =
+pub read_other-returns-in_ok-array-in-BeginArray-clause-ok : goal.read_other-returns-in_ok-array-in-BeginArray-clause-ok
+read_other-returns-in_ok-array-in-BeginArray-clause-ok t c =
     let first : c.args.reader.now.tokens ≡ token_of c.in-Some.token ∷ c.next.new.self.tokens = grind arith in
     let is = first ∙ ap (λ k. token_of k ∷ c.next.new.self.tokens) c.in-BeginArray.is in
-    let found = c.in_ok-read_items-in-BeginArray in
-    ap (λ ts. converted of_json (value c.args.depth ts)) is ∙ read-array c.args.depth c.next.new.self.tokens (omega arith) ∙ ap (parse_map array) found.ensures.ok
-    ∙ ap (λ d. Some (d, c.read_items.new.reader.tokens)) (sym (view-Array found.field-0))
+    let kept = c.in_ok-array-in-BeginArray.ensures ∙ ap (λ vs. array (line_items vs)) c.deref.ensures.value in
+    ap (λ ts. converted of_json (value c.args.depth ts)) is ∙ read-array c.args.depth c.next.new.self.tokens (omega arith) ∙ ap (parse_map array) c.in_ok-items-in-BeginArray.ensures.ok
+    ∙ ap (λ d. Some (d, c.read_items.new.reader.tokens)) (sym kept)
 
 pub read_other-returns-in_ok-read_members-in-BeginObject-clause-ok : goal.read_other-returns-in_ok-read_members-in-BeginObject-clause-ok
 read_other-returns-in_ok-read_members-in-BeginObject-clause-ok t c =

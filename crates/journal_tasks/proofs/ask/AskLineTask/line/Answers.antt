@@ -1,4 +1,4 @@
-use Rattle.proof_prelude.proofs.{[], ◌++◌, ap, sym, ◌∙◌}
+use Rattle.proof_prelude.proofs.{◌++◌, ap, ◌∙◌}
 use Rattle.journal_lines.specs.Entries.{entry_view}
 use Rattle.journal_tasks.specs.{asked_items, listed}
 use Rattle.journal_tasks.proofs.{ask_line}
