@@ -213,9 +213,9 @@ ReadsAnswers w all held held' (Err (LateMember at)) =
 ReadsAnswers w all held held' (Err (Device fault)) = ⊤
 
 -- After the error `Read`, either the reader failed or the maximum number of reads was reached, and the writer did not
--- fail. After the error `Write`, the writer failed and the reader did not. After any other error, neither the reader
--- nor the writer failed. The reader's reads, the reader's failures and the writer's failures are counted in `reads`,
--- `reader` and `writer`. A prime marks a count after the call.
+-- fail. After the error `Write`, the writer failed and the reader did not. After an error other than `Read` and
+-- `Write`, neither the reader nor the writer failed. The reader's reads, the reader's failures and the writer's
+-- failures are counted in `reads`, `reader` and `writer`. A prime marks a count after the call.
 abbrev pub CountsOf : AnswerFault → ℕ → ℕ → ℕ → ℕ → ℕ → ℕ → Type 0
 CountsOf (Refused why at) reads reads' reader reader' writer writer' = (reader' ≡ reader) × (writer' ≡ writer)
 CountsOf (LateMember at) reads reads' reader reader' writer writer' = (reader' ≡ reader) × (writer' ≡ writer)
