@@ -1,4 +1,4 @@
-//! Assertions that all modules use.
+//! Assertions for all test modules.
 use std::process::Abort;
 
 /// Asserts a fact, and prints the given name if the fact is false.

@@ -92,7 +92,8 @@ impl Reference {
         self.origins[place % PLACES]
     }
 
-    /// Returns the newest child in a given ancestry that has another parent in the tree, and both parents.
+    /// Returns the newest revision of an ancestry whose parents in the tree and in the ancestry differ, with both
+    /// parents.
     pub(crate) fn contradiction(&self, revs: &[usize]) -> Option<Answer> {
         for pair in revs.windows(2) {
             if let [child, given] = pair {
@@ -162,7 +163,7 @@ impl Reference {
         self.leaf_mask() & bit(place) != 0
     }
 
-    /// Returns the live leaves and then the deleted leaves, each group by falling index.
+    /// Returns the live leaves and then the deleted leaves. Each group has decreasing indices.
     pub(crate) fn leaves(&self, alloc: Global) -> Result<Vec<usize>, AllocError> {
         let mut leaves = Vec::new(alloc);
         for deleted in [false, true] {
@@ -198,7 +199,7 @@ impl Reference {
         mask_of(&self.ancestry(alloc, place).expect(rt, "memory"))
     }
 
-    /// Returns the leaves whose ancestries have one of the revisions, winner first.
+    /// Returns the leaves whose ancestries have one of the given revisions, winner first.
     pub(crate) fn leaves_above(&self, rt: &impl Abort, alloc: Global, revs: u32) -> Vec<usize> {
         let mut above = Vec::new(alloc);
         for leaf in &self.leaves(alloc).expect(rt, "memory") {
@@ -209,7 +210,7 @@ impl Reference {
         above
     }
 
-    /// Returns the revisions that are not in the tree.
+    /// Returns those of the given revisions that are not in the tree.
     pub(crate) fn missing(&self, rt: &impl Abort, alloc: Global, revs: &[usize]) -> Vec<usize> {
         let mut missing = Vec::new(alloc);
         for place in revs {
