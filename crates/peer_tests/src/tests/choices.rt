@@ -1,4 +1,4 @@
-//! Selections, two peers between which selected documents are replicated, and calls on selections and peers.
+//! Calls on selections of documents, and on two peers between which the selected documents are replicated.
 use crate::tests::peers::{agreed, found_text, load, source_log, target_log};
 use crate::tests::plans::plan;
 use crate::tests::records::{fault_text, report_text};
@@ -24,9 +24,10 @@ pub(crate) enum Call<'a> {
     LoadTarget(&'a str),
     /// Select documents by id, and store the selection as the bench's next selection.
     Choose(&'a [&'a str]),
-    /// Select a number of documents, numbered from 1, with the first id given twice, as the bench's next selection.
+    /// Select the documents 1 to n, given n, and store the selection as the bench's next selection. The call gives the
+    /// first id twice.
     ChooseMany(u32),
-    /// Copy a selection, and store the copy as the next selection of the test's state.
+    /// Copy a selection, and store the copy as the bench's next selection.
     Copy(usize),
     /// Read whether two selections are equal.
     Equal(usize, usize),
@@ -269,7 +270,7 @@ fn number_id(alloc: Global, number: u32) -> Option<DocId> {
     DocId::parse(alloc, text.as_str()).ok()
 }
 
-/// Selects a number of documents, numbered from 1, with the first id given twice.
+/// Selects the documents with the numbers 1 to `count`, and gives the first id twice.
 fn choose_many(alloc: Global, choices: &mut Vec<Chosen>, count: u32) -> Option<String> {
     let mut ids = Vec::new(alloc);
     for number in 0..count {

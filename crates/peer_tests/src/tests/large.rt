@@ -33,7 +33,7 @@ fn sigs(alloc: Global, length: u32) -> Option<Vec<Sig>> {
     Some(sigs)
 }
 
-/// Returns the document d with an empty body, and with an ancestry from a given generation down.
+/// Returns the document d with an empty body, and with an ancestry whose newest revision has a given generation.
 fn doc(alloc: Global, start: u32, sigs: &[Sig]) -> Option<Doc> {
     let Ok(id) = DocId::parse(alloc, "d") else {
         return None;
@@ -161,7 +161,7 @@ fn tree_sizes(alloc: Global, tree: &Tree) -> Option<String> {
     .ok()
 }
 
-/// Replicates a peer into another by one thread.
+/// Replicates one peer into another peer by one thread.
 pub(crate) fn replicate(
     alloc: Global,
     source: &mut Peer<Rules>,

@@ -38,7 +38,7 @@ pub(crate) enum Call<'a> {
     Audit(usize, usize),
     /// Read the tree of a document.
     Tree(usize, &'a str),
-    /// Read the documents at the leaves of a document, winner first.
+    /// Read the ancestry and the content of each leaf of a document, winner first.
     Leaves(usize, &'a str),
 }
 
@@ -127,7 +127,7 @@ impl Bench {
         }
     }
 
-    /// Creates the plan of the next session, with windows of one row if the replication stops early.
+    /// Creates the plan of the next session. If `stop_after` is given, each window of the session has one row.
     fn next_plan(&mut self, stop_after: Option<u64>) -> Option<Plan> {
         self.session = self.session.saturating_add(1);
         let batch = if stop_after.is_some() { 1 } else { 500 };
@@ -189,7 +189,7 @@ impl Bench {
     }
 }
 
-/// Reads the tree of a document, or the documents at its leaves.
+/// Reads the tree of a document, or the ancestry and the content of each leaf of the document.
 fn of_database(alloc: Global, db: &Database, call: &Call) -> Option<String> {
     match *call {
         Call::Tree(_, id) => tree(alloc, db, id),
@@ -296,7 +296,7 @@ fn replicate(alloc: Global, peers: &mut [Peer<Rules>]) -> Option<()> {
     sync_by_hub(alloc, peers, &there, &back).ok()
 }
 
-/// Returns the trees of the two documents at each of three peers that wrote and replicated.
+/// Returns the leaves of the documents d and e at each of three peers, after writes and replications.
 fn replicated(alloc: Global) -> Option<String> {
     let Some(mut peers) = three(alloc) else {
         return None;
@@ -315,7 +315,7 @@ fn replicated(alloc: Global) -> Option<String> {
     all
 }
 
-/// Asserts the trees of the peers of a slice after writes and replications.
+/// Asserts that all three peers of a slice have the documents d and e after writes and replications.
 pub(crate) fn of_slice(rt: &impl Abort, alloc: Global) {
     const WANTED: &str = " d 1-a live {}; e 1-a7b2c897c2eeb544e2e818194f53a9e3 live {};";
     let mut all = String::new(alloc);

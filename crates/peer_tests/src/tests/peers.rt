@@ -1,4 +1,4 @@
-//! Peers, the values that are read and fetched from them, and calls on peers.
+//! Calls on peers, and benches that hold peers and the values that calls read and fetched.
 use crate::tests::databases::{
     Held, edit_text, keep_asked, keep_parcel, keep_window, made_text, node, parent_of, put_text,
     tree,
@@ -19,7 +19,7 @@ use std::alloc::{AllocError, Global};
 use std::process::Abort;
 use test_support::{bare_entry, rev, shown};
 
-/// The replication of all documents between two databases, by UUID.
+/// A replication of all documents, given by the UUIDs of the source and the target.
 #[derive(Clone, Copy)]
 pub(crate) struct Rep {
     pub(crate) source: u128,
@@ -89,11 +89,11 @@ pub(crate) enum Call<'a> {
     Entry(usize, SessionId),
     /// Read the windows of a session, and whether each window still has its complete rows.
     Windows(usize, SessionId),
-    /// Read the log at a peer of a replication of which the peer is the target.
+    /// Read the log that a peer has of a replication into this peer.
     TargetLog(usize, Rep),
-    /// Read the log at a peer of a replication of which the peer is the source.
+    /// Read the log that a peer has of a replication from this peer.
     SourceLog(usize, Rep),
-    /// Create the entry of a session that recorded up to a sequence, and store the entry in a source's log of a
+    /// Create an entry with a given session and recorded sequence, and store the entry in a source's log of a
     /// replication.
     PutEntry(usize, Rep, SessionId, u64),
     /// Store the target's entry of a session in the source's log of a replication.
@@ -133,8 +133,8 @@ pub(crate) type Rows = &'static [(Call<'static>, &'static str)];
 
 /// Lists of calls that are performed in order.
 ///
-/// A test names one static that has all lists of the test, because the prover processes each list that a test names
-/// separately.
+/// A test names one static with all lists of the test. If a test named several lists, the prover would process each of
+/// these lists separately.
 pub(crate) type Lists = &'static [Rows];
 
 /// Peers, their backups, and the values that were read and fetched from them.
@@ -241,7 +241,7 @@ fn of_one(alloc: Global, peer: &mut Peer<Rules>, held: &mut Held, call: &Call) -
     }
 }
 
-/// Performs a call on one peer that uses no other value of the bench.
+/// Performs a call that uses one peer, and no other value of the bench.
 fn of_one_alone(alloc: Global, peer: &mut Peer<Rules>, call: &Call) -> Option<String> {
     match *call {
         Call::Load(_, text) => load(alloc, peer, text),
@@ -374,7 +374,7 @@ fn page(
     }
 }
 
-/// Requests the leaves of a window that a peer lacks.
+/// Requests those leaves of a window that a peer lacks.
 fn diff(alloc: Global, peer: &Peer<Rules>, held: &mut Held, window: usize) -> Option<String> {
     let Some(window) = held.windows.get(window) else {
         return None;
@@ -382,7 +382,7 @@ fn diff(alloc: Global, peer: &Peer<Rules>, held: &mut Held, window: usize) -> Op
     keep_asked(alloc, &mut held.asked, missed(alloc, peer, window))
 }
 
-/// Returns the leaves of a window that a peer lacks.
+/// Returns a peer's request for those leaves of a window that the peer lacks.
 fn missed(alloc: Global, peer: &Peer<Rules>, window: &Window) -> Option<Asked> {
     peer.revs_diff(alloc, window).ok()
 }
@@ -475,7 +475,7 @@ pub(crate) fn agreed(
     common_text(alloc, &outgoing, &incoming)
 }
 
-/// Reads the log at a peer of a replication of which the peer is the target.
+/// Reads the log that a peer has of a replication into this peer.
 pub(crate) fn target_log(alloc: Global, peer: &Peer<Rules>, rep: &RepId) -> Option<String> {
     let Ok(log) = peer.target_log(alloc, rep) else {
         return None;
@@ -483,7 +483,7 @@ pub(crate) fn target_log(alloc: Global, peer: &Peer<Rules>, rep: &RepId) -> Opti
     log_text(alloc, &log)
 }
 
-/// Reads the log at a peer of a replication of which the peer is the source.
+/// Reads the log that a peer has of a replication from this peer.
 pub(crate) fn source_log(alloc: Global, peer: &Peer<Rules>, rep: &RepId) -> Option<String> {
     let Ok(log) = peer.source_log(alloc, rep) else {
         return None;
@@ -607,7 +607,7 @@ fn conclude(
     }
 }
 
-/// Stores the entry of a session that read nothing and recorded up to a sequence.
+/// Stores an entry of a session that read 0 documents and recorded the given sequence.
 fn put_entry(
     alloc: Global,
     peer: &mut Peer<Rules>,

@@ -1,4 +1,4 @@
-//! Peers that are replicated by the pool, and calls on these peers.
+//! Calls on peers that the pool replicates, and benches that hold these peers.
 ghost use Rattle.std.specs.Prelude.{◌≡◌, vec_len};
 ghost use Rattle.std.specs.List.{All};
 ghost use Rattle.pool_workers.specs.Boards.{WorksAt};
@@ -47,13 +47,13 @@ pub(crate) enum Call<'a> {
     Tree(usize, &'a str),
     /// Read the entry of a session.
     Entry(usize, SessionId),
-    /// Read the documents at the leaves of a document, winner first.
+    /// Read the ancestry and the content of each leaf of a document, winner first.
     Leaves(usize, &'a str),
     /// Read the refused leaves of a document from a session's ledger, with the reasons.
     Refused(usize, SessionId, &'a str),
-    /// Read the log at a peer of a replication of which the peer is the source.
+    /// Read the log that a peer has of a replication from this peer.
     SourceLog(usize, Rep),
-    /// Read the log at a peer of a replication of which the peer is the target.
+    /// Read the log that a peer has of a replication into this peer.
     TargetLog(usize, Rep),
     /// Compare the logs of a replication at its source and its target.
     Common(usize, usize, Rep),
