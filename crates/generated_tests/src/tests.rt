@@ -35,7 +35,7 @@ mod syncs;
 // Networks of several peers.
 mod nets;
 
-// Comparisons of a peer with its plain model.
+// Functions that compare a peer with a plain model of the peer.
 mod sides;
 
 // Tests that compare worlds with a plain model of worlds.

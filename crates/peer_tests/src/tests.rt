@@ -1,4 +1,5 @@
-//! Tests of databases and peers. Each test is a table of calls with the calls' expected results as strings.
+//! Tests of databases and peers. Each test is a table of calls. For each call, the table has the expected result as a
+//! string.
 //!
 //! A bench, which is a test fixture, holds the databases or peers of a test, and the values that calls on these
 //! databases or peers returned. Each kind of call is a variant of an enum. The code for each variant is proved once. A

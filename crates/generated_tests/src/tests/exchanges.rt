@@ -191,7 +191,7 @@ fn brings(
 }
 
 /// Asserts that a side's database and the side's reference return the same documents for a request. Returns the number
-/// of returned documents.
+/// of documents that the database returned.
 fn answers(rt: &impl Abort, alloc: Global, side: &Side, asked: &Asked) -> usize {
     let parcel = side.db.open_revs(alloc, asked).expect(rt, "memory");
     brings(rt, alloc, &side.plain, asked, &parcel)
@@ -229,7 +229,7 @@ fn exchange(
 }
 
 /// Performs requests and fetches between a source and a target. The function is separate from its caller, because the
-/// proof grows with each variable that is live in the caller.
+/// caller's proof grows with each variable that is live in the caller.
 fn with_target(rt: &impl Abort, alloc: Global, seed: u64, source: &mut Side) -> usize {
     let mut rng = ChaCha8Rng::seed_from_u64(seed);
     let mut target = Side::new(alloc, 2);

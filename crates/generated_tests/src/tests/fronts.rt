@@ -35,7 +35,7 @@ fn range_count(marks: &[bool; WINDOWS]) -> usize {
     count
 }
 
-/// Creates a front of windows of ten sequences above a start.
+/// Creates a front with `WINDOWS` windows of ten sequences each, above the sequence `start`.
 fn filled(rt: &impl Abort, alloc: Global, start: u64) -> Front {
     let mut front = Front::new(alloc, start);
     for i in 0..WINDOWS as u64 {

@@ -125,8 +125,7 @@ fn reached(hops: &[Hop]) -> [u32; PEERS] {
     reached
 }
 
-/// Returns the leaves of all documents at all peers, each leaf with the index of its peer and the number of its
-/// document.
+/// Returns the leaves of all documents at all peers, each leaf with the peer's index and the document's number.
 fn leaves_of(rt: &impl Abort, alloc: Global, net: &Net<Rules>) -> Vec<(usize, usize, Rev)> {
     let mut all = Vec::new(alloc);
     for place in 0..PEERS {

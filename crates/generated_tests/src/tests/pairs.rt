@@ -20,7 +20,7 @@ use std::process::Abort;
 use std::sync::Wait;
 use std::thread::Threads;
 
-/// The bound of the random number that chooses the document that the target refuses. If the random number is `IDS` or
+/// A random number below this bound determines which document the target refuses. If the random number is `IDS` or
 /// more, no document is refused.
 const CHOICES: u32 = 8;
 
@@ -94,7 +94,7 @@ impl Side {
     }
 }
 
-/// A target, the sources, and the random choices.
+/// A target, two sources, and the random choices of a test.
 #[derive(Drop)]
 struct Bench {
     alloc: Global,
@@ -193,7 +193,7 @@ pub(crate) fn prefix(rt: &impl Abort, alloc: Global, deny: Option<usize>) -> Opt
     }
 }
 
-/// Creates a plan with windows that scan 1 to 4 rows, at random.
+/// Creates a plan whose windows scan a random number (1 to 4) of rows.
 fn plan(
     rt: &impl Abort,
     rng: &mut ChaCha8Rng,

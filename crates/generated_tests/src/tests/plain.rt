@@ -138,8 +138,8 @@ impl PlainTree {
         Ok(missing)
     }
 
-    /// Returns the newest revision of an ancestry whose parents in the tree and in the ancestry differ, with both
-    /// parents.
+    /// Finds the newest revision of an ancestry that has different parents in the tree and in the ancestry. Returns the
+    /// revision and both parents.
     fn contradiction(&self, revs: &[Rev]) -> Option<(Rev, Rev, Rev)> {
         for pair in revs.windows(2) {
             if let [child, given] = pair {
@@ -153,8 +153,8 @@ impl PlainTree {
         None
     }
 
-    /// Whether the tree has all revisions and parent links of an ancestry without a contradiction, and a content of the
-    /// ancestry's head.
+    /// Whether the tree has all revisions and parent links of an ancestry, and a content of the ancestry's head. The
+    /// ancestry must not contradict the tree.
     fn is_same(&self, ancestry: &Ancestry) -> bool {
         let revs = ancestry.revs();
         revs.iter().all(|rev| self.origin(*rev).is_some())

@@ -7,7 +7,7 @@ use std::process::Abort;
 /// The number of possible documents, with ids d0 to d4.
 pub(crate) const IDS: usize = 5;
 
-/// For each document that exists, the sequence of the latest change, and the revision tree.
+/// The sequence of the latest change and the revision tree of each existing document.
 pub(crate) type Documents = [Option<(u64, Reference)>; IDS];
 
 /// A mask with a bit for each selected document. All bits are set if all documents are selected.
@@ -21,7 +21,7 @@ pub(crate) fn is_picked(picked: Picked, number: usize) -> bool {
     picked & (1 << (number % IDS)) != 0
 }
 
-/// Returns the number of the next document above a sequence and at or below a goal.
+/// Returns the number and the sequence of the first document in the feed above `seq` and at or below `goal`.
 pub(crate) fn next_above(documents: &Documents, seq: u64, goal: u64) -> Option<(usize, u64)> {
     let mut best: Option<(usize, u64)> = None;
     for number in 0..IDS {
@@ -38,7 +38,7 @@ pub(crate) fn next_above(documents: &Documents, seq: u64, goal: u64) -> Option<(
     best
 }
 
-/// For each document, a set of revisions as a bit mask.
+/// A set of revisions for each document, as bit masks.
 pub(crate) type Masks = [u32; IDS];
 
 /// A ledger row: the document's number, the document's newest revision, and the child, known parent and given parent of
@@ -112,7 +112,7 @@ impl PlainSide {
     }
 }
 
-/// The counts of a replication, and the ledger rows of its session.
+/// The counts of a replication, and the ledger rows of the replication's session.
 #[derive(Drop)]
 pub(crate) struct Carried {
     pub(crate) checked: u64,

@@ -200,7 +200,7 @@ impl Sessions {
         }
     }
 
-    /// Returns the least number above 0 that no session has.
+    /// Returns the least number above 0 that is not the id of a session.
     fn next(&self) -> u128 {
         let mut next = 1u128;
         for _ in &self.begun {
@@ -491,7 +491,7 @@ impl PlainWorld {
     }
 
     /// Returns the id of the newest session if this session has not recorded its goal. If `any_life` is false, the
-    /// newest session must also have the source's life. If the newest session does not qualify, returns the next
+    /// newest session must also have the source's life. If the newest session cannot be continued, returns the next
     /// session id.
     pub(crate) fn carried(&self, any_life: bool) -> u128 {
         match self.sessions.begun.last() {
@@ -510,7 +510,7 @@ impl PlainWorld {
         }
     }
 
-    /// Returns the log entries of the sessions.
+    /// Returns the log entries of all sessions.
     pub(crate) fn told(&self, rt: &impl Abort, alloc: Global) -> Vec<Done> {
         let mut all = Vec::new(alloc);
         for session in &self.sessions.begun {
@@ -647,7 +647,7 @@ impl PlainWorld {
         self.copies.push(copied).expect(rt, "memory");
     }
 
-    /// Restores the source from a backup, in a life above the lives of the source and the backup.
+    /// Restores the source from a backup. The new life is greater than the lives of the source and of the backup.
     pub(crate) fn restore(&mut self, rt: &impl Abort, alloc: Global, copy: usize) {
         if let Some(copied) = self.copies.get(copy) {
             if self.windows.len() > 0 || self.entries.len() > 0 || self.logs.len() > 0 {

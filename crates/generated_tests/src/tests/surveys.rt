@@ -1,4 +1,4 @@
-//! Compares the results of `repl_inspect` with the reference, and copies the documents of all leaves into an empty
+//! Compares the results of `repl_inspect` with the reference, and copies all leaves of a database into an empty
 //! database.
 use crate::tests::checks::holds;
 use crate::tests::exchanges::Side;
@@ -61,7 +61,7 @@ fn names(rt: &impl Abort, comparison: &Comparison, place: Option<usize>) -> bool
     }
 }
 
-/// Asserts that a comparison of a document has the result that the document's two trees in the reference determine.
+/// Asserts that the comparison of a document agrees with the document's trees in the references of both sides.
 fn says(
     rt: &impl Abort,
     alloc: Global,
@@ -111,7 +111,8 @@ fn live(rt: &impl Abort, alloc: Global, tree: &Reference) -> Vec<usize> {
     live
 }
 
-/// Asserts that all live leaves of a document are in conflict, or no leaf if fewer than two leaves are live.
+/// Asserts that the leaves in conflict are all live leaves, or no leaves if the document has fewer than two live
+/// leaves.
 fn conflicts(rt: &impl Abort, alloc: Global, database: &Database, id: &DocId, live: &[usize]) {
     if let Some(tree) = database.tree(id) {
         let found = conflicting(alloc, tree).expect(rt, "memory");
@@ -120,7 +121,7 @@ fn conflicts(rt: &impl Abort, alloc: Global, database: &Database, id: &DocId, li
     }
 }
 
-/// Adds a document to the expected counts of a database's content.
+/// Adds the counts of a document to the expected counts of a database.
 fn counts(census: &mut Census, tree: &Reference, leaves: usize, live: usize) {
     census.documents = census.documents.saturating_add(1);
     census.deleted = census.deleted.saturating_add(u64::from(live == 0));
@@ -147,7 +148,7 @@ fn in_conflict(rt: &impl Abort, alloc: Global, side: &Side) -> u64 {
     wanted.conflicts
 }
 
-/// Puts the documents of all leaves of a document into a database.
+/// Puts all leaves of a document, with the ancestries and contents of the leaves, into a database.
 fn give(rt: &impl Abort, alloc: Global, source: &Database, id: &DocId, target: &mut Database) {
     for doc in &documents_of(alloc, source, id).expect(rt, "memory") {
         holds(rt, target.put(doc, Origin::Local(0)).is_ok(), "a put");
@@ -172,7 +173,7 @@ fn has_leaves(rt: &impl Abort, alloc: Global, database: &Database, plain: &Plain
     }
 }
 
-/// Puts the documents of all leaves of a side into an empty database, and asserts that this database then has the same
+/// Puts all leaves of a side's documents into an empty database, and asserts that this database then has the same
 /// leaves.
 fn comes_back(rt: &impl Abort, alloc: Global, side: &Side, again: &mut Database) {
     for number in 0..IDS {
@@ -192,7 +193,7 @@ fn survey(rt: &impl Abort, alloc: Global, source: &Side, target: &Side) -> [u64;
 }
 
 /// Tests the calls of `repl_inspect` with a source and a target. The function is separate from its caller, because the
-/// proof grows with each variable that is live in the caller.
+/// caller's proof grows with each variable that is live in the caller.
 fn with_target(rt: &impl Abort, alloc: Global, seed: u64, source: &mut Side) -> [u64; 3] {
     let mut rng = ChaCha8Rng::seed_from_u64(seed);
     let mut target = Side::new(alloc, 2);

@@ -264,7 +264,7 @@ impl Dealer {
         Step::Crash
     }
 
-    /// Generates the step with the number `turn % 9` of a replication.
+    /// Generates step `turn % 9` of the nine steps of a replication, counted from 0.
     fn carry_on(&mut self, rt: &impl Abort, turn: usize) -> Step {
         match turn % 9 {
             0 => self.read_log(rt),
@@ -435,7 +435,7 @@ fn is_clean(
     }
 }
 
-/// Asserts that two peers agree with the model.
+/// Asserts that a source and a target agree with the model.
 fn compare_peers(
     rt: &impl Abort,
     alloc: Global,
@@ -473,14 +473,14 @@ fn world(
     World::new(alloc, source, target, chosen).expect(rt, "two peers")
 }
 
-/// Takes a list of steps, and asserts that the world agrees with its model.
+/// Performs a list of steps in a world, and asserts that the world agrees with the model.
 fn take(rt: &impl Abort, alloc: Global, world: &mut World<Rules>, steps: &[Step], dealer: &Dealer) {
     world.run(alloc, steps).expect(rt, "memory");
     holds(rt, world.bag_sizes() == dealer.model.sizes(), "the bag");
     compare_peers(rt, alloc, world.source(), world.target(), dealer);
 }
 
-/// Generates a list of steps, and takes the steps in a world. Returns the recorded sequence of the last entry in the
+/// Generates a list of steps, and performs the steps in a world. Returns the recorded sequence of the last entry in the
 /// model's source log, or 0 if the log is empty.
 fn taken(rt: &impl Abort, alloc: Global, dealer: &mut Dealer, world: &mut World<Rules>) -> u64 {
     let steps = deal(rt, alloc, dealer);

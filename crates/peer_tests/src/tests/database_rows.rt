@@ -343,8 +343,8 @@ fn pages_of_few_documents_with_high_sequences(rt: HostRuntime) {
 fn copies_of_a_database(rt: HostRuntime) {
     /// The greatest life.
     const LAST: u64 = 9_007_199_254_740_991;
-    // The indices of a copy of the first database in the same life, of a copy in another life, and of a copy of the
-    // second copy.
+    // The indices of three copies: a copy of the first database in the same life, a copy in another life, and a copy of
+    // the second copy.
     const SAME: usize = 1;
     const OTHER: usize = 2;
     const LATEST: usize = 3;

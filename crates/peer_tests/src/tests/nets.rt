@@ -17,11 +17,11 @@ use test_support::{rev_text, shown};
 /// The indices of a hop's source and target peer.
 type Places = (usize, usize);
 
-/// A call on a network. Peers are named by index. The sessions of the replications in a test are numbered
-/// consecutively.
+/// A call on a network. A call names each peer by the peer's index. The sessions of the replications in a test are
+/// numbered consecutively.
 #[derive(Clone, Copy)]
 pub(crate) enum Call<'a> {
-    /// Add a peer with a UUID and the prefix that its filter refuses.
+    /// Add a peer with a UUID, and with a filter that refuses document ids with a given prefix.
     Add(u128, Option<&'a str>),
     /// Load a document.
     Load(usize, &'a str),
@@ -48,7 +48,7 @@ pub(crate) type Rows = &'static [(Call<'static>, &'static str)];
 /// Lists of calls that are performed in order.
 pub(crate) type Lists = &'static [Rows];
 
-/// A network, and the number of its last session.
+/// A network, and the number of the network's last session.
 #[derive(Drop)]
 struct Bench {
     alloc: Global,
@@ -243,7 +243,7 @@ fn three(alloc: Global) -> Option<Vec<Peer<Rules>>> {
     Some(peers)
 }
 
-/// Makes local writes at two of the peers.
+/// Makes local writes at the second peer and at the third peer.
 fn write(alloc: Global, peers: &mut [Peer<Rules>]) -> Option<()> {
     let Some(doc) = doc(alloc, r#"{"_id":"d","_rev":"1-a"}"#) else {
         return None;

@@ -36,7 +36,7 @@ const OTHER_REP: Rep = Rep {
     target: 2,
 };
 
-/// The document d at 1-a.
+/// The document d with the revision 1-a and an empty body.
 const D: &str = r#"{"_id":"d","_rev":"1-a"}"#;
 
 /// The revision that an edit of d creates from the parent 1-a and an empty body. The revision's signature is the MD5 of
@@ -161,7 +161,7 @@ fn a_refused_descendant_covers(rt: HostRuntime) {
     expect(&rt, rt.alloc(), LISTS);
 }
 
-/// The update sequence one below the maximum. A database with this update sequence can change once.
+/// The update sequence that is one less than the maximum. A database with this update sequence can change once.
 const LAST_BUT_ONE: u64 = 9_007_199_254_740_990;
 
 #[test]
@@ -307,8 +307,8 @@ fn a_session_from_beginning_to_end(rt: HostRuntime) {
         ),
     ];
     const THEN: Rows = &[
-        // The filter refuses the document `secret`. The document d is refused because its ancestry contradicts the
-        // target's tree of d, in which 2-c has the parent 1-b.
+        // The filter refuses the document `secret`. The document d is refused because the fetched ancestry contradicts
+        // the target's tree of d, in which 2-c has the parent 1-b.
         (Call::Settle(TARGET, S1, FIRST), "written 1 failed 2"),
         (Call::Covered(TARGET, "secret", "1-a"), "true"),
         (Call::Covered(TARGET, "d", "3-d"), "true"),
@@ -649,8 +649,8 @@ const TWELVE: Rows = &[
     ),
 ];
 
-/// Calls that make two sessions at the target, which record the sequences 9 and 5. The source's feed has no row below
-/// sequence 12.
+/// Calls that begin two sessions at the target. The sessions record the sequences 9 and 5. The source's feed has no row
+/// below sequence 12.
 const RECORDED: Rows = &[
     (Call::Begin(TARGET, S1, TO_NINE, 10), "begun"),
     (Call::Page(SOURCE, 0, 9), "0 to 9:"),

@@ -37,7 +37,7 @@ impl Rep {
     }
 }
 
-/// The parameters of a session: its replication, base, start and goal.
+/// The parameters of a session: the replication, the base, the start and the goal.
 #[derive(Clone, Copy)]
 pub(crate) struct Beginning {
     pub(crate) rep: Rep,
@@ -49,7 +49,7 @@ pub(crate) struct Beginning {
 /// A call on a peer. A call gives each peer, window, request or parcel by its index.
 #[derive(Clone, Copy)]
 pub(crate) enum Call<'a> {
-    /// Create the next peer with a UUID and the prefix that its filter refuses.
+    /// Create the next peer with a UUID, and with a filter that refuses document ids with a given prefix.
     Peer(u128, Option<&'a str>),
     /// Create the bench's next peer, whose database has a given update sequence.
     PeerAt(u128, Option<&'a str>, u64),
@@ -103,28 +103,28 @@ pub(crate) enum Call<'a> {
     Backup(usize),
     /// Restore a peer from a backup.
     Restore(usize, usize),
-    /// Compare the logs of a replication at its source and its target.
+    /// Compare the source's and the target's log of a replication.
     Common(usize, usize, Rep),
     /// Audit a replication from the first peer, the source, into the second peer, the target.
     Audit(usize, usize),
     /// Check a plan between two peers, with a given maximum number of rows of a window.
     CheckPlan(usize, usize, u64),
-    /// Begin the session of a plan at the second peer, the target, from the first peer, the source, with a timestamp.
+    /// Begin the session of a plan from the first peer (the source) into the second peer (the target), with a
+    /// timestamp.
     BeginPlan(SessionId, u64),
     /// Read the entry of a session of the second peer, and store the entry in the first peer's log.
     RecordAtSource(SessionId),
-    /// Read the first leaf above a sequence of the first peer, the source, that the second peer, the target, does not
-    /// cover.
+    /// Search the first peer's feed above a sequence for the first leaf that the second peer does not cover.
     HoleAbove(usize, usize, u64),
     /// Replicate the first peer into the second peer, given the session id and the maximum number of rows of a window.
     Replicate(SessionId, u64),
-    /// Load d with a given number of revisions in its ancestry.
+    /// Load the document d with an ancestry of a given number of revisions.
     LoadLong(usize, u32),
-    /// Load a given number of leaves of d.
+    /// Load a given number of leaves of the document d.
     LoadWide(usize, u32),
-    /// Create d with a given number of letters in its body.
+    /// Create the document d with a body of a given number of letters.
     EditLarge(usize, usize),
-    /// Read the size of the tree of d.
+    /// Read the size of the tree of the document d.
     Sizes(usize),
 }
 
@@ -137,7 +137,7 @@ pub(crate) type Rows = &'static [(Call<'static>, &'static str)];
 /// these lists separately.
 pub(crate) type Lists = &'static [Rows];
 
-/// Peers, their backups, and the values that were read and fetched from them.
+/// A bench: peers, backups of the peers, and the values that were read and fetched from the peers.
 #[derive(Drop)]
 struct Bench {
     alloc: Global,
@@ -193,7 +193,7 @@ impl Bench {
     }
 }
 
-/// Returns the index of the peer of a call on exactly one peer.
+/// Returns the index of the peer that a call uses, if the call uses exactly one peer.
 fn place_of(call: &Call) -> Option<usize> {
     match *call {
         Call::Load(at, _)
@@ -459,7 +459,7 @@ fn put_of(
     put(alloc, source, rep, entry)
 }
 
-/// Compares the logs of a replication at its source and its target.
+/// Compares the source's and the target's log of a replication.
 pub(crate) fn agreed(
     alloc: Global,
     source: &Peer<Rules>,

@@ -1,4 +1,4 @@
-//! Runs of the pool that show their progress on a board. Viewers read the board during a run.
+//! Tests of pool runs that show the progress of the run on a board. Viewers read the board during a run.
 ghost use Rattle.std.specs.Prelude.{◌≡◌, ◌≤◌, IfSome, IfOk, vec_len};
 ghost use Rattle.std.specs.List.{All};
 ghost use Rattle.progress_board.specs.Seats.{AreNew, CameWith};
@@ -75,7 +75,7 @@ struct HoldsSettled {
 }
 
 impl HoldsSettled {
-    /// Creates the gate with all its flags false.
+    /// Creates the gate with all flags set to false.
     fn new() -> HoldsSettled {
         HoldsSettled {
             held: AtomicBool::new(false),

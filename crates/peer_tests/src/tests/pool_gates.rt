@@ -1,4 +1,4 @@
-//! Runs of the pool whose gate stops or blocks a worker.
+//! Tests of pool runs in which a gate stops or blocks a worker.
 use crate::tests::peers::Rep;
 use crate::tests::pool_rows::{CARRIED, DOCUMENTS, OPEN_PEERS};
 use crate::tests::pools::{Bench, Call, How, Rows};
@@ -73,7 +73,7 @@ struct HoldsFetched {
 }
 
 impl HoldsFetched {
-    /// Creates the gate with all its flags false.
+    /// Creates the gate with all flags set to false.
     fn new() -> HoldsFetched {
         HoldsFetched {
             second: AtomicBool::new(false),
@@ -265,7 +265,7 @@ pub(crate) fn expect_stop<G: Gate + Sync, R: Abort + Threads + Wait + Sync>(
     bench.run(rt, CLEAN);
 }
 
-/// Asserts that a further run begins at the common checkpoint and ends at the goal, and that both logs record the goal.
+/// Asserts that a second run begins at the common checkpoint and ends at the goal, and that both logs record the goal.
 pub(crate) fn go_on<R: Abort + Threads + Wait + Sync>(rt: &R, alloc: Global, bench: &mut Bench) {
     let from = bench
         .answer(rt, &Call::Common(A, B, REP))
@@ -317,8 +317,8 @@ static FULL: Rows = &[
     (Call::Fill(A, 20), "Changed { seq: 20 }"),
 ];
 
-// Both channels together hold eight windows. A writer that ended after an error would satisfy the writer's contract,
-// but the fetchers would wait for the writer forever.
+// The two channels of the pool together hold eight windows. A writer that ended after an error would satisfy the
+// writer's contract, but the fetchers would wait for the writer forever.
 #[test]
 fn more_windows_than_channels_hold(rt: HostRuntime) {
     const ONE_BY_ONE: How = How {

@@ -1,5 +1,5 @@
-//! Runs of the pool with two kinds of gates. The first gate counts the calls of the gate. The second gate blocks a
-//! worker at a stage of a window until another worker has reached a given stage of a given window.
+//! Tests of pool runs with two kinds of gates. The first gate counts how often workers call the gate. The second gate
+//! blocks a worker at a stage of a window until another worker has reached a given stage of a given window.
 use crate::tests::pool_gates::kind_of;
 use crate::tests::pools::{Bench, Call, How, Rows};
 use crate::tests::texts::expect_answer;
@@ -26,7 +26,8 @@ const fn in_windows_of(batch: u64) -> How {
     }
 }
 
-/// A gate that counts the calls of the gate for each window, and all calls that are out of order.
+/// A gate that counts, for each window, how often workers call the gate. The gate also counts the calls that are out of
+/// order.
 #[derive(Drop)]
 struct Counts {
     places: Vec<AtomicU64>,
@@ -146,7 +147,7 @@ struct Orders {
 }
 
 impl Orders {
-    /// Creates the gate in its state before the first call.
+    /// Creates the gate, which no worker has called yet.
     fn new(holds: Holds) -> Orders {
         Orders {
             holds,

@@ -55,7 +55,7 @@ fn next_state(state: u64) -> u64 {
         .wrapping_add(1_442_695_040_888_963_407)
 }
 
-/// Returns the number of bits of a number.
+/// Returns the number of bits that are set in a number.
 fn bits(number: u64) -> u64 {
     u64::from(number.count_ones())
 }
@@ -179,7 +179,7 @@ struct Drawn {
 }
 
 impl Drawn {
-    /// Creates the gate in its state before the first call.
+    /// Creates the gate, which no worker has called yet.
     fn new(seed: u64, stop_at: u64) -> Drawn {
         Drawn {
             stop_at,

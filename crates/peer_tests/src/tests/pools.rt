@@ -30,12 +30,12 @@ pub(crate) struct How {
     pub(crate) stop_after: Option<u64>,
 }
 
-/// A call on peers. Each peer is named by its index.
+/// A call on peers. A call names each peer by the peer's index.
 #[derive(Clone, Copy)]
 pub(crate) enum Call<'a> {
-    /// Create the next peer, given its UUID and the prefix of the document ids that its filter refuses.
+    /// Create the next peer with a UUID, and with a filter that refuses document ids with a given prefix.
     Peer(u128, Option<&'a str>),
-    /// Create the next peer, given its UUID and the update sequence of its database.
+    /// Create the next peer with a UUID, and with a database that has a given update sequence.
     PeerAt(u128, u64),
     /// Load a given number of documents d0, d1 and so on.
     Fill(usize, u64),
@@ -55,7 +55,7 @@ pub(crate) enum Call<'a> {
     SourceLog(usize, Rep),
     /// Read the log that a peer has of a replication into this peer.
     TargetLog(usize, Rep),
-    /// Compare the logs of a replication at its source and its target.
+    /// Compare the source's and the target's log of a replication.
     Common(usize, usize, Rep),
     /// Audit a replication from the first peer, the source, into the second peer, the target.
     Audit(usize, usize),

@@ -50,7 +50,7 @@ pub(crate) enum Call<'a> {
 /// The calls of a test, and each call's expected result.
 pub(crate) type Rows = &'static [(Call<'static>, &'static str)];
 
-/// The source, and the target, whose filter denies ids that begin with x.
+/// A source, and a target with a filter that denies ids that begin with x.
 #[derive(Drop)]
 struct Bench {
     alloc: Global,
