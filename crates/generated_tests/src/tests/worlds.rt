@@ -345,7 +345,7 @@ fn has_chain(rt: &impl Abort, alloc: Global, db: &Database, held: usize, chain: 
     }
 }
 
-/// Converts a log entry to its plain form.
+/// Converts a log entry to the plain model's form of an entry.
 fn done_of(entry: &Entry) -> Done {
     Done {
         session: entry.session.0,
@@ -360,8 +360,8 @@ fn done_of(entry: &Entry) -> Done {
     }
 }
 
-/// Whether a log has exactly the expected entries. The log has its newest entry first, and the list `wanted` has its
-/// oldest entry first.
+/// Whether a log has exactly the expected entries. The log begins with the newest entry, and the list `wanted` begins
+/// with the oldest entry.
 fn is_log(log: &Log, wanted: &[Done]) -> bool {
     let mut same = log.len() == wanted.len();
     for (place, done) in wanted.iter().rev().enumerate() {

@@ -290,8 +290,8 @@ fn different(sorted: &[u64]) -> u64 {
 const SEEDS: u64 = 250;
 
 /// Performs one run for each of `SEEDS` seeds, and asserts that the runs have more than `SEEDS` / 2 different orders.
-// The order of a run affects only the target's sequences. All other values that the test reads after a run are the same
-// for every order.
+// The order of a run affects only the target's sequences. Apart from the target's sequences, all values that the test
+// reads after a run are the same for every order.
 fn run_orders<R: Abort + Threads + Wait + Sync>(rt: &R, alloc: Global, first: u64) {
     let mut orders = Vec::new(alloc);
     for number in 0..SEEDS {
