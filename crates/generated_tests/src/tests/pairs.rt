@@ -39,9 +39,9 @@ const OTHER: usize = 1;
 /// A step of a test.
 #[derive(Clone, Copy)]
 enum Call {
-    /// Load a number of random documents into the target.
+    /// Load a given number of random documents into the target.
     GrowTarget(usize),
-    /// Load a number of random documents into a source.
+    /// Load a given number of random documents into a source.
     Grow(usize, usize),
     /// Replicate all documents or the selected documents of a source into the target.
     Replicate(usize, usize),

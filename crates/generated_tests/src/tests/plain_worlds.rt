@@ -67,7 +67,7 @@ struct Copied {
     log: SourceLog,
 }
 
-/// Counts of four situations that a restore of the source causes in a list of steps.
+/// Counts how often four situations, which only restores cause, occur in a list of steps.
 #[derive(Clone, Copy, Debug)]
 pub(crate) struct Met {
     /// The number of restores while windows, entries or logs were in transit.

@@ -67,8 +67,8 @@ impl Dealer {
         self.model.picked = all_or_some(&mut self.rng);
     }
 
-    /// Returns an index for a list of `length` items. The index is usually the last index, and sometimes random and
-    /// perhaps out of range.
+    /// Returns an index for a list of `length` items. The index is usually the last index of the list. The index is
+    /// sometimes random, and may then be out of range.
     fn place(&mut self, length: usize) -> usize {
         if below(&mut self.rng, 6) == 0 {
             below(&mut self.rng, 5)

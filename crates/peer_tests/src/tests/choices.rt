@@ -115,7 +115,7 @@ impl Bench {
     }
 }
 
-/// Returns the selection of a call.
+/// Returns the selection that a call uses.
 fn under_of(call: &Call) -> Under {
     match *call {
         Call::Has(under, _)

@@ -177,7 +177,7 @@ impl Gate for CountsRecordings {
 }
 
 // This test detects a writer that records only every second window, or that reports a low water other than the recorded
-// low water. No contract excludes a writer with such a defect.
+// low water. No contract excludes a writer with one of these defects.
 #[test]
 fn each_recording_tells_the_low_water(rt: HostRuntime) {
     const ONE_BY_ONE: How = How {

@@ -160,7 +160,8 @@ impl Bench {
         *self.peers.get_mut(at).expect(rt, "a place") = peer;
     }
 
-    /// Replicates one peer into another with a gate. Returns how the run ended, and the number of fetched documents.
+    /// Replicates one peer into another peer by the pool, with a gate. Returns how the run ended, and the number of
+    /// fetched documents.
     pub(crate) fn replicate<G: Gate + Sync, R: Abort + Threads + Wait + Sync>(
         &mut self,
         rt: &R,
