@@ -1,10 +1,10 @@
--- The exit status of a program whose command line gives nothing to run, as specified in docs/PROFILE.md, "Options" and
--- "Options of `couch_lines`".
+-- The exit status of a program that runs nothing because of its command line, as specified in docs/PROFILE.md,
+-- "Options" and "Options of `couch_lines`".
 use Rattle.std.specs.Prelude.{ℕ}
 use Rattle.clap.specs.declared.error.kind.ErrorKind.{ErrorKind}
 use Rattle.clap.specs.declared.error.kind.ErrorKind.TheVariants.{DisplayHelp, DisplayVersion, OutOfMemory}
 
--- The exit status for an error of `clap`, which is 0 if help or the version was requested.
+-- The exit status for an error of `clap`. A request for help or for the version is an error with the exit status 0.
 abbrev pub kind_status : ErrorKind → ℕ
 kind_status OutOfMemory = 3
 kind_status DisplayHelp = 0

@@ -6,11 +6,11 @@ use Rattle.clap.specs.Simple.{on_top}
 use Rattle.clap.specs.declared.builder.action.ArgAction.TheVariants.{Set, SetTrue}
 use Rattle.clap.specs.declared.parser.matches.ArgMatches.{ArgMatches}
 
--- The command line of a program without arguments. The command line has an option for the program's version.
+-- The `clap` definition of a program that has an option for the program's version, but no arguments.
 abbrev pub program_app : List ℕ → App
 program_app name = on_top (λ s. record s { has_version = true }) (new_app name)
 
--- A command-line option without a value.
+-- The `clap` rule of an option without a value.
 abbrev pub flag_option : List ℕ → Rule
 flag_option name = record (new_rule name) { long = Some name; action = Some SetTrue }
 
@@ -24,8 +24,8 @@ IsFlag text flag =
     ((text ≡ None) → flag ≡ false) × ((text ≡ Some (codes "true")) → flag ≡ true)
     × ((text ≡ Some (codes "false")) → flag ≡ false)
 
--- For each argument, `clap` returns the first value and the only value that the argument has in the command line
--- `words`.
+-- For each argument, the result of `clap` has the argument's first value in the command line `words`: the value as
+-- given, and the value that `get_one` and `get_flag` read.
 abbrev pub IsFound : App → List (List ℕ) → ArgMatches → Type 0
 IsFound line words m =
     (first_value (found_of m) ≡ λ id. first_of id (matches_of line words))

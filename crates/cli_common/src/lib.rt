@@ -1,4 +1,4 @@
-//! Parses command lines and determines exit statuses, for all programs.
+//! Parses the command lines of all programs, and determines the exit statuses of invalid command lines.
 //!
 //! Each program defines its own options.
 #![tactic(auto)]

@@ -1,4 +1,5 @@
-//! Reads the arguments of a program, and determines the exit status if the arguments give nothing to run.
+//! Reads the arguments of a program, and determines the exit status if the program runs nothing because of its
+//! arguments.
 ghost use Rattle.std.specs.Prelude.{◌≡◌, ◌≤◌};
 ghost use Rattle.clap.specs.Words.{kind_of};
 ghost use Rattle.cli_common.specs.Status.{kind_status};
@@ -37,7 +38,7 @@ pub fn report_bad_arguments(rt: &impl Eprint, error: &io::Error) -> u8
     }
 }
 
-/// Prints `clap`'s message, and returns the exit status. The status is 0 for help and version, 3 if an allocation
+/// Prints `clap`'s message, and returns the exit status. The exit status is 0 for help and version, 3 if an allocation
 /// failed, and 2 for other errors.
 pub fn report_arguments<H: Print + Eprint>(rt: &H, error: &Error) -> u8
     ensures { result ≡ kind_status (kind_of error.now) }
@@ -53,7 +54,7 @@ pub fn report_arguments<H: Print + Eprint>(rt: &H, error: &Error) -> u8
     }
 }
 
-/// Reports that an allocation failed before anything was read, and returns the exit status.
+/// Reports that an allocation failed before the program ran anything, and returns the exit status.
 pub fn report_out_of_memory(rt: &impl Eprint) -> u8
     ensures { result ≡ 3 }
 {

@@ -6,8 +6,8 @@ ghost use Rattle.cli_common.specs.Words.{IsFound, flag_option, hidden_option, pr
 use clap::{Arg, ArgAction, ArgMatches, Command, Error};
 use std::alloc::Global;
 
-/// Defines the command line of a program without arguments, given the program's name, its description, and the text
-/// after its help.
+/// Defines the command line of a program without arguments, given the program's name, a description, and the text that
+/// follows the help.
 pub fn program<'a>(alloc: Global, name: &'a str, about: &'a str, help: &'a str) -> Command<'a>
     ensures { app_of result ≡ program_app name.entry.now }
 {
@@ -28,8 +28,8 @@ pub fn flag<'a>(alloc: Global, name: &'a str, help: &'a str) -> Arg<'a>
         .help(help)
 }
 
-/// Defines a positional argument that does not appear in the help. A program accepts a hidden positional argument in
-/// order to print an error of its own, for example about a file name.
+/// Defines a positional argument that does not appear in the help. A program accepts a hidden positional argument so
+/// that the program, not `clap`, prints the error, for example about a file name.
 pub fn hidden_word<'a>(alloc: Global, name: &'a str) -> Arg<'a>
     ensures rule { rule_of result ≡ hidden_option name.entry.now }
     ensures local { result.global ≡ false }
@@ -41,7 +41,8 @@ pub fn hidden_word<'a>(alloc: Global, name: &'a str) -> Arg<'a>
 ///
 /// # Errors
 ///
-/// The call returns `clap`'s error, which includes requests for help and version and failed allocations.
+/// The call returns `clap`'s error. A request for help or for the version is also an error of `clap`, and so is a
+/// failed allocation.
 pub fn find<'a>(command: Command<'a>, words: &'a [String]) -> Result<ArgMatches<'a>, Error>
     requires free { is_simple_and_free (app_of command) ≡ true }
     ensures ok { IfOk result (IsFound (app_of command.entry) (map string_bytes words.entry.now)) }

@@ -8,7 +8,7 @@ use Rattle.script_databases.specs.declared.refusal.Refusal.TheVariants as why
 abbrev pub needed : {A : Type 0} → Option A → Result A Refusal
 needed x = or_refused why.BadCommand x
 
--- The given result, with the function f applied to its value if the result is `Ok`.
+-- The given result, with the function f applied to the value of `Ok`.
 abbrev pub seen_as : {A B : Type 0} → (A → B) → Result A Refusal → Result B Refusal
 seen_as f (Ok x) = Ok (f x)
 seen_as f (Err why) = Err why

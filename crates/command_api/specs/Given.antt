@@ -32,7 +32,7 @@ ids_given (text ∷ texts) = do
 abbrev pub chosen_given : List (List ℕ) → Result Choice Refusal
 chosen_given ids = some_of (told_as doc_refusal (chosen_answer ids))
 
--- The selection that an optional list of strings gives, which is all documents if there is no list.
+-- The selection that an optional list of strings gives. If there is no list, the selection is all documents.
 abbrev pub choice_given : Option (List (List ℕ)) → Result Choice Refusal
 choice_given None = Ok None
 choice_given (Some texts) = do
@@ -48,7 +48,7 @@ rev_given (Some text) = some_of (told_as rev_refusal (rev_read text))
 abbrev pub body_given : Data → Result (List ℕ) Refusal
 body_given d = told_as doc_refusal (body_read d)
 
--- The body that an optional JSON value gives, which is the empty object if there is no value.
+-- The body that an optional JSON value gives. If there is no value, the body is the empty object.
 abbrev pub body_given_or_empty : Option Data → Result (List ℕ) Refusal
 body_given_or_empty d = body_given (unwrap_or d (object no_members))
 

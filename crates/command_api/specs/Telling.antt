@@ -22,8 +22,8 @@ told_of (Err refusal) = Err (name_of refusal)
 abbrev pub Refuses : Refusal → State → Told → State → Type 0
 Refuses refusal old told new = (told ≡ Err (name_of refusal)) × (new ≡ old)
 
--- The results that the relation `answers` allows for a line's parsed request. If parsing the line gave an error, the
--- line fails with this error and leaves the state unchanged.
+-- The results of a line. The relation `answers` defines the results for the parameters that the line gives. If the line
+-- cannot be parsed, the line fails with the error of parsing, and leaves the state unchanged.
 abbrev pub AnswersIn : {L : Type 0} → Answering State L → Answering State (Result L Refusal)
 AnswersIn answers old (Ok ask) told new = answers old ask told new
 AnswersIn answers old (Err refusal) told new = Refuses refusal old told new
@@ -32,7 +32,8 @@ AnswersIn answers old (Err refusal) told new = Refuses refusal old told new
 abbrev pub Reads : Result (List ℕ) Refusal → State → Told → State → Type 0
 Reads text old told new = (told ≡ told_of text) × (new ≡ old)
 
--- A script's line has the given output and leads to the given state, or the line fails and leaves the state unchanged.
+-- A script's line prints the given output and leads to the given state, or the line fails with the given error and
+-- leaves the state unchanged.
 abbrev pub Does : Result (List ℕ × State) Refusal → State → Told → State → Type 0
 Does (Ok done) old told new = (told ≡ Ok done.0) × (new ≡ done.1)
 Does (Err refusal) old told new = Refuses refusal old told new
@@ -45,12 +46,14 @@ abbrev pub told_hushed : Bool → Told → Told
 told_hushed quiet (Ok text) = Ok (hushed quiet text)
 told_hushed quiet (Err name) = Err name
 
--- The result of a request is a result that the relation `answers` allows, but without output if the program is quiet.
+-- A line's result is a result that the relation `answers` allows. If the program is quiet, the output of a successful
+-- line is removed from the result.
 abbrev pub UnlessQuiet : {L : Type 0} → Answering State L → Answering State L
 UnlessQuiet answers old ask told new =
     (loud : Told) × answers old ask loud new × (told ≡ told_hushed old.program.quiet loud)
 
--- The result of a line, given the result of the line's call and the text that the call has written into a buffer.
+-- The result of a line: the text that the call has written into a buffer, or the name of the error that the call has
+-- returned.
 abbrev pub told_by : {A : Type 0} → Result A Refusal → List ℕ → Told
 told_by (Ok done) text = Ok text
 told_by (Err refusal) text = Err (name_of refusal)

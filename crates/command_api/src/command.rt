@@ -27,15 +27,15 @@ pub trait Command<L>: Sized + Drop {
 
     ghost asked: { Self → Ask };
 
-    // The parameters that a JSON object gives, if each of its members belongs to the command and has the right type.
+    // The parameters that a JSON object gives, or `BadCommand` if the object is not a valid command.
     ghost asked_in: { Data → Result Ask Refusal };
 
-    // The relation between the state before the command, the command's parameters, its possible results, and the state
+    // The relation between the state before the command, the command's parameters, the command's result, and the state
     // after the command.
     ghost answers: { Answering State Ask };
 
-    /// Reads the command's parameters from the object of a line. Returns `None` if the object is not a valid command,
-    /// and the line then fails with `BadCommand`.
+    /// Reads the command's parameters from the object of a line. Returns `None` if the object is not a valid command.
+    /// `serve_in` then returns `BadCommand`.
     fn read(line: L) -> Option<Self>
         ensures { needed (option_map asked result) ≡ asked_in (seen line) };
 
@@ -54,7 +54,7 @@ pub trait Command<L>: Sized + Drop {
         ensures { MayTell answers databases.old (asked self.now) (told_by result answer.new.items) databases.new };
 }
 
-/// Reads and runs a line as one command.
+/// Reads the command of a line, and runs this command.
 #[inline(never)]
 pub fn serve_in<L, A: Command<L>, H: Threads + Wait + Sync>(
     rt: &H,

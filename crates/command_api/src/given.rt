@@ -58,10 +58,7 @@ fn choose(ids: Vec<DocId>) -> Result<Option<Chosen>, Refusal>
 ///
 /// The call returns `NoId` or `ReservedId` for the first invalid id. If all ids are valid, the call may return
 /// `NoneChosen` or `TooManyChosen`.
-pub fn read_choice(
-    alloc: Global,
-    ids: Option<&[LineValue<'_>]>,
-) -> Result<Option<Chosen>, Refusal>
+pub fn read_choice(alloc: Global, ids: Option<&[LineValue<'_>]>) -> Result<Option<Chosen>, Refusal>
     ensures { GivesOrMemory result (choice_given (option_map (λ v. texts_of (line_items v.now)) ids.entry)) }
 {
     let Some(texts) = ids else {

@@ -58,8 +58,8 @@ pub fn push_count(text: &mut Vec<u8>, count: usize) -> Result<(), AllocError>
     push_number(text, count as u64)
 }
 
-/// Appends a revision. The call copies in one step if the signature has 32 bytes, the generation has one or three
-/// digits, and the buffer has enough capacity.
+/// Appends a revision. The call copies the revision in one step if the signature has 32 bytes, the generation has one
+/// or three digits, and the buffer has enough capacity.
 #[inline(never)]
 pub fn push_rev(text: &mut Vec<u8>, rev: &Rev) -> Result<(), AllocError>
     ensures { OnOk result (text.new.items ≡ text.old.items ++ rev_text rev.now) }
@@ -184,7 +184,7 @@ fn push_line_of_revs(
     Ok(())
 }
 
-/// Appends the last line of a printed feed, which has the update sequence.
+/// Appends the output line of `changes` or `docs` with the last sequence of a feed.
 pub fn push_last(text: &mut Vec<u8>, last: u64) -> Result<(), AllocError>
     ensures { OnOk result (text.new.items ≡ text.old.items ++ last_line last) }
 {

@@ -47,7 +47,7 @@ pub data Asked : Type 0 where
   ledger : LedgerAsk → Asked
   sync : SyncAsk → Asked
 
--- The request of a JSON object that is a line with the given command, or the error of the line.
+-- The request of a line, given the line's command and JSON object, or the error of the line.
 abbrev pub asked_as : CommandName → Data → Result Asked Refusal
 asked_as word.Load d = seen_as load (load_in d)
 asked_as word.Edit d = seen_as edit (edit_in d)
@@ -66,13 +66,13 @@ asked_as word.Info d = seen_as info (info_in d)
 asked_as word.Ledger d = seen_as ledger (ledger_in d)
 asked_as word.Sync d = seen_as sync (sync_in d)
 
--- The request of a JSON object that is a line with the given command. If the line's command is not known, the result is
+-- The request of a line, given the line's command and JSON object. If the command is not known, the result is
 -- `BadCommand`.
 abbrev pub asked_if : Option CommandName → Data → Result Asked Refusal
 asked_if (Some w) d = asked_as w d
 asked_if None d = Err why.BadCommand
 
--- The request of a JSON object that is a line with the command of the given name, or the error of the line.
+-- The request of a line, given the name of the line's command and the line's JSON object, or the error of the line.
 abbrev pub asked_by : List ℕ → Data → Result Asked Refusal
 asked_by name d =
     if bytes_eq name (codes "load") then asked_as word.Load d
@@ -93,8 +93,8 @@ asked_by name d =
     else (if bytes_eq name (codes "sync") then asked_as word.Sync d
     else Err why.BadCommand)))))))))))))))
 
--- The request of a JSON object that is a line, or the error of the line. The member `do` of the object names the
--- command.
+-- The request of a line, given the line's JSON object, or the error of the line. The member `do` of the object names
+-- the command.
 abbrev pub asked_in : Data → Result Asked Refusal
 asked_in d = do
   name ← needed (text_at (codes "do") d)

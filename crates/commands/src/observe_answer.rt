@@ -2,7 +2,7 @@
 
 use script_engine::{Nobody, Observe};
 
-/// An observer of the results of lines (`Observe`) and of the start of their output.
+/// An observer of the result of each line (`Observe`), and of the start of the line's output.
 pub trait ObserveAnswers: Observe {
     /// Observes the output of a successful line, or the first piece of this output, before `observe` is called for the
     /// line. Calling an observer does not affect the script's output.

@@ -1,4 +1,5 @@
-//! The commands of a script, by name (docs/PROFILE.md, "Command lines", "Order of checks" and "Answers").
+//! Selects and runs the commands of a script by name (docs/PROFILE.md, "Command lines", "Order of checks" and
+//! "Answers").
 ghost use Rattle.std.specs.Prelude.{◌≡◌, [], true, IfOk};
 ghost use Rattle.json_values.specs.LineView.{line_view};
 ghost use Rattle.script_engine.specs.Serving.{Fits, IsSplit, MayTell};
@@ -63,8 +64,8 @@ fn command_name_of(value: &LineValue<'_>) -> Option<CommandName>
     }
 }
 
-/// Runs the command of an object, and returns its output, or the first piece of its output and the rest. The call may
-/// block if the command is `replicate` or `sync`.
+/// Runs the command of an object, and writes the command's output into the buffer. If the call writes only the output's
+/// first piece, it returns the rest of the output. The call may block if the command is `replicate` or `sync`.
 pub fn serve<H: Threads + Wait + Sync>(
     rt: &H,
     alloc: Global,

@@ -1,4 +1,5 @@
--- Running the program `couch_lines` over any reader and writer, as specified in docs/PROFILE.md, "CouchDB's answers".
+-- Runs of the program `couch_lines` with any reader and any writer, as specified in docs/PROFILE.md, "CouchDB's
+-- answers".
 use Rattle.std.specs.Prelude.{◌≡◌, ◌⊎◌, ◌++◌, [], ℕ, List, OnOk, Bool, true, false, Option, Some, Result, Ok, Err, String, string_bytes, option_map, ⊤}
 use Rattle.std.specs.declared.alloc.Global.{Global}
 use Rattle.response_parser.specs.Reading.{Piece}
@@ -48,7 +49,7 @@ abbrev pub is_drawn : Task → Bool
 is_drawn (Trees db svg) = true
 is_drawn task = false
 
--- The format of a picture, which is SVG if the flag is true.
+-- The format of a picture, which is SVG if the flag `--svg` is given.
 abbrev pub form_of : Bool → Form
 form_of true = Svg
 form_of false = Text
@@ -60,9 +61,9 @@ IsDone task left held held' result = Converts result (wanted_of task) (words_of_
 
 -- The guarantees of a task if its input has the form that the task expects. A `load` task writes a `load` line for each
 -- document in CouchDB responses, in order, with the document's text or envelope. The tasks `ids` and `diff` write each
--- leaf of a response into a request body. A task for script output writes the output's documents into request bodies,
--- or each leaf of its changes into a `doc` line. A task does not reject input of the expected form. If a task returns an
--- error, it may have written only a part of this output (`ReadsAnswers`).
+-- leaf of a response into a request body. A task whose input is script output writes the input's documents into request
+-- bodies, or a `doc` line for each leaf of the input's changes. A task does not reject input of the expected form. If a
+-- task returns an error, the writer may have only a part of the task's output (`ReadsAnswers`).
 abbrev pub Makes : Task → Option (List ℕ) → Option (List ℕ) → Option (List ℕ) → Result ℕ AnswerFault → Type 0
 Makes (Load db whole) left held held' result = (answers : List ℕ) → (documents : List Piece) → left ≡ Some answers
     → IsAnswered (wanted_of (Load db whole)) answers documents → ReadsAnswers (loads_of (string_bytes db)) documents held held' result
@@ -77,8 +78,8 @@ Makes (Bulk n whole) left held held' result = (answers : List ℕ) → (document
 Makes (Trees db svg) left held held' result = ⊥
 
 -- The effect of a run of `couch_lines` with the command line `words`. If the command line names no task, or an
--- allocation fails before the task starts, the run reads and writes no byte. If a task starts, it is a task that the
--- command line names. Only the task `trees` draws a picture.
+-- allocation fails before the task starts, the run reads and writes no byte. A run starts only a task that the command
+-- line names. Only the task `trees` draws a picture.
 abbrev pub RunsWords : List (List ℕ) → Option (List ℕ) → Option (List ℕ) → Option (List ℕ) → Option (List ℕ) → Ended → Type 0
 RunsWords words left left' held held' (NotRun why) = Refuses words why × (left' ≡ left) × (held' ≡ held)
 RunsWords words left left' held held' (Ran run) =
@@ -87,9 +88,9 @@ RunsWords words left left' held held' (Drawn ended) =
     (db : Option (String Global)) × (svg : Bool) × Says words (Trees db svg)
     × PicturedBy ended (form_of svg) (option_map string_bytes db) left held held'
 
--- A device (the reader or the writer) failed in a run exactly if the run's error names it. As an exception, the error
--- `Read` may also mean that the maximum number of reads was reached. The arguments of `RunCounts` are numbers before
--- and after the run, first of reads, then of the reader's failures, and last of the writer's failures.
+-- A device (the reader or the writer) failed in a run exactly if the run's error names the device. As an exception, the
+-- error `Read` may also mean that the maximum number of reads was reached. The arguments of `RunCounts` are the numbers
+-- of reads, of the reader's failures, and of the writer's failures, each before and after the run.
 abbrev pub RunCounts : Result ℕ AnswerFault → ℕ → ℕ → ℕ → ℕ → ℕ → ℕ → Type 0
 RunCounts (Ok passed) reads reads' reader reader' writer writer' = (reader' ≡ reader) × (writer' ≡ writer)
 RunCounts (Err fault) reads reads' reader reader' writer writer' = CountsOf fault reads reads' reader reader' writer writer'
@@ -111,9 +112,9 @@ IfDone (Ran run) holds = OnOk run.ended holds
 IfDone (Drawn ended) holds = OnOk ended holds
 
 -- A run of the program `couch_lines` on its standard streams, with the command line `words`. The reads returned the
--- bytes `input`, the output has accepted the bytes `text`, and the run ended as `ended` says. If the task succeeded,
+-- bytes `input`, the output has accepted the bytes `text`, and `ended` is the result of the run. If the task succeeded,
 -- the statement `all` is true: the reads reached the end of the input. If the last output of a run cannot be flushed, a
--- part of this output may be missing, and `unflushed` determines how the run ends.
+-- part of this output may be missing, and `unflushed` determines the result of the run.
 abbrev pub RunsStandard : List (List ℕ) → List ℕ → Type 0 → List ℕ → Ended → Type 0
 RunsStandard words input all text ended =
     (first : Ended) × (rest : List ℕ) × RunsWords words (Some input) (Some []) (Some []) (Some (text ++ rest)) first

@@ -22,7 +22,7 @@ drawn_status (Ok true) = 0
 drawn_status (Ok false) = 1
 drawn_status (Err fault) = 3
 
--- The exit status of `couch_lines` if its arguments have no task.
+-- The exit status of `couch_lines` if the arguments name no task.
 abbrev pub words_status : NoTask → ℕ
 words_status (Words error) = kind_status (kind_of error)
 words_status Unknown = 2

@@ -127,8 +127,8 @@ task_word = record (new_rule (codes "task")) { action = Some Set; value_names = 
 abbrev pub second_word : Rule
 second_word = record (new_rule (codes "of")) { action = Some Set; value_names = 1 }
 
--- The command line of `couch_lines`, which accepts a third argument, so that the program can reject it with its own
--- message.
+-- The command line of `couch_lines`. The `clap` rules accept a third argument, so that the program, not `clap`, prints
+-- the error message.
 abbrev pub command_line : App
 command_line =
     with_rule (with_rule (with_rule (with_rule (with_rule (program_app (codes "couch_lines")) task_word) second_word)
@@ -146,7 +146,7 @@ RefusesBy text flag drawn why =
     (whole : Bool) × (svg : Bool) × IsFlag flag whole × IsFlag drawn svg
     × AskNothing (text (codes "task")) (text (codes "of")) (text (codes "further")) whole svg why
 
--- The text of an argument of the command line, if the command line has it.
+-- The text of an argument of the command line, if the argument is present.
 abbrev pub text_said : List (List ℕ) → List ℕ → Option (List ℕ)
 text_said words id = first_of id (matches_of command_line words)
 
@@ -160,8 +160,8 @@ Says words task = SaysBy (text_said words) (flag_said words (codes "whole")) (fl
 abbrev pub Refused : List (List ℕ) → NoTask → Type 0
 Refused words why = RefusesBy (text_said words) (flag_said words (codes "whole")) (flag_said words (codes "svg")) why
 
--- The program has no task, because `clap` rejects the command line, because the command line names no task, or because
--- an allocation failed.
+-- The reason why the program runs no task: `clap` rejects the command line, the command line names no task, or an
+-- allocation failed.
 abbrev pub Refuses : List (List ℕ) → NoTask → Type 0
 Refuses words (Words error) = HasKind (fault_of command_line words) error
 Refuses words Unknown = Refused words Unknown

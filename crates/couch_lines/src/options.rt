@@ -60,7 +60,7 @@ reading, writing or an allocation failed.";
 /// The reason why a command line names no task.
 #[derive(Drop)]
 pub enum NoTask {
-    /// The error of `clap`, which includes requests for help.
+    /// An error of `clap`. A request for help or for the version is also an error of `clap`.
     Words(Error),
     /// The task is unknown.
     Unknown,
@@ -78,7 +78,7 @@ impl From<AllocError> for NoTask {
     }
 }
 
-/// Parses the arguments, of which the first is the program's name.
+/// Parses the arguments. The first argument is the program's name.
 pub fn read_words<'a>(alloc: Global, words: &'a [String]) -> Result<Task, NoTask>
     ensures ok { IfOk result (λ task. Says (map string_bytes words.entry.now) task) }
     ensures err { IfErr result (λ why. Refuses (map string_bytes words.entry.now) why) }

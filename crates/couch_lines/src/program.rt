@@ -1,4 +1,4 @@
-//! Runs the program with its arguments and its standard streams, and determines its exit status.
+//! Runs the program with the given arguments and standard streams, and determines the exit status.
 ghost use Rattle.std.specs.Prelude.{◌≡◌, ◌≤◌, ◌⊎◌, ℕ, List, Some, IfOk, map, string_bytes};
 ghost use Rattle.std.specs.Io.KnownBytes.{Keeps};
 ghost use Rattle.couch_lines.specs.Runs.{RunsStandard};
@@ -32,8 +32,8 @@ pub fn run_program<H: AllocGlobal + Env + Input + Print + Eprint>(rt: &H) -> u8
     }
 }
 
-/// Runs the program on standard input and output. Returns how the run ended, and both streams. The contract states
-/// which bytes were read and written. Output is buffered, and flushed at the end.
+/// Runs the program on standard input and output. Returns three values: the result of the run, the reader, and the
+/// writer. The contract states which bytes were read and written. Output is buffered, and flushed at the end.
 ///
 /// # Errors
 ///
@@ -58,7 +58,7 @@ where
     Ok((ended, reader, writer.into_inner()))
 }
 
-/// Flushes the output. Returns how the run ended, given whether flushing the output succeeded.
+/// Flushes the output, and returns the result of the run. If flushing fails, an error replaces the success of the run.
 fn flushed<W: ScriptWrite>(writer: &mut W, first: Ended) -> Ended
     ensures kept { Keeps (W.held writer.old) (W.held writer.new) }
     ensures flushed { (Keeps (W.held writer.new) (W.sent writer.new) × (result ≡ first)) ⊎ (result ≡ unflushed first) }
@@ -109,7 +109,7 @@ fn unwritten(ended: Result<u64, AnswerFault>) -> Result<u64, AnswerFault>
     }
 }
 
-/// Reports how a run ended, unless it succeeded, and returns the exit status.
+/// If a run did not succeed, reports the reason. Returns the exit status.
 fn tell<H: Print + Eprint>(rt: &H, ended: &Ended) -> u8
     ensures { result ≡ ended_status ended.now }
 {
@@ -221,7 +221,7 @@ fn hint_of(why: Refusal) -> &'static str {
     }
 }
 
-/// Returns the given bytes as a string, or an empty string if they are not UTF-8.
+/// Returns the given bytes as a string, or an empty string if the bytes are not UTF-8.
 fn text_of(bytes: &[u8]) -> &str {
     match str::from_utf8(bytes) {
         Ok(text) => text,
@@ -229,7 +229,7 @@ fn text_of(bytes: &[u8]) -> &str {
     }
 }
 
-/// Returns the text of a JSON string without its quotation marks and without the white space around it.
+/// Returns the text of a JSON string without the quotation marks and without surrounding white space.
 fn unquoted(bytes: &[u8]) -> &str {
     let text = text_of(bytes).trim();
     let text = match text.strip_prefix('"') {

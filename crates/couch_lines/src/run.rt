@@ -36,7 +36,7 @@ pub struct Run {
     pub(crate) wording: Wording,
 }
 
-/// Parses the arguments, of which the first is the program's name, and runs the task.
+/// Parses the arguments, and runs the task that the arguments name. The first argument is the program's name.
 pub fn run_words<'a, R: ScriptRead, W: ScriptWrite>(
     alloc: Global,
     words: &'a [String],
@@ -45,8 +45,8 @@ pub fn run_words<'a, R: ScriptRead, W: ScriptWrite>(
 ) -> Ended
     ensures runs { RunsWords (map string_bytes words.entry.now) (R.left reader.old) (R.left reader.new)
         (W.held writer.old) (W.held writer.new) result }
-    // The clause `took` describes the run with the bytes that the reads returned as its input. The clause `ended`
-    // states that the reads returned the complete input if the run succeeded.
+    // The clause `took` describes the run for the input bytes that the reads returned. The clause `ended` states that
+    // the reads returned the complete input if the run succeeded.
     ensures took { (input : List ℕ) × Appends (R.taken reader.old) (R.taken reader.new) input
         × RunsWords (map string_bytes words.entry.now) (Some input) (Some []) (W.held writer.old)
         (W.held writer.new) result }

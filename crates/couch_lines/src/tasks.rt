@@ -98,7 +98,7 @@ fn named_by(word: &str) -> Option<Named>
     }
 }
 
-/// Builds a task from its name, its argument, a possible surplus argument, and the two flags.
+/// Builds a task from the task's name, an optional argument, an optional surplus argument, and two flags.
 ///
 /// # Errors
 ///
@@ -131,7 +131,7 @@ pub fn task_of(
     }
 }
 
-/// Builds a named task from its argument and flags.
+/// Builds the named task from an optional argument and the flags.
 ///
 /// # Errors
 ///

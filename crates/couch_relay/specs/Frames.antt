@@ -1,5 +1,5 @@
--- A response as bytes: a head, a line feed, and the bytes of the body, as specified in docs/PROFILE.md, "Responses to
--- the relay".
+-- The bytes of a response: a head, a line feed, and the body, as specified in docs/PROFILE.md, "Responses to the
+-- relay".
 use Rattle.std.specs.Prelude.{◌≡◌, ◌==◌, ◌<◌, ◌^◌, ℕ, Bool, false, if◌then◌else◌, List, [], ◌∷◌, ◌++◌, Option, None, Some, codes, length, bytes_eq}
 use Rattle.std.specs.List.{before_first, after_first}
 use Rattle.std.specs.Str.{IsUtf8, trim}
@@ -13,7 +13,7 @@ use Rattle.relay_core.specs.Messages.{Text}
 
 pub record HeadView : Type 0 where
   pub status : ℕ
-  -- The length of the body that the head states.
+  -- The length of the body, as the head states.
   pub size : ℕ
   pub who : Option Side
   pub date : Text
@@ -29,13 +29,13 @@ word_in text = before_first is_space text
 abbrev pub rest_in : Text → Text
 rest_in text = after_first is_space text
 
--- The text is an optional plus and the decimal digits of the number n, which has at most `bits` bits.
+-- The text consists of an optional plus sign and the decimal digits of the number n, which has at most `bits` bits.
 abbrev pub IsNumber : ℕ → Text → ℕ → Type 0
 IsNumber bits text n =
     IsNumeral 10 (without_leading_plus text) × (digits_value 10 (without_leading_plus text) < 2 ^ bits)
     × (n ≡ digits_value 10 (without_leading_plus text))
 
--- The server that a name denotes, source or target.
+-- The server with the given name, `source` or `target`.
 abbrev pub side_in : Text → Option Side
 side_in name =
     if bytes_eq name (codes "source") then Some Source else if bytes_eq name (codes "target") then Some Target else None
@@ -50,7 +50,7 @@ pub record IsHead (line : Text) (head : HeadView) : Type 0 where
 
 -- ---- a response
 
--- The bytes `bytes` are the line `line`, which has no line feed, then a line feed, and then the bytes `rest`.
+-- The list `bytes` consists of the list `line`, which has no line feed, of a line feed, and of the list `rest`.
 pub record IsLine (bytes line rest : List ℕ) : Type 0 where
   pub is : bytes ≡ line ++ 10 ∷ rest
   pub one : has_line_end line ≡ false

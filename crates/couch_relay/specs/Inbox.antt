@@ -1,4 +1,4 @@
--- Bytes that the relay has read and not yet used, as specified in docs/PROFILE.md, "Responses to the relay".
+-- Input bytes that the relay has read, but not yet used, as specified in docs/PROFILE.md, "Responses to the relay".
 use Rattle.std.specs.Prelude.{◌≡◌, ◌+◌, ◌<◌, ◌≤◌, ℕ, false, List, ◌∷◌, ◌++◌, Option, length, take, drop, string_bytes, MatchOption}
 use Rattle.std.specs.Io.KnownBytes.{Appends}
 use Rattle.script_engine.specs.Lines.{has_line_end}
@@ -16,12 +16,14 @@ pub record IsInbox (inbox : Inbox) : Type 0 where
   pub within : inbox.at ≤ length inbox.held.items
   pub some : 0 < length inbox.buffer.items
 
--- A reader has returned bytes, which changed the reader's history of returned bytes from `old` to `new`.
+-- A call has read bytes. The arguments `old` and `new` are all bytes that the reader had returned before and after the
+-- call.
 abbrev pub Took : Option (List ℕ) → Option (List ℕ) → Type 0
 Took old new = (bytes : List ℕ) × Appends old new bytes
 
--- A reader has returned bytes, which changed the reader's history from `old` to `new`. The returned bytes were appended
--- to the pending bytes.
+-- A call has read bytes, and has appended these bytes to the pending bytes. The arguments `old` and `new` are all bytes
+-- that the reader had returned before and after the call. The arguments `before` and `after` are the pending bytes
+-- before and after the call.
 abbrev pub Filled : Option (List ℕ) → Option (List ℕ) → List ℕ → List ℕ → Type 0
 Filled old new before after = (bytes : List ℕ) × Appends old new bytes × (after ≡ before ++ bytes)
 

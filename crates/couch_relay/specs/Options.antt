@@ -1,4 +1,5 @@
--- The options of the command line and their values, as specified in docs/PROFILE.md, "Options of `couch_relay`".
+-- The options of the command line, and the values of the options, as specified in docs/PROFILE.md, "Options of
+-- `couch_relay`".
 use Rattle.std.specs.Prelude.{◌≡◌, ℕ, List, [], Option, Some, None, codes, unwrap_or, true}
 use Rattle.clap.specs.Words.{App, HasKind, Rule, fault_of, first_of, one_of, matches_of, new_rule, with_rule}
 use Rattle.clap.specs.declared.builder.action.ArgAction.TheVariants.{Set}
@@ -12,7 +13,7 @@ use Rattle.relay_core.specs.Messages.{Text}
 
 -- ---- the command line
 
--- The `clap` rule of a positional argument that must be given.
+-- The `clap` rule of a required positional argument.
 abbrev pub argument : Text → Rule
 argument name = record (new_rule name) { action = Some Set; required = true }
 
@@ -26,18 +27,18 @@ number_option name =
 abbrev pub text_option : Text → Rule
 text_option name = record (new_rule name) { long = Some name; action = Some Set; value_names = 1 }
 
--- The given command line, to which the three positional arguments are added.
+-- The given command line with the three positional arguments added.
 abbrev pub with_arguments : App → App
 with_arguments app =
     with_rule (with_rule (with_rule app (argument (codes "SOURCE"))) (argument (codes "TARGET"))) (argument (codes "SESSION"))
 
--- The given command line, to which the three numeric options are added.
+-- The given command line with the three numeric options added.
 abbrev pub with_numbers : App → App
 with_numbers app =
     with_rule (with_rule (with_rule app (number_option (codes "batch"))) (number_option (codes "carry")))
     (number_option (codes "every"))
 
--- The given command line, to which the options for the feed, the filter and the selection are added.
+-- The given command line with the options for the feed, the filter and the selection added.
 abbrev pub with_options : App → App
 with_options app = with_rule (with_rule (with_rule (with_rule (with_rule (with_rule
     app (flag_option (codes "continuous"))) (flag_option (codes "progress"))) (text_option (codes "filter")))
@@ -49,13 +50,13 @@ command_line = with_options (with_numbers (with_arguments (program_app (codes "c
 
 -- ---- option values
 
--- The text of an option is the decimal numeral of `n`, or n is `default` if the option has no text.
+-- The text of an option is a decimal numeral of the number n. If the option has no text, n is `default`.
 abbrev pub IsValue : Option Text → ℕ → ℕ → Type 0
 IsValue None default n = n ≡ default
 IsValue (Some text) default n = IsNumber 64 text n
 
--- Each option in o has the value that the text of the option gives. The functions `text` and `number` return the text
--- of an option, given the option's name.
+-- Each field of o has the value that the text of the field's option gives. The functions `text` and `number` return the
+-- text of an option, given the option's name.
 pub record AreGiven (text number : Text → Option Text) (o : Options) : Type 0 where
   pub source : o.source.now ≡ unwrap_or (text (codes "SOURCE")) []
   pub target : o.target.now ≡ unwrap_or (text (codes "TARGET")) []
@@ -74,8 +75,8 @@ pub record AreGiven (text number : Text → Option Text) (o : Options) : Type 0 
 abbrev pub Says : List Text → Options → Type 0
 Says words o = AreGiven (λ id. first_of id (matches_of command_line words)) (λ id. one_of id (matches_of command_line words)) o
 
--- The reason why the arguments give no options is `clap`'s error, that no options have the arguments' values, or a
--- failed allocation.
+-- The reason why the arguments give no options: `clap` returns an error, no options have the values of the arguments,
+-- or an allocation failed.
 abbrev pub Refuses : List Text → NoOptions → Type 0
 Refuses words (Words error) = HasKind (fault_of command_line words) error
 Refuses words NoNumber = (o : Options) → Says words o → ⊥

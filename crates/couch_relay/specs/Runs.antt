@@ -1,4 +1,4 @@
--- A run of the program `couch_relay`: the bytes that were read, the bytes that were written, and the exit status.
+-- A run of the program `couch_relay`: the bytes that the program reads and writes, and the exit status.
 use Rattle.std.specs.Prelude.{◌≡◌, ◌==◌, ◌||◌, ◌⊎◌, ℕ, true, false, if◌then◌else◌, List, [], ◌∷◌, ◌++◌, Option, None, Some, map, string_bytes, Result, Ok, Err, MatchOption}
 use Rattle.std.specs.Io.KnownBytes.{Appends}
 use Rattle.std.specs.Str.{IsUtf8, trim}
@@ -123,11 +123,12 @@ pub record AreOptions (options : Options) (choice : Text) (o : RequestOptions) :
   pub query : string_bytes o.query ≡ options.query.now
   pub choice_is : string_bytes o.choice ≡ choice
 
--- A byte of a text that is put on one line: a blank if the byte is a line end, otherwise the byte.
+-- The byte that a text on one line has instead of byte b: a blank if b is a line feed or a carriage return, otherwise
+-- b.
 abbrev pub on_line : ℕ → ℕ
 on_line b = if b == 10 || b == 13 then 32 else b
 
--- A text on one line: its line ends are replaced by spaces, and white space at its beginning and end is removed.
+-- The given text on one line, with spaces instead of line ends, and without white space at the beginning and the end.
 abbrev pub on_one_line : Text → Text
 on_one_line text = map on_line (trim text)
 
@@ -141,8 +142,8 @@ pub record IsChoice (input : List ℕ) (choice : Text) (rest : List ℕ) : Type 
   pub text : IsUtf8 body
   pub choice_is : choice ≡ on_one_line body
 
--- No selection of documents is read. The given bytes do not begin with a complete response, or the body of the response
--- is not UTF-8.
+-- The given bytes do not begin with a selection of documents: the bytes do not begin with a complete response, or the
+-- body of the response is not UTF-8.
 abbrev pub NoChoice : Type 0 → List ℕ → Type 0
 NoChoice ended input =
     NoFrame ended input
@@ -173,8 +174,8 @@ FindsChoice options old new ended before after choice =
     (λ text. TakesChoice options (before ++ bytes) text after)
 
 -- The input, the output and the exit status of a run with the given options. If the options require a selection and the
--- input does not begin with one, the output is empty, and the exit status is 3. The statement `ended` says that the
--- input has ended.
+-- input does not begin with a selection, the output is empty, and the exit status is 3. The statement `ended` says that
+-- the input has ended.
 abbrev pub Runs : Options → Type 0 → List ℕ → List ℕ → ℕ → Type 0
 Runs options ended input text status =
     ((choice rest : List ℕ) × (o : RequestOptions) × TakesChoice options input choice rest × AreOptions options choice o
@@ -204,7 +205,7 @@ RunsWords words ended input text (end.NotRun why) = (input ≡ []) × (text ≡ 
 RunsWords words ended input text (end.Ran ran) =
     (options : Options) × Says words options × RunsOptions options ended input text ran
 
--- The statement p is true if the program made a run that ended with an exit status.
+-- If the program made a run that ended with an exit status, the statement p is true.
 abbrev pub IfRan : Ended → Type 0 → Type 0
 IfRan (end.NotRun why) p = Unit {0}
 IfRan (end.Ran (Ok status)) p = p

@@ -1,4 +1,4 @@
--- The exit status of the program: docs/PROFILE.md, "Options of `couch_relay`".
+-- The exit status of the program, as specified in docs/PROFILE.md, "Options of `couch_relay`".
 use Rattle.std.specs.Prelude.{◌==◌, ℕ, if◌then◌else◌, Result, Ok, Err}
 use Rattle.clap.specs.Words.{kind_of}
 use Rattle.cli_common.specs.Status.{kind_status}
@@ -7,16 +7,17 @@ use Rattle.couch_relay.specs.declared.options.NoOptions.TheVariants.{Words, NoNu
 use Rattle.couch_relay.specs.declared.run.Ended.{Ended}
 use Rattle.couch_relay.specs.declared.run.Ended.TheVariants as end
 
--- The exit status of a command line that starts no run: 0 if `cli_common` gives the status 0, otherwise 3.
+-- The exit status if the command line starts no run: 0 if `cli_common` returns the status 0, otherwise 3.
 abbrev pub usage_status : ℕ → ℕ
 usage_status status = if status == 0 then 0 else 3
 
--- The exit status of a run: the status of its last request, or 3 if a fault stopped the run.
+-- The exit status of a run, or 3 if a fault stopped the run.
 abbrev pub exit_status : Result ℕ ScriptFault → ℕ
 exit_status (Ok status) = status
 exit_status (Err fault) = 3
 
--- The exit status of the program, which is 3 if the arguments neither give options nor request help.
+-- The exit status of the program. The exit status is 3 if the arguments give no options, except for requests for help
+-- or the version.
 abbrev pub ended_status : Ended → ℕ
 ended_status (end.NotRun (Words error)) = usage_status (kind_status (kind_of error))
 ended_status (end.NotRun NoNumber) = 3

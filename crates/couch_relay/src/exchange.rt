@@ -1,4 +1,4 @@
-//! Sends a request to any writer, and receives the response to the request from any reader.
+//! Writes a request to a given writer, and reads the response to the request from a given reader.
 ghost use Rattle.std.specs.Prelude.{◌≡◌, ◌++◌, ℕ, List, IfOk, OnOk, OnErr};
 ghost use Rattle.std.specs.Io.KnownBytes.{Appends, Keeps};
 ghost use Rattle.relay_core.specs.Views.{request_view};
@@ -14,7 +14,7 @@ use relay_responses::read_response;
 use script_engine::{ScriptFault, ScriptRead, ScriptWrite, write_all};
 use std::alloc::Global;
 
-/// A response, and the date in the first line of the response.
+/// A response, with the date from the response's first line.
 #[derive(Drop)]
 pub(crate) struct Dated {
     pub(crate) response: Response,
@@ -59,7 +59,7 @@ pub(crate) fn send<W: ScriptWrite>(
     pass_on(writer)
 }
 
-/// Reads the response to a request from the reader. Returns `None` if the input has no further response.
+/// Reads the response to a request from the reader. Returns `None` if the input has no further complete response.
 pub(crate) fn receive<R: ScriptRead>(
     alloc: Global,
     request: &Request<'_>,

@@ -10,7 +10,7 @@ use script_engine::{ScriptFault, ScriptRead};
 use std::alloc::{AllocError, Global};
 use std::str;
 
-/// The input bytes that were read, and the index of the first unused byte.
+/// The input bytes that the relay has read, with the index of the first unused byte.
 #[derive(Drop)]
 pub(crate) struct Inbox {
     buffer: Vec<u8>,
@@ -27,7 +27,7 @@ pub(crate) struct Head {
     pub(crate) date: String,
 }
 
-/// Returns the server that is named `source` or `target`.
+/// Returns the server with the given name, `source` or `target`.
 fn side_of(name: &str) -> Option<Side>
     ensures { result ≡ side_in name.now }
 {
@@ -115,7 +115,7 @@ fn line_len(bytes: &[u8]) -> usize
 const CHUNK: usize = 65536;
 
 impl Inbox {
-    /// Creates an inbox that has read nothing.
+    /// Creates an inbox without input bytes.
     pub(crate) fn new(alloc: Global) -> Result<Inbox, AllocError>
         ensures inbox { IfOk result IsInbox }
         ensures pending { IfOk result (λ inbox. pending inbox ≡ []) }
@@ -187,7 +187,7 @@ impl Inbox {
         Ok(head)
     }
 
-    /// Reads until `size` input bytes are available, and returns false if the input ends before.
+    /// Reads until `size` unused input bytes are available, and returns false if the input ends earlier.
     pub(crate) fn has<R: ScriptRead>(
         &mut self,
         reader: &mut R,

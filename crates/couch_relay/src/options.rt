@@ -50,10 +50,10 @@ pub(crate) struct Options<'a> {
     pub(crate) choice: bool,
 }
 
-/// The reason why a command line gives no options.
+/// The reason why the options cannot be read from the command line.
 #[derive(Drop)]
 pub(crate) enum NoOptions {
-    /// `clap`'s error, which includes requests for help.
+    /// `clap`'s error. A request for help is also an error of `clap`.
     Words(Error),
     /// The value of an option is not a number, although `clap` has already checked that the value is a number.
     NoNumber,
@@ -69,7 +69,7 @@ impl From<AllocError> for NoOptions {
     }
 }
 
-/// Defines a positional argument that must be given.
+/// Defines a required positional argument.
 fn required<'a>(alloc: Global, name: &'a str, help: &'a str) -> Arg<'a>
     ensures rule { rule_of result ≡ argument name.entry.now }
     ensures local { result.global ≡ false }
@@ -243,7 +243,7 @@ fn number_of(matches: &ArgMatches<'_>, name: &str, default: u64) -> Result<u64, 
     }
 }
 
-/// Returns the options that the command line gives, with defaults for absent options.
+/// Returns the options that the command line gives, with default values for absent options.
 ///
 /// # Errors
 ///

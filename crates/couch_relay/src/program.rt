@@ -22,15 +22,15 @@ pub(crate) fn run_program<H: AllocGlobal + Env + Input + Print + Eprint>(rt: &H)
     }
 }
 
-/// Returns the exit status of a command line that starts no run: 0 for help, and otherwise 3.
+/// Returns the exit status if the command line starts no run. Maps the status 0 to 0, and any other status to 3.
 fn usage_status(status: u8) -> u8
     ensures { result ≡ usage_status status }
 {
     if status == 0 { 0 } else { 3 }
 }
 
-/// Runs the program on standard input and standard output. Returns how the run ended, the reader and the writer. The
-/// contract says which bytes the call read and wrote.
+/// Runs the program on standard input and standard output. Returns three values: the result of the run, the reader, and
+/// the writer. The contract says which bytes the call read and wrote.
 ///
 /// # Errors
 ///
@@ -54,7 +54,7 @@ where
     Ok((ended, reader, writer.into_inner()))
 }
 
-/// Reports why a run did not begin or did not end, and returns the exit status.
+/// If a run did not begin, or if a fault stopped the run, reports the reason. Returns the exit status.
 fn report_end<H: Print + Eprint>(rt: &H, ended: &Ended) -> u8
     ensures { result ≡ ended_status ended.now }
 {
@@ -71,7 +71,7 @@ fn report_end<H: Print + Eprint>(rt: &H, ended: &Ended) -> u8
     }
 }
 
-/// If a run had a fault, reports the fault on standard error. The call returns the exit status.
+/// If a fault stopped a run, reports the fault on standard error. Returns the exit status.
 fn report_run(rt: &impl Eprint, ended: &Result<u8, ScriptFault>) -> u8
     ensures { result ≡ exit_status ended.now }
 {

@@ -16,10 +16,10 @@ use script_engine::{ScriptFault, ScriptRead, ScriptWrite};
 use std::alloc::{AllocError, Global};
 use std::str;
 
-/// The way in which a run of the program ended.
+/// The result of a run of the program.
 #[derive(Drop)]
 pub(crate) enum Ended {
-    /// The arguments give no options, and nothing was read or written.
+    /// The options cannot be read from the arguments, and the program has read and written nothing.
     NotRun(NoOptions),
     /// The exit status of a run, or the fault that stopped the run.
     Ran(Result<u8, ScriptFault>),
@@ -134,7 +134,7 @@ fn request_options(
     })
 }
 
-/// Returns the exit status after a request, if the request is the last request of the run.
+/// If the request ends the run, returns the exit status of the run.
 fn status_of(request: &Request<'_>) -> Option<u8>
     ensures { result ≡ status_after (request_view request.now) }
 {
@@ -211,8 +211,8 @@ fn choice_of<R: ScriptRead>(
 /// # Errors
 ///
 /// Returns `Read` if the reader failed, or after 2^64 - 1 requests. Returns `Write` if the writer failed. Returns
-/// `Memory` if an allocation failed. If the call returns an error, the output is the requests of the complete
-/// exchanges, and at most a prefix of one more request.
+/// `Memory` if an allocation failed. After an error, the output is empty, or has the requests of the complete exchanges
+/// and then a prefix of one more request.
 pub(crate) fn run<R: ScriptRead, W: ScriptWrite>(
     alloc: Global,
     options: &Options<'_>,

@@ -1,4 +1,4 @@
--- The options of `couch_replicate` and their values, as specified in docs/PROFILE.md, "Options".
+-- The options of `couch_replicate`, and the values of the options, as specified in docs/PROFILE.md, "Options".
 use Rattle.std.specs.Prelude.{◌≡◌, ◌^◌, ◌<◌, ℕ, List, Bool, Option, Some, None, codes, option_map, string_bytes, true, false}
 use Rattle.std.specs.Str.Parse.{without_leading_plus, IsNumeral, digits_value}
 use Rattle.clap.specs.Words.{App, HasKind, Rule, fault_of, first_of, one_of, matches_of, new_rule, with_rule}
@@ -53,15 +53,15 @@ Says words o = AreOptions (λ id. first_of id (matches_of options words)) (λ id
 
 -- ---- arguments without settings
 
--- Why the texts of the options give no settings: no settings match the texts, there is a positional argument, or an
--- allocation failed.
+-- The reason why the texts of the options give no settings: no settings match the texts, there is a positional
+-- argument, or an allocation failed.
 abbrev pub SetNothing : (List ℕ → Option (List ℕ)) → (List ℕ → Option (List ℕ)) → NoSettings → Type 0
 SetNothing text number (Words error) = ⊥
 SetNothing text number NoNumber = (s : Settings) → AreSettings text number s → ⊥
 SetNothing text number File = text (codes "file") ≡ None → ⊥
 SetNothing text number Memory = Unit {0}
 
--- Why the arguments give no options: they cause an error of `clap`, no options match the arguments, there is a
+-- The reason why the arguments give no options: `clap` returns an error, no options match the arguments, there is a
 -- positional argument, or an allocation failed.
 abbrev pub Refuses : List (List ℕ) → NoSettings → Type 0
 Refuses words (Words error) = HasKind (fault_of options words) error

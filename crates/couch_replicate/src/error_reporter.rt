@@ -101,8 +101,8 @@ impl<'a, H: Eprint + Clock> ErrorReporter<'a, H> {
         }
     }
 
-    /// If errors are explained, warns about options with invalid values (docs/PROFILE.md, "Limits"). With such a value,
-    /// `replicate` and `sync` commands without their own value fail.
+    /// If errors are explained, warns about options with invalid values (docs/PROFILE.md, "Limits"). If an option has
+    /// an invalid value, each `replicate` or `sync` line that does not override the value fails.
     pub(crate) fn warn(&self, settings: &Settings) {
         if !self.explains {
             return;

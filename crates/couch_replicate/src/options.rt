@@ -1,4 +1,4 @@
-//! The command line: its options, and usage errors (docs/PROFILE.md, "Options").
+//! Defines the options, and parses the command line (docs/PROFILE.md, "Options").
 ghost use Rattle.std.specs.Prelude.{◌≡◌, ℕ, IfOk, IfErr, map, string_bytes, false};
 ghost use Rattle.clap.specs.Words.{app_of, found_of, first_value, one_text, rule_of};
 ghost use Rattle.couch_replicate.specs.declared.options.NoSettings.TheVariants.{NoNumber, Memory};
@@ -86,7 +86,7 @@ pub struct Options {
 /// The reason why a command line gives no settings.
 #[derive(Drop)]
 pub enum NoSettings {
-    /// `clap`'s error, which includes requests for help.
+    /// An error of `clap`. A request for help or for the version is also an error of `clap`.
     Words(Error),
     /// The value of an option is not a number, although `clap` has checked that the value is a number.
     NoNumber,

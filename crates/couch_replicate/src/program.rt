@@ -1,4 +1,4 @@
-//! Runs the program with its arguments and its standard streams, and determines its exit status.
+//! Runs the program with the given arguments and standard streams, and determines the exit status.
 ghost use Rattle.std.specs.Prelude.{◌≡◌, ◌≤◌, ℕ, List, Some, IfOk, map, string_bytes};
 ghost use Rattle.couch_replicate.specs.RunWords.{RunsStandard};
 ghost use Rattle.couch_replicate.specs.Status.{ended_status, status_of};
@@ -34,8 +34,8 @@ where
     }
 }
 
-/// Runs the program on standard input and output. Returns how the run ended, and both streams. The contract names the
-/// bytes that went through the streams.
+/// Runs the program on standard input and output. Returns three values: the result of the run, the reader, and the
+/// writer. The contract says which bytes the call read and wrote.
 ///
 /// # Errors
 ///
@@ -60,7 +60,7 @@ where
     Ok((ended, reader, writer.into_inner()))
 }
 
-/// Reports how a run ended, unless the run succeeded, and returns the exit status.
+/// Reports the error of a run that failed, and returns the exit status.
 fn tell<H: Print + Eprint>(rt: &H, ended: &Ended) -> u8
     ensures { result ≡ ended_status ended.now }
 {

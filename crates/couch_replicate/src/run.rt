@@ -16,7 +16,8 @@ use std::thread::Threads;
 pub enum Ended {
     /// No script was run, because the arguments give no settings.
     NotRun(NoSettings),
-    /// A script was run. The result is whether no line failed, or the fault that stopped the script early.
+    /// A script was run. The value in `Ok` is true if no line failed. The value in `Err` is the fault that stopped the
+    /// script early.
     Ran(Result<bool, ScriptFault>),
 }
 

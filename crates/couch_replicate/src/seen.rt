@@ -7,7 +7,7 @@ use std::str;
 pub(crate) struct Seen {
     /// The number of successful `load` and `edit` lines.
     pub(crate) writes: u64,
-    /// The number of sessions that reached their goal or were stopped by their plan.
+    /// The number of sessions that reached the session's goal, or that stopped because of `stop_after`.
     pub(crate) sessions: u64,
     /// The number of documents read by the sessions that reached their goal.
     pub(crate) read: u64,
@@ -26,8 +26,8 @@ impl Seen {
         }
     }
 
-    /// Counts the output of a line, or the first piece of that output. The output of `load` and `edit` is empty if the
-    /// program is quiet.
+    /// Adds the output of a line, or the output's first piece, to the counts. The output of `load` and `edit` is empty
+    /// if the program is quiet.
     pub(crate) fn note(&mut self, answer: &[u8]) {
         let Ok(text) = str::from_utf8(answer) else {
             return;
@@ -42,7 +42,7 @@ impl Seen {
         }
     }
 
-    /// Counts the output of a `replicate` or a `sync` line.
+    /// Adds the output of a `replicate` or `sync` line to the counts.
     fn note_sessions(&mut self, text: &str) {
         let mut before = "";
         for word in text.split_whitespace() {

@@ -157,8 +157,8 @@ pub record IsPictured (form : Form) (db : Option (List ℕ)) (clean : Bool) (lef
 abbrev pub BeginsPicture : (List ℕ → Type 0) → List ℕ → Type 0
 BeginsPicture holds text = (head : List ℕ) × Draws [] head [] × (drawn : List ℕ) × holds drawn × (text ≡ head ++ drawn)
 
--- The text of a picture that is written before an error. After the errors `Read` and `Memory` each drawing is complete,
--- and after `Cut` the text ends within a drawing.
+-- The text of a picture that is written before an error. After the errors `Read` and `Memory`, each drawing is
+-- complete. After the error `Cut`, the text ends within a drawing.
 abbrev pub IsDrawnUntil : ScriptFault → Form → Option (List ℕ) → List ℕ → List ℕ → Type 0
 IsDrawnUntil Read form db input text = BeginsPicture (AnswersFirst Pictures (first_sketch form db) input) text
 IsDrawnUntil Write form db input text = ⊤

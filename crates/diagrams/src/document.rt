@@ -34,8 +34,8 @@ impl Leaf {
 }
 
 /// Compares two leaves in the order of drawing. Leaves that share more revisions with the winner come first. Leaves
-/// that share the same number of revisions with the winner are ordered by their ancestors, compared from the oldest
-/// ancestor on. In this order, all leaves that share a revision are adjacent.
+/// that share the same number of revisions with the winner are ordered by their ancestors, beginning with the oldest
+/// ancestor. In this order, all leaves that share a revision are adjacent.
 fn order_of(ancestries: &Ancestries, one: &Leaf, other: &Leaf) -> Ordering {
     if one.apart != other.apart {
         return one.apart.cmp(&other.apart);
@@ -53,8 +53,8 @@ pub struct Document {
     pub id: String,
     /// The number of leaves.
     pub count: u64,
-    /// The leaves that were read. The leaves have the order of reading, winner first, or, after `sort`, the order of
-    /// drawing.
+    /// The leaves that were read. Before `sort`, the leaves are in the order of reading, winner first. After `sort`,
+    /// the leaves are in the order of drawing.
     pub leaves: Vec<Leaf>,
     /// The known ancestries of the leaves.
     pub ancestries: Ancestries,

@@ -287,7 +287,7 @@ fn put_svg_bar(out: &mut Vec<u8>, part: u64, whole: u64) -> Result<(), AllocErro
     out.extend_from_slice(b"</text>\n")
 }
 
-/// Appends the text of two numbers, a part and its total.
+/// Appends a part and its total as text, for example `3 of 5`.
 fn put_ratio(out: &mut Vec<u8>, part: u64, whole: u64) -> Result<(), AllocError>
     ensures { OnOk result (out.new.items ≡ out.old.items ++ ratio part whole) }
 {

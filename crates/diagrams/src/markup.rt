@@ -50,7 +50,7 @@ pub enum Markup {
     /// The markup between the full id and the short id of an ancestor.
     Ancestor,
     Folded,
-    /// The SVG markup for a position of a row whose revision is unknown.
+    /// The SVG markup for a position of a row at which the revision is unknown.
     NodeNone,
     /// The markup after the short id of a revision.
     NodeEnd,

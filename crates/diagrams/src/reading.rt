@@ -48,7 +48,8 @@ pub fn next(
     }
 }
 
-/// Returns the document if its lines are still being read after a `leaf` line, and the item that the line completes.
+/// Adds the leaf of a `leaf` line to the document. Returns the document as open if further leaves follow, or else as a
+/// complete item. If `revs` is empty, the call drops the document.
 fn read_leaf(
     alloc: Global,
     mut document: Document,

@@ -69,7 +69,7 @@ fn draw_edits(
     draw_edits_of(out, db, id, leaves)
 }
 
-/// Draws the commands that resolve the conflict.
+/// Draws the commands that resolve the document's conflict.
 fn draw_edits_of(out: &mut Vec<u8>, db: &str, id: &str, leaves: &[Leaf]) -> Result<(), AllocError>
     ensures { OnOk result (Draws out.old.items out.new.items (flat_map (edit_of db.now id.now) leaves.now)) }
 {

@@ -2,7 +2,7 @@
 use Rattle.std.specs.Prelude.{◌≡◌, ℕ, List, ◌++◌, codes, decimal, encode_utf8_all}
 use Rattle.visible_text.specs.Visible.{IsSeen}
 
--- The new text is the old text followed by UTF-8 without hidden characters, and therefore without a line end.
+-- The new text is the old text followed by UTF-8 without hidden characters. A line end is a hidden character.
 abbrev pub AddsSeen : List ℕ → List ℕ → Type 0
 AddsSeen old new = (more : List ℕ) × IsSeen more × (new ≡ old ++ encode_utf8_all more)
 

@@ -150,7 +150,7 @@ pub(crate) enum CommandFault<'v> {
     NoWord,
     /// The command is unknown.
     UnknownWord(&'v str),
-    /// The object has a member with a name that is not a member of the command. The variant has that name.
+    /// The object has a member that the command does not have. The variant has the member's name.
     UnknownMember(&'v str),
     /// A required member is missing.
     Missing(&'static str),
@@ -175,7 +175,7 @@ pub(crate) fn fault_of<'v>(object: &'v LineValue<'_>) -> CommandFault<'v> {
     }
 }
 
-/// Returns the members of a command, if a command has this name.
+/// Returns the members of the command with the given name, or `None` if no command has this name.
 fn members_of(word: &str) -> Option<&'static [Member]> {
     for row in WORDS {
         if is_same_text(word, row.0) {

@@ -10,9 +10,9 @@ use itoa::Buffer;
 use json_values::{LineValue, ValueReader, is_same_text};
 use std::alloc::{AllocError, Global};
 
-/// Appends an explanation: the line's number, the error name, the part at fault if the line shows it, and the name's
-/// meaning (docs/PROFILE.md, "Names of refusals"). The part at fault is a command, a member, a document or a database.
-/// The explanation quotes strings of the line as JSON strings.
+/// Appends an explanation: the line's number, the error name, the part at fault if this part is known, and the meaning
+/// of the error name (docs/PROFILE.md, "Names of refusals"). The part at fault is a command, a member, a document or a
+/// database. The explanation quotes strings of the line as JSON strings.
 ///
 /// The contract guarantees that the explanation is one line without hidden characters. The contract does not say which
 /// text explains the reason of the error.

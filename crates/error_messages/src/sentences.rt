@@ -130,7 +130,7 @@ static SENTENCES: &[(&str, &str)] = &[
     ("UuidTaken", "another database has that UUID"),
 ];
 
-/// Returns the meaning of an error name, or a text that says that the name has no meaning.
+/// Returns the meaning of an error name, or the text `no line fails with this name` if the table omits the name.
 pub(crate) fn sentence_of(name: &str) -> &'static str {
     for row in SENTENCES {
         if is_same_text(name, row.0) {

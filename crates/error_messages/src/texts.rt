@@ -12,7 +12,7 @@ pub(crate) fn push_words(text: &mut String, words: &str) -> Result<(), AllocErro
     push_visible(text, words)
 }
 
-/// Appends a text, and a string of the line as a JSON string without hidden characters.
+/// Appends the text `words`, and then the string `name` as a JSON string without hidden characters.
 pub(crate) fn push_named(text: &mut String, words: &str, name: &str) -> Result<(), AllocError>
     ensures { OnOk result (AddsSeen (string_bytes text.old) (string_bytes text.new)) }
 {
@@ -20,7 +20,7 @@ pub(crate) fn push_named(text: &mut String, words: &str, name: &str) -> Result<(
     push_json(text, name)
 }
 
-/// Appends a string as JSON, with no hidden character.
+/// Appends a string as a JSON string without hidden characters.
 fn push_json(text: &mut String, name: &str) -> Result<(), AllocError>
     ensures { OnOk result (AddsSeen (string_bytes text.old) (string_bytes text.new)) }
 {

@@ -10,16 +10,16 @@ use Rattle.line_reader.specs.Lines.{AreLines, joined}
 abbrev pub Steps : Type 0 → Type 1
 Steps S = S → List ℕ → List ℕ → S → Type 0
 
--- A task that begins in the state `start` and reads the given lines in order appends the given text, and ends in the
--- given state.
+-- If a task begins in the state `start` and reads the given lines in order, the task appends the given text, and ends
+-- in the given state.
 pub data Runs {S : Type 0} (steps : Steps S) (start : S) : List (List ℕ) → List ℕ → S → Type 0 where
   none : Runs steps start [] [] start
   more : {lines : List (List ℕ)} {text : List ℕ} {mid : S} (line added : List ℕ) (new : S)
       → Runs steps start lines text mid → steps mid line added new → Runs steps start (lines ++ line ∷ []) (text ++ added) new
 
 -- A task that began in the state `start` has read each complete line of the bytes `taken`, and the writer has the
--- task's text. The bytes `begun` are the end of `taken` after the last line end. The arguments `held` and `held'` are
--- the bytes that the writer had accepted before and after the task read these lines.
+-- task's text. The bytes `begun` are the part of `taken` after the last line end. The arguments `held` and `held'` are
+-- the bytes that the writer had accepted before and after the task read the lines.
 pub record HasRun {S : Type 0} (steps : Steps S) (start : S) (held : Option (List ℕ)) (taken : List ℕ) (state : S)
     (begun : List ℕ) (held' : Option (List ℕ)) : Type 0 where
   pub lines : List (List ℕ)
@@ -44,7 +44,7 @@ pub record IsDoneOn {S : Type 0} (steps ends : Steps S) (start : S) (given : Lis
   pub ended : ends last rest last_text state
   pub written : Appends held held' (text ++ last_text)
 
--- A task has run over all bytes that the reader had left before the run (`left`).
+-- A task has run over all bytes that the reader had not yet returned before the run (`left`).
 abbrev pub IsDone : {S : Type 0} → Steps S → Steps S → S → Option (List ℕ) → Option (List ℕ) → S → Option (List ℕ) → Type 0
 IsDone steps ends start left held state held' = IsDoneOn steps ends start (Gives left) held state held'
 
@@ -65,8 +65,9 @@ IsFront {S} false steps ends state rest front =
     ⊎ ((line after back : List ℕ) × (new : S) × (rest ≡ line ++ 10 ∷ after) × (has_line_end line ≡ false)
     × steps state line (front ++ back) new)
 
--- An error stopped a task. After the error, the writer has the text of the input's first lines, and then a prefix of
--- the next text (`IsFront`). The predicate `given` is true of the input that was read.
+-- An error stopped a task. After the error, the writer has the task's text for the input's first lines, and then a
+-- prefix of the next text (`IsFront`). The next text belongs to the next line or to the input's end. The predicate
+-- `given` is true of the input that was read.
 pub record IsStoppedOn {S : Type 0} (at_end : Bool) (steps ends : Steps S) (start : S) (given : List ℕ → Type 0)
     (held held' : Option (List ℕ)) : Type 0 where
   pub input : List ℕ
@@ -82,8 +83,8 @@ pub record IsStoppedOn {S : Type 0} (at_end : Bool) (steps ends : Steps S) (star
   pub is_front : IsFront at_end steps ends state rest front
   pub written : Appends held held' (text ++ front)
 
--- An error stopped a task. The writer may have a part of the text of the input's end only if the statement `ended` is
--- true, which says that the input has ended.
+-- An error stopped a task. The statement `ended` says that the input has ended. The writer may have a part of the
+-- task's text for the input's end only if `ended` is true.
 abbrev pub HasStopped : {S : Type 0} → Steps S → Steps S → S → Type 0 → Option (List ℕ) → Option (List ℕ) → Option (List ℕ)
     → Option (List ℕ) → Type 0
 HasStopped steps ends start ended taken taken' held held' =
@@ -91,22 +92,24 @@ HasStopped steps ends start ended taken taken' held held' =
 
 -- ---- output determined by lines
 
--- A statement about the lines that a task has read, the text that the task has appended, and the task's state.
+-- The type of statements about the lines that a task has read, the text that the task has appended, and the task's
+-- state.
 abbrev pub Kept : Type 0 → Type 1
 Kept S = List (List ℕ) → List ℕ → S → Type 0
 
--- A statement, at the end of the input, about the input's lines, the bytes after the last line end, the task's text,
--- and the task's state.
+-- The type of statements about a task at the input's end: about the input's lines, the bytes after the last line end,
+-- the task's text, and the task's state.
 abbrev pub Ended : Type 0 → Type 1
 Ended S = List (List ℕ) → List ℕ → List ℕ → S → Type 0
 
--- The effect of a line: if the statement `kept` is true before the task reads the line, `kept` is true afterwards.
+-- The step that a task makes for a line: if the statement `kept` is true before the task reads the line, `kept` is true
+-- afterwards.
 abbrev pub StepsBy : {S : Type 0} → Kept S → Steps S
 StepsBy {S} kept old line added new =
     (lines : List (List ℕ)) (text : List ℕ) → kept lines text old → kept (lines ++ line ∷ []) (text ++ added) new
 
--- The effect of the input's end: if the statement `kept` is true before the task reads the end, the statement `ended`
--- is true afterwards.
+-- The step that a task makes at the input's end: if the statement `kept` is true before the task reads the end, the
+-- statement `ended` is true afterwards.
 abbrev pub EndsBy : {S : Type 0} → Kept S → Ended S → Steps S
 EndsBy {S} kept ended old rest added new =
     (lines : List (List ℕ)) (text : List ℕ) → kept lines text old → ended lines rest (text ++ added) new
@@ -117,8 +120,8 @@ HasPrinted {S} ended input text state =
     (lines : List (List ℕ)) × (rest : List ℕ) × AreLines input lines rest × ended lines rest text state
 
 -- The output `text` of a task that an error stopped is a prefix of the output for the input's first lines, or of the
--- output for the complete input. The text can be a prefix of the output for the complete input only if the statement
--- `all` is true, which says that the input was read to its end.
+-- output for the complete input. The statement `all` says that the input was read to the end. The text can be a prefix
+-- of the output for the complete input only if `all` is true.
 abbrev pub HasPrintedPart : {S : Type 0} → Kept S → Ended S → Type 0 → List ℕ → List ℕ → Type 0
 HasPrintedPart {S} kept ended all input text =
     ((lines : List (List ℕ)) × (rest back : List ℕ) × (state : S) × (input ≡ joined lines ++ rest)

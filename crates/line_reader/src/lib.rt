@@ -1,4 +1,4 @@
-//! Reads an input line by line, or completely, for tasks that write text.
+//! Reads an input line by line, or the complete input at once, for tasks that write text.
 #![tactic(auto)]
 
 mod run;

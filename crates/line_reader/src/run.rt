@@ -1,4 +1,4 @@
-//! Runs a task over the lines of a reader.
+//! Runs a task over the lines that a reader returns.
 ghost use Rattle.std.specs.Prelude.{◌≡◌, ◌∷◌, [], ◌++◌, ℕ, List, Option, Bool, IfErr, OnErr, OnOk, false};
 ghost use Rattle.std.specs.Io.KnownBytes.{IsAtEnd};
 ghost use Rattle.script_engine.specs.Chunks.{AreChunks};
@@ -19,7 +19,7 @@ struct Progress {
     text: Vec<u8>,
 }
 
-/// Passes the current line to the task when the line ends, and writes the task's text.
+/// Passes the current line, which has ended, to the task, and writes the text that the task appends.
 fn end_line<T: LineTask, W: ScriptWrite>(
     task: &mut T,
     progress: &mut Progress,
@@ -51,7 +51,7 @@ fn take_in(progress: &mut Progress, bytes: &[u8]) -> Result<(), AllocError>
     progress.begun.extend_from_slice(bytes)
 }
 
-/// Passes each line that ends in the given bytes to the task, and writes the task's text.
+/// Passes each line whose line end is in the given bytes to the task, and writes the text that the task appends.
 fn feed<T: LineTask, W: ScriptWrite>(
     task: &mut T,
     progress: &mut Progress,
@@ -80,7 +80,7 @@ fn feed<T: LineTask, W: ScriptWrite>(
     Ok(())
 }
 
-/// Passes the end of the input to the task, and writes the task's text.
+/// Passes the rest of the input after the last line end to the task, and writes the text that the task appends.
 fn finish<T: LineTask, W: ScriptWrite>(
     task: &mut T,
     progress: &mut Progress,
@@ -103,8 +103,8 @@ fn finish<T: LineTask, W: ScriptWrite>(
     }
 }
 
-/// Passes all lines of a reader to a task, and writes the task's text. Only the current line and the task's state are
-/// held in memory.
+/// Passes all lines that a reader returns to a task, and writes the text that the task appends. Memory holds only the
+/// current line and the task's state.
 ///
 /// # Errors
 ///
@@ -112,8 +112,8 @@ fn finish<T: LineTask, W: ScriptWrite>(
 /// `Write` if the writer failed in this call. Returns `Memory` if an allocation failed, or if a count of the task is at
 /// its maximum.
 ///
-/// After an error, the writer has the text of the first lines, and then a prefix of the text of the next line or of the
-/// input's end.
+/// After an error, the writer has the task's text for the input's first lines, and then a prefix of the next text. The
+/// next text belongs to the next line or to the input's end.
 pub fn run_task<T: LineTask, R: ScriptRead, W: ScriptWrite>(
     alloc: Global,
     task: &mut T,

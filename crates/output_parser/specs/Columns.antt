@@ -7,7 +7,7 @@ use Rattle.output_parser.specs.declared.told.Column.TheVariants as columns
 use Rattle.output_parser.specs.declared.told.Table.{Table}
 use Rattle.output_parser.specs.declared.told.Table.TheVariants as tables
 
--- The text before a column's number in a line of numbers, without the blank directly before the number.
+-- The caption of a column in a line of numbers, without the blank between the caption and the number.
 abbrev pub column_text : Column → List ℕ
 column_text columns.ComparedDocuments = codes "compared"
 column_text columns.ComparedLeaves = codes " documents"
@@ -30,7 +30,7 @@ column_text columns.Read = codes " read"
 column_text columns.Written = codes " written"
 column_text columns.Failed = codes " failed"
 
--- The columns of a kind of line with numbers, in order.
+-- The columns of the given kind of line, in order.
 abbrev pub columns_of : Table → List Column
 columns_of tables.Compared =
     columns.ComparedDocuments ∷ columns.ComparedLeaves ∷ columns.ComparedMissing ∷ columns.Contradicting ∷ columns.Differing ∷ []
@@ -47,8 +47,8 @@ pub record EndsIn (column : Column) (n : ℕ) (front text : List ℕ) : Type 0 w
   pub form : text ≡ front ++ named (column_text column) word
   pub number : IsNumber word n
 
--- The text ends with the given columns and numbers, listed from the last column, and `front` is the text before these
--- columns.
+-- The text ends with the given columns, which have the given numbers, the last column first. The text before the
+-- columns is `front`.
 abbrev pub Ends : List Column → List ℕ → List ℕ → List ℕ → Type 0
 Ends columns numbers front text = InTurn EndsIn columns numbers front text
 

@@ -13,7 +13,7 @@ use Rattle.output_parser.specs.declared.told.Table.{Table}
 use Rattle.output_parser.specs.declared.told.Told.{Told}
 use Rattle.output_parser.specs.declared.told.Told.TheVariants as told
 
--- A line `doc ID winner REV leaves N revs N`, in which the id is the text before the last six words.
+-- A line `doc ID winner REV leaves N revs N`, in which the id is the text between `doc` and the last six words.
 pub record IsDocLine (line id : List ℕ) (count : ℕ) : Type 0 where
   pub winner : List ℕ
   pub leaves : List ℕ
@@ -30,7 +30,7 @@ abbrev pub state_text : Bool → List ℕ
 state_text true = codes "live "
 state_text false = codes "deleted "
 
--- The texts of a line `leaf REV live REVS` or `leaf REV deleted REVS`.
+-- The parts of a line `leaf REV live REVS` or `leaf REV deleted REVS`.
 pub record LeafParts (line own : List ℕ) (live : Bool) (list : List ℕ) : Type 0 where
   pub word : lacks 32 own ≡ true
   pub form : line ≡ codes "leaf " ++ (own ++ 32 ∷ (state_text live ++ list))
@@ -49,7 +49,7 @@ pub record IsLeafLine (line : List ℕ) (live : Bool) (revs : List RevId) : Type
   pub falls : FallsByOne revs
   pub begins : BeginsWith own revs
 
--- The texts of a line with a keyword, a blank, an id, a blank and a list of revisions.
+-- The parts of a line that consists of a keyword, a blank, an id, a blank and a list of revisions.
 pub record ListedParts (word line id list : List ℕ) : Type 0 where
   pub lacks_blank : lacks 32 list ≡ true
   pub form : line ≡ word ++ (id ++ 32 ∷ list)
@@ -60,7 +60,7 @@ pub record IsListed (word line id : List ℕ) (revs : List RevId) : Type 0 where
   pub parts : ListedParts word line id list
   pub listed : IsRevs list revs
 
--- The first word of a line `missing ID REVS`, `contradicts ID REV` or `differs ID REVS`, with a blank.
+-- The first word and the first blank of a line `missing ID REVS`, `contradicts ID REV` or `differs ID REVS`.
 abbrev pub finding_text : Finding → List ℕ
 finding_text findings.Missing = codes "missing "
 finding_text findings.Contradicts = codes "contradicts "

@@ -7,7 +7,7 @@ use Rattle.output_parser.specs.declared.told.Entry.{Entry}
 use Rattle.output_parser.specs.declared.told.Member.{Member}
 use Rattle.output_parser.specs.declared.told.Member.TheVariants as members
 
--- The text of a log that precedes the value of a session's member. The byte after a member's value is a comma, or the
+-- The text that precedes the value of a session's member in a log. The byte after a member's value is a comma, or the
 -- quotation mark that ends a string.
 abbrev pub member_text : Member → List ℕ
 member_text members.Failed = codes "{\"doc_write_failures\":"
@@ -39,7 +39,7 @@ pub record IsMember (member : Member) (value after text : List ℕ) : Type 0 whe
   pub form : text ≡ member_text member ++ (value ++ member_end member ∷ after)
   pub lacks_end : lacks (member_end member) value ≡ true
 
--- A session in a log: its id, its start time, and its counts of documents.
+-- A session in a log, with the session's id, start time and document counts.
 pub record Logged : Type 0 where
   pub session : List ℕ
   pub begun : List ℕ
@@ -84,8 +84,8 @@ abbrev pub AreEntries : List Logged → List ℕ → List ℕ → Type 0
 AreEntries [] rest text = ⊥
 AreEntries (e ∷ es) rest text = (after : List ℕ) × IsEntry e after text × AreFurther es rest after
 
--- The text begins with the given sessions of a log, the closing bracket of their list, and the text up to the value of
--- `session_id`.
+-- The text begins with the given sessions of a log, the closing bracket of the list of sessions, and the log's next
+-- members up to the value of `session_id`.
 pub record IsHistory (text : List ℕ) (entries : List Logged) : Type 0 where
   pub tail : List ℕ
   pub listed : AreEntries entries (codes "],\"replication_id_version\":3,\"session_id\":\"" ++ tail) text

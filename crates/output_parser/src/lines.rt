@@ -111,7 +111,8 @@ fn read_leaf(alloc: Global, line: &[u8]) -> Result<Option<(bool, Vec<Rev>)>, All
     Ok(Some((live, revs)))
 }
 
-/// Splits a `leaf` line into the text of its revision, whether the leaf is live, and the text of its ancestry.
+/// Returns the parts of a `leaf` line: the text of the leaf, whether the leaf is live, and the text of the leaf's
+/// ancestry.
 fn leaf_parts(line: &[u8]) -> Option<(&[u8], bool, &[u8])>
     ensures some { IfSome result (λ x. LeafParts line.now x.0.now x.1 x.2.now) }
     ensures none { IfNone result ((own : List ℕ) (live : Bool) (list : List ℕ) → LeafParts line.now own live list → ⊥) }

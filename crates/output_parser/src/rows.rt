@@ -30,7 +30,7 @@ pub fn read_row(alloc: Global, line: &[u8], table: Table) -> Result<Option<Row>,
     }))
 }
 
-/// Returns the columns of a kind of line with numbers, the last column first.
+/// Returns the columns of the given kind of line, the last column first.
 fn columns_back(table: Table) -> &'static [Column]
     ensures { result.now ≡ reverse (columns_of table) }
 {

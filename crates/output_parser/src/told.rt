@@ -1,4 +1,4 @@
-//! The contents of a line of a script's output, and their types.
+//! Types for the contents of a line of a script's output.
 ghost use Rattle.std.specs.Prelude.{◌≡◌};
 ghost use Rattle.output_parser.specs.Lines.{finding_text};
 ghost use Rattle.output_parser.specs.Columns.{column_text, columns_of};
@@ -9,11 +9,13 @@ use rev_core::Rev;
 /// The contents of a line of a script's output.
 #[derive(Drop)]
 pub enum Told {
-    /// A document in the output of `show`, with its id in JSON and the number of `leaf` lines that follow.
+    /// A document in the output of `show`, with the document's id as a JSON string and the number of `leaf` lines that
+    /// follow.
     Document { id: String, count: u64 },
-    /// A leaf in the output of `show`: its known ancestry (the leaf first), and whether it is live.
+    /// A leaf in the output of `show`, with the leaf's known ancestry (the leaf first), and whether the leaf is live.
     Leaf { live: bool, revs: Vec<Rev> },
-    /// A document in the output of `conflicts`, with its id in JSON and its live leaves, the winner first.
+    /// A document in the output of `conflicts`, with the document's id as a JSON string and the live leaves, the winner
+    /// first.
     Conflict { id: String, revs: Vec<Rev> },
     /// A line of `compare` about a document.
     Found(Found),
@@ -66,7 +68,7 @@ pub struct Row {
     /// The database's name for a line of `info`, the session's id for a line of `replicate`, or the empty text for a
     /// line of `compare`.
     pub name: String,
-    /// The numbers of the line in the order of the columns, one for each column.
+    /// The numbers of the line, one number for each column, in the order of the columns.
     pub numbers: Vec<u64>,
 }
 
@@ -147,7 +149,7 @@ pub enum Column {
 }
 
 impl Column {
-    /// Returns the text before a column's number in a line of numbers, without the blank directly before the number.
+    /// Returns the caption of a column in a line of numbers, without the blank between the caption and the number.
     pub fn text(self) -> &'static str
         ensures { result.now ≡ column_text self }
     {

@@ -21,8 +21,8 @@ use Rattle.read_commands.specs.declared.audit.Audit.{Audit}
 
 -- ---- its parameters
 
--- The parameters of `audit`. For a selection of documents, the command checks that the target covers what the common
--- checkpoint claims.
+-- The parameters of `audit`. For a selection of documents, `audit` checks that the target covers every leaf that the
+-- common checkpoint claims.
 pub record AuditAsk : Type 0 where
   pub source : List ℕ
   pub target : List ℕ

@@ -26,7 +26,8 @@ use Rattle.read_commands.specs.declared.compare.CompareRest.{CompareRest}
 
 -- ---- its parameters
 
--- The parameters of `compare`. The command prints what a target lacks of a source's feed, for a selection of documents.
+-- The parameters of `compare`, which prints the differences between a source and a target, for a selection of
+-- documents.
 pub record CompareAsk : Type 0 where
   pub source : List ℕ
   pub target : List ℕ

@@ -23,7 +23,7 @@ FitsRest s (Compare r) = FitsCompare s r.value
 FitsRest s (Conflicts r) = FitsConflicts s r.value
 FitsRest s (Docs r) = Unit {0}
 
--- The result of a line before the first piece of its output: the complete output, or the name of the error.
+-- The result of a line that has printed nothing yet: the complete output, or the name of the error.
 abbrev pub told_from : State → Result Rest Refusal → Told
 told_from s (Ok rest) = Ok (rest_left s rest)
 told_from s (Err refusal) = Err (name_of refusal)

@@ -1,4 +1,4 @@
-//! `audit`: checks that the target covers what the common checkpoint claims.
+//! `audit`: checks that the target covers every leaf that the common checkpoint claims.
 ghost use Rattle.std.specs.Prelude.{◌≡◌, ◌++◌, OnOk};
 ghost use Rattle.repl_target.specs.Audit.{hole_of};
 ghost use Rattle.json_values.specs.LineView.{line_view};

@@ -15,7 +15,7 @@ const PIECE: usize = 65_536;
 /// A position in a changes feed.
 #[derive(Drop)]
 pub struct Walk {
-    /// The sequence up to which the rows of the feed are printed.
+    /// The sequence after which the rows of the feed are still to be printed.
     pub since: u64,
     /// The selected documents. If there is no selection, the feed has all documents.
     pub chosen: Option<Chosen>,
@@ -29,7 +29,7 @@ pub trait RowPrinter {
     /// The counts.
     type Tally;
 
-    // The text that the type prints for a row.
+    // The text that is printed for a row of the feed.
     ghost row_text: { Self → RowValue → List ℕ };
 
     // Whether a value of type `Tally` has the counts of a list of rows.

@@ -19,7 +19,7 @@ abbrev pub wait_text : Option ℕ → Text
 wait_text None = []
 wait_text (Some milliseconds) = codes "&feed=longpoll&timeout=" ++ decimal milliseconds
 
--- The parameter `filter` of a `_changes` request, unless its value is empty.
+-- The parameter `filter` of a `_changes` request, or the empty text if the filter is empty.
 abbrev pub filter_text : Text → Text
 filter_text [] = []
 filter_text (c ∷ cs) = codes "&filter=" ++ encoded (c ∷ cs)

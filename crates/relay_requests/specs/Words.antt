@@ -19,7 +19,7 @@ operation_text RevsDiff = codes "_revs_diff"
 operation_text Carry = codes "_bulk_docs"
 operation_text WriteLog = codes "PUT _local"
 
--- The form that a response to an operation must have, as a fault's message describes it.
+-- The text by which a fault's message describes the form that a response to an operation must have.
 abbrev pub expected_text : Operation → Text
 expected_text ReadLog = codes "a replication log"
 expected_text Changes = codes "a page of changes"
@@ -45,7 +45,7 @@ fault_name (refused id side status words) = codes "refused"
 fault_name (unaccounted id rev error count) = codes "unaccounted"
 fault_name log_changed = codes "log_changed"
 
--- The error of a response row in a fault's message, or the empty text if the row has no error.
+-- The error of a response row in a fault's message, or the empty text if there is no error.
 abbrev pub row_error_text : Option (Text × Text) → Text
 row_error_text None = []
 row_error_text (Some e) = codes ", " ++ e.0 ++ codes ": " ++ e.1

@@ -76,7 +76,7 @@ fn put_rev(writer: &mut Writer, rev: &Option<String>) -> Result<(), AllocError>
     }
 }
 
-/// Writes the members of a log for its session id, its recorded sequence, and its format version.
+/// Writes the members of a log for the log's session id, recorded sequence and format version.
 pub(crate) fn put_position(
     writer: &mut Writer,
     session_id: &str,
@@ -110,7 +110,7 @@ fn put_head(
     Ok(())
 }
 
-/// Returns the JSON text of a log up to the first entry of its history.
+/// Returns the JSON text of a log up to the first entry of the log's history.
 fn log_head(
     alloc: Global,
     rev: &Option<String>,

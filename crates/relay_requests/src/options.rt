@@ -1,11 +1,11 @@
-//! The options of a run that determine the text of its requests.
+//! The options of a run that determine the text of the run's requests.
 ghost use Rattle.std.specs.Prelude.{◌≡◌, IfOk, string_bytes};
 ghost use Rattle.relay_requests.specs.Logs.{log_path as log_path_of};
 
 use md5::{Digest, Md5};
 use std::alloc::{AllocError, Global};
 
-/// The options of a run that determine the text of its requests. An empty string means that the option is absent.
+/// The options of a run that determine the text of the run's requests. An empty string means that the option is absent.
 #[derive(Drop)]
 pub struct RequestOptions {
     /// The path of the replication logs, which both servers use.

@@ -18,12 +18,12 @@ last_members found (member k j ms) = last_members (insert_entry bytes_eq found k
 abbrev pub doc_of : Text → List Text → DocView
 doc_of id revs = (id, revs)
 
--- The document that a member of a `_revs_diff` response names. The name of the member is the document's id, and the
--- list `missing` in the member's value has the leaves.
+-- The document and the missing leaves that a member of a `_revs_diff` response names. The name of the member is the
+-- document's id, and the list `missing` in the member's value has the leaves.
 abbrev pub missing_at : Text × Json → Option DocView
 missing_at m = option_map (doc_of m.0) (option_and_then (each_item as_str) (items_at (codes "missing") m.1))
 
--- The documents that the members of a response name, or `None` if a member does not name a document.
+-- The documents and missing leaves that the members of a response name, or `None` if a member does not list leaves.
 abbrev pub each_missing : List (Text × Json) → Option (List DocView)
 each_missing [] = Some []
 each_missing (m ∷ ms) = with_first (missing_at m) (each_missing ms)
@@ -33,8 +33,8 @@ named_in j = option_and_then each_missing (option_map (last_members []) (as_obje
 
 -- ---- requested leaves
 
--- The requested leaves that a response names, in the order of the request, or `None` if the response names another
--- leaf.
+-- The requested leaves that a response names, in the order of the request. The result is `None` if the response names a
+-- leaf that was not requested.
 abbrev pub only_named : List DocView → List DocView → Option (List DocView)
 only_named docs named = if name_all docs named then Some (docs_where (λ id leaf. names named id leaf) docs) else None
 

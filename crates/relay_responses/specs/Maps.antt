@@ -1,4 +1,5 @@
--- The lists by which contracts describe the maps in the code. The keys of the maps are references to strings.
+-- Contracts describe the maps in the code by the lists that this file defines. The keys of the maps are references to
+-- strings.
 use Rattle.std.specs.Prelude.{List, [], Option, None, Some, map}
 use Rattle.std.specs.Borrow.{Bor}
 use Rattle.std.specs.Global.{Global}

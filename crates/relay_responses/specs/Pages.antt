@@ -14,16 +14,16 @@ is_plain_byte b = nat_le 32 b && not (b == 127)
 abbrev pub plain : Text → Option Text
 plain s = if list_all is_plain_byte s then Some s else None
 
--- The revision of a change in a row of a page.
+-- The revision of an item in the list `changes` of a row.
 abbrev pub rev_in : Json → Option Text
 rev_in j = option_and_then plain (text_at (codes "rev") j)
 
--- The given leaves of a page's row, or `None` if the row has no leaf.
+-- The given list of leaves, or `None` if the list is empty.
 abbrev pub some_leaf : List Text → Option (List Text)
 some_leaf [] = None
 some_leaf (r ∷ rs) = Some (r ∷ rs)
 
--- The id and the leaves of the document of a page's row.
+-- The document id and the leaves of a row in a page of changes.
 abbrev pub row_in : Json → Option DocView
 row_in j = both (text_at (codes "id") j) (option_and_then some_leaf (option_and_then (each_item rev_in) (items_at (codes "changes") j)))
 
@@ -32,12 +32,14 @@ rows_in j = option_and_then (each_item row_in) (items_at (codes "results") j)
 
 -- ---- rows of one document
 
--- The known leaves of a document, followed by the new leaves of the list `more`, in the order of `more`.
+-- The list `revs` of a document's known leaves, followed by the new leaves of a second list. Each new leaf is added
+-- once, in the order of the second list.
 abbrev pub add_revs : List Text → List Text → List Text
 add_revs revs [] = revs
 add_revs revs (r ∷ rs) = add_revs (if list_any (bytes_eq r) revs then revs else revs ++ r ∷ []) rs
 
--- The given documents, with the leaves of a row added to the document with the row's id.
+-- The given documents, with the leaves of a row added to the document with the row's id. If no document has this id, a
+-- new document with the row's id is added at the end.
 abbrev pub add_row : List DocView → DocView → List DocView
 add_row [] row = (row.0, add_revs [] row.1) ∷ []
 add_row (d ∷ ds) row = if bytes_eq row.0 d.0 then (d.0, add_revs d.1 row.1) ∷ ds else d ∷ add_row ds row

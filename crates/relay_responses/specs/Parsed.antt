@@ -13,7 +13,7 @@ abbrev pub response_by : (Json → ResponseView) → Parsed → ResponseView
 response_by f (parsed.Json value) = f (value_view value)
 response_by f (parsed.Fault fault) = fault_response (fault_view fault)
 
--- Each number in a parsed JSON value has the text of a JSON number.
+-- The text of each number in a parsed JSON value has the syntax of a JSON number.
 abbrev pub IsWritable : Parsed → Type 0
 IsWritable (parsed.Json value) = HasNumbers (value_view value)
 IsWritable (parsed.Fault fault) = ⊤

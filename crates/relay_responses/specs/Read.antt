@@ -51,7 +51,7 @@ with_first None xs = None
 with_first (Some x) None = None
 with_first (Some x) (Some xs) = Some (x ∷ xs)
 
--- The results of the function `reads` for all items of a list, or `None` if one item has no result.
+-- The results of the function `reads` for all items of a list, or `None` if any item has no result.
 abbrev pub each_item : {A : Type 0} → (Json → Option A) → Items → Option (List A)
 each_item reads no_items = Some []
 each_item reads (item j js) = with_first (reads j) (each_item reads js)

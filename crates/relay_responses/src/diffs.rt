@@ -78,7 +78,8 @@ fn each_missing(
     Ok(Some(docs))
 }
 
-/// Returns the requested leaves that a response names as missing, or `None` if the response names any other leaf.
+/// Returns the requested leaves that a response names as missing, or `None` if the response names a leaf that was not
+/// requested.
 fn only_named(
     alloc: Global,
     docs: &[DocLeaves],

@@ -1,4 +1,4 @@
-//! Reads the responses to the requests of the relay: docs/PROFILE.md, "Responses to the relay".
+//! Reads the responses to the relay's requests, as specified in docs/PROFILE.md, "Responses to the relay".
 #![tactic(auto)]
 
 mod diffs;

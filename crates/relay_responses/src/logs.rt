@@ -60,7 +60,7 @@ fn entries_of(alloc: Global, items: &[Value<'_>]) -> Result<Vec<LogEntry>, Alloc
     Ok(entries)
 }
 
-/// Returns the log entries of a history, or `None` if the value is not a list.
+/// Returns the log entries of a history, or `None` if the history is not a list.
 fn history_in(alloc: Global, value: &Value<'_>) -> Result<Option<Vec<LogEntry>>, AllocError>
     requires { HasNumbers (value_view value.now) }
     ensures { IfOk result (λ o. option_map (λ v. entries_view v.items) o ≡ history_of (Some (value_view value.now))) }
@@ -74,8 +74,8 @@ fn history_in(alloc: Global, value: &Value<'_>) -> Result<Option<Vec<LogEntry>>,
     }
 }
 
-/// Returns the history of a log, which is empty if the log lacks the member `history`. Returns `None` if the member is
-/// not a list.
+/// Returns the history of a log, which is empty if the log lacks the member `history`. Returns `None` if the member
+/// `history` is not a list.
 fn history_of(alloc: Global, value: &Value<'_>) -> Result<Option<Vec<LogEntry>>, AllocError>
     requires { HasNumbers (value_view value.now) }
     ensures { IfOk result (λ o. option_map (λ v. entries_view v.items) o
@@ -87,7 +87,7 @@ fn history_of(alloc: Global, value: &Value<'_>) -> Result<Option<Vec<LogEntry>>,
     }
 }
 
-/// Returns the replication log that a JSON value describes.
+/// Returns the replication log that a JSON value describes, or `None` if the value is not a log.
 pub(crate) fn log_of(alloc: Global, value: &Value<'_>) -> Result<Option<ReplicationLog>, AllocError>
     requires { HasNumbers (value_view value.now) }
     ensures { IfOk result (λ o. option_map log_view o ≡ log_in (value_view value.now)) }

@@ -17,7 +17,7 @@ use std::alloc::{AllocError, Global};
 /// The leaf revisions of documents, by document id.
 type Docs<'a> = IndexMap<&'a str, IndexSet<&'a str>>;
 
-/// Whether none of the given bytes is an ASCII control character.
+/// Whether the given bytes have no ASCII control character.
 fn are_plain(bytes: &[u8]) -> bool
     ensures { result ≡ list_all is_plain_byte bytes.now }
 {
@@ -36,7 +36,7 @@ fn plain<'a>(text: &'a str) -> Option<&'a str>
     }
 }
 
-/// Returns the revision of an item in a row's list of changes.
+/// Returns the revision of an item in the list `changes` of a row.
 fn rev_of<'v, 'a>(change: &'v Value<'a>) -> Option<&'a str>
     ensures { option_map (λ s. s.now) result ≡ rev_in (value_view change.now) }
 {
@@ -60,7 +60,7 @@ fn revs_of(alloc: Global, changes: &Vec<Value<'_>>) -> Result<Option<Vec<String>
     Ok(Some(revs))
 }
 
-/// Returns the document id and the leaf revisions of a row of changes.
+/// Returns the document id and the leaf revisions of a row in a page of changes.
 fn row_of(alloc: Global, row: &Value<'_>) -> Result<Option<DocLeaves>, AllocError>
     ensures { IfOk result (λ o. option_map doc_view o ≡ row_in (value_view row.now)) }
 {
@@ -112,7 +112,7 @@ fn known_or_empty<'a>(alloc: Global, known: Option<IndexSet<&'a str>>) -> IndexS
     }
 }
 
-/// Adds the leaves in a row of changes to the leaves of the row's document.
+/// Adds the leaves in a row to the known leaves of the row's document.
 fn add_row<'a>(alloc: Global, docs: &mut Docs<'a>, row: &'a DocLeaves) -> Result<(), AllocError>
     ensures { OnOk result (docs_in docs.new.entries ≡ add_row (docs_in docs.old.entries) (doc_view row.now)) }
 {
@@ -181,7 +181,7 @@ fn pending_of(alloc: Global, value: &Value<'_>) -> Result<Option<Option<String>>
     }
 }
 
-/// Whether a page gives the number of remaining documents, and the number is zero.
+/// Whether a page says that no documents remain after the page.
 fn is_zero(pending: &Option<String>) -> bool
     ensures { result ≡ is_zero (option_map string_bytes pending.now) }
 {

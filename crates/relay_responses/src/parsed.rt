@@ -57,7 +57,7 @@ pub(crate) fn words_of(
     }
 }
 
-/// Returns the JSON value of a response, whether its status is success or not.
+/// Returns the JSON value of a response with any status, or a fault if the body is not JSON.
 pub(crate) fn parsed_json<'a>(
     alloc: Global,
     scratch: &'a mut Scratch,
@@ -79,7 +79,7 @@ fn is_success(status: u16) -> bool
     status == 200 || status == 201 || status == 202
 }
 
-/// Returns the JSON value of a response that has a status of success.
+/// Returns the JSON value of a response with a status of success, or a fault.
 pub(crate) fn parsed_if_success<'a>(
     alloc: Global,
     scratch: &'a mut Scratch,

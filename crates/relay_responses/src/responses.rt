@@ -1,4 +1,4 @@
-//! Interprets responses by the kinds of their requests.
+//! Interprets each response according to the kind of the request.
 ghost use Rattle.std.specs.Prelude.{◌≡◌, IfOk};
 ghost use Rattle.relay_core.specs.declared.messages.Operation.TheVariants.{ReadLog};
 ghost use Rattle.relay_core.specs.Messages.{log_response};
@@ -157,7 +157,8 @@ fn side_or(who: Option<Side>, side: Side) -> Side
     }
 }
 
-/// Returns the parsed response to a request. The call interprets the response's body by the kind of the request.
+/// Returns the parsed response to a request. The call interprets the response's body according to the kind of the
+/// request.
 pub fn read_response(
     alloc: Global,
     scratch: &mut Scratch,

@@ -55,7 +55,7 @@ fn errors_of(alloc: Global, items: &Vec<Value<'_>>) -> Result<Vec<RowError>, All
     Ok(errors)
 }
 
-/// Returns the rows that report errors, or `None` if the JSON value is not a list.
+/// Returns the errors that the rows of a JSON value report, or `None` if the value is not a list.
 pub(crate) fn row_errors_of(
     alloc: Global,
     value: &Value<'_>,

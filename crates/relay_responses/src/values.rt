@@ -67,7 +67,7 @@ fn sequence_of<'v, 'a>(value: &'v Value<'a>) -> Option<&'a str>
     }
 }
 
-/// Returns an object's member with the given name, if the member is a sequence.
+/// Returns the sequence in an object's member with the given name, if the member's value is a sequence.
 pub(crate) fn sequence_at<'v, 'a>(value: &'v Value<'a>, name: &str) -> Option<&'a str>
     ensures { option_map (λ s. s.now) result ≡ sequence_at name.now (value_view value.now) }
 {
@@ -77,7 +77,7 @@ pub(crate) fn sequence_at<'v, 'a>(value: &'v Value<'a>, name: &str) -> Option<&'
     }
 }
 
-/// Returns a copy of a string that may be absent.
+/// Copies an optional string.
 pub(crate) fn copied(alloc: Global, text: Option<&str>) -> Result<Option<String>, AllocError>
     ensures { IfOk result (λ o. option_map string_bytes o ≡ option_map (λ s. s.now) text.entry) }
 {

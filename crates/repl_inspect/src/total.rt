@@ -11,11 +11,11 @@ use crate::counting::{plus, plus_if};
 pub struct Total {
     /// The number of compared documents.
     pub documents: u64,
-    /// The number of the compared documents' leaves at the source.
+    /// The number of leaves that the compared documents have at the source.
     pub leaves: u64,
     /// The number of the source's leaves that the target's trees lack.
     pub missing: u64,
-    /// The number of documents that contradict the target's tree.
+    /// The number of documents whose ancestries contradict the target's trees.
     pub contradicting: u64,
     /// The number of leaves whose contents at source and target differ.
     pub differing: u64,

@@ -26,7 +26,7 @@ recorded_of log s = option_map (λ e. e.recorded) (entry_for log s)
 
 -- ---- the effect of `put`
 
--- The given log, in which entry e replaces the entry of e's session.
+-- The log after entry e has replaced the entry of e's session.
 abbrev pub replaced : List EntryValue → EntryValue → List EntryValue
 replaced log e = map (λ x. if is_of e.session x then e else x) log
 
@@ -35,8 +35,8 @@ replaced log e = map (λ x. if is_of e.session x then e else x) log
 abbrev pub with_entry : List EntryValue → EntryValue → List EntryValue
 with_entry log e = if holds log e.session then replaced log e else e ∷ log
 
--- The result of a put of entry e into a log, given the log's entry of e's session, if the log has one. The put fails
--- with `Older` if the log's entry has a greater recorded sequence.
+-- The result of a put of entry e into a log that has the given stored entry, or no entry, of e's session. The put fails
+-- with `Older` if the stored entry has a greater recorded sequence.
 abbrev pub put_beside : EntryValue → Option EntryValue → Result (Unit {0}) LogFault
 put_beside e None = Ok tt
 put_beside e (Some stored) = if nat_lt e.recorded stored.recorded then Err (faults.Older stored.recorded) else Ok tt
@@ -45,7 +45,7 @@ put_beside e (Some stored) = if nat_lt e.recorded stored.recorded then Err (faul
 abbrev pub put_answer : List EntryValue → EntryValue → Result (Unit {0}) LogFault
 put_answer log e = put_beside e (entry_for log e.session)
 
--- The new log has entry e for the session of e, and the old entry for each other session.
+-- The new log has entry e for e's session, and the old log's entry for every other session.
 abbrev pub ChangesOnly : List EntryValue → List EntryValue → EntryValue → Type 0
 ChangesOnly old new e = (s : SessionId) → entry_for new s ≡ (if is_of s e then Some e else entry_for old s)
 
@@ -55,7 +55,7 @@ ChangesOnly old new e = (s : SessionId) → entry_for new s ≡ (if is_of s e th
 abbrev pub shared : List EntryValue → List EntryValue → Option EntryValue
 shared source target = find (λ t. holds source t.session) target
 
--- The session of the target's entry t, with the lesser of the recorded sequences of t and of the source's entry s.
+-- The session of the target's entry t, and the lesser of the sequences that t and the source's entry s record.
 abbrev pub lesser_of : EntryValue → EntryValue → SessionId × ℕ
 lesser_of t s = (t.session, min s.recorded t.recorded)
 
@@ -84,7 +84,7 @@ pub record IsCommon (source target : List EntryValue) (s : SessionId) (n : ℕ) 
   -- The checkpoint's sequence n is the lesser of the sequences that the two logs record for the session.
   pub lesser : n ≡ min at_source.recorded at_target.recorded
 
--- No session is in both logs of a replication.
+-- No session is both in the source's log and in the target's log.
 abbrev pub IsUnshared : List EntryValue → List EntryValue → Type 0
 IsUnshared source target = list_any (λ t. holds source t.session) target ≡ false
 

@@ -1,5 +1,5 @@
--- Lemmas for dependent crates about logs, which are specified in docs/PROFILE.md, "Replication ids and logs" and
--- "Common checkpoint".
+-- Lemmas about logs, for dependent crates. docs/PROFILE.md, "Replication ids and logs" and "Common checkpoint",
+-- specifies logs.
 use Rattle.std.proofs.Common.{◌≡◌, ℕ, ◌+◌, ◌≤◌, drop, slice_get, true, false, ◌||◌, nat_eq, eqb, cond, min, List, [], ◌∷◌, Option, Some, None, is_some, option_and_then, refl, sym, ap, ◌∙◌, subst, arith}
 use Rattle.std.specs.List.{list_any, IsDistinct, AllByRecursion}
 use Rattle.std.specs.Option.{option_map}
@@ -57,7 +57,7 @@ entry_for-replaced log e s held =
       | false ↦ λ other. entry_for-replaced_other log e s other
     ] refl
 
--- After a put, the log has entry e for the session of e, and the old entry for each other session.
+-- After a put of entry e, the log has e for e's session, and the old log's entry for every other session.
 pub ChangesOnly-with_entry : (log : List EntryValue) (e : EntryValue) → ChangesOnly log (with_entry log e) e
 ChangesOnly-with_entry log e s =
     elim (holds log e.session) as (λ b. holds log e.session ≡ b → entry_for (cond b (replaced log e) (e ∷ log)) s ≡ cond (is_of s e) (Some e) (entry_for log s)) [
@@ -195,14 +195,15 @@ turned source target i x is =
     at_drop_more (λ (rest : List EntryValue). common source rest) target i x (slice_get_within target i x is)
     ∙ ap (λ (y : EntryValue). common source (y ∷ drop (i + 1) target)) (get_or_from_slice_get target i x x is)
 
--- If the target's entry at index i is the first entry whose session is in the source's log, this session is the common
--- checkpoint.
+-- Suppose that the target's entries before index i do not affect the common checkpoint. If the source's log has the
+-- session of the target's entry at index i, the common checkpoint is this session, with the lesser of the session's two
+-- recorded sequences.
 pub common-at : (source target : List EntryValue) (i recorded : ℕ) (x : EntryValue) → common source target ≡ common source (drop i target) → slice_get target i ≡ Some x → recorded_of source x.session ≡ Some recorded
     → common source target ≡ Some (x.session, min recorded x.recorded)
 common-at source target i recorded x so_far is held = so_far ∙ turned source target i x is ∙ common-shared source (drop (i + 1) target) x recorded held
 
--- If the source's log has no session of the target's entries up to index i, the common checkpoint, if it exists, is in
--- a later entry.
+-- Suppose that the target's entries before index i do not affect the common checkpoint. If the source's log lacks the
+-- session of the target's entry at index i, this entry does not affect the common checkpoint either.
 pub common-behind : (source target : List EntryValue) (i : ℕ) (x : EntryValue) → common source target ≡ common source (drop i target) → slice_get target i ≡ Some x → recorded_of source x.session ≡ None
     → common source target ≡ common source (drop (i + 1) target)
 common-behind source target i x so_far is none = so_far ∙ turned source target i x is ∙ common-passed source (drop (i + 1) target) x none

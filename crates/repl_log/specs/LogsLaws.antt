@@ -1,4 +1,4 @@
--- Lemmas for dependent crates, which say that a lookup by replication finds the same log as `log_in`.
+-- Lemmas for dependent crates: a lookup by replication finds the log that `log_in` returns.
 use Rattle.std.proofs.Common.{◌≡◌, Bool, true, false, cond, List, [], ◌∷◌, Option, Some, None, unwrap_or, refl, ap, ◌∙◌}
 use Rattle.std.specs.Map.{lookup}
 use Rattle.repl_log.specs.declared.replication.RepId.{RepId}

@@ -1,4 +1,4 @@
--- Lemmas for dependent crates, which say that two replication ids are equal if and only if `same_rep` is true for them.
+-- Lemmas for dependent crates: two replication ids are equal if and only if `same_rep` is true for the two ids.
 use Rattle.std.proofs.Common.{◌≡◌, Bool, true, Some, None, refl, ap}
 use Rattle.std.specs.Prelude.{nat_eq}
 use Rattle.std.specs.Option.{option_eq}

@@ -1,4 +1,5 @@
--- Tables that store values by session, oldest first, and the lists of values that contracts use, newest first.
+-- Tables that store values by session, oldest first. Contracts describe a table by the list of its values, newest
+-- first.
 use Rattle.std.specs.Prelude.{◌≡◌, ◌==◌, Bool, List, map, reverse}
 use Rattle.std.specs.List.{AllByRecursion}
 use Rattle.rev_tree.specs.declared.origin.SessionId.{SessionId}
@@ -11,6 +12,6 @@ at_session s k = s.0 == k.0
 abbrev pub newest_first : {X V : Type 0} → (X → V) → List (SessionId × X) → List V
 newest_first value es = reverse (map (λ e. value e.1) es)
 
--- Each value of a table is stored under the session of the value.
+-- A table stores each value under the value's session.
 abbrev pub IsKeyed : {X : Type 0} → (X → SessionId) → List (SessionId × X) → Type 0
 IsKeyed session es = AllByRecursion (λ e. session e.1 ≡ e.0) es

@@ -34,7 +34,7 @@ absent-lookup : {X : Type 0} (s : SessionId) (es : List (SessionId × X)) → Al
 absent-lookup s [] none = refl
 absent-lookup s (e ∷ es) none = ap (λ b. cond b (Some e.1) (lookup (at_session s) es)) none.0 ∙ absent-lookup s es none.1
 
--- If a table has a value for a session, inserting another value for the session replaces the value.
+-- If a table has a value for a session, an insertion for this session replaces the value.
 pub insert_entry-present : {X : Type 0} (s : SessionId) (es : List (SessionId × X)) (x y : X) → lookup (at_session s) es ≡ Some y → insert_entry at_session es s x ≡ set_value (at_session s) es x
 insert_entry-present s [] x y is = cc is
 insert_entry-present s (e ∷ es) x y is =
@@ -43,8 +43,8 @@ insert_entry-present s (e ∷ es) x y is =
       | false ↦ λ rest. ap (λ l. e ∷ l) (insert_entry-present s es x y rest)
     ] is
 
--- Theorems about stored values. The parameter `value` maps a stored value to the value that contracts use, and
--- `session` maps the latter to its session.
+-- Theorems about stored values. The parameter `value` maps a stored value to the value in contracts, and `session` maps
+-- a value in contracts to the value's session.
 module _ {X V : Type 0} (value : X → V) (session : V → SessionId) where
   abbrev named : SessionId → V → Bool
   named s v = (session v).0 == s.0
@@ -61,13 +61,13 @@ module _ {X V : Type 0} (value : X → V) (session : V → SessionId) where
   pub newest_first-cons : (e : SessionId × X) (es : List (SessionId × X)) → newest_first value (e ∷ es) ≡ newest_first value es ++ value e.1 ∷ []
   newest_first-cons e es = reverse_onto (map (λ (e : SessionId × X). value e.1) es) (value e.1) []
 
-  -- A value that is appended to a table is the table's newest value.
+  -- After a value was appended to a table, it is the table's newest value.
   pub newest_first-push : (s : SessionId) (x : X) (es : List (SessionId × X)) → newest_first value (es ++ (s, x) ∷ []) ≡ value x ∷ newest_first value es
   newest_first-push s x es = ap reverse (map_push (λ (e : SessionId × X). value e.1) es (s, x)) ∙ reverse-append (map (λ (e : SessionId × X). value e.1) es) (value x ∷ [])
 
   -- ---- lookups
 
-  -- A stored value as contracts use it, or `None` if there is no value or the value does not pass the test q.
+  -- The value in contracts of an optional stored value, or `None` if the value is absent or does not pass the test q.
   abbrev pub chosen : (V → Bool) → Option X → Option V
   chosen q None = None
   chosen q (Some x) = if q (value x) then Some (value x) else None

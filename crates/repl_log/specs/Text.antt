@@ -20,8 +20,8 @@ id_digits n = encode_lower (to_be_bytes w128 n)
 
 -- ---- replication ids
 
--- The text of a selection in a replication id: `-`, then the lower-case hexadecimal digits of the JSON array of the
--- selected ids.
+-- The text of a selection in a replication id, which is `-` and the lower-case hexadecimal digits of the JSON array of
+-- the selected ids. The text of the selection of all documents is empty.
 abbrev pub choice_digits : Choice → List ℕ
 choice_digits None = []
 choice_digits (Some ids) = 45 ∷ encode_lower (ids_text ids)

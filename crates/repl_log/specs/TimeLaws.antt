@@ -104,7 +104,7 @@ parts_of-secs p valid =
     let wday = ap weekday at.0 ∙ sym valid.2 in
     λ i. record { year = year i; mon = mon i; day = day i; hour = at.1 i; min = at.2 i; sec = at.3 i; wday = wday i }
 
--- For every date, `time_text` gives the date's timestamp the text that httpdate writes for the date.
+-- For every date, `time_text` maps the date's timestamp to the text that httpdate writes for the date.
 pub time_text-date : (d : HttpDate) → time_text (unix_secs d) ≡ date_text d
 unfolding time_text
 time_text-date d = ap imf_fixdate (parts_of-secs d.parts (d.civil, d.time, d.right_day))

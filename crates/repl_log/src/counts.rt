@@ -3,9 +3,9 @@
 /// The numbers of leaves and documents that a session has processed.
 #[derive(Clone, Copy, Debug, PartialEq, Eq)]
 pub struct Counts {
-    /// The number of leaves in the rows of done windows.
+    /// The number of leaves in the rows of the session's done windows.
     pub checked: u64,
-    /// The number of revisions that the target requested for done windows.
+    /// The number of revisions that the target requested in the session's done windows.
     pub found: u64,
     /// The number of documents that the session has read from the source.
     pub read: u64,

@@ -12,7 +12,7 @@ pub enum LogFault {
     /// The timestamp is after the year 9999.
     #[error("a moment after the year 9999")]
     BadMoment,
-    /// The log already has an entry of this session with a greater recorded sequence, `stored`.
+    /// The log's entry of the session has a greater recorded sequence, `stored`.
     #[error("older than the stored entry, which recorded {stored}")]
     Older { stored: u64 },
     /// A log without entries has no text.

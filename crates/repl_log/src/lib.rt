@@ -1,6 +1,6 @@
-//! Logs of replications, and the checkpoint on which two sides agree.
+//! Logs of replications, and the common checkpoint of two logs.
 //!
-//! The rules are in docs/PROFILE.md, "Replication ids and logs", "Common checkpoint" and "Limits".
+//! docs/PROFILE.md, "Replication ids and logs", "Common checkpoint" and "Limits", specifies the logs.
 #![tactic(auto)]
 
 mod checkpoint;

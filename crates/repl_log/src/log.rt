@@ -6,7 +6,7 @@ use rev_tree::SessionId;
 use std::alloc::{AllocError, Global};
 use std::marker::Model;
 
-/// The sessions of one replication, newest first, without duplicates.
+/// The log of one replication, which has at most one entry of each session, newest first.
 ///
 /// The entries are stored oldest first, in a table by session id, so that a call about one session does not scan all
 /// entries.
@@ -89,7 +89,7 @@ impl Log {
         }
     }
 
-    /// Stores an entry as `put` does, but also if the stored entry has a greater recorded sequence.
+    /// Stores an entry as `put` does, even if the stored entry of the session has a greater recorded sequence.
     ///
     /// An error changes nothing.
     pub fn set(&mut self, entry: Entry) -> Result<(), AllocError>
@@ -97,7 +97,7 @@ impl Log {
         ensures err { OnErr result (self.new ≡ self.old) }
         ensures log { IsLog self.new }
     {
-        // The call of `len`, whose result is not used, gives proofs the fact that no session id occurs twice.
+        // Only the contract of `len` is used here: no session id occurs twice.
         let _len = self.entries.len();
         self.entries.insert(entry.session, entry)?;
         Ok(())
@@ -134,7 +134,7 @@ impl Log {
     pub fn recorded_of(&self, session: SessionId) -> Option<u64>
         ensures { result ≡ recorded_of self.now session }
     {
-        // The call of `len`, whose result is not used, gives proofs the fact that no session id occurs twice.
+        // Only the contract of `len` is used here: no session id occurs twice.
         let _len = self.entries.len();
         let entry = self.entries.get(&session)?;
         Some(entry.recorded)

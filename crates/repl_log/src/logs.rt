@@ -67,7 +67,7 @@ impl Logs {
     }
 
     /// Stores an entry in the log of a replication as `Log::put` does. If the replication has no log, the call creates
-    /// it.
+    /// one.
     ///
     /// # Errors
     ///

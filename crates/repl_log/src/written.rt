@@ -37,7 +37,7 @@ pub fn write_log(alloc: Global, id: &RepId, log: &Log) -> Result<Vec<u8>, LogFau
     Ok(whole_log(alloc, id, newest, log)?)
 }
 
-/// Serializes a log, given its newest entry.
+/// Serializes a log that has the given newest entry.
 fn whole_log(alloc: Global, id: &RepId, newest: Entry, log: &Log) -> Result<Vec<u8>, AllocError>
     ensures { IfOk result (λ text. text.items ≡ compact_text (log_json id.now (value_of newest) log.now)) }
 {
@@ -89,7 +89,7 @@ fn push_comma(out: &mut Vec<u8>, later: bool) -> Result<(), AllocError>
     Ok(())
 }
 
-/// Appends an entry of the history.
+/// Appends an entry of a log's history as a JSON object.
 fn push_entry(alloc: Global, out: &mut Vec<u8>, entry: Entry) -> Result<(), AllocError>
     ensures { OnOk result (out.new.items ≡ out.old.items ++ compact_text (entry_json (value_of entry))) }
 {
@@ -125,7 +125,7 @@ fn push_members(
     Ok(())
 }
 
-/// Appends a member's name with its punctuation, followed by an integer.
+/// Appends the text `name`, which has a member's name and punctuation, and then an integer.
 fn push_whole(out: &mut Vec<u8>, name: &str, number: u64) -> Result<(), AllocError>
     ensures { OnOk result (out.new.items ≡ out.old.items ++ (name.now ++ decimal number)) }
 {
@@ -134,7 +134,7 @@ fn push_whole(out: &mut Vec<u8>, name: &str, number: u64) -> Result<(), AllocErr
     out.extend_from_slice(buffer.format(number).as_bytes())
 }
 
-/// Appends a member's name with its punctuation, followed by a string in quotation marks.
+/// Appends the text `name`, which has a member's name and punctuation, and then a string in quotation marks.
 fn push_quoted(out: &mut Vec<u8>, name: &str, text: &str) -> Result<(), AllocError>
     ensures { OnOk result (out.new.items ≡ out.old.items ++ (name.now ++ quoted text.now)) }
 {

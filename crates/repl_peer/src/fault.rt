@@ -20,8 +20,9 @@ use thiserror::Error;
 pub enum Reason {
     /// The write filter refuses the document.
     Filtered,
-    /// The ancestry of the document contradicts the tree, because a child has another parent in the tree. The variant
-    /// names the newest child with two parents, its parent in the tree, and its parent in the ancestry.
+    /// The ancestry of the document contradicts the tree, because a revision has another parent in the tree. The
+    /// variant has the newest such revision (`child`), the revision's parent in the tree (`known`), and the revision's
+    /// parent in the ancestry (`given`).
     Contradicting { child: Rev, known: Rev, given: Rev },
 }
 
@@ -141,7 +142,7 @@ pub struct Report {
     pub start: u64,
     /// The source's sequence up to which every window of the session is done.
     pub recorded: u64,
-    /// What the session counted.
+    /// The counts of the session.
     pub counts: Counts,
 }
 
@@ -165,8 +166,8 @@ impl From<BaseFault> for Cause {
     }
 }
 
-/// Converts an error of `Front::finish` to the cause for which settling stopped. The caller has checked the window
-/// before it calls `finish`.
+/// Converts an error of `Front::finish` to the cause for which settling stopped. The window was checked before the call
+/// of `finish`.
 impl From<FrontFault> for Cause {
     ghost from_gives = { λ fault cause. cause ≡ cause_by_front fault };
 

@@ -236,7 +236,7 @@ impl<F: WriteFilter> Peer<F> {
         self.db.open_revs(alloc, asked)
     }
 
-    /// Does the same as `open_revs`, but moves the request into the parcel.
+    /// Does the same as `open_revs`, but moves the request into the parcel instead of copying it.
     pub fn open_asked(&self, alloc: Global, asked: Asked) -> Result<Parcel, AllocError>
         ensures parcel { IfOk result (λ p. p ≡ open_revs self.now.1.db asked) }
     {

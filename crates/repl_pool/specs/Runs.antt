@@ -57,7 +57,8 @@ pub data IsRecorded (plan : Plan) (fault : Option PoolFault) (complete : Bool) (
       → after ≡ closed before plan → IsRecorded plan fault complete before after (faults.Refused why)
 
 -- The outcome of a run before the run stores the session's entry at the source, and the outcome afterwards. A run that
--- was successful so far returns `Memory` if the allocation for the entry fails. A failed run keeps its error.
+-- was successful so far returns `Memory` if the allocation for the entry fails. If a run had failed already, the run's
+-- error does not change.
 abbrev pub UnlessMemory : Result Report PoolFault → Result Report PoolFault → Type 0
 UnlessMemory (Ok report) result = (result ≡ Ok report) ⊎ (result ≡ Err faults.Memory)
 UnlessMemory (Err why) result = result ≡ Err why
@@ -85,10 +86,10 @@ pub data ClosesRun (plan : Plan) (fault : Option PoolFault) (complete : Bool)
       → PutsEntry source after source' plan (Err why)
       → ClosesRun plan fault complete source before source' after (Err why)
 
--- The end of a run of the pool, and what a proof knows about the run's workers. At the end of a run, the target has
--- grown from the given target, and the windows of the run's session are pages of the source. If a worker halted, the
--- gate allows the halt, or a call of the worker failed. If no worker stopped and all parcels were received, the session
--- has read as many documents as the fetchers counted.
+-- The end of a run of the pool, with facts about the run's workers. At the end of a run, the target has grown from the
+-- given target, and the windows of the run's session are pages of the source. If a worker halted, the gate allows the
+-- halt, or a call of the worker failed. If no worker stopped and all parcels were received, the session has read as
+-- many documents as the fetchers counted.
 pub record EndsRun {F : Type 0} (refuses : F → Document → Bool) (may_fill : Type 0) (may_stop : Place → Type 0)
     (plan : Plan) (source : PeerValue) (given : F × PeerValue) (counts : List ℕ) (source' after : PeerValue)
     (outcome : Result Report PoolFault) : Type 0 where

@@ -51,8 +51,8 @@ fn close_target<F: WriteFilter>(
     }
 }
 
-/// Stores the entry of a run's session in the source's log. The target has the session. If the source's log has a newer
-/// entry of the session, the call stores nothing.
+/// Takes the entry of the run's session from the target, and stores the entry in the source's log. If the source's log
+/// has a newer entry of the session, the call stores nothing.
 ///
 /// The call returns the given outcome of the run. If the outcome is `Ok` and the allocation for the entry fails, the
 /// call returns `Memory`.

@@ -32,11 +32,11 @@ pub const MOST_ROWS: u64 = 10_000;
 pub struct Plan {
     /// The id of the new session.
     pub session: SessionId,
-    /// The number of fetchers, and the number of writers. `replicate_alone` ignores the number of workers.
+    /// The number of fetchers, which is also the number of writers. `replicate_alone` ignores this number.
     pub workers: u64,
     /// The maximum number of rows of a window: 1 to 10,000.
     pub batch: u64,
-    /// The number of windows after which the replication stops, even if they end below its goal.
+    /// The number of windows after which the replication stops, even if the windows end below the goal.
     pub stop_after: Option<u64>,
     /// The timestamp to record.
     pub at: Moment,

@@ -85,8 +85,8 @@ abbrev pub settles : (Document → Bool) → WorldValue → SessionId → Option
 settles refuses w session None = w
 settles refuses w session (Some p) = record w { target = after_settle refuses w.target session p.1 }
 
--- The world after a step settled n documents of a parcel, and then ran out of memory. If settling without a failure
--- would settle fewer than n documents, the step has settled all of these documents.
+-- The world after a step settled n documents of a parcel, and then ran out of memory. If a complete settling would
+-- settle fewer than n documents, the step has settled all documents that a complete settling would settle.
 abbrev pub stops : (Document → Bool) → WorldValue → SessionId → ℕ → Option (ℕ × ParcelValue) → WorldValue
 stops refuses w session n None = w
 stops refuses w session n (Some p) = record w { target = after_some refuses w.target session p.1 n }

@@ -355,7 +355,8 @@ impl<F: WriteFilter> World<F> {
         unless_memory(self.target.append(session, window))
     }
 
-    /// For a window of the message bag, puts the target's request for the missing leaves into the message bag.
+    /// Computes the target's request for the missing leaves of a window in the message bag, and puts the request into
+    /// the bag.
     fn diff(&mut self, alloc: Global, place: usize) -> Result<(), AllocError>
         ensures filters { self.new.0 ≡ self.old.0 }
         ensures ok { OnOk result (self.new.1 ≡ differs self.old.1 place (slice_get self.old.1.bag.windows place)) }
@@ -368,7 +369,7 @@ impl<F: WriteFilter> World<F> {
         self.bag.put_asked(place, asked)
     }
 
-    /// For a request of the message bag, puts the source's parcel into the message bag.
+    /// Computes the source's parcel for a request in the message bag, and puts the parcel into the bag.
     fn fetch(&mut self, alloc: Global, place: usize) -> Result<(), AllocError>
         ensures filters { self.new.0 ≡ self.old.0 }
         ensures ok { OnOk result (self.new.1 ≡ fetches self.old.1 (slice_get self.old.1.bag.asked place)) }

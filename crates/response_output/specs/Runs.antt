@@ -18,7 +18,7 @@ use Rattle.response_parser.specs.declared.place.Refusal.{Refusal}
 use Rattle.response_output.specs.declared.run.AnswerFault.{AnswerFault}
 use Rattle.response_output.specs.declared.run.AnswerFault.TheVariants.{Refused, LateMember, Device}
 
--- ---- an item that the output has begun
+-- ---- begun items
 
 -- The text `part` is the beginning of the next item in the output. If `part` is not empty, the parser is in a document
 -- whose beginning is long, and `part` ends with the output for this beginning.
@@ -26,7 +26,8 @@ abbrev pub IsBegun : State → Words → List ℕ → Type 0
 IsBegun s w part = (part ≡ []) ⊎ ((written : List ℕ) × HasWritten s written × (part ≡ before w ++ written))
 
 -- The given bytes were read, the items in these bytes were written, and then the beginning `part` of the next item was
--- written. The last two arguments of `Fed` are the bytes that the writer had accepted before and after this step.
+-- written. The last two arguments of `Fed` are the bytes that the writer had accepted before and after the given bytes
+-- were processed.
 pub record Fed (s : State) (w : Words) (bytes : List ℕ) (s' : State) (w' : Words) (part : List ℕ) (held held' : Option (List ℕ)) : Type 0 where
   pub state : s' ≡ after s bytes
   pub words : w' ≡ words_behind w (pieces s bytes)
@@ -46,8 +47,9 @@ pub data WritesInPart (fault : ScriptFault) (made : List ℕ) (held held' : Opti
   nothing : Appends held held' [] → IsWhole fault [] → WritesInPart fault made held held'
 
 -- An error at the end of a document, after the text `front` was written for the document's beginning. The error is
--- `LateMember` if the document's text does not begin with `front`. Otherwise a device or an allocation failed, and the
--- rest of the document was not written completely. The parser has the state s at the document's end.
+-- `LateMember` if the document's text does not begin with `front`. If the document's text begins with `front`, a device
+-- or an allocation failed, and the rest of the document was not written completely. The parser has the state s at the
+-- document's end.
 abbrev pub RestBreaks : AnswerFault → State → Words → List ℕ → Option (List ℕ) → Option (List ℕ) → Type 0
 RestBreaks (Refused why at) s w front held held' = ⊥
 RestBreaks (LateMember at) s w front held held' =
@@ -56,9 +58,9 @@ RestBreaks (Device fault) s w front held held' =
     (starts_with nat_eq s.text front ≡ true) × WritesInPart fault (rest_text w s.text (length front)) held held'
 
 -- A device or an allocation failed after `before`, a prefix of the given bytes. The output for `before` consists of the
--- texts of the items in `before`, and the beginning `last` of the next item. The text `part` of this output was written
--- before the given bytes were read, and `text` was written later. The unwritten text `missing` is empty, unless a write
--- failed.
+-- texts of the items in `before`, and the beginning `last` of the next item. Of the output for `before`, the text
+-- `part` was written before the given bytes were read, and `text` was written later. The unwritten text `missing` is
+-- empty, unless a write failed.
 pub record Begins (fault : ScriptFault) (s : State) (w : Words) (part bytes : List ℕ) (held held' : Option (List ℕ)) : Type 0 where
   pub before : List ℕ
   pub behind : List ℕ
@@ -73,8 +75,8 @@ pub record Begins (fault : ScriptFault) (s : State) (w : Words) (part bytes : Li
 
 -- The given bytes begin with `front` and the byte `last`, which ends a long document. The output `begun`, which was
 -- written for the beginning of the long document, is not the beginning of the document's output (`IsLate`). The items
--- in `front` were written, and then `begun`. The text `part` was written before the given bytes were read. Up to the
--- end of the long document, the parser has read `at` bytes.
+-- in `front` were written, and then the text `begun`. The text `part` was written before the given bytes were read. Up
+-- to the end of the long document, the parser has read `at` bytes.
 pub record IsLateAt (at : ℕ) (s : State) (w : Words) (part bytes : List ℕ) (held held' : Option (List ℕ)) : Type 0 where
   pub front : List ℕ
   pub last : ℕ
@@ -179,7 +181,7 @@ Answered wanted w left held held' passed =
     (read : List ℕ) × IsAll wanted left read × Appends held held' (all_text w (pieces (start wanted) read))
     × (end_of (after (start wanted) read).place ≡ Ok tt) × (passed ≡ (after (start wanted) read).passed)
 
--- The effect of a run that failed. If the input of a run is invalid at its last byte, the items before that byte are
+-- The effect of a run that failed. If the input of a run is invalid at its last byte, the items before this byte are
 -- written. If a device or an allocation failed, the written text is a prefix of the output for the complete input. If
 -- the run failed in a long document, the beginning of the document's output is written, too. After the error
 -- `LateMember`, the text written for a long document is not the beginning of the document's complete output.
@@ -211,9 +213,9 @@ ReadsAnswers w all held held' (Err (LateMember at)) =
 ReadsAnswers w all held held' (Err (Device fault)) = ⊤
 
 -- After the error `Read`, either the reader failed or the maximum number of reads was reached, and the writer did not
--- fail. After the error `Write`, the writer failed and the reader did not. After any other error, neither the reader
--- nor the writer failed. The arguments of `CountsOf` are the reader's counts of reads before and after, then the
--- failure counts of reader and writer.
+-- fail. After the error `Write`, the writer failed and the reader did not. After an error other than `Read` and
+-- `Write`, neither the reader nor the writer failed. The reader's reads, the reader's failures and the writer's
+-- failures are counted in `reads`, `reader` and `writer`. A prime marks a count after the call.
 abbrev pub CountsOf : AnswerFault → ℕ → ℕ → ℕ → ℕ → ℕ → ℕ → Type 0
 CountsOf (Refused why at) reads reads' reader reader' writer writer' = (reader' ≡ reader) × (writer' ≡ writer)
 CountsOf (LateMember at) reads reads' reader reader' writer writer' = (reader' ≡ reader) × (writer' ≡ writer)
@@ -227,7 +229,7 @@ CountsOfWriter (Err (Refused why at)) writer writer' = writer' ≡ writer
 CountsOfWriter (Err (LateMember at)) writer writer' = writer' ≡ writer
 CountsOfWriter (Err (Device fault)) writer writer' = IsOfWriter fault writer writer'
 
--- The result of a conversion at the end of its input.
+-- The result of a conversion at the end of the input.
 abbrev pub judged_by : ℕ → ℕ → Result (Unit {0}) Refusal → Result ℕ AnswerFault
 judged_by passed taken (Ok u) = Ok passed
 judged_by passed taken (Err why) = Err (Refused why taken)

@@ -120,7 +120,7 @@ last_text w = cond (nat_lt 0 w.count) (closing w.form) (cond w.told [] (empty w.
 abbrev pub words_of : Form → List ℕ → ℕ → Words
 words_of form begins size = record { form = form; begins = begins; id = []; listed = false; count = 0; size = size; told = false }
 
--- The formatter of `load` lines of a database.
+-- A new formatter of `load` lines for database `db`.
 abbrev pub loads_of : List ℕ → Words
 loads_of db = words_of Loads (codes "{\"do\":\"load\",\"db\":\"" ++ (db ++ codes "\",\"doc\":")) 0
 
@@ -133,7 +133,7 @@ asked_of size = words_of Asked (codes "{\"id\":") size
 abbrev pub diffs_of : ℕ → Words
 diffs_of size = words_of Diffs [] size
 
--- The formatter of `doc` lines of a database.
+-- A new formatter of `doc` lines for database `db`.
 abbrev pub docs_of : List ℕ → Words
 docs_of db = words_of Docs (codes "{\"do\":\"doc\",\"db\":\"" ++ (db ++ codes "\",\"id\":")) 0
 

@@ -36,7 +36,8 @@ pub record Cut : Type 0 where
 abbrev pub IsCut : Wanted → Cut → Type 0
 IsCut wanted c = Front (IsStart wanted) c.full c.stored c.written c.front
 
--- The text of the state s begins with a long beginning of a document, and `written` is the output for this beginning.
+-- The text of the state s begins with `cut.full`, a document's beginning of at least `long` bytes, and `written` is the
+-- output for this beginning.
 pub record HasWritten (s : State) (written : List ℕ) : Type 0 where
   pub cut : Cut
   pub behind : List ℕ

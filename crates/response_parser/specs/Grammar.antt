@@ -13,8 +13,7 @@ use Rattle.response_parser.specs.declared.place.Found.TheVariants as found
 
 -- ---- values and names
 
--- The text t of a JSON value, up to the comma or brace that follows the value, and the text u of the same value on one
--- line.
+-- The text t of a JSON value, up to the comma or brace that follows, and the text u of the value on one line.
 pub record IsValue (t u : List ℕ) : Type 0 where
   pub closed : Closed 0 t u
   pub first : is_space (slice_index t 0) ≡ false
@@ -35,7 +34,7 @@ pub data Holds (wanted : Wanted) : Name → List ℕ → List Piece → Type 0 w
   of_last : {u : List ℕ} → Holds wanted Last u []
   of_other : {u : List ℕ} → Holds wanted Other u []
 
--- An object o whose first member is `_id`, and the same text u on one line.
+-- The text o of an object whose first member is `_id`, and the text u of the same object on one line.
 pub record IsPlainDocument (o u : List ℕ) : Type 0 where
   pub before : List ℕ
   pub behind : List ℕ

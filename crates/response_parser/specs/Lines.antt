@@ -11,7 +11,7 @@ use Rattle.response_parser.specs.declared.place.LinePlace.TheVariants.{Word, Res
 use Rattle.response_parser.specs.declared.place.Refusal.TheVariants.{NotJson, NoAnswer}
 use Rattle.response_parser.specs.declared.place.Found.TheVariants as found
 
--- The parser's state after byte b, the first byte of a text in a line. The state before b is s.
+-- The parser's state after it has read, in state s, the first byte b of a text in a line.
 abbrev pub text_begun : LinePlace → State → ℕ → State
 text_begun place s b = record s { place = Line place; text = b ∷ [] }
 

@@ -72,7 +72,7 @@ pub record InDocument (name : Name) (s : State) : Type 0 where
   pub found : s.found ≡ Nothing
 
 -- The full state and the stored state of a parser in a document. The states differ only in their texts. The texts
--- differ only in the document's beginning: `cut.full` has the runs, and `cut.stored` lacks the runs.
+-- differ only in the document's beginning (`cut`), from which the stored text lacks the runs.
 pub record Mirrors (cut : Cut) (name : Name) (full stored : State) : Type 0 where
   pub place : IsWithin name stored.place
   pub same : full ≡ record stored { text = full.text }

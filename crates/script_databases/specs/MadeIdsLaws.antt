@@ -4,7 +4,7 @@ use Rattle.rand_core.specs.Steps.{stream_of, word_bytes}
 use Rattle.rand_core.specs.Stream.{fill_bytes}
 use Rattle.script_databases.specs.MadeIds.{of_number, at_id, stream, next_id, next_place}
 
--- Each generated id takes four words of the random stream.
+-- Each generated id takes four 32-bit words of the random stream.
 place : (n : ℕ) → ((((((4 * (n % 2 ^ 66)) % 2 ^ 68 + 1) % 2 ^ 68 + 1) % 2 ^ 68 + 1) % 2 ^ 68) + 1) % 2 ^ 68 ≡ (4 * (((n % 2 ^ 66 + 1) % 2 ^ 66) % 2 ^ 66)) % 2 ^ 68
 place n = omega arith
 

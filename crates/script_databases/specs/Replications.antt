@@ -22,7 +22,7 @@ use Rattle.repl_target.specs.declared.replication.Plan.{Plan}
 use Rattle.script_databases.specs.Databases.{State, peer_at, with_peer}
 use Rattle.script_databases.specs.declared.watched.Watched.{Watched}
 
--- Whether a target refuses document d, because the id of d begins with the denied prefix.
+-- Whether the id of document d begins with the denied prefix, so that a target refuses d.
 abbrev pub deny_refuses : Option (List ℕ) → Document → Bool
 deny_refuses deny d = option_map_or (λ prefix. starts_with nat_eq d.id prefix) deny false
 

@@ -1,4 +1,4 @@
--- The values by which contracts describe the stored databases of a script.
+-- The values that contracts use for the stored databases of a script.
 use Rattle.std.specs.Prelude.{◌≡◌, ℕ, true, List, map, nat_eq, Option, Some, option_map, String, string_bytes}
 use Rattle.std.specs.declared.alloc.Global.{Global}
 use Rattle.std.specs.FinMap as finmap
@@ -54,7 +54,7 @@ IsEmptied old source target new =
     × (peers_of new ≡ finmap.insert (finmap.insert (peers_of old) source p.1) target q.1)
     × (denied_of new ≡ finmap.insert (finmap.insert (denied_of old) source (deny_of p.0)) target (deny_of q.0))
 
--- The value by which contracts describe the program's settings.
+-- The value that contracts use for the program's settings.
 abbrev pub program_of : Settings → Program
 program_of s =
     record {

@@ -8,7 +8,7 @@ use Rattle.repl_log.specs.Log.{common}
 use Rattle.repl_peer.specs.peer.Peer.{PeerValue}
 use Rattle.repl_peer.specs.logs.Logs.{source_log, target_log}
 
--- The replication id of the selected documents from one peer's database to another's.
+-- The id of the replication of the selected documents from one peer's database to another peer's database.
 abbrev pub rep_between : PeerValue → PeerValue → Choice → RepId
 rep_between source target chosen = record { source = source.db.uuid; target = target.db.uuid; chosen = chosen }
 

@@ -20,14 +20,14 @@ pub record BackupValue : Type 0 where
 abbrev pub peer_of : BackupValue → PeerValue
 peer_of b = record { db = b.db; locals = b.locals; sessions = []; outgoing = b.outgoing }
 
--- The invariant of a backup. Each revision comes from a local write. If a local write's generations decrease by one
--- from each revision to the next, each revision's parent in the document's tree is the next revision of the write
--- (`StandsIn`).
+-- The invariant of a backup. Each revision of a backup comes from a local write. If a local write's generations
+-- decrease by one from each revision to the next, each revision's parent in the document's tree is the next revision of
+-- the write (`StandsIn`).
 pub record IsBackup (b : BackupValue) : Type 0 where
   pub origins : HasOrigins (peer_of b)
   pub locals : (a : WrittenValue) → Among a b.locals → StandsIn b.db a
 
--- Whether a peer has been a replication target, which is true if its list of incoming sessions is not empty.
+-- Whether a peer has been a replication target, which means that the peer has an incoming session.
 abbrev pub is_target : List SessionValue → Bool
 is_target [] = false
 is_target (s ∷ sessions) = true
@@ -42,7 +42,7 @@ backup_answer p = if is_target p.sessions then Err faults.IsTarget else Ok (copy
 
 -- ---- restoring a backup
 
--- The greater of two lives, the life of peer p's database and the life of backup b's database.
+-- The life of peer p's database or the life of backup b's database, whichever is greater.
 abbrev pub greater_life : PeerValue → BackupValue → ℕ
 greater_life p b = max p.db.life b.db.life
 

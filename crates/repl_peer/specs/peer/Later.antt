@@ -6,8 +6,8 @@ use Rattle.couch_base.specs.WriteLaws.{IsLater}
 use Rattle.couch_base.specs.Feed.{WindowValue}
 use Rattle.repl_peer.specs.peer.Peer.{PeerValue, SessionValue, WrittenValue, RefusedValue}
 
--- Calls of a peer never change a session's id, scope and start. Calls only add windows, arrivals and ledger rows to a
--- session, and never lower its recorded sequence.
+-- Calls of a peer never change a session's id, scope or start. Calls may add windows, arrivals and ledger rows to a
+-- session, but never remove any, and never lower the session's recorded sequence.
 pub record Keeps (old new : SessionValue) : Type 0 where
   pub id : new.id ≡ old.id
   pub scope : new.scope ≡ old.scope

@@ -44,8 +44,8 @@ pub record IsFed (p : PeerValue) (id : Id) (r : RevId) (session : SessionId) (se
   pub listed : IsListed by id seq
   pub arrived : IsArrival by id r
 
--- The given origin of revision r of document `id` is true. Peer p has a local write (`IsLocal`), or a session with a
--- row and an arrival (`IsFed`), as the origin says.
+-- The given origin of revision r of document `id` is true: peer p has the local write (`IsLocal`), or the session with
+-- a row and an arrival (`IsFed`), that the origin names.
 abbrev pub ComesFrom : PeerValue → Id → RevId → Origin → Type 0
 ComesFrom p id r (Local n) = IsLocal p id r n
 ComesFrom p id r (Feed session seq) = IsFed p id r session seq

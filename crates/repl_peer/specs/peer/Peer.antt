@@ -32,9 +32,9 @@ pub record RefusedValue : Type 0 where
   pub doc : Document
   pub reason : Reason
 
--- An incoming session of a peer. A session has a scope, which never changes, and its windows, with a front that says
--- which of them are done. A session also has its arrivals, its ledger of refused documents, its counts, its recorded
--- sequence, and its two timestamps.
+-- An incoming session of a peer. A session has a scope, which never changes. A session also has windows, and a front
+-- that says which windows are done. A session also has arrivals, a ledger of refused documents, counts, a recorded
+-- sequence, and two timestamps.
 pub record SessionValue : Type 0 where
   pub id : SessionId
   pub scope : Scope

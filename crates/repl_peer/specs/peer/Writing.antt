@@ -14,15 +14,15 @@ use Rattle.repl_peer.specs.peer.Peer.{PeerValue, written_of}
 abbrev pub next_local : PeerValue → Origin
 next_local p = Local (length p.locals)
 
--- Peer p after a user's put of document d. If a user's put changes the database, it becomes the next local write.
+-- Peer p after a user's put of document d. If a user's put changes the database, the put becomes the next local write.
 abbrev pub after_load : PeerValue → Document → PeerValue
 after_load p d = record p {
   db = after_put p.db d (next_local p);
   locals = if is_changed (put_answer p.db d) then p.locals ++ written_of d ∷ [] else p.locals;
 }
 
--- Peer p after a user's edit. The edit stores a document with the new revision and its parent, if it has one. If the
--- edit failed, peer p is unchanged.
+-- Peer p after a user's edit. The edit stores a document whose ancestry is the new revision, followed by the parent if
+-- the new revision has a parent. If the edit failed, peer p is unchanged.
 abbrev pub load_edited : PeerValue → Id → Bool → List ℕ → Result (RevId × Option RevId) BaseFault → PeerValue
 load_edited p id deleted body (Ok e) = after_load p (edit_document id e deleted body)
 load_edited p id deleted body (Err fault) = p

@@ -4,7 +4,7 @@ use Rattle.std.specs.Prelude.{◌≡◌, ◌+◌, List, ◌++◌, map, length, t
 use Rattle.doc_json.specs.Document.{Document}
 use Rattle.repl_peer.specs.peer.Peer.{WrittenValue, SessionValue, written_of}
 
--- The list `all` has one arrival for each of the first documents of the list `docs`.
+-- The list `all` has the arrivals of the first documents of the list `docs`, in order.
 abbrev pub AreArrivalsOf : List Document → List WrittenValue → Type 0
 AreArrivalsOf docs all = all ≡ map written_of (take (length all) docs)
 

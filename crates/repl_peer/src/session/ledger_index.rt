@@ -13,9 +13,9 @@ use std::sync::Arc;
 
 /// The revisions in the ancestries of refused documents, by document id.
 ///
-/// For most ids, the ledgers have only one document. The index shares the first document of each id with the document's
-/// ledger row, and does not copy the document's revisions. For an id with several documents, the index stores the
-/// revisions of all later documents in one set. A lookup therefore does not scan the later documents.
+/// For most document ids, the ledgers have at most one document. The index shares the first document of each id with
+/// the document's ledger row, and does not copy the document's revisions. For an id with several documents, the index
+/// stores the revisions of all later documents in one set. A lookup therefore does not scan the later documents.
 #[derive(Drop)]
 pub(crate) struct LedgerIndex {
     /// For each document id, the first ledger document with this id.

@@ -99,7 +99,7 @@ pub(crate) fn asked_count(docs: &[Wanted]) -> u64
     count
 }
 
-/// Whether a tree exists and has a revision.
+/// Whether a tree exists and has a given revision.
 pub(crate) fn has_in(tree: Option<&Tree>, rev: Rev) -> bool
     ensures { result ≡ has (unwrap_or (option_copied tree.entry) no_revisions) rev }
 {

@@ -15,7 +15,7 @@ use std::marker::Model;
 
 // ---- done windows
 
-/// A row of a done window, without its leaves. The leaves are ghost values that only contracts see.
+/// A row of a done window, without leaves. The leaves are ghost values that only contracts see.
 #[derive(Drop)]
 pub(crate) struct DoneRow {
     seq: u64,
@@ -194,7 +194,7 @@ impl StoredWindow {
         }
     }
 
-    /// Returns the rows by rising sequence, if the window still has the leaves of its rows.
+    /// Returns the rows in order of rising sequence, if the window still has the leaves of its rows.
     pub fn rows(&self) -> Option<&[Row]>
         ensures whole { is_some result ≡ self.now.whole }
         ensures rows { IfSome result (λ r. r.now ≡ self.now.window.rows) }

@@ -135,13 +135,13 @@ Reads refuses source plan (suc n) from to =
     (before : Reading) × Reads refuses source plan n from before × (is_due source plan n before.since ≡ true)
     × Carries refuses source plan before to
 
--- The windows of a replication are read until no further window must be read.
+-- The windows of a replication are read, stored and settled in order, until no further window must be read.
 abbrev pub ReadsAll : (Document → Bool) → DatabaseValue → Plan → Reading → PeerValue → Type 0
 ReadsAll refuses source plan from target' =
     (n : ℕ) × (now : Reading) × Reads refuses source plan n from now × (is_due source plan n now.since ≡ false)
     × (target' ≡ now.target)
 
--- The windows of a replication are read until one fails.
+-- The windows of a replication are read, stored and settled in order, until a window fails.
 abbrev pub ReadsUntil : (Document → Bool) → DatabaseValue → Plan → Reading → TargetFault → PeerValue → Type 0
 ReadsUntil refuses source plan from why target' =
     (n : ℕ) × (now : Reading) × Reads refuses source plan n from now × (is_due source plan n now.since ≡ true)
@@ -169,7 +169,7 @@ abbrev pub told_by : Result Report TargetFault → Result (Unit {0}) AllocError 
 told_by concluded (Ok done) = concluded
 told_by concluded (Err refused) = Err faults.Memory
 
--- The target records first, and then the source stores the entry of the target's session.
+-- The target records the session first, and then the source stores the entry of the target's session.
 pub record Closes (source target : PeerValue) (plan : Plan) (result : Result Report TargetFault)
     (source' target' : PeerValue) : Type 0 where
   pub at_target : target' ≡ closed target plan

@@ -5,8 +5,9 @@ use rev_core::Rev;
 /// The result of an audit.
 #[derive(Debug, Drop)]
 pub enum Audit {
-    /// Every leaf up to the common checkpoint is covered, or there is no common checkpoint.
+    /// The target covers every audited leaf, or there is no common checkpoint.
     Clean,
-    /// The first leaf of the source's feed, at or below the common checkpoint, that the target does not cover.
+    /// The first audited leaf that the target does not cover. `audit` examines the leaves of the source's selected feed
+    /// at or below the common checkpoint.
     Hole { seq: u64, id: DocId, rev: Rev },
 }

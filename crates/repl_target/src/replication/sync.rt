@@ -44,8 +44,8 @@ pub enum SyncFault {
 /// still agree and have complete histories.
 ///
 /// If the peers are consistent in both directions, they stay consistent for every result of the call. `a` stays
-/// consistent with third peers that do not have `b`'s UUID, and `b` stays consistent with third peers that do not have
-/// `a`'s UUID.
+/// consistent with third peers whose UUID is not `b`'s, and `b` stays consistent with third peers whose UUID is not
+/// `a`'s.
 pub fn sync_alone<F: WriteFilter, G: WriteFilter>(
     alloc: Global,
     a: &mut Peer<F>,

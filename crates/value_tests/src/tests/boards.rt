@@ -40,7 +40,7 @@ fn board_read(rt: HostRuntime) {
     assert!(rt; added == wanted && seen == [(2, 3), (2, 3)]);
 }
 
-/// Creates a board of one worker and a viewer, and returns the results of adding the maximum and then 1 to the worker's
+/// Creates a board of one worker and a viewer. Returns the results of adding the maximum and then 1 to the worker's
 /// read counter, of adding through the viewer's seat, and of reading the board.
 fn all_read(alloc: Global) -> Option<([Added; 3], (u64, u64))> {
     let Ok((board, mut seats)) = Board::new(alloc, 1, 1) else {

@@ -13,13 +13,13 @@ enum Call<'a> {
     Make,
     /// Copy a log, and append the copy to the list of logs.
     Copy(usize),
-    /// Store in a log the entry of a session that read nothing. The fields are the log, the session id and the recorded
-    /// sequence.
+    /// Store in a log the entry of a session that read nothing. The call's fields are the log, the session id and the
+    /// recorded sequence.
     Put(usize, u128, u64),
-    /// Store in a log the entry of session 1, which read one document. The fields are the log and a timestamp.
+    /// Store in a log the entry of session 1, which read one document. The call's fields are the log and a timestamp.
     PutOne(usize, u64),
     /// Store the entry of a session that read nothing, in the log of the replication from database 1 into another
-    /// database. The fields are the other database, the session id and the recorded sequence.
+    /// database. The call's fields are the other database, the session id and the recorded sequence.
     PutInto(u128, u128, u64),
     /// Copy the logs of all replications. Append the copied log of the replication from database 1 into another
     /// database to the list of logs.
