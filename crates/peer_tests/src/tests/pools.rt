@@ -1,4 +1,4 @@
-//! Peers that are replicated by the pool, and calls on these peers.
+//! Calls on peers that the pool replicates, and benches that hold these peers.
 ghost use Rattle.std.specs.Prelude.{◌≡◌, vec_len};
 ghost use Rattle.std.specs.List.{All};
 ghost use Rattle.pool_workers.specs.Boards.{WorksAt};
@@ -30,12 +30,12 @@ pub(crate) struct How {
     pub(crate) stop_after: Option<u64>,
 }
 
-/// A call on peers. Each peer is named by its index.
+/// A call on peers. A call names each peer by the peer's index.
 #[derive(Clone, Copy)]
 pub(crate) enum Call<'a> {
-    /// Create the next peer, given its UUID and the prefix of the document ids that its filter refuses.
+    /// Create the next peer with a UUID, and with a filter that refuses document ids with a given prefix.
     Peer(u128, Option<&'a str>),
-    /// Create the next peer, given its UUID and the update sequence of its database.
+    /// Create the next peer with a UUID, and with a database that has a given update sequence.
     PeerAt(u128, u64),
     /// Load a given number of documents d0, d1 and so on.
     Fill(usize, u64),
@@ -47,15 +47,15 @@ pub(crate) enum Call<'a> {
     Tree(usize, &'a str),
     /// Read the entry of a session.
     Entry(usize, SessionId),
-    /// Read the documents at the leaves of a document, winner first.
+    /// Read the ancestry and the content of each leaf of a document, winner first.
     Leaves(usize, &'a str),
     /// Read the refused leaves of a document from a session's ledger, with the reasons.
     Refused(usize, SessionId, &'a str),
-    /// Read the log at a peer of a replication of which the peer is the source.
+    /// Read the log that a peer has of a replication from this peer.
     SourceLog(usize, Rep),
-    /// Read the log at a peer of a replication of which the peer is the target.
+    /// Read the log that a peer has of a replication into this peer.
     TargetLog(usize, Rep),
-    /// Compare the logs of a replication at its source and its target.
+    /// Compare the source's and the target's log of a replication.
     Common(usize, usize, Rep),
     /// Audit a replication from the first peer, the source, into the second peer, the target.
     Audit(usize, usize),

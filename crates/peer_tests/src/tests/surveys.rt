@@ -1,4 +1,4 @@
-//! Queries about a source peer, and about a target peer into which the source is replicated.
+//! Queries about two peers: a source, and a target into which the source is replicated.
 use crate::tests::databases::tree;
 use crate::tests::large::load_wide;
 use crate::tests::peers::load;
@@ -32,7 +32,8 @@ pub(crate) enum Call<'a> {
     Replicate,
     /// Compare a document of the source with the target's document.
     Compare(&'a str),
-    /// Read the totals of the differences of all documents in the source's feed, or of one selected document.
+    /// Read the totals of the differences between source and target, for all documents in the source's feed or for one
+    /// document.
     Total(Option<&'a str>),
     /// Read the leaves of a document of the source that are in conflict.
     Conflict(&'a str),
@@ -40,7 +41,7 @@ pub(crate) enum Call<'a> {
     Census,
     /// Read the ledger of the session.
     Ledger,
-    /// Read the documents of all leaves of a source's document.
+    /// Read the ancestry and the content of each leaf of a document of the source.
     Documents(&'a str),
     /// Read the tree of a document of the target.
     Tree(&'a str),
@@ -49,7 +50,7 @@ pub(crate) enum Call<'a> {
 /// The calls of a test, and each call's expected result.
 pub(crate) type Rows = &'static [(Call<'static>, &'static str)];
 
-/// The source, and the target, whose filter denies ids that begin with x.
+/// A source, and a target with a filter that denies ids that begin with x.
 #[derive(Drop)]
 struct Bench {
     alloc: Global,
@@ -194,7 +195,7 @@ fn choice(alloc: Global, id: &str) -> Option<Chosen> {
     Chosen::new(ids).ok()
 }
 
-/// Returns revisions, each after a space.
+/// Returns a string of revisions, with a space before each revision.
 fn revs_text(alloc: Global, revs: &[Rev]) -> Option<String> {
     let mut all = Some(String::new(alloc));
     for rev in revs {
@@ -237,7 +238,7 @@ fn row_text(alloc: Global, row: LedgerRow) -> Option<String> {
     }
 }
 
-/// Returns the rows of a ledger, each row after the id of the row's document.
+/// Returns the texts of a ledger's rows, each with the id of the document and then the row.
 fn ledger(alloc: Global, rows: &[Refused]) -> Option<String> {
     let mut all = Some(String::new(alloc));
     for row in rows {

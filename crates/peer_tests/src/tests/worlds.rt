@@ -1,4 +1,4 @@
-//! Takes steps that are given by name in a world, and reads the effects of the steps.
+//! Performs named steps in a world, and reads the effects of these steps.
 use crate::tests::databases::tree;
 use crate::tests::peers::{agreed, entry, source_log, target_log};
 use crate::tests::texts::{body, doc, expect_answer};
@@ -11,14 +11,14 @@ use std::alloc::{AllocError, Global};
 use std::process::Abort;
 use test_support::rev;
 
-/// The replication of a world's peers, which have UUIDs 1 and 2.
+/// The replication from a world's source, with UUID 1, into the world's target, with UUID 2.
 const REP: RepId = RepId {
     source: 1,
     target: 2,
     chosen: None,
 };
 
-/// A step of a world, with its documents as strings. All timestamps are 0.
+/// A step of a world. The documents of the step are strings. All timestamps are 0.
 #[derive(Clone, Copy)]
 pub(crate) enum Act<'a> {
     /// Edit a document at the source, given the document's id, the parent revision and the body.
