@@ -1,5 +1,5 @@
 //! Compares the requests and the fetched documents of databases with the results of a plain reference model. A database
-//! requests leaves of another database's feed, and fetches documents for its requests.
+//! requests leaves of another database's feed, and fetches documents for the requests.
 use crate::tests::checks::holds;
 use crate::tests::feeds::{number_of, put};
 use crate::tests::merges::{are, rev};
@@ -13,7 +13,7 @@ use rev_core::Rev;
 use std::alloc::Global;
 use std::process::Abort;
 
-/// A database and its reference (`PlainSide`).
+/// A database, and the database's reference (`PlainSide`).
 #[derive(Drop)]
 pub(crate) struct Side {
     pub(crate) db: Database,

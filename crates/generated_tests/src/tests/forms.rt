@@ -179,9 +179,10 @@ fn merge_and_read(
     agree(rt, alloc, tree, plain, asked.revs());
 }
 
-/// Performs fifty merges from one seed in both representations. After each merge, the function compares the merged
-/// revisions and other revisions in both representations. After about half of the merges, chosen at random, the
-/// function replaces the tree by a copy. After the last merge, the function compares every revision.
+/// Performs fifty random merges, which a seed determines, in both representations of the tree. After each merge, the
+/// function compares the merged revisions and other revisions in both representations. After about half of the merges,
+/// chosen at random, the function replaces the tree by a copy. After the last merge, the function compares every
+/// revision.
 fn merges_alike(rt: &impl Abort, alloc: Global, seed: u64, tree: &mut Tree) {
     let mut rng = ChaCha8Rng::seed_from_u64(seed);
     let mut plain = PlainTree::new(alloc);

@@ -107,7 +107,7 @@ fn many(rt: &impl Abort, front: &mut Front, windows: u64) {
     }
 }
 
-/// Finishes the window of a front with a given number.
+/// Finishes the window with a given number in a front.
 fn finish(rt: &impl Abort, front: &mut Front, number: u64) {
     let lo = number.saturating_mul(2);
     let hi = lo.saturating_add(2);

@@ -282,7 +282,7 @@ fn merge(
     is_refused
 }
 
-/// Performs fifty merges from one seed. Returns the number of merges that failed.
+/// Performs fifty random merges, which a seed determines. Returns the number of merges that failed.
 fn merges(rt: &impl Abort, alloc: Global, seed: u64, tree: &mut Tree) -> usize {
     let mut rng = ChaCha8Rng::seed_from_u64(seed);
     let mut reference = Reference::new();

@@ -21,7 +21,7 @@ use std::sync::Wait;
 use std::thread::Threads;
 
 /// A random number below this bound determines which document the target refuses. If the random number is `IDS` or
-/// more, no document is refused.
+/// more, the target refuses no document.
 const CHOICES: u32 = 8;
 
 /// The indices in `Bench::picked` of all documents, the first selection and the second selection.
@@ -39,9 +39,9 @@ const OTHER: usize = 1;
 /// A step of a test.
 #[derive(Clone, Copy)]
 enum Call {
-    /// Load a number of random documents into the target.
+    /// Load a given number of random documents into the target.
     GrowTarget(usize),
-    /// Load a number of random documents into a source.
+    /// Load a given number of random documents into a source.
     Grow(usize, usize),
     /// Replicate all documents or the selected documents of a source into the target.
     Replicate(usize, usize),
@@ -63,8 +63,8 @@ static CALLS: &[Call] = &[
     Call::Replicate(SOURCE, WHOLE),
 ];
 
-/// A peer and its plain model. For all documents and for each selection, `carried` is the peer's sequence up to which
-/// the target has replicated the documents.
+/// A peer and the peer's plain model. For all documents and for each selection, `carried` is the peer's sequence up to
+/// which the target has replicated the documents.
 #[derive(Drop)]
 struct Side {
     peer: Peer<Rules>,
@@ -82,7 +82,8 @@ impl Side {
         }
     }
 
-    /// Loads a random document into a peer and into its model, and asserts that both return the same result.
+    /// Loads a random document into a peer and into the peer's plain model, and asserts that both loads have the same
+    /// result.
     fn load(&mut self, rt: &impl Abort, alloc: Global, rng: &mut ChaCha8Rng) {
         let (doc, wanted) = document_by_chance(rt, alloc, rng, &mut self.plain, IDS);
         let answer = self.peer.load(&doc);
@@ -211,7 +212,7 @@ fn plan(
     }
 }
 
-/// Moves a peer out of its variable, because a run of the pool takes both peers by value.
+/// Moves a peer out of a variable, because a run of the pool takes both peers by value.
 fn taken(alloc: Global, place: &mut Peer<Rules>) -> Peer<Rules> {
     mem::replace(place, Peer::new(alloc, 0, Rules { deny: None }))
 }

@@ -67,7 +67,7 @@ struct Copied {
     log: SourceLog,
 }
 
-/// Counts of four situations that a restore of the source causes in a list of steps.
+/// Counts how often four situations, which only restores cause, occur in a list of steps.
 #[derive(Clone, Copy, Debug)]
 pub(crate) struct Met {
     /// The number of restores while windows, entries or logs were in transit.
@@ -123,7 +123,7 @@ struct Stored {
     is_done: bool,
 }
 
-/// The sessions of a target, and the windows and ledger rows of all sessions. Each list has its oldest item first.
+/// The sessions of a target, and the windows and ledger rows of all sessions. Each list begins with the oldest item.
 #[derive(Drop)]
 pub(crate) struct Sessions {
     begun: Vec<Session>,
@@ -422,7 +422,7 @@ fn put_done(rt: &impl Abort, log: &mut Vec<Done>, done: Done) {
 }
 
 /// The plain model of a world: a source, a target, the target's sessions, the source's log, the messages, and the
-/// source's backups. Each list of the model has its oldest item first.
+/// source's backups. Each list of the model begins with the oldest item.
 #[derive(Drop)]
 pub(crate) struct PlainWorld {
     pub(crate) source: PlainSide,

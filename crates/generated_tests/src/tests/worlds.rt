@@ -67,8 +67,8 @@ impl Dealer {
         self.model.picked = all_or_some(&mut self.rng);
     }
 
-    /// Returns an index for a list of `length` items. The index is usually the last index, and sometimes random and
-    /// perhaps out of range.
+    /// Returns an index for a list of `length` items. The index is usually the last index of the list. The index is
+    /// sometimes random, and may then be out of range.
     fn place(&mut self, length: usize) -> usize {
         if below(&mut self.rng, 6) == 0 {
             below(&mut self.rng, 5)
@@ -345,7 +345,7 @@ fn has_chain(rt: &impl Abort, alloc: Global, db: &Database, held: usize, chain: 
     }
 }
 
-/// Converts a log entry to its plain form.
+/// Converts a log entry to the plain model's form of an entry.
 fn done_of(entry: &Entry) -> Done {
     Done {
         session: entry.session.0,
@@ -360,8 +360,8 @@ fn done_of(entry: &Entry) -> Done {
     }
 }
 
-/// Whether a log has exactly the expected entries. The log has its newest entry first, and the list `wanted` has its
-/// oldest entry first.
+/// Whether a log has exactly the expected entries. The log begins with the newest entry, and the list `wanted` begins
+/// with the oldest entry.
 fn is_log(log: &Log, wanted: &[Done]) -> bool {
     let mut same = log.len() == wanted.len();
     for (place, done) in wanted.iter().rev().enumerate() {

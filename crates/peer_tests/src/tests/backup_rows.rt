@@ -109,12 +109,12 @@ fn other_life_refused(rt: HostRuntime) {
             Call::PutEntryOf(SOURCE, REP, TARGET, S2),
             "OtherLife { now: 1 }",
         ),
-        // The given entry is also older than the stored entry, but `PutEntry` checks the life first.
+        // The given entry is older than the stored entry, but `PutEntry` reports the other life first.
         (Call::PutEntry(SOURCE, REP, S1, 1), "OtherLife { now: 1 }"),
         (Call::SourceLog(SOURCE, REP), "1 at 3;"),
         (Call::Page(SOURCE, 3, 4), "3 to 4: 4 e 1-a;"),
-        // The window also begins below 6, the end of the second session's windows, but `Append` checks the life first.
-        // The third session does not exist yet.
+        // The window begins below 6, the end of the second session's windows, but `Append` reports the other life
+        // first. The third session does not exist yet.
         (Call::Append(TARGET, S2, SECOND), "OtherLife { now: 0 }"),
         (Call::Append(TARGET, S3, SECOND), "NoSuchSession"),
         (
@@ -136,7 +136,7 @@ fn other_life_refused(rt: HostRuntime) {
 fn copies_are_refused_by_name(rt: HostRuntime) {
     const ROWS: Rows = &[
         (Call::Backup(TARGET), "IsTarget"),
-        // The backup is also from another peer, but `Restore` first checks whether the peer is a target.
+        // The backup is from another peer, but `Restore` first reports that the peer is a target.
         (Call::Restore(TARGET, FIRST), "IsTarget"),
         (Call::Peer(3, None), "made"),
         (Call::Restore(OTHER, FIRST), "ForeignBackup"),

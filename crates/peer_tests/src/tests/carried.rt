@@ -39,7 +39,7 @@ fn at(alloc: Global, db: &Database, id: &DocId, rev: Rev) -> Option<String> {
     }
 }
 
-/// Returns the texts of the leaves of a document that a session refused, in the order of the ledger, each text with the
+/// Returns the texts of those leaves of a document that are in a session's ledger, in the ledger's order, each with the
 /// reason.
 pub(crate) fn refused(
     alloc: Global,

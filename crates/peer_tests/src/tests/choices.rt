@@ -50,7 +50,7 @@ pub(crate) enum Call<'a> {
     Audit(Under),
     /// Search the source's feed above a sequence for the first leaf that the target does not cover.
     HoleAbove(u64, Under),
-    /// Compare the logs of the replication.
+    /// Compare the source's and the target's log of the replication.
     Common(Under),
     /// Read the log of the replication at the source.
     SourceLog(Under),
@@ -58,7 +58,7 @@ pub(crate) enum Call<'a> {
     TargetLog(Under),
 }
 
-/// The calls of a test, and each call's expected result.
+/// The calls of a test, each with the expected result.
 pub(crate) type Rows = &'static [(Call<'static>, &'static str)];
 
 /// A source, a target, and selections.
@@ -81,14 +81,14 @@ impl Bench {
         }
     }
 
-    /// Performs the calls in order, and asserts that each call returns its expected result.
+    /// Performs the calls in order, and asserts that each call returns the expected result.
     fn run(&mut self, rt: &impl Abort, calls: &[(Call, &str)]) {
         for (i, (call, wanted)) in calls.iter().enumerate() {
             expect_answer(rt, i, self.answer(call), wanted);
         }
     }
 
-    /// Performs a call and returns its result as a string.
+    /// Performs a call, and returns the call's result as a string.
     fn answer(&mut self, call: &Call) -> Option<String> {
         match *call {
             Call::Load(text) => load(self.alloc, &mut self.source, text),
@@ -115,7 +115,7 @@ impl Bench {
     }
 }
 
-/// Returns the selection of a call.
+/// Returns the selection that a call uses.
 fn under_of(call: &Call) -> Under {
     match *call {
         Call::Has(under, _)
@@ -133,7 +133,7 @@ fn under_of(call: &Call) -> Under {
     }
 }
 
-/// Performs a call with a selection.
+/// Performs a call that uses a selection.
 fn of_peers(
     alloc: Global,
     source: &mut Peer<Rules>,
@@ -155,7 +155,7 @@ fn of_peers(
     }
 }
 
-/// Performs a read-only call with a selection.
+/// Performs a read-only call that uses a selection.
 fn read(
     alloc: Global,
     source: &Peer<Rules>,
@@ -402,7 +402,7 @@ fn begin(
     }
 }
 
-/// Performs lists of calls on a new bench, and asserts that each call returns its expected result.
+/// Performs lists of calls on a new bench, and asserts that each call returns the expected result.
 pub(crate) fn expect(rt: &impl Abort, alloc: Global, lists: &[Rows]) {
     let mut bench = Bench::new(alloc);
     for calls in lists {

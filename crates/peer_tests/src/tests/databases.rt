@@ -11,15 +11,15 @@ use std::alloc::Global;
 use std::process::Abort;
 use test_support::{rev, rev_text, shown};
 
-/// A call on a database. A call gives each database, window, request or parcel by its index.
+/// A call on a database. A call names each database, window, request or parcel by an index.
 #[derive(Clone, Copy)]
 pub(crate) enum Call<'a> {
     /// Create the bench's next database with a UUID and an update sequence.
     DatabaseAt(u128, u64),
     /// Put a document.
     Put(usize, &'a str),
-    /// Edit a document, given its id, the parent revision (an empty string for none), the deleted flag, the body, and
-    /// the number of the local write.
+    /// Edit a document, given the document's id, the parent revision (an empty string for none), the deleted flag, the
+    /// body, and the number of the local write.
     Edit(usize, &'a str, &'a str, bool, &'a str, u64),
     /// Copy a database, and store the copy as the bench's next database. The copy has the given life, or the database's
     /// life if no life is given.
@@ -46,7 +46,7 @@ pub(crate) enum Call<'a> {
     Fetch(usize, usize),
 }
 
-/// The calls of a test, and each call's expected result.
+/// The calls of a test, each with the expected result.
 pub(crate) type Rows = &'static [(Call<'static>, &'static str)];
 
 /// The windows, requests and parcels that were read and fetched.
@@ -92,14 +92,14 @@ impl Bench {
         }
     }
 
-    /// Performs the calls in order, and asserts that each call returns its expected result.
+    /// Performs the calls in order, and asserts that each call returns the expected result.
     pub(crate) fn run(&mut self, rt: &impl Abort, calls: &[(Call, &str)]) {
         for (i, (call, wanted)) in calls.iter().enumerate() {
             expect_answer(rt, i, self.answer(call), wanted);
         }
     }
 
-    /// Performs a call and returns its result as a string.
+    /// Performs a call, and returns the call's result as a string.
     fn answer(&mut self, call: &Call) -> Option<String> {
         match *call {
             Call::DatabaseAt(uuid, seq) => make_at(self.alloc, &mut self.databases, uuid, seq),
@@ -305,7 +305,7 @@ pub(crate) fn keep_parcel(
     text
 }
 
-/// Performs lists of calls on a new bench with databases of the given UUIDs, and asserts that each call returns its
+/// Performs lists of calls on a new bench with databases of the given UUIDs, and asserts that each call returns the
 /// expected result.
 pub(crate) fn expect(rt: &impl Abort, alloc: Global, uuids: &[u128], lists: &[Rows]) {
     let mut bench = Bench::new(rt, alloc, uuids);

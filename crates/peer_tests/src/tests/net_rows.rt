@@ -217,7 +217,7 @@ fn hops_that_are_refused(rt: HostRuntime) {
             Call::Load(0, r#"{"_id":"f","_rev":"1-a"}"#),
             "Changed { seq: 3 }",
         ),
-        // If a hop's replication stops below its goal, the call returns an error.
+        // If the replication of a hop stops below the goal, the call returns an error.
         (
             Call::AlongTwoRows(&[(0, 2), (2, 3)]),
             "hop 0: Unfinished { low_water: 2 }",

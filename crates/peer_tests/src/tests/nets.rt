@@ -25,7 +25,7 @@ pub(crate) enum Call<'a> {
     Add(u128, Option<&'a str>),
     /// Load a document.
     Load(usize, &'a str),
-    /// Edit a document, given its id, the parent revision (an empty string for none) and the body.
+    /// Edit a document, given the document's id, the parent revision (an empty string for none) and the body.
     Edit(usize, &'a str, &'a str, &'a str),
     /// Replicate along hops.
     Along(&'a [Places]),
@@ -42,7 +42,7 @@ pub(crate) enum Call<'a> {
     Leaves(usize, &'a str),
 }
 
-/// The calls of a test, and each call's expected result.
+/// The calls of a test, each with the expected result.
 pub(crate) type Rows = &'static [(Call<'static>, &'static str)];
 
 /// Lists of calls that are performed in order.
@@ -57,7 +57,7 @@ struct Bench {
 }
 
 impl Bench {
-    /// Performs a call and returns its result as a string.
+    /// Performs a call, and returns the call's result as a string.
     fn answer(&mut self, call: &Call) -> Option<String> {
         match *call {
             Call::Add(uuid, deny) => self.add(uuid, deny),
@@ -82,7 +82,7 @@ impl Bench {
         }
     }
 
-    /// Adds a peer, and returns its index.
+    /// Adds a peer, and returns the peer's index.
     fn add(&mut self, uuid: u128, deny: Option<&str>) -> Option<String> {
         let deny = match deny {
             Some(prefix) => {
@@ -206,7 +206,7 @@ fn done_text(alloc: Global, done: Result<(), NetFault>) -> Option<String> {
     }
 }
 
-/// Returns the error of a call on a network.
+/// Returns the text of an error of a call on a network.
 pub(crate) fn net_fault_text(alloc: Global, fault: NetFault) -> Option<String> {
     match fault {
         NetFault::Hop(at, why) => {
@@ -217,7 +217,7 @@ pub(crate) fn net_fault_text(alloc: Global, fault: NetFault) -> Option<String> {
     }
 }
 
-/// Performs lists of calls on a new network, and asserts that each call returns its expected result.
+/// Performs lists of calls on a new network, and asserts that each call returns the expected result.
 pub(crate) fn expect(rt: &impl Abort, alloc: Global, lists: Lists) {
     let mut bench = Bench {
         alloc,

@@ -46,7 +46,7 @@ pub(crate) struct Beginning {
     pub(crate) goal: u64,
 }
 
-/// A call on a peer. A call gives each peer, window, request or parcel by its index.
+/// A call on a peer. A call names each peer, window, request or parcel by an index.
 #[derive(Clone, Copy)]
 pub(crate) enum Call<'a> {
     /// Create the next peer with a UUID, and with a filter that refuses document ids with a given prefix.
@@ -55,7 +55,8 @@ pub(crate) enum Call<'a> {
     PeerAt(u128, Option<&'a str>, u64),
     /// Load a document.
     Load(usize, &'a str),
-    /// Edit a document, given its id, the parent revision (an empty string for none), the deleted flag, and the body.
+    /// Edit a document, given the document's id, the parent revision (an empty string for none), the deleted flag, and
+    /// the body.
     Edit(usize, &'a str, &'a str, bool, &'a str),
     /// Read the UUID and the update sequence.
     Numbers(usize),
@@ -128,7 +129,7 @@ pub(crate) enum Call<'a> {
     Sizes(usize),
 }
 
-/// The calls of a test, and each call's expected result.
+/// The calls of a test, each with the expected result.
 pub(crate) type Rows = &'static [(Call<'static>, &'static str)];
 
 /// Lists of calls that are performed in order.
@@ -157,14 +158,14 @@ impl Bench {
         }
     }
 
-    /// Performs the calls in order, and asserts that each call returns its expected result.
+    /// Performs the calls in order, and asserts that each call returns the expected result.
     fn run(&mut self, rt: &impl Abort, calls: &[(Call, &str)]) {
         for (i, (call, wanted)) in calls.iter().enumerate() {
             expect_answer(rt, i, self.answer(call), wanted);
         }
     }
 
-    /// Performs a call and returns its result as a string.
+    /// Performs a call, and returns the call's result as a string.
     fn answer(&mut self, call: &Call) -> Option<String> {
         match *call {
             Call::Peer(uuid, deny) => make(self.alloc, &mut self.peers, uuid, deny),
@@ -491,7 +492,7 @@ pub(crate) fn source_log(alloc: Global, peer: &Peer<Rules>, rep: &RepId) -> Opti
     log_text(alloc, &log)
 }
 
-/// Performs lists of calls on a new bench, and asserts that each call returns its expected result.
+/// Performs lists of calls on a new bench, and asserts that each call returns the expected result.
 pub(crate) fn expect(rt: &impl Abort, alloc: Global, lists: &[Rows]) {
     let mut bench = Bench::new(alloc);
     for calls in lists {

@@ -62,8 +62,8 @@ fn hold(told: &AtomicBool, ran_out: &AtomicBool) {
     ran_out.store(true, Ordering::SeqCst);
 }
 
-/// A gate that blocks the first window's fetcher until the second window is recorded, and stores the recorded sequences
-/// of both windows.
+/// A gate that blocks the first window's fetcher until the second window is recorded. The gate also stores both
+/// recorded sequences.
 #[derive(Drop)]
 struct HoldsFetched {
     second: AtomicBool,
@@ -177,7 +177,7 @@ impl Gate for CountsRecordings {
 }
 
 // This test detects a writer that records only every second window, or that reports a low water other than the recorded
-// low water. No contract excludes such a writer.
+// low water. No contract excludes a writer with one of these defects.
 #[test]
 fn each_recording_tells_the_low_water(rt: HostRuntime) {
     const ONE_BY_ONE: How = How {

@@ -102,8 +102,8 @@ impl Turns {
     /// A fetcher has a window until the fetcher has passed the place `Fetched`. A writer has a parcel until the writer
     /// has passed the place `Recorded`. A fetcher that finds no further window sends an end message to a writer,
     /// perhaps before the other fetcher sends the last parcel. If all three windows are fetched and one window is
-    /// recorded, one writer may therefore have ended, and the other writer handles both remaining windows. A worker
-    /// that the gate stops drops all messages.
+    /// recorded, one writer may have ended. The other writer then handles both remaining windows. A worker that the
+    /// gate stops drops all messages.
     fn awaited(&self) -> (u64, u64) {
         let fetched = bits(self.left & FETCHED);
         let recorded = bits(self.left & RECORDED);
@@ -290,8 +290,8 @@ fn different(sorted: &[u64]) -> u64 {
 const SEEDS: u64 = 250;
 
 /// Performs one run for each of `SEEDS` seeds, and asserts that the runs have more than `SEEDS` / 2 different orders.
-// The order of a run affects only the target's sequences. All other values that the test reads after a run are the same
-// for every order.
+// The order of a run affects only the target's sequences. Apart from the target's sequences, all values that the test
+// reads after a run are the same for every order.
 fn run_orders<R: Abort + Threads + Wait + Sync>(rt: &R, alloc: Global, first: u64) {
     let mut orders = Vec::new(alloc);
     for number in 0..SEEDS {

@@ -61,10 +61,10 @@ pub(crate) enum Call<'a> {
     Audit(usize, usize),
 }
 
-/// The calls of a test, and each call's expected result.
+/// The calls of a test, each with the expected result.
 pub(crate) type Rows = &'static [(Call<'static>, &'static str)];
 
-/// Peers, and the number of workers of a run.
+/// A bench: peers, and the number of workers of a run.
 #[derive(Drop)]
 pub(crate) struct Bench {
     alloc: Global,
@@ -89,14 +89,14 @@ impl Bench {
         self.fetchers
     }
 
-    /// Performs the calls in order, and asserts that each call returns its expected result.
+    /// Performs the calls in order, and asserts that each call returns the expected result.
     pub(crate) fn run<R: Abort + Threads + Wait + Sync>(&mut self, rt: &R, calls: &[(Call, &str)]) {
         for (i, (call, wanted)) in calls.iter().enumerate() {
             expect_answer(rt, i, self.answer(rt, call), wanted);
         }
     }
 
-    /// Performs a call and returns its result as a string.
+    /// Performs a call, and returns the call's result as a string.
     pub(crate) fn answer<R: Abort + Threads + Wait + Sync>(
         &mut self,
         rt: &R,
@@ -160,7 +160,8 @@ impl Bench {
         *self.peers.get_mut(at).expect(rt, "a place") = peer;
     }
 
-    /// Replicates one peer into another with a gate. Returns how the run ended, and the number of fetched documents.
+    /// Replicates one peer into another peer by the pool, with a gate. Returns how the run ended, and the number of
+    /// fetched documents.
     pub(crate) fn replicate<G: Gate + Sync, R: Abort + Threads + Wait + Sync>(
         &mut self,
         rt: &R,
@@ -324,7 +325,7 @@ fn outcome_text(alloc: Global, outcome: Result<Report, PoolFault>) -> Option<Str
     }
 }
 
-/// Loads the document with a given number.
+/// Loads the document whose id has a given number.
 fn load_number(alloc: Global, peer: &mut Peer<Rules>, number: u64) -> Option<String> {
     match format!(in alloc; "{{\"_id\":\"d{number}\",\"_rev\":\"1-a\"}}") {
         Ok(text) => load(alloc, peer, text.as_str()),

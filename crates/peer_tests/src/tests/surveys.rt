@@ -47,7 +47,7 @@ pub(crate) enum Call<'a> {
     Tree(&'a str),
 }
 
-/// The calls of a test, and each call's expected result.
+/// The calls of a test, each with the expected result.
 pub(crate) type Rows = &'static [(Call<'static>, &'static str)];
 
 /// A source, and a target with a filter that denies ids that begin with x.
@@ -59,7 +59,7 @@ struct Bench {
 }
 
 impl Bench {
-    /// Performs a call and returns its result as a string.
+    /// Performs a call, and returns the call's result as a string.
     fn answer(&mut self, call: &Call) -> Option<String> {
         match *call {
             Call::Source(text) => load(self.alloc, &mut self.source, text),
@@ -227,7 +227,7 @@ fn contradiction_text(alloc: Global, found: &Comparison) -> Option<String> {
     }
 }
 
-/// Returns a row of a ledger.
+/// Returns the text of a ledger row.
 fn row_text(alloc: Global, row: LedgerRow) -> Option<String> {
     match row {
         LedgerRow::Denied { rev } => { joined(plain(alloc, " denied"), revs_text(alloc, &[rev])) }
@@ -259,7 +259,7 @@ fn two_peers(rt: &impl Abort, alloc: Global) -> Bench {
     }
 }
 
-/// Performs the calls, and asserts that each call returns its expected result.
+/// Performs the calls, and asserts that each call returns the expected result.
 pub(crate) fn expect(rt: &impl Abort, alloc: Global, rows: Rows) {
     let mut bench = two_peers(rt, alloc);
     for (i, (call, wanted)) in rows.iter().enumerate() {

@@ -192,7 +192,7 @@ fn content_text(alloc: Global, tree: &Tree, rev: Rev) -> Option<String> {
     format!(in alloc; "{kind} {body}").ok()
 }
 
-/// Returns the error of a call on a database.
+/// Returns the text of an error of a call on a database.
 pub(crate) fn base_fault_text(alloc: Global, fault: BaseFault) -> Option<String> {
     match fault {
         BaseFault::RevExists { rev } => named_text(alloc, "RevExists", &[rev]),

@@ -50,7 +50,7 @@ pub(crate) enum Question<'a> {
     Common,
     /// The entry of a session.
     Entry(SessionId),
-    /// The log of the replication that a side (source or target) has.
+    /// The log that a side (source or target) has of the replication.
     Log(u128),
     /// The tree of a document at a side.
     Tree(u128, &'a str),
@@ -65,7 +65,7 @@ pub(crate) enum Question<'a> {
 /// Steps in order.
 pub(crate) type Acts = &'static [Act<'static>];
 
-/// Questions about a world, each with its expected result.
+/// Questions about a world, each with the expected result.
 pub(crate) type Told = &'static [(Question<'static>, &'static str)];
 
 /// Creates the timestamp 0.
@@ -162,7 +162,7 @@ fn push_step(all: &mut Vec<Step>, step: Option<Step>) -> Option<()> {
     }
 }
 
-/// Takes the steps that a list of acts describes.
+/// Performs the steps that a list of acts describes.
 fn take(alloc: Global, world: &mut World<Rules>, acts: &[Act]) -> Option<()> {
     let Some(steps) = steps(alloc, acts) else {
         return None;
@@ -170,7 +170,7 @@ fn take(alloc: Global, world: &mut World<Rules>, acts: &[Act]) -> Option<()> {
     world.run(alloc, &steps).ok()
 }
 
-/// Returns the log of the replication that a side (source or target) has.
+/// Returns the log that a side (source or target) has of the replication.
 fn side_log(alloc: Global, world: &World<Rules>, side: u128) -> Option<String> {
     if side == 1 {
         source_log(alloc, world.source(), &REP)
@@ -222,7 +222,7 @@ fn answer(alloc: Global, world: &World<Rules>, question: Question) -> Option<Str
     }
 }
 
-/// Takes steps in a world, and asserts the results of questions about the world.
+/// Performs steps in a world, and asserts the results of questions about the world.
 fn tell(rt: &impl Abort, alloc: Global, world: &mut World<Rules>, lists: &[Acts], told: Told) {
     for acts in lists {
         if take(alloc, world, acts).is_none() {
@@ -245,7 +245,7 @@ fn world(rt: &impl Abort, alloc: Global) -> World<Rules> {
     World::new(alloc, source, target, None).expect(rt, "two peers")
 }
 
-/// Takes lists of steps in a world of two empty peers, and asserts the results of questions about the world.
+/// Performs lists of steps in a world of two empty peers, and asserts the results of questions about the world.
 pub(crate) fn expect(rt: &impl Abort, alloc: Global, lists: &[Acts], told: Told) {
     let mut world = world(rt, alloc);
     tell(rt, alloc, &mut world, lists, told);
@@ -264,8 +264,8 @@ fn load_many(alloc: Global, world: &mut World<Rules>, count: u64) -> Option<()> 
     Some(())
 }
 
-/// Takes lists of steps in a world whose source has a given number of documents, and asserts the results of questions
-/// about the world.
+/// Performs lists of steps in a world whose source has a given number of documents, and asserts the results of
+/// questions about the world.
 pub(crate) fn expect_of_many(
     rt: &impl Abort,
     alloc: Global,
