@@ -1,4 +1,4 @@
--- What a program that runs a script prints, as specified in docs/PROFILE.md, "Answers".
+-- The output of a program that runs a script, as specified in docs/PROFILE.md, "Answers".
 use Rattle.std.specs.Prelude.{◌≡◌, ℕ, List, Bool, Result, Ok, Err}
 use Rattle.script_engine.specs.Script.{AnswersEnded, IsAnswered}
 use Rattle.script_engine.specs.Faults.{IsToldUntil}
@@ -9,7 +9,7 @@ use Rattle.commands.specs.Trust.{TrustedLines}
 
 -- A program runs a script with the given settings. The second and third arguments of `Prints` are the bytes that the
 -- program's reads returned, and whether the reads reached the input's end. The last two arguments of `Prints` are the
--- bytes that the program's writer accepted, and how the script ended. If a script succeeded, the script's input has
+-- bytes that the program's writer accepted, and the result of the script. If a script succeeded, the script's input has
 -- ended, and the program's writer has accepted the script's complete output. If a script failed, the program's writer
 -- has accepted a prefix of the script's output. If a read failed, the writer has accepted the output of all lines that
 -- end in the bytes read. The output of the program has the guarantees of `TrustedLines`.

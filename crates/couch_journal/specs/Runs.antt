@@ -11,6 +11,7 @@ use Rattle.journal_core.specs.Wrong.{wrong_at}
 use Rattle.journal_tasks.specs.Asking.{ask_body, asked_items}
 use Rattle.journal_tasks.specs.Counting.{wrong_line}
 use Rattle.journal_tasks.specs.Lists.{is_wrong, leaves_in}
+use Rattle.journal_tasks.specs.Receiving.{lacks_any, passed_on, received_text, wrong_received}
 use Rattle.journal_responses.specs.Infos.{info_text, is_info}
 use Rattle.journal_responses.specs.Pages.{page_in}
 use Rattle.journal_responses.specs.Refusals.{any_refused, refused_text}
@@ -26,7 +27,7 @@ use Rattle.couch_journal.specs.declared.run.Response.TheVariants.{Page, Refused,
 use Rattle.couch_journal.specs.declared.tasks.Task.{Task}
 use Rattle.couch_journal.specs.declared.tasks.Task.TheVariants as tasks
 use Rattle.couch_journal.specs.Options.{Refuses, Says}
-use Rattle.couch_journal.specs.Status.{unflushed, wrong_or}
+use Rattle.couch_journal.specs.Status.{missing_or_done, unflushed, wrong_or}
 use Rattle.couch_journal.specs.Tasks.{IsTaskOf, IsTaskless}
 use Rattle.couch_journal.specs.declared.options.NoTask.{NoTask}
 use Rattle.couch_journal.specs.declared.options.NoTask.TheVariants.{Words, Unknown, Memory}
@@ -113,6 +114,13 @@ RunsAsk ended input text result =
     RunsLines (λ lines. asked_items false (leaves_in lines)) (λ lines rest. ask_body (leaves_in lines))
     (λ lines rest. wrong_or (wrong_line is_wrong lines rest) outcomes.Done) ended input text result
 
+-- The task `received` was run: the output has the requested documents of the response, and then the lines for the
+-- request. A revision that is missing determines the outcome, unless a line is wrong.
+abbrev pub RunsReceived : Bool → Type 0 → List ℕ → List ℕ → Result Outcome ScriptFault → Type 0
+RunsReceived only ended input text result =
+    RunsLines (passed_on only) (received_text only)
+    (λ lines rest. wrong_or (wrong_received lines rest) (missing_or_done (lacks_any lines))) ended input text result
+
 -- ---- the tasks
 
 -- The input, the output and the result of a task. The results of the tasks in the last case have no contract.
@@ -122,6 +130,7 @@ RunsTask tasks.Refused o ended input text result = RunsResponse Refused ended in
 RunsTask tasks.Info o ended input text result = RunsResponse Info ended input text result
 RunsTask (tasks.Seal chain seq) o ended input text result = RunsSeal chain.now seq.now ended input text result
 RunsTask tasks.Ask o ended input text result = RunsAsk ended input text result
+RunsTask (tasks.Received only) o ended input text result = RunsReceived only ended input text result
 RunsTask other o ended input text result = Unit {0}
 
 -- ---- the program

@@ -5,7 +5,7 @@ ghost use Rattle.json.specs.Value.{value_view};
 ghost use Rattle.script_engine.specs.Device.{FailsOnce};
 ghost use Rattle.journal_responses.specs.Responses.{IsOther, IsSaid};
 ghost use Rattle.couch_journal.specs.Status.{missing_or_done};
-ghost use Rattle.couch_journal.specs.Runs.{IsNotShown, IsShown, RunsAsk, RunsResponse, RunsSeal, RunsTask, RunsWords, Shows, ShowsNothing};
+ghost use Rattle.couch_journal.specs.Runs.{IsNotShown, IsShown, RunsAsk, RunsReceived, RunsResponse, RunsSeal, RunsTask, RunsWords, Shows, ShowsNothing};
 
 use crate::ended::{Ended, Outcome, missing_or_done, wrong_or};
 use crate::options::{NoTask, Options, matches_of, options_of};
@@ -13,8 +13,8 @@ use crate::tasks::{Task, task_of};
 use journal_core::seal_block;
 use journal_responses::{Said, info_of, page_of, read_said, refused_of};
 use journal_tasks::{
-    Compare, Conflicts, Diff, Filter, Lacking, Name, Parts, Received, Select, States, ask_leaves,
-    confirm_journal,
+    Compare, Conflicts, Diff, Filter, Lacking, Name, Parts, Select, States, ask_leaves,
+    confirm_journal, receive_leaves,
 };
 use json::{Scratch, Value};
 use line_reader::{LineTask, read_all, run_task};
@@ -284,11 +284,13 @@ fn run_received<R: ScriptRead, W: ScriptWrite>(
     writer: &mut W,
 ) -> Result<Outcome, ScriptFault>
     ensures { (input text : List ℕ) × Appends (R.taken reader.old) (R.taken reader.new) input
-        × Appends (W.held writer.old) (W.held writer.new) text }
+        × Appends (W.held writer.old) (W.held writer.new) text
+        × RunsReceived only_lacks (R.ended reader.new) input text result }
 {
-    let mut task = Received::new(alloc, only_lacks);
-    run_lines(alloc, &mut task, reader, writer)?;
-    Ok(wrong_or(task.wrong(), missing_or_done(task.lacks())))
+    match receive_leaves(alloc, only_lacks, reader, writer) {
+        Ok(task) => Ok(wrong_or(task.wrong(), missing_or_done(task.lacks()))),
+        Err(fault) => Err(fault),
+    }
 }
 
 /// Prints a `_bulk_get` request for the leaves of a list.

@@ -14,7 +14,7 @@ abbrev pub read_if_any : Option Data → Result (Option Document) DocFault
 read_if_any None = Ok None
 read_if_any (Some value) = doc_read value >>= λ doc. Ok (Some doc)
 
--- The result of reading the envelope of a text, which is `None` if the text has no envelope, or its envelope is not
--- JSON.
+-- The result of reading the envelope of a text. The result is `None` if the text has no envelope, or the envelope is
+-- not JSON.
 abbrev pub envelope_read : List ℕ → Result (Option Document) DocFault
 envelope_read document = read_if_any (option_and_then read_text (enveloped document))

@@ -38,7 +38,7 @@ pub fn read_envelope(
     read_spared(alloc, &line.part())
 }
 
-/// Reads a line that is an envelope as a document.
+/// Reads an envelope as a document.
 fn read_spared(alloc: Global, part: &LinePart<'_, '_>) -> Result<Option<Doc>, DocFault>
     requires { IsSpared (line_view part.now) }
     ensures ok { IfOk result (λ read. read_if_any (Some (line_view part.now)) ≡ Ok read) }

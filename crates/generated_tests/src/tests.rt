@@ -1,7 +1,7 @@
 //! Randomized tests of databases, peers, worlds, networks, revision trees and fronts. Each test compares the results of
 //! calls with the results of an independent reference, which was written from the definitions.
 
-// Assertions that all modules use.
+// Assertions for all test modules.
 mod checks;
 
 // Trees, and their reference.
@@ -35,7 +35,7 @@ mod syncs;
 // Networks of several peers.
 mod nets;
 
-// Comparisons of a peer with its plain model.
+// Functions that compare a peer with a plain model of the peer.
 mod sides;
 
 // Tests that compare worlds with a plain model of worlds.

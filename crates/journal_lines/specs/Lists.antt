@@ -73,7 +73,7 @@ abbrev pub leaves_by : Option (List ℕ × List ℕ) → Option LeavesView
 leaves_by None = None
 leaves_by (Some parts) = leaves_at (option_and_then token (text_in parts.0)) (text_in parts.1)
 
--- The leaves that a journal line names after its first word.
+-- The leaves that a journal line names after its kind, from the sequence on.
 abbrev pub leaves_in : List ℕ → Option LeavesView
 leaves_in rest = leaves_by (cut_at_blank rest)
 
@@ -81,6 +81,6 @@ leaves_in rest = leaves_by (cut_at_blank rest)
 abbrev pub revs_text : List (List ℕ) → List ℕ
 revs_text revs = flat_map (λ rev. codes "," ++ quoted rev) revs
 
--- A line that lists leaves: a word, a sequence, and a JSON list of the id and the revisions.
+-- A line that lists leaves: the kind `word`, a sequence, and a JSON list of the id and the revisions.
 abbrev pub leaves_line : List ℕ → List ℕ → List ℕ → List (List ℕ) → List ℕ
 leaves_line word seq id revs = word ++ codes " " ++ seq ++ codes " [" ++ quoted id ++ revs_text revs ++ codes "]\n"

@@ -121,8 +121,8 @@ fn seq_of(bytes: &[u8]) -> Option<&str>
     }
 }
 
-/// Returns the leaves that a line lists after its first word. After its first word, the line has a sequence, a blank
-/// and a JSON list.
+/// Returns the leaves that a line lists after its kind. After its kind, the line has a sequence, a blank and a JSON
+/// list.
 pub(crate) fn leaves_of(
     alloc: Global,
     scratch: &mut Scratch,
@@ -153,8 +153,8 @@ fn push_revs(alloc: Global, out: &mut Vec<u8>, revs: &[String]) -> Result<(), Al
     Ok(())
 }
 
-/// Appends a line that lists the leaves of a document. The line consists of a word such as `state`, the sequence, and a
-/// JSON list of the id and the revisions.
+/// Appends a line that lists the leaves of a document. The line consists of its kind `word` (such as `state`), the
+/// sequence, and a JSON list of the id and the revisions.
 pub fn push_leaves(
     alloc: Global,
     out: &mut Vec<u8>,

@@ -80,7 +80,7 @@ wrong_flags lines =
 abbrev pub wrong_received : List (List ℕ) → List ℕ → Option ℕ
 wrong_received lines rest = wrong_line (λ wrong. wrong) (wrong_flags lines) rest
 
--- A line of a response as it is printed. The argument `only` says that only missing leaves are printed.
+-- The text that is printed for a line of a response. The argument `only` says that only missing leaves are printed.
 abbrev pub passed_line : Bool → List LeavesView → List ℕ → List ℕ
 passed_line only requested line = if is_answer requested (entry_in line) && not only then line ++ codes "\n" else []
 

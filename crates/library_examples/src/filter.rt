@@ -82,7 +82,7 @@ fn plan(session: u128) -> Result<Plan> {
     })
 }
 
-/// Prints the winner of a document, or that the document does not exist.
+/// Prints the winning revision of a document, or that the document does not exist.
 fn show<F: WriteFilter>(rt: &HostRuntime, peer: &Peer<F>, id: &str) -> Result<()> {
     let name = DocId::parse(rt.alloc(), id)?;
     let Some(winner) = peer.db().tree(&name).and_then(|tree| tree.winner()) else {

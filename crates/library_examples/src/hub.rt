@@ -84,7 +84,7 @@ fn plans(alloc: Global, first: u128) -> Result<Vec<Plan>> {
     Ok(plans)
 }
 
-/// Prints, for each peer, the winner and the number of leaves of the document `milk`.
+/// Prints, for each peer, the winning body and the number of leaves of the document `milk`.
 fn tell(rt: &HostRuntime, net: &Net<Rules>) -> Result<()> {
     let id = DocId::parse(rt.alloc(), "milk")?;
     for (place, name) in NAMES.iter().enumerate() {
@@ -96,7 +96,7 @@ fn tell(rt: &HostRuntime, net: &Net<Rules>) -> Result<()> {
     Ok(())
 }
 
-/// Returns the body of a document's winner, and the document's number of leaves.
+/// Returns the body of a document's winning revision, and the number of the document's leaves.
 fn winner(alloc: Global, peer: &Peer<Rules>, id: &DocId) -> Result<(String, usize)> {
     let Some(tree) = peer.db().tree(id) else {
         return Ok((String::new(alloc), 0));

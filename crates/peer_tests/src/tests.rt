@@ -1,8 +1,9 @@
-//! Tests of databases and peers. Each test is a table of calls, each with its expected result as a string.
+//! Tests of databases and peers. Each test is a table of calls. For each call, the table has the expected result as a
+//! string.
 //!
-//! A bench, which is a test fixture, holds the databases or peers of a test, and the values that these databases or
-//! peers returned. Each kind of call is a variant of an enum. The prover handles each variant once, and a test is a
-//! table that needs no proof.
+//! A bench, which is a test fixture, holds the databases or peers of a test, and the values that calls on these
+//! databases or peers returned. Each kind of call is a variant of an enum. The code for each variant is proved once. A
+//! test is only a table of calls, and needs no further proof.
 
 // Calls on databases.
 mod database_rows;
@@ -20,7 +21,7 @@ mod backups;
 mod choice_rows;
 mod choices;
 
-// The steps of a replication that all implementations share.
+// Steps that are common to all implementations of a replication.
 mod plan_rows;
 mod plans;
 
@@ -33,7 +34,7 @@ mod carried;
 mod pool_rows;
 mod pools;
 
-// Tests whose gates observe, block or stop a run of the pool.
+// Tests of runs of the pool that a gate observes, blocks or stops.
 mod pool_boards;
 mod pool_gates;
 mod pool_orders;

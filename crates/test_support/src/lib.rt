@@ -1,6 +1,6 @@
 //! Helpers that several test crates share. The helpers format results, parse revisions, and create a minimal log entry.
 //!
-//! This crate has no contracts, because tests compare its results with strings written by hand.
+//! This crate has no contracts, because tests compare the crate's results with strings written by hand.
 #![tactic(auto)]
 
 mod entries;

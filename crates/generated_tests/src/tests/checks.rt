@@ -1,9 +1,9 @@
-//! Assertions that all modules use.
+//! Assertions for all test modules.
 use std::process::Abort;
 
 /// Asserts a fact, and prints the given name if the fact is false.
 ///
-/// An assertion with a message costs the prover about 30 steps, and a call of this function costs about ten.
+/// The prover needs about 30 steps for an assertion with a message, and about ten steps for a call of this function.
 pub(crate) fn holds(rt: &impl Abort, fact: bool, name: &str) {
     assert!(rt; fact, "{name}");
 }

@@ -17,8 +17,8 @@ pub(crate) fn all_or_some(rng: &mut ChaCha8Rng) -> Picked {
     if below(rng, 2) == 0 { ALL } else { some(rng) }
 }
 
-/// Creates the selection of documents by number, or no selection if all documents are selected. The function gives the
-/// ids in reverse order, and gives the id twice if only one document is selected.
+/// Creates the selection of the documents in a mask, or returns `None` for the mask `ALL`. The function passes the ids
+/// to `Chosen::new` in reverse order, and passes a single id twice.
 pub(crate) fn chosen(rt: &impl Abort, alloc: Global, picked: Picked) -> Option<Chosen> {
     if picked == ALL {
         return None;

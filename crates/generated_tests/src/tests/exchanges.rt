@@ -1,5 +1,5 @@
-//! Compares requests and fetched documents with the reference. A database requests leaves of another database's feed,
-//! and fetches documents for its requests.
+//! Compares the requests and the fetched documents of databases with the results of a plain reference model. A database
+//! requests leaves of another database's feed, and fetches documents for the requests.
 use crate::tests::checks::holds;
 use crate::tests::feeds::{number_of, put};
 use crate::tests::merges::{are, rev};
@@ -13,7 +13,7 @@ use rev_core::Rev;
 use std::alloc::Global;
 use std::process::Abort;
 
-/// A database and its reference (`PlainSide`).
+/// A database, and the database's reference (`PlainSide`).
 #[derive(Drop)]
 pub(crate) struct Side {
     pub(crate) db: Database,
@@ -43,7 +43,7 @@ impl Side {
     }
 }
 
-/// Returns the index of a revision in the reference, or `PLACES` if the reference cannot have the revision.
+/// Returns the index of a revision in the reference, or `PLACES` if the reference cannot represent the revision.
 pub(crate) fn place_of(rt: &impl Abort, wanted: Rev) -> usize {
     for place in 0..PLACES {
         if rev(rt, place) == wanted {
@@ -53,7 +53,7 @@ pub(crate) fn place_of(rt: &impl Abort, wanted: Rev) -> usize {
     PLACES
 }
 
-/// Returns a mask with the bits that the reference uses for the given revisions.
+/// Returns the mask that represents the given revisions in the reference.
 fn mask_of(rt: &impl Abort, revs: &[Rev]) -> u32 {
     let mut mask = 0;
     for one in revs {
@@ -62,7 +62,7 @@ fn mask_of(rt: &impl Abort, revs: &[Rev]) -> u32 {
     mask
 }
 
-/// Asserts that a request for a document has exactly the leaves of one tree that another tree lacks, winner first.
+/// Asserts that a request for a document lists exactly those leaves of `tree` that `held` lacks, winner first.
 fn asks_of(
     rt: &impl Abort,
     alloc: Global,
@@ -81,7 +81,7 @@ fn asks_of(
     );
 }
 
-/// Asserts that a request has exactly the leaves that the target lacks, in the order of the source's feed.
+/// Asserts that a request lists exactly those leaves that the target lacks, in the order of the source's feed.
 fn asks(rt: &impl Abort, alloc: Global, source: &PlainSide, target: &PlainSide, asked: &Asked) {
     let mut seq = 0u64;
     let mut at = 0usize;
@@ -119,8 +119,8 @@ fn is_leaf(
     );
 }
 
-/// Asserts that the parcel's documents from index `from` on are the leaves of a tree that are among the given revisions
-/// or descend from them. Returns the index of the first document that was not compared.
+/// Asserts that the parcel's documents from index `from` on are those leaves of `tree` whose ancestries have one of the
+/// given revisions. Returns the index after the last compared document.
 fn brings_leaves(
     rt: &impl Abort,
     alloc: Global,
@@ -139,8 +139,8 @@ fn brings_leaves(
     at
 }
 
-/// Asserts that the parcel's gone revisions from index `from` on are the requested revisions that a tree lacks. Returns
-/// the index of the first gone revision that was not compared.
+/// Asserts that the parcel's gone revisions from index `from` on are those requested revisions that `tree` lacks.
+/// Returns the index after the last compared gone revision.
 fn loses(
     rt: &impl Abort,
     parcel: &Parcel,
@@ -190,8 +190,8 @@ fn brings(
     docs
 }
 
-/// Asserts that the database of a side returns the same documents for a request as the reference of the side. Returns
-/// the number of returned documents.
+/// Asserts that a side's database and the side's reference return the same documents for a request. Returns the number
+/// of documents that the database returned.
 fn answers(rt: &impl Abort, alloc: Global, side: &Side, asked: &Asked) -> usize {
     let parcel = side.db.open_revs(alloc, asked).expect(rt, "memory");
     brings(rt, alloc, &side.plain, asked, &parcel)
@@ -220,7 +220,7 @@ fn exchange(
     target.grow(rt, alloc, rng, 10);
     let asked = asked(rt, alloc, source, target);
     asks(rt, alloc, &source.plain, &target.plain, &asked);
-    // The test changes the source before the fetch, and also fetches from the target, which may lack the requested
+    // The test changes the source before the fetch. The test also fetches from the target, which may lack the requested
     // revisions.
     source.grow(rt, alloc, rng, 10);
     let docs = answers(rt, alloc, source, &asked);
@@ -229,7 +229,7 @@ fn exchange(
 }
 
 /// Performs requests and fetches between a source and a target. The function is separate from its caller, because the
-/// proof grows with each variable that is live in the caller.
+/// caller's proof grows with each variable that is live in the caller.
 fn with_target(rt: &impl Abort, alloc: Global, seed: u64, source: &mut Side) -> usize {
     let mut rng = ChaCha8Rng::seed_from_u64(seed);
     let mut target = Side::new(alloc, 2);

@@ -1,4 +1,4 @@
-//! Random puts and pages, compared with a reference that filters and sorts all documents.
+//! Compares the results of random puts and pages with a reference that scans all documents for each row.
 use crate::tests::checks::holds;
 use crate::tests::merges::{ancestry, are, below, places};
 use crate::tests::plain_sides::{IDS, PlainSide, next_above};
@@ -33,7 +33,7 @@ pub(crate) fn body(rt: &impl Abort, alloc: Global) -> Body {
     read_body(alloc, &value).expect(rt, "a body")
 }
 
-/// Creates a document from its number and the indices of its ancestry, with the body `{}`.
+/// Creates the document with a given number, the ancestry of the revisions at the given indices, and the body `{}`.
 pub(crate) fn document(
     rt: &impl Abort,
     alloc: Global,
@@ -45,8 +45,8 @@ pub(crate) fn document(
     Doc::new(id(rt, alloc, number), ancestry, deleted, body(rt, alloc))
 }
 
-/// Creates a random document, and merges the document into the reference. Returns the document and the expected result
-/// of the put.
+/// Creates a random document, and merges the document into the reference. Returns the document, and the expected result
+/// of putting the document into a database.
 pub(crate) fn document_by_chance(
     rt: &impl Abort,
     alloc: Global,
@@ -61,7 +61,8 @@ pub(crate) fn document_by_chance(
     (document(rt, alloc, number, &walk, deleted), answer)
 }
 
-/// Whether a put returns the expected result, given the update sequence after the put.
+/// Whether the result of a put is the expected result. If the put changed the database, the put must return the
+/// sequence `update_seq`.
 pub(crate) fn is_answer(answer: Result<Put, BaseFault>, wanted: Answer, update_seq: u64) -> bool {
     match answer {
         Ok(Put::Changed { seq }) => wanted == Answer::Changed && seq == update_seq,
@@ -86,14 +87,15 @@ pub(crate) fn put(
     holds(rt, is_answer(answer, wanted, plain.update_seq), "a put");
 }
 
-/// Asserts that a row has a given id, and has the leaves of a given tree.
+/// Asserts that a row has the id of the document with a given number, and the leaves of a given tree.
 fn row_has(rt: &impl Abort, alloc: Global, row: &Row, number: usize, tree: &Reference) {
     let leaves = tree.leaves(alloc).expect(rt, "memory");
     let same = number_of(rt, row.id().text()) == number;
     holds(rt, same && are(rt, row.leaves(), &leaves), "a row");
 }
 
-/// Asserts that a row has the reference's next document above a sequence. Returns the row's sequence.
+/// Asserts that a row equals the reference's first row above the sequence `after` and at or below `goal`. Returns the
+/// row's sequence.
 fn row_is(
     rt: &impl Abort,
     alloc: Global,
@@ -110,7 +112,7 @@ fn row_is(
     seq
 }
 
-/// Asserts that the window has the expected end and the reference's first rows above `since`.
+/// Asserts that a window begins at `since`, has the expected end, and has the reference's first rows above `since`.
 fn window_is(
     rt: &impl Abort,
     alloc: Global,
@@ -147,7 +149,7 @@ fn page(rt: &impl Abort, alloc: Global, rng: &mut ChaCha8Rng, db: &Database, pla
     }
 }
 
-/// Asserts that a page fails with the expected error.
+/// Asserts that reading a page failed with the expected error.
 fn page_refused(
     rt: &impl Abort,
     fault: BaseFault,

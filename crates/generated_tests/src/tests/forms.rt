@@ -1,4 +1,4 @@
-//! Compares two representations of a revision tree (`Tree` and its plain form) after random merges. Each call must have
+//! Compares two representations of a revision tree, `Tree` and `PlainTree`, after random merges. Each call must have
 //! the same result for both representations of the tree.
 
 use crate::tests::checks::holds;
@@ -12,7 +12,7 @@ use rev_tree::{Merged, Origin, Revs, SessionId, Tree, TreeFault};
 use std::alloc::{AllocError, Global};
 use std::process::Abort;
 
-/// Converts the result of a merge to `PlainAnswer`, the result type of the plain form.
+/// Converts the result of a merge to `PlainAnswer`, the result type of `PlainTree::merge`.
 fn plain_answer(rt: &impl Abort, answer: Result<Merged, TreeFault>) -> PlainAnswer {
     let fault = match answer {
         Ok(merged) => return Ok(merged),
@@ -28,7 +28,7 @@ fn plain_answer(rt: &impl Abort, answer: Result<Merged, TreeFault>) -> PlainAnsw
     }
 }
 
-/// Asserts that a revision has the same content in the tree and in the plain form.
+/// Asserts that a revision has the same content in a `Tree` and in a `PlainTree`.
 fn agree_on_content(rt: &impl Abort, tree: &Tree, plain: &PlainTree, one: Rev) {
     match (tree.content(one), plain.content(one)) {
         (Some(content), Some((deleted, byte))) => {
@@ -43,13 +43,13 @@ fn agree_on_content(rt: &impl Abort, tree: &Tree, plain: &PlainTree, one: Rev) {
     }
 }
 
-/// Asserts that a list of revisions equals a list of the plain form.
+/// Asserts that a call returned the expected list of revisions.
 fn are_same(rt: &impl Abort, answer: Result<Revs, AllocError>, wanted: &[Rev]) {
     let revs = answer.expect(rt, "revisions");
     holds(rt, revs.as_slice() == wanted, "revisions");
 }
 
-/// Asserts that a revision has the same ancestry in the tree and in the plain form.
+/// Asserts that a revision has the same ancestry in a `Tree` and in a `PlainTree`.
 fn agree_on_walk(rt: &impl Abort, alloc: Global, tree: &Tree, plain: &PlainTree, one: Rev) {
     match tree.ancestry(alloc, one) {
         Ok(walk) => is_walk(rt, alloc, plain, one, walk.revs()),
@@ -57,7 +57,7 @@ fn agree_on_walk(rt: &impl Abort, alloc: Global, tree: &Tree, plain: &PlainTree,
     }
 }
 
-/// Asserts that revisions are the ancestry of a revision in the plain form.
+/// Asserts that a list of revisions is the ancestry of a revision in a `PlainTree`.
 fn is_walk(rt: &impl Abort, alloc: Global, plain: &PlainTree, one: Rev, walk: &[Rev]) {
     let wanted = plain.ancestry(alloc, one).expect(rt, "memory");
     holds(
@@ -67,8 +67,8 @@ fn is_walk(rt: &impl Abort, alloc: Global, plain: &PlainTree, one: Rev, walk: &[
     );
 }
 
-/// Whether a tree and the plain form agree about whether a revision exists, whether the revision is a leaf, and the
-/// revision's origin.
+/// Whether a `Tree` and a `PlainTree` agree about the existence and the origin of a revision, and whether the revision
+/// is a leaf.
 fn has_as(tree: &Tree, plain: &PlainTree, one: Rev) -> bool {
     let origin = plain.origin(one);
     let stands = tree.has(one) == origin.is_some();
@@ -90,7 +90,8 @@ fn agree_on_leaves(rt: &impl Abort, alloc: Global, tree: &Tree, leaves: &[Rev]) 
     holds(rt, tree.winner() == leaves.first().copied(), "the winner");
 }
 
-/// Asserts that a tree and the plain form return the same leaves that are among given revisions or descend from them.
+/// Asserts that a `Tree` and a `PlainTree` agree about which leaves have one of the given revisions in their
+/// ancestries.
 fn agree_on_above(
     rt: &impl Abort,
     alloc: Global,
@@ -103,13 +104,14 @@ fn agree_on_above(
     are_same(rt, tree.leaves_above(alloc, asked), &above);
 }
 
-/// Asserts that a tree and the plain form return the same revisions of a list as missing.
+/// Asserts that a `Tree` and a `PlainTree` agree about which of the given revisions are missing.
 fn agree_on_missing(rt: &impl Abort, alloc: Global, tree: &Tree, plain: &PlainTree, asked: &[Rev]) {
     let missing = plain.missing(alloc, asked).expect(rt, "memory");
     are_same(rt, tree.missing(alloc, asked), &missing);
 }
 
-/// Asserts that both representations of a tree agree about the tree and about the given revisions.
+/// Asserts that a `Tree` and a `PlainTree` agree about the leaves, the number of revisions, and each of the given
+/// revisions.
 fn agree(rt: &impl Abort, alloc: Global, tree: &Tree, plain: &PlainTree, asked: &[Rev]) {
     let leaves = plain.leaves(alloc).expect(rt, "memory");
     agree_on_leaves(rt, alloc, tree, &leaves);
@@ -121,7 +123,8 @@ fn agree(rt: &impl Abort, alloc: Global, tree: &Tree, plain: &PlainTree, asked: 
     }
 }
 
-/// Returns a random origin for the merge of a round: a local write, or a row of a session, with the round's number.
+/// Returns a random origin for a merge: the local write with number `round`, or the row of session 7 with sequence
+/// `round`.
 fn origin_of(rng: &mut ChaCha8Rng, round: u64) -> Origin {
     if below(rng, 2) == 0 {
         Origin::Local(round)
@@ -136,7 +139,7 @@ fn ancestry_by_chance(rt: &impl Abort, alloc: Global, rng: &mut ChaCha8Rng) -> A
     ancestry(rt, alloc, &places)
 }
 
-/// Merges into both representations.
+/// Merges a random ancestry into both representations of the tree, and compares both results.
 fn merge(
     rt: &impl Abort,
     alloc: Global,
@@ -158,7 +161,8 @@ fn merge(
     agree(rt, alloc, tree, plain, given.revs());
 }
 
-/// Merges an ancestry into both representations of the tree, and reads other revisions.
+/// Merges a random ancestry into both representations of the tree, and compares the revisions of another random
+/// ancestry.
 fn merge_and_read(
     rt: &impl Abort,
     alloc: Global,
@@ -175,9 +179,10 @@ fn merge_and_read(
     agree(rt, alloc, tree, plain, asked.revs());
 }
 
-/// Performs fifty merges from one seed in both representations. After each merge, the call reads the merged and other
-/// revisions. After about half of the merges, chosen at random, a copy replaces the tree. After the last merge, the
-/// call reads every revision.
+/// Performs fifty random merges, which a seed determines, in both representations of the tree. After each merge, the
+/// function compares the merged revisions and other revisions in both representations. After about half of the merges,
+/// chosen at random, the function replaces the tree by a copy. After the last merge, the function compares every
+/// revision.
 fn merges_alike(rt: &impl Abort, alloc: Global, seed: u64, tree: &mut Tree) {
     let mut rng = ChaCha8Rng::seed_from_u64(seed);
     let mut plain = PlainTree::new(alloc);

@@ -1,4 +1,4 @@
-//! Finishes windows in random orders, and compares the front with a list of Booleans after each window.
+//! Finishes windows of a front in random orders, and compares the front with a list of Booleans after each call.
 use crate::tests::checks::holds;
 use rand_chacha::ChaCha8Rng;
 use rand_core::{Rng, SeedableRng};
@@ -9,7 +9,8 @@ use std::process::Abort;
 /// The number of windows of a front.
 const WINDOWS: usize = 20;
 
-/// Returns the low water for a list of Booleans, in which window `i` is (start + 10 i, start + 10 i + 10].
+/// Returns the expected low water of a front. `marks[i]` states whether the window (start + 10 i, start + 10 i + 10] is
+/// done.
 fn low_water(start: u64, marks: &[bool; WINDOWS]) -> u64 {
     let mut water = start;
     for mark in marks {
@@ -21,8 +22,7 @@ fn low_water(start: u64, marks: &[bool; WINDOWS]) -> u64 {
     water
 }
 
-/// Returns the number of groups of adjacent done windows above the low water. The count excludes the group that ends at
-/// the low water.
+/// Returns the number of groups of adjacent done windows that begin above the low water.
 fn range_count(marks: &[bool; WINDOWS]) -> usize {
     let mut count: usize = 0;
     let mut before = true;
@@ -35,7 +35,7 @@ fn range_count(marks: &[bool; WINDOWS]) -> usize {
     count
 }
 
-/// Creates a front of windows of ten sequences above a start.
+/// Creates a front with `WINDOWS` windows of ten sequences each, above the sequence `start`.
 fn filled(rt: &impl Abort, alloc: Global, start: u64) -> Front {
     let mut front = Front::new(alloc, start);
     for i in 0..WINDOWS as u64 {
@@ -68,7 +68,7 @@ fn finish_one(rt: &impl Abort, front: &mut Front, lo: u64, is_done: bool) {
     );
 }
 
-/// Whether a front has the low water and the number of groups that a list of Booleans determines.
+/// Whether a front has the expected low water and the expected number of groups for a list of Booleans.
 fn is_marked(front: &Front, start: u64, marks: &[bool; WINDOWS]) -> bool {
     front.low_water() == low_water(start, marks) && front.range_count() == range_count(marks)
 }
@@ -99,7 +99,7 @@ fn two_hundred_orders_agree(rt: HostRuntime) {
     }
 }
 
-/// Appends windows of two sequences each.
+/// Appends a given number of windows, of two sequences each, to a front.
 fn many(rt: &impl Abort, front: &mut Front, windows: u64) {
     for number in 0..windows {
         let hi = number.saturating_mul(2).saturating_add(2);
@@ -107,7 +107,7 @@ fn many(rt: &impl Abort, front: &mut Front, windows: u64) {
     }
 }
 
-/// Finishes the window of a front with a given number.
+/// Finishes the window with a given number in a front.
 fn finish(rt: &impl Abort, front: &mut Front, number: u64) {
     let lo = number.saturating_mul(2);
     let hi = lo.saturating_add(2);

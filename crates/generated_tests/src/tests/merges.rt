@@ -1,5 +1,5 @@
-//! Performs random merges. After each merge, the test compares the merge's result and all read calls with the
-//! reference.
+//! Performs random merges. After each merge, the test compares the result of the merge and the results of all read
+//! calls with the reference.
 ghost use Rattle.std.specs.Prelude.{◌≤◌};
 
 use crate::tests::checks::holds;
@@ -33,7 +33,7 @@ pub(crate) fn rev(rt: &impl Abort, place: usize) -> Rev {
     }
 }
 
-/// Whether a list of revisions has the revisions at the given indices.
+/// Whether a list of revisions is the list of the revisions at the given indices.
 pub(crate) fn are(rt: &impl Abort, revs: &[Rev], places: &[usize]) -> bool {
     let mut are = revs.len() == places.len();
     for (one, place) in revs.iter().zip(places) {
@@ -42,7 +42,7 @@ pub(crate) fn are(rt: &impl Abort, revs: &[Rev], places: &[usize]) -> bool {
     are
 }
 
-/// Returns a random number below a bound, or 0.
+/// Returns a random number below a bound, or 0 if the bound is 0.
 pub(crate) fn below(rng: &mut ChaCha8Rng, bound: u32) -> usize
     ensures { result ≤ bound }
 {
@@ -91,7 +91,7 @@ fn agree_on_content(rt: &impl Abort, tree: &Tree, reference: &Reference, one: Re
     }
 }
 
-/// Asserts that a list of revisions has the revisions at the given indices.
+/// Asserts that a call returned the list of the revisions at the given indices.
 fn assert_are(rt: &impl Abort, answer: Result<Revs, AllocError>, places: &[usize]) {
     let revs = answer.expect(rt, "revisions");
     holds(rt, are(rt, revs.as_slice(), places), "revisions");
@@ -112,7 +112,7 @@ fn agree_on_walk(
     }
 }
 
-/// Asserts that revisions are the ancestry of a revision in the reference.
+/// Asserts that a list of revisions is the ancestry of a revision in the reference.
 fn is_walk(rt: &impl Abort, alloc: Global, reference: &Reference, place: usize, walk: &[Rev]) {
     let places = reference.ancestry(alloc, place).expect(rt, "memory");
     holds(
@@ -122,8 +122,8 @@ fn is_walk(rt: &impl Abort, alloc: Global, reference: &Reference, place: usize, 
     );
 }
 
-/// Whether a tree and the reference agree about whether a revision exists, whether the revision is a leaf, and the
-/// revision's origin.
+/// Whether a tree and the reference agree about the existence and the origin of a revision, and whether the revision is
+/// a leaf.
 fn has_as(tree: &Tree, reference: &Reference, one: Rev, place: usize) -> bool {
     let stands = tree.has(one) == reference.has(place);
     let is_leaf = tree.is_leaf(one) == reference.is_leaf(place);
@@ -134,7 +134,7 @@ fn has_as(tree: &Tree, reference: &Reference, one: Rev, place: usize) -> bool {
     stands && is_leaf && tree.origin(one) == origin
 }
 
-/// Asserts that every read call about a revision agrees with the reference.
+/// Asserts that a tree and the reference agree about the revision at an index.
 fn agree_at(rt: &impl Abort, alloc: Global, tree: &Tree, reference: &Reference, place: usize) {
     let one = rev(rt, place);
     holds(rt, has_as(tree, reference, one, place), "a revision");
@@ -142,7 +142,8 @@ fn agree_at(rt: &impl Abort, alloc: Global, tree: &Tree, reference: &Reference, 
     agree_on_walk(rt, alloc, tree, reference, one, place);
 }
 
-/// Asserts that the leaves and the winner of a tree are the revisions at the given indices.
+/// Asserts that a tree's leaves are the revisions at the given indices, and that the winner is the first of these
+/// revisions.
 fn agree_on_leaves(rt: &impl Abort, alloc: Global, tree: &Tree, places: &[usize]) {
     assert_are(rt, tree.leaves(alloc), places);
     holds(rt, tree.leaf_count() == places.len(), "the leaves");
@@ -152,7 +153,7 @@ fn agree_on_leaves(rt: &impl Abort, alloc: Global, tree: &Tree, places: &[usize]
     }
 }
 
-/// Asserts that every read call of the tree agrees with the reference.
+/// Asserts that a tree and the reference agree about the leaves, the number of revisions, and every revision.
 fn agree(rt: &impl Abort, alloc: Global, tree: &Tree, reference: &Reference) {
     let leaves = reference.leaves(alloc).expect(rt, "memory");
     agree_on_leaves(rt, alloc, tree, &leaves);
@@ -171,7 +172,7 @@ fn revs(rt: &impl Abort, alloc: Global, places: &[usize]) -> Vec<Rev> {
     revs
 }
 
-/// Asserts that the tree and the reference return the same revisions of a list as missing.
+/// Asserts that a tree and the reference agree about which of the given revisions are missing.
 fn agree_on_missing(
     rt: &impl Abort,
     alloc: Global,
@@ -184,7 +185,7 @@ fn agree_on_missing(
     assert_are(rt, tree.missing(alloc, &revs), &missing);
 }
 
-/// Asserts that a tree and the reference return the same leaves that are among given revisions or descend from them.
+/// Asserts that a tree and the reference agree about which leaves have one of the given revisions in their ancestries.
 fn agree_on_above(
     rt: &impl Abort,
     alloc: Global,
@@ -197,8 +198,8 @@ fn agree_on_above(
     assert_are(rt, tree.leaves_above(alloc, &revs), &above);
 }
 
-/// Asserts that a tree and the reference agree about random revisions: which leaves are among them or descend from
-/// them, and which of them are missing.
+/// Chooses random revisions, and asserts that a tree and the reference return the same missing revisions and the same
+/// leaves for these revisions.
 fn agree_on_asked(
     rt: &impl Abort,
     alloc: Global,
@@ -220,7 +221,7 @@ fn answers(rt: &impl Abort, answer: Result<Merged, TreeFault>, wanted: Answer) {
     }
 }
 
-/// Returns the child, the known parent and the given parent of a contradiction.
+/// Returns the child, the known parent and the given parent that a `Contradiction` error names.
 fn contradiction(fault: TreeFault) -> Option<(Rev, Rev, Rev)> {
     match fault {
         TreeFault::Contradiction {
@@ -258,7 +259,7 @@ pub(crate) fn content(rt: &impl Abort, alloc: Global, deleted: bool, byte: u8) -
     Content::new(deleted, body)
 }
 
-/// Merges into the tree and into the reference. Returns whether the merge failed.
+/// Merges a random ancestry into a tree and into the reference. Returns whether the merge failed.
 fn merge(
     rt: &impl Abort,
     alloc: Global,
@@ -281,7 +282,7 @@ fn merge(
     is_refused
 }
 
-/// Performs fifty merges from one seed. Returns the number of merges that failed.
+/// Performs fifty random merges, which a seed determines. Returns the number of merges that failed.
 fn merges(rt: &impl Abort, alloc: Global, seed: u64, tree: &mut Tree) -> usize {
     let mut rng = ChaCha8Rng::seed_from_u64(seed);
     let mut reference = Reference::new();

@@ -1,6 +1,7 @@
-//! Networks of randomly diverging peers. After a replication through a hub, or twice around a ring, all peers have the
-//! same documents. A repetition of the replication changes nothing, and audits find no uncovered leaf. After random
-//! hops, each peer that a chain of hops reaches has all leaves of the chain's first peer.
+//! Tests of networks whose peers are edited at random. After a replication through a hub, or two rounds of replications
+//! along a ring of peers, all peers must have the same documents. A repetition of the replication must change no peer,
+//! and audits must find no uncovered leaf. After replications along random hops, the last peer of each chain of hops
+//! must have all earlier leaves of the chain's first peer.
 use crate::tests::checks::holds;
 use crate::tests::feeds::id;
 use crate::tests::merges::below;
@@ -69,7 +70,7 @@ fn sequences(rt: &impl Abort, net: &Net<Rules>) -> u64 {
     sum
 }
 
-/// Returns a plan for each peer other than the first.
+/// Returns a replication plan for each peer other than the first.
 fn plans(rt: &impl Abort, alloc: Global, rng: &mut ChaCha8Rng, sessions: &mut u128) -> Vec<Plan> {
     let mut plans = Vec::new(alloc);
     for _ in 1..PEERS {
@@ -78,7 +79,8 @@ fn plans(rt: &impl Abort, alloc: Global, rng: &mut ChaCha8Rng, sessions: &mut u1
     plans
 }
 
-/// Returns hops twice around a ring. Chains of hops of the ring lead from every peer to every other peer.
+/// Returns the hops of two rounds along a ring of all peers. Chains of these hops lead from every peer to every other
+/// peer.
 fn ring(rt: &impl Abort, alloc: Global, rng: &mut ChaCha8Rng, sessions: &mut u128) -> Vec<Hop> {
     let mut hops = Vec::new(alloc);
     for step in 0..2 * PEERS {
@@ -106,9 +108,10 @@ fn hops(rt: &impl Abort, alloc: Global, rng: &mut ChaCha8Rng, sessions: &mut u12
     hops
 }
 
-/// Returns a mask for each peer with the bits of all peers that chains of hops reach from this peer.
+/// Returns a mask for each peer. The mask has a bit for this peer, and for each peer that a chain of hops reaches from
+/// this peer.
 ///
-/// For each peer, the function processes each hop once, and does not enumerate the chains of hops.
+/// The function processes each hop once for each peer, instead of enumerating all chains of hops.
 fn reached(hops: &[Hop]) -> [u32; PEERS] {
     let mut reached = [0u32; PEERS];
     for (place, places) in reached.iter_mut().enumerate() {
@@ -122,8 +125,7 @@ fn reached(hops: &[Hop]) -> [u32; PEERS] {
     reached
 }
 
-/// Returns the leaves of all documents at all peers, each leaf with the index of its peer and the number of its
-/// document.
+/// Returns the leaves of all documents at all peers, each leaf with the peer's index and the document's number.
 fn leaves_of(rt: &impl Abort, alloc: Global, net: &Net<Rules>) -> Vec<(usize, usize, Rev)> {
     let mut all = Vec::new(alloc);
     for place in 0..PEERS {
@@ -146,7 +148,7 @@ fn has(rt: &impl Abort, alloc: Global, peer: &Peer<Rules>, number: usize, rev: R
     }
 }
 
-/// Asserts that each leaf is at all peers that chains of hops reach from the leaf's peer.
+/// Asserts that each leaf has reached all peers to which chains of hops lead from the leaf's peer.
 fn assert_led(
     rt: &impl Abort,
     alloc: Global,

@@ -1,6 +1,6 @@
-//! Replications between random pairs of peers, by one thread and by the pool, of all documents and of two random
-//! selections. Each replication is compared with the plain model. The test compares both sides' trees and coverage, the
-//! report, and the session's ledger.
+//! Tests that replicate all documents or random selections of documents between peers, by one thread and by the pool.
+//! Each test compares a replication with a plain model of both peers. The test compares the trees and the covered
+//! revisions of both peers, the report, and the session's ledger.
 use crate::tests::checks::holds;
 use crate::tests::choices::{chosen, some};
 use crate::tests::feeds::{document_by_chance, is_answer};
@@ -20,11 +20,11 @@ use std::process::Abort;
 use std::sync::Wait;
 use std::thread::Threads;
 
-/// The number of random choices for the document that a filter refuses. A choice of `IDS` or more means that no
-/// document is refused.
+/// A random number below this bound determines which document the target refuses. If the random number is `IDS` or
+/// more, the target refuses no document.
 const CHOICES: u32 = 8;
 
-/// Indices in `Bench::picked`: all documents, the first selection, and the second selection.
+/// The indices in `Bench::picked` of all documents, the first selection and the second selection.
 const WHOLE: usize = 0;
 
 const FIRST: usize = 1;
@@ -39,17 +39,17 @@ const OTHER: usize = 1;
 /// A step of a test.
 #[derive(Clone, Copy)]
 enum Call {
-    /// Load a number of random documents into the target.
+    /// Load a given number of random documents into the target.
     GrowTarget(usize),
-    /// Load a number of random documents into a source.
+    /// Load a given number of random documents into a source.
     Grow(usize, usize),
     /// Replicate all documents or the selected documents of a source into the target.
     Replicate(usize, usize),
 }
 
-/// The second source is replicated into a target that has other documents. After the second source, the first source is
-/// replicated into the target, for one selection and then completely. After further documents were loaded into the
-/// first source, the first source is replicated for both selections and then completely.
+/// The steps of a test. The second source is replicated into a target that has other documents. Then the first source
+/// is replicated into the target, for one selection and then completely. After further loads into the first source, the
+/// first source is replicated for each selection and then completely.
 static CALLS: &[Call] = &[
     Call::Grow(OTHER, 10),
     Call::GrowTarget(5),
@@ -63,8 +63,8 @@ static CALLS: &[Call] = &[
     Call::Replicate(SOURCE, WHOLE),
 ];
 
-/// A peer, its plain model, and the peer's sequences up to which the target has replicated all documents and each
-/// selection.
+/// A peer and the peer's plain model. For all documents and for each selection, `carried` is the peer's sequence up to
+/// which the target has replicated the documents.
 #[derive(Drop)]
 struct Side {
     peer: Peer<Rules>,
@@ -82,7 +82,8 @@ impl Side {
         }
     }
 
-    /// Loads a random document into a peer and into its model, and asserts that both return the same result.
+    /// Loads a random document into a peer and into the peer's plain model, and asserts that both loads have the same
+    /// result.
     fn load(&mut self, rt: &impl Abort, alloc: Global, rng: &mut ChaCha8Rng) {
         let (doc, wanted) = document_by_chance(rt, alloc, rng, &mut self.plain, IDS);
         let answer = self.peer.load(&doc);
@@ -94,7 +95,7 @@ impl Side {
     }
 }
 
-/// A target, the sources, and the random choices.
+/// A target, two sources, and the random choices of a test.
 #[derive(Drop)]
 struct Bench {
     alloc: Global,
@@ -102,14 +103,14 @@ struct Bench {
     /// The number of workers, or 0 for one thread.
     workers: u64,
     deny: Option<usize>,
-    /// What the test replicates: all documents, and two selections.
+    /// The sets of documents that the test replicates: all documents, and two selections.
     picked: [Picked; 3],
     sessions: u128,
     sides: Vec<Side>,
 }
 
 impl Bench {
-    /// Creates a target that refuses a random document, a source, and another source, all without documents.
+    /// Creates a target and two sources, all without documents. The target refuses a random document, or no document.
     fn new(rt: &impl Abort, alloc: Global, seed: u64, workers: u64) -> Bench {
         let mut rng = ChaCha8Rng::seed_from_u64(seed);
         let number = below(&mut rng, CHOICES);
@@ -193,7 +194,7 @@ pub(crate) fn prefix(rt: &impl Abort, alloc: Global, deny: Option<usize>) -> Opt
     }
 }
 
-/// Creates a plan with windows that scan 1 to 4 rows, at random.
+/// Creates a plan whose windows scan a random number (1 to 4) of rows.
 fn plan(
     rt: &impl Abort,
     rng: &mut ChaCha8Rng,
@@ -211,7 +212,7 @@ fn plan(
     }
 }
 
-/// Moves a peer out of its variable, because a run of the pool takes both peers by value.
+/// Moves a peer out of a variable, because a run of the pool takes both peers by value.
 fn taken(alloc: Global, place: &mut Peer<Rules>) -> Peer<Rules> {
     mem::replace(place, Peer::new(alloc, 0, Rules { deny: None }))
 }
@@ -295,7 +296,7 @@ fn compare(
     holds(rt, same, "the ledger");
 }
 
-/// Returns the expected report of a replication from a sequence.
+/// Returns the expected report of a replication that starts at the sequence `since`.
 fn wanted(source: &PlainSide, since: u64, session: SessionId, carried: &Carried) -> Report {
     Report {
         session,

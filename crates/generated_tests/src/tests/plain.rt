@@ -1,18 +1,18 @@
-//! The plain form of a tree: the given ancestries, and two lists with the contents and origins of revisions.
+//! The plain form of a revision tree: a list of merged ancestries, a list of contents, and a list of origins.
 //!
 //! The plain form is slow and simple. Each call of the plain form scans the lists without an index, and uses the first
-//! entry that it finds.
+//! matching entry.
 
 use rev_core::{Ancestry, Rev};
 use rev_tree::{Merged, Origin};
 use std::alloc::{AllocError, Global};
 use std::cmp::Ordering;
 
-/// The result of a merge. If the merge fails, the error has the child, the known parent and the given parent of a
-/// contradiction.
+/// The result of a merge. If the merge fails, the error consists of the child, the known parent and the given parent of
+/// a contradiction.
 pub(crate) type PlainAnswer = Result<Merged, (Rev, Rev, Rev)>;
 
-/// The given ancestries, and the contents and origins of revisions.
+/// A plain revision tree: the merged ancestries, and the contents and origins of revisions.
 #[derive(Drop)]
 pub(crate) struct PlainTree {
     ancestries: Vec<Ancestry>,
@@ -81,7 +81,8 @@ impl PlainTree {
         deleted(a).cmp(&deleted(b)).then(b.cmp(&a))
     }
 
-    /// Returns the leaves, winner first. The call inserts each leaf before the first leaf over which it wins.
+    /// Returns the leaves, winner first. The call inserts each leaf before the first leaf that loses against the
+    /// inserted leaf.
     pub(crate) fn leaves(&self, alloc: Global) -> Result<Vec<Rev>, AllocError> {
         let mut leaves: Vec<Rev> = Vec::new(alloc);
         for entry in &self.origins {
@@ -96,7 +97,7 @@ impl PlainTree {
         Ok(leaves)
     }
 
-    /// Returns a revision and its ancestors. The number of ancestors is less than the revision's generation.
+    /// Returns a revision and its ancestors. A revision of generation n has at most n - 1 ancestors.
     pub(crate) fn ancestry(&self, alloc: Global, rev: Rev) -> Result<Vec<Rev>, AllocError> {
         let mut walk = Vec::new(alloc);
         let mut at = Some(rev);
@@ -109,7 +110,7 @@ impl PlainTree {
         Ok(walk)
     }
 
-    /// Returns the given leaves that are among the given revisions or descend from them.
+    /// Returns those of the given leaves whose ancestries have one of the given revisions.
     pub(crate) fn above(
         &self,
         alloc: Global,
@@ -126,7 +127,7 @@ impl PlainTree {
         Ok(above)
     }
 
-    /// Returns the revisions that are not in the tree.
+    /// Returns those of the given revisions that are not in the tree.
     pub(crate) fn missing(&self, alloc: Global, revs: &[Rev]) -> Result<Vec<Rev>, AllocError> {
         let mut missing = Vec::new(alloc);
         for rev in revs {
@@ -137,7 +138,8 @@ impl PlainTree {
         Ok(missing)
     }
 
-    /// Returns the newest child in a given ancestry that has another parent in the tree, and both parents.
+    /// Finds the newest revision of an ancestry that has different parents in the tree and in the ancestry. Returns the
+    /// revision and both parents.
     fn contradiction(&self, revs: &[Rev]) -> Option<(Rev, Rev, Rev)> {
         for pair in revs.windows(2) {
             if let [child, given] = pair {
@@ -151,7 +153,8 @@ impl PlainTree {
         None
     }
 
-    /// Whether the tree has the revisions and edges of an ancestry, and a content of the ancestry's head.
+    /// Whether the tree has all revisions and parent links of an ancestry, and a content of the ancestry's head. The
+    /// ancestry must not contradict the tree.
     fn is_same(&self, ancestry: &Ancestry) -> bool {
         let revs = ancestry.revs();
         revs.iter().all(|rev| self.origin(*rev).is_some())

@@ -1,4 +1,5 @@
-//! Plain data for a database and for the revisions that the database's sessions refused. Trees are bit masks.
+//! A plain model of a peer: the documents of the database, and the revisions that sessions refused. The model
+//! represents trees as bit masks.
 use crate::tests::reference::{Answer, PLACES, Reference, mask_of};
 use std::alloc::Global;
 use std::process::Abort;
@@ -6,7 +7,7 @@ use std::process::Abort;
 /// The number of possible documents, with ids d0 to d4.
 pub(crate) const IDS: usize = 5;
 
-/// For each document, the sequence of its latest change, and its tree as bit masks.
+/// The sequence of the latest change and the revision tree of each existing document.
 pub(crate) type Documents = [Option<(u64, Reference)>; IDS];
 
 /// A mask with a bit for each selected document. All bits are set if all documents are selected.
@@ -20,7 +21,7 @@ pub(crate) fn is_picked(picked: Picked, number: usize) -> bool {
     picked & (1 << (number % IDS)) != 0
 }
 
-/// Returns the number of the next document above a sequence and at or below a goal.
+/// Returns the number and the sequence of the first document in the feed above `seq` and at or below `goal`.
 pub(crate) fn next_above(documents: &Documents, seq: u64, goal: u64) -> Option<(usize, u64)> {
     let mut best: Option<(usize, u64)> = None;
     for number in 0..IDS {
@@ -37,11 +38,11 @@ pub(crate) fn next_above(documents: &Documents, seq: u64, goal: u64) -> Option<(
     best
 }
 
-/// For each document, a mask with a bit for each revision of a set.
+/// A set of revisions for each document, as bit masks.
 pub(crate) type Masks = [u32; IDS];
 
-/// A ledger row: the document, its newest revision, and the child, known parent and given parent of a contradiction. In
-/// the ledger row of a document that the filter refuses, the child and both parents are `PLACES`.
+/// A ledger row: the document's number, the document's newest revision, and the child, known parent and given parent of
+/// a contradiction. If the filter refuses the document, the child and both parents are `PLACES`.
 pub(crate) type Row = [usize; 5];
 
 /// A peer's plain model: each document's tree and latest sequence, and the revisions of refused documents.
@@ -81,7 +82,7 @@ impl PlainSide {
         answer
     }
 
-    /// Merges a fetched document into a side, or refuses the document and returns its ledger row.
+    /// Merges a fetched document into a side, or refuses the document and returns the document's ledger row.
     pub(crate) fn take(
         &mut self,
         number: usize,
@@ -111,7 +112,7 @@ impl PlainSide {
     }
 }
 
-/// The counts of a replication, and the ledger rows of its session.
+/// The counts of a replication, and the ledger rows of the replication's session.
 #[derive(Drop)]
 pub(crate) struct Carried {
     pub(crate) checked: u64,
@@ -131,7 +132,7 @@ impl Carried {
         }
     }
 
-    /// Counts a fetched document. If `row` is a ledger row, the document was refused.
+    /// Counts a fetched document as refused if `row` is a ledger row, and otherwise as written.
     fn count(&mut self, rt: &impl Abort, row: Option<Row>) {
         self.found = self.found.saturating_add(1);
         match row {
@@ -141,8 +142,8 @@ impl Carried {
     }
 }
 
-/// Replicates the selected documents of a source's feed above a sequence into a target. The target refuses the document
-/// with a given number.
+/// Replicates the selected documents whose latest change at the source is above the sequence `since`. The target
+/// refuses the document `deny`.
 pub(crate) fn carry(
     rt: &impl Abort,
     alloc: Global,
@@ -167,7 +168,7 @@ pub(crate) fn carry(
     carried
 }
 
-/// Replicates the leaves of a document that the target lacks.
+/// Replicates those leaves of a source's document that the target lacks.
 fn carry_document(
     rt: &impl Abort,
     alloc: Global,
@@ -189,8 +190,8 @@ fn carry_document(
     }
 }
 
-/// Merges a leaf of a source's tree, with the leaf's ancestry, into the target, or refuses the leaf and returns its
-/// ledger row.
+/// Merges a leaf of a source's tree, with the leaf's ancestry, into the target, or refuses the leaf and returns the
+/// leaf's ledger row.
 pub(crate) fn take_leaf(
     rt: &impl Abort,
     alloc: Global,

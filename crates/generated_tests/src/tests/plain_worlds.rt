@@ -8,11 +8,11 @@ use crate::tests::reference::mask_of;
 use std::alloc::Global;
 use std::process::Abort;
 
-/// The document that is edited and never loaded. In the reference, the edited document's revision of generation g has
-/// the index 3 (g - 1).
+/// The number of the document that is edited and never loaded. In the reference, the edited document's revision of
+/// generation g has the index 3 (g - 1).
 pub(crate) const EDITED: usize = 4;
 
-/// A window or a request for a window, with the life of its source, its bounds, and the leaves of its rows.
+/// A window, or a request for leaves of a window: the life of the source, the bounds, and the leaves.
 #[derive(Clone, Copy)]
 pub(crate) struct Rows {
     life: u64,
@@ -21,7 +21,7 @@ pub(crate) struct Rows {
     leaves: Masks,
 }
 
-/// A fetched parcel, represented by the request and a copy of the source at that time.
+/// A fetched parcel, represented by the request and a copy of the source at the time of the fetch.
 #[derive(Clone, Copy)]
 struct Fetched {
     asked: Rows,
@@ -43,7 +43,7 @@ pub(crate) struct Done {
     pub(crate) failures: u64,
 }
 
-/// The log of the replication at its source, oldest first, with the life of the source's database.
+/// The log that the source has of the replication, oldest entry first, and the life of the source's database.
 #[derive(Drop)]
 pub(crate) struct SourceLog {
     pub(crate) life: u64,
@@ -67,7 +67,7 @@ struct Copied {
     log: SourceLog,
 }
 
-/// Counts how often a list of steps reached each situation that a restore creates.
+/// Counts how often four situations, which only restores cause, occur in a list of steps.
 #[derive(Clone, Copy, Debug)]
 pub(crate) struct Met {
     /// The number of restores while windows, entries or logs were in transit.
@@ -123,7 +123,7 @@ struct Stored {
     is_done: bool,
 }
 
-/// The sessions of a target, their windows, and their ledger rows, each oldest first.
+/// The sessions of a target, and the windows and ledger rows of all sessions. Each list begins with the oldest item.
 #[derive(Drop)]
 pub(crate) struct Sessions {
     begun: Vec<Session>,
@@ -141,7 +141,7 @@ fn count(masks: &Masks) -> u64 {
 }
 
 /// Returns a page of a source's feed, with the given life of the source. The call scans at most `limit` rows above
-/// `since` and at or below `goal`. The page has the selected rows of the scanned rows.
+/// `since` and at or below `goal`. The page has those of the scanned rows that are selected.
 fn page(side: &PlainSide, life: u64, since: u64, goal: u64, limit: u64, picked: Picked) -> Rows {
     let mut leaves = [0; IDS];
     let mut hi = since;
@@ -163,7 +163,7 @@ fn page(side: &PlainSide, life: u64, since: u64, goal: u64, limit: u64, picked: 
     }
 }
 
-/// Returns the leaves of the given rows that a side lacks.
+/// Returns those leaves of the given rows that a side lacks.
 fn missing(side: &PlainSide, rows: &Rows) -> Rows {
     let mut leaves = [0; IDS];
     for number in 0..IDS {
@@ -200,7 +200,7 @@ impl Sessions {
         }
     }
 
-    /// Returns the least number above 0 that no session has.
+    /// Returns the least number above 0 that is not the id of a session.
     fn next(&self) -> u128 {
         let mut next = 1u128;
         for _ in &self.begun {
@@ -223,7 +223,8 @@ impl Sessions {
         self.begun.get(self.place(session)?).copied()
     }
 
-    /// Returns the end of a session's windows.
+    /// Returns the sequence at which the session's last window ends, or the session's start if the session has no
+    /// window.
     fn end(&self, session: Session) -> u64 {
         let mut end = session.done.start;
         for window in &self.windows {
@@ -245,8 +246,8 @@ impl Sessions {
         low
     }
 
-    /// Returns the common checkpoint of a source's log and the target's sessions: the lesser recorded sequence of the
-    /// newest common session, or 0.
+    /// Returns the common checkpoint of a source's log and the target's sessions. The common checkpoint is the lesser
+    /// of both recorded sequences of the newest common session, or 0 if no session is common.
     fn agreed(&self, entries: &[Done]) -> u64 {
         for held in self.begun.iter().rev() {
             if let Some(place) = place_in(entries, held.done.session) {
@@ -257,8 +258,8 @@ impl Sessions {
         0
     }
 
-    /// Begins a session in the log's life, if no session has the id and the goal is not below the start. The start is
-    /// the common checkpoint of the source's log and the target's sessions.
+    /// Begins a session in the log's life, unless a session has the same id or the goal is below the session's start.
+    /// The session starts at the common checkpoint of the source's log and the target's sessions.
     fn begin(&mut self, rt: &impl Abort, session: u128, log: &SourceLog, goal: u64, time: u64) {
         let start = self.agreed(&log.entries);
         if start <= goal && self.get(session).is_none() {
@@ -277,8 +278,8 @@ impl Sessions {
         }
     }
 
-    /// Stores a window, if it has the session's life, begins at the end of the session's windows, and ends at or below
-    /// the goal.
+    /// Stores a window in a session. The window must have the session's life, begin at the end of the session's last
+    /// window, and end at or below the session's goal.
     fn append(&mut self, rt: &impl Abort, session: u128, rows: Rows) {
         let Some(held) = self.get(session) else {
             return;
@@ -293,8 +294,8 @@ impl Sessions {
         }
     }
 
-    /// Returns the index of the session's stored window with the bounds of a request. Returns `None` if no such window
-    /// exists, if it is done, or if it lacks a row for a requested document.
+    /// Returns the index of the session's window with the bounds of a request. The window must not be done, and must
+    /// have a row for each requested document.
     fn window_for(&self, session: u128, asked: &Rows) -> Option<usize> {
         self.windows.iter().position(|window| {
             window.session == session
@@ -305,7 +306,7 @@ impl Sessions {
         })
     }
 
-    /// Counts a document as written or refused in a session. If `row` is a ledger row, the document was refused.
+    /// Counts a document of a session as refused if `row` is a ledger row, and otherwise as written.
     fn count(&mut self, rt: &impl Abort, session: u128, row: Option<Row>) {
         let place = self.place(session).unwrap_or(0);
         let held = self.begun.get_mut(place).expect(rt, "a session");
@@ -323,7 +324,7 @@ impl Sessions {
         covers(side, &self.windows.get(window).expect(rt, "a window").rows)
     }
 
-    /// Marks the window at an index as done, and returns the number of its leaves.
+    /// Marks the window at an index as done, and returns the number of the window's leaves.
     fn finish(&mut self, rt: &impl Abort, window: usize) -> u64 {
         let stored = self.windows.get_mut(window).expect(rt, "a window");
         stored.is_done = true;
@@ -379,7 +380,7 @@ fn settle(
     }
 }
 
-/// Settles the leaves of a document that are requested revisions or descend from requested revisions.
+/// Settles those leaves of a document whose ancestries have a requested revision.
 fn settle_document(
     rt: &impl Abort,
     alloc: Global,
@@ -398,7 +399,7 @@ fn settle_document(
     }
 }
 
-/// Returns the index of a session in a log.
+/// Returns the index of a session's entry in a log.
 fn place_in(log: &[Done], session: u128) -> Option<usize> {
     for (place, held) in log.iter().enumerate() {
         if held.session == session {
@@ -420,8 +421,8 @@ fn put_done(rt: &impl Abort, log: &mut Vec<Done>, done: Done) {
     }
 }
 
-/// Two sides, the target's sessions, the source's log, the messages, and backups of the source. Each list of the model
-/// has its oldest item first.
+/// The plain model of a world: a source, a target, the target's sessions, the source's log, the messages, and the
+/// source's backups. Each list of the model begins with the oldest item.
 #[derive(Drop)]
 pub(crate) struct PlainWorld {
     pub(crate) source: PlainSide,
@@ -489,9 +490,9 @@ impl PlainWorld {
         }
     }
 
-    /// Returns the session to continue. The newest session is continued if it has not recorded its goal, and if its
-    /// life is the source's life or `any_life` is true. If the newest session cannot be continued, the call returns the
-    /// next session number.
+    /// Returns the id of the newest session if this session has not recorded its goal. If `any_life` is false, the
+    /// newest session must also have the source's life. If the newest session cannot be continued, returns the next
+    /// session id.
     pub(crate) fn carried(&self, any_life: bool) -> u128 {
         match self.sessions.begun.last() {
             Some(held)
@@ -501,7 +502,7 @@ impl PlainWorld {
         }
     }
 
-    /// Returns the end of a session's windows, or 0 if the session does not exist.
+    /// Returns the sequence at which a session's last window ends, or 0 if the session does not exist.
     pub(crate) fn end(&self, session: u128) -> u64 {
         match self.sessions.get(session) {
             Some(held) => self.sessions.end(held),
@@ -509,7 +510,7 @@ impl PlainWorld {
         }
     }
 
-    /// Returns the log entries of the sessions.
+    /// Returns the log entries of all sessions.
     pub(crate) fn told(&self, rt: &impl Abort, alloc: Global) -> Vec<Done> {
         let mut all = Vec::new(alloc);
         for session in &self.sessions.begun {
@@ -531,7 +532,8 @@ impl PlainWorld {
 
     // ---- steps
 
-    /// Edits the document `EDITED`, which adds a child of the document's only leaf, or the document's first revision.
+    /// Adds a child of `parent` to the document `EDITED`, if `parent` is the document's only leaf. Without a parent,
+    /// adds the first revision if the document does not exist.
     pub(crate) fn edit(&mut self, at_source: bool, parent: Option<usize>) {
         let side = self.side(at_source);
         let leaves = side.tree(EDITED).leaf_mask();
@@ -552,7 +554,7 @@ impl PlainWorld {
         self.logs.push(log).expect(rt, "memory");
     }
 
-    /// Begins a session from a log in the message bag, if the session is valid.
+    /// Begins a session from a log in the message bag, if the log exists and `Sessions::begin` accepts the session.
     pub(crate) fn begin(
         &mut self,
         rt: &impl Abort,
@@ -570,7 +572,7 @@ impl PlainWorld {
         }
     }
 
-    /// Reads a page of the source, if the source has a page for the given bounds.
+    /// Reads a page of the source, if the limit is not 0 and the page's range is valid.
     pub(crate) fn page(&mut self, rt: &impl Abort, since: u64, goal: u64, limit: u64) {
         if limit != 0 && since < goal && goal <= self.source.update_seq {
             let life = self.log.life;
@@ -579,7 +581,7 @@ impl PlainWorld {
         }
     }
 
-    /// Stores a window for a session.
+    /// Stores a window of the message bag in a session.
     pub(crate) fn append(&mut self, rt: &impl Abort, session: u128, window: usize) {
         if let Some(rows) = self.windows.get(window) {
             self.sessions.append(rt, session, *rows);
@@ -590,7 +592,7 @@ impl PlainWorld {
         }
     }
 
-    /// Requests the leaves of a window that the target lacks.
+    /// Requests those leaves of a window that the target lacks.
     pub(crate) fn diff(&mut self, rt: &impl Abort, window: usize) {
         if let Some(rows) = self.windows.get(window) {
             let asked = missing(&self.target, rows);
@@ -617,7 +619,7 @@ impl PlainWorld {
         }
     }
 
-    /// Records or concludes a session, and puts its entry into the message bag.
+    /// Records or concludes a session, and puts the session's entry into the message bag.
     pub(crate) fn record(&mut self, rt: &impl Abort, session: u128, concludes: bool, time: u64) {
         if let Some(done) = self.sessions.record(session, concludes, time) {
             self.entries.push(done).expect(rt, "memory");
@@ -645,7 +647,7 @@ impl PlainWorld {
         self.copies.push(copied).expect(rt, "memory");
     }
 
-    /// Restores the source from a backup, in a life above the lives of the source and the backup.
+    /// Restores the source from a backup. The new life is greater than the lives of the source and of the backup.
     pub(crate) fn restore(&mut self, rt: &impl Abort, alloc: Global, copy: usize) {
         if let Some(copied) = self.copies.get(copy) {
             if self.windows.len() > 0 || self.entries.len() > 0 || self.logs.len() > 0 {

@@ -1,4 +1,5 @@
-//! A tree as a mask of eighteen bits, one for each revision of generation 1 to 6 with signature a, b or c.
+//! Represents a revision tree by a mask of eighteen bits: one bit for each revision of generation 1 to 6 with signature
+//! a, b or c.
 //!
 //! The revision at index `p` has generation `p / 3 + 1` and signature `p % 3`, so indices and revisions have the same
 //! order. The reference is written from docs/PROFILE.md, "Merging" and "Leaves and the winner", with masks for sets and
@@ -24,7 +25,7 @@ pub(crate) fn mask_of(places: &[usize]) -> u32 {
     mask
 }
 
-/// Returns the index of the lowest bit.
+/// Returns the index of the lowest bit that is set in a mask.
 fn lowest(mask: u32) -> usize {
     for place in 0..PLACES {
         if mask & bit(place) != 0 {
@@ -92,7 +93,8 @@ impl Reference {
         self.origins[place % PLACES]
     }
 
-    /// Returns the newest child in a given ancestry that has another parent in the tree, and both parents.
+    /// Finds the newest revision of an ancestry that has different parents in the tree and in the ancestry. Returns the
+    /// revision and both parents.
     pub(crate) fn contradiction(&self, revs: &[usize]) -> Option<Answer> {
         for pair in revs.windows(2) {
             if let [child, given] = pair {
@@ -162,7 +164,7 @@ impl Reference {
         self.leaf_mask() & bit(place) != 0
     }
 
-    /// Returns the live leaves and then the deleted leaves, each group by falling index.
+    /// Returns the live leaves and then the deleted leaves, both in order of decreasing index.
     pub(crate) fn leaves(&self, alloc: Global) -> Result<Vec<usize>, AllocError> {
         let mut leaves = Vec::new(alloc);
         for deleted in [false, true] {
@@ -198,7 +200,7 @@ impl Reference {
         mask_of(&self.ancestry(alloc, place).expect(rt, "memory"))
     }
 
-    /// Returns the leaves whose ancestries have one of the revisions, winner first.
+    /// Returns the leaves whose ancestries have one of the given revisions, winner first.
     pub(crate) fn leaves_above(&self, rt: &impl Abort, alloc: Global, revs: u32) -> Vec<usize> {
         let mut above = Vec::new(alloc);
         for leaf in &self.leaves(alloc).expect(rt, "memory") {
@@ -209,7 +211,7 @@ impl Reference {
         above
     }
 
-    /// Returns the revisions that are not in the tree.
+    /// Returns those of the given revisions that are not in the tree.
     pub(crate) fn missing(&self, rt: &impl Abort, alloc: Global, revs: &[usize]) -> Vec<usize> {
         let mut missing = Vec::new(alloc);
         for place in revs {

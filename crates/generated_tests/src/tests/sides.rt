@@ -1,4 +1,4 @@
-//! Compares the trees, the coverage and the refusals of a peer with the peer's plain model.
+//! Compares the trees, the covered revisions and the ledgers of a peer with the peer's plain model.
 use crate::tests::exchanges::place_of;
 use crate::tests::feeds::{id, number_of};
 use crate::tests::merges::{are, rev};
@@ -10,8 +10,8 @@ use rev_tree::{SessionId, Tree};
 use std::alloc::Global;
 use std::process::Abort;
 
-/// Whether a peer and its plain model agree about the trees of the first documents, and about which revisions are
-/// covered.
+/// Whether a peer and its plain model have the same update sequence, and agree about the trees and the covered
+/// revisions of the first `documents` documents.
 pub(crate) fn agrees(
     rt: &impl Abort,
     alloc: Global,
@@ -48,7 +48,8 @@ fn agrees_on(
     same && covers
 }
 
-/// Whether a tree and a plain tree have the same revisions, and the same leaves, ancestries of leaves and contents.
+/// Whether a tree and a plain tree have the same number of revisions, and the same leaves with the same ancestries and
+/// contents.
 fn is_tree(rt: &impl Abort, alloc: Global, tree: &Tree, wanted: &Reference) -> bool {
     let places = wanted.leaves(alloc).expect(rt, "memory");
     let leaves = tree.leaves(alloc).expect(rt, "memory");
@@ -59,7 +60,7 @@ fn is_tree(rt: &impl Abort, alloc: Global, tree: &Tree, wanted: &Reference) -> b
     same
 }
 
-/// Whether a leaf has the ancestry and the content of a leaf of the plain tree.
+/// Whether a leaf has the same ancestry and content in a tree and in a plain tree.
 fn is_leaf(rt: &impl Abort, alloc: Global, tree: &Tree, wanted: &Reference, place: usize) -> bool {
     let one = rev(rt, place);
     let walk = tree.ancestry(alloc, one).expect(rt, "a revision");
@@ -67,7 +68,7 @@ fn is_leaf(rt: &impl Abort, alloc: Global, tree: &Tree, wanted: &Reference, plac
     has_content(tree, one, wanted.content(place)) && are(rt, walk.revs(), &places)
 }
 
-/// Whether a revision's content has the deleted flag of the plain model's content, and the body `{}`.
+/// Whether a revision has a content with the expected deleted flag and the body `{}`.
 fn has_content(tree: &Tree, one: Rev, wanted: Option<(bool, u8)>) -> bool {
     match (tree.content(one), wanted) {
         (Some(content), Some((deleted, _))) => {
@@ -95,7 +96,7 @@ pub(crate) fn has_ledger(
     rows.as_slice() == wanted.as_slice()
 }
 
-/// Returns a row of a peer's ledger.
+/// Converts a row of a peer's ledger to the plain model's form of a row.
 fn row(rt: &impl Abort, refused: &Refused) -> Row {
     let doc = refused.doc();
     let number = number_of(rt, doc.id().text());

@@ -1,4 +1,4 @@
-//! Compares the calls of `repl_inspect` with the reference, and puts the documents of all leaves into an empty
+//! Compares the results of `repl_inspect` with the reference, and copies all leaves of a database into an empty
 //! database.
 use crate::tests::checks::holds;
 use crate::tests::exchanges::Side;
@@ -15,8 +15,8 @@ use rev_tree::Origin;
 use std::alloc::Global;
 use std::process::Abort;
 
-/// Returns the index of the newest revision with another parent in the target's tree, in the ancestry of the first leaf
-/// that has such a revision.
+/// Finds the first leaf whose ancestry contradicts the target's tree, and returns the index of the ancestry's newest
+/// contradicting revision.
 fn contradicts(
     rt: &impl Abort,
     alloc: Global,
@@ -33,7 +33,7 @@ fn contradicts(
     None
 }
 
-/// Returns the indices of the leaves whose content differs in the target's tree.
+/// Returns the indices of the leaves that have a different content in the target's tree.
 fn differ(
     rt: &impl Abort,
     alloc: Global,
@@ -51,7 +51,8 @@ fn differ(
     found
 }
 
-/// Whether a comparison names the revision at the given index as contradicting, or no revision if there is no index.
+/// Whether a comparison names the revision at `place` as the contradicting child, or names no child if `place` is
+/// `None`.
 fn names(rt: &impl Abort, comparison: &Comparison, place: Option<usize>) -> bool {
     match (comparison.contradiction(), place) {
         (Some(found), Some(place)) => found.child == rev(rt, place),
@@ -60,7 +61,7 @@ fn names(rt: &impl Abort, comparison: &Comparison, place: Option<usize>) -> bool
     }
 }
 
-/// Asserts that a comparison agrees with two trees.
+/// Asserts that the comparison of a document agrees with the document's trees in the references of both sides.
 fn says(
     rt: &impl Abort,
     alloc: Global,
@@ -86,7 +87,7 @@ fn says(
     holds(rt, names(rt, comparison, place), "what contradicts");
 }
 
-/// Compares each document of two sides, and returns the total.
+/// Compares each document of two sides, and returns the total of the differences.
 fn compares(rt: &impl Abort, alloc: Global, source: &Side, target: &Side) -> Total {
     let mut total = Total::none();
     for number in 0..IDS {
@@ -110,7 +111,8 @@ fn live(rt: &impl Abort, alloc: Global, tree: &Reference) -> Vec<usize> {
     live
 }
 
-/// Asserts that the leaves in conflict agree with the reference.
+/// Asserts that the leaves in conflict are all live leaves, or no leaves if the document has fewer than two live
+/// leaves.
 fn conflicts(rt: &impl Abort, alloc: Global, database: &Database, id: &DocId, live: &[usize]) {
     if let Some(tree) = database.tree(id) {
         let found = conflicting(alloc, tree).expect(rt, "memory");
@@ -119,7 +121,7 @@ fn conflicts(rt: &impl Abort, alloc: Global, database: &Database, id: &DocId, li
     }
 }
 
-/// Adds a document to the expected counts of a database's content.
+/// Adds the counts of a document to the expected counts of a database.
 fn counts(census: &mut Census, tree: &Reference, leaves: usize, live: usize) {
     census.documents = census.documents.saturating_add(1);
     census.deleted = census.deleted.saturating_add(u64::from(live == 0));
@@ -128,7 +130,8 @@ fn counts(census: &mut Census, tree: &Reference, leaves: usize, live: usize) {
     census.revisions = census.revisions.saturating_add(tree.count() as u64);
 }
 
-/// Asserts conflicts and counts. Returns the number of documents in conflict.
+/// Compares the conflicts and the counts of a side's database with the reference. Returns the number of documents in
+/// conflict.
 fn in_conflict(rt: &impl Abort, alloc: Global, side: &Side) -> u64 {
     let mut wanted = Census::none();
     for number in 0..IDS {
@@ -145,14 +148,14 @@ fn in_conflict(rt: &impl Abort, alloc: Global, side: &Side) -> u64 {
     wanted.conflicts
 }
 
-/// Puts the documents of all leaves of a document into a database.
+/// Puts all leaves of a document, with the ancestries and contents of the leaves, into a database.
 fn give(rt: &impl Abort, alloc: Global, source: &Database, id: &DocId, target: &mut Database) {
     for doc in &documents_of(alloc, source, id).expect(rt, "memory") {
         holds(rt, target.put(doc, Origin::Local(0)).is_ok(), "a put");
     }
 }
 
-/// Asserts that a database has the leaves of the reference.
+/// Asserts that each document has the same leaves in a database and in the reference.
 fn has_leaves(rt: &impl Abort, alloc: Global, database: &Database, plain: &PlainSide) {
     for number in 0..IDS {
         let wanted = plain.tree(number).leaves(alloc).expect(rt, "memory");
@@ -170,7 +173,8 @@ fn has_leaves(rt: &impl Abort, alloc: Global, database: &Database, plain: &Plain
     }
 }
 
-/// Asserts that the documents of all leaves, put into an empty database, give the trees of a side.
+/// Puts all leaves of a side's documents into an empty database, and asserts that this database then has the same
+/// leaves.
 fn comes_back(rt: &impl Abort, alloc: Global, side: &Side, again: &mut Database) {
     for number in 0..IDS {
         give(rt, alloc, &side.db, &id(rt, alloc, number), again);
@@ -189,7 +193,7 @@ fn survey(rt: &impl Abort, alloc: Global, source: &Side, target: &Side) -> [u64;
 }
 
 /// Tests the calls of `repl_inspect` with a source and a target. The function is separate from its caller, because the
-/// proof grows with each variable that is live in the caller.
+/// caller's proof grows with each variable that is live in the caller.
 fn with_target(rt: &impl Abort, alloc: Global, seed: u64, source: &mut Side) -> [u64; 3] {
     let mut rng = ChaCha8Rng::seed_from_u64(seed);
     let mut target = Side::new(alloc, 2);
@@ -208,7 +212,8 @@ fn two_hundred_pairs_agree(rt: HostRuntime) {
             found[at] = found[at].saturating_add(more[at]);
         }
     }
-    // The test asserts more than 100 contradicting documents, 50 differing leaves and 100 documents in conflict.
+    // The test asserts that all pairs together have more than 100 contradicting documents, 50 differing leaves and 100
+    // documents in conflict.
     assert!(rt;
         found[0] > 100 && found[1] > 50 && found[2] > 100,
         "{found:?}"

@@ -1,6 +1,6 @@
-//! Pairs of peers diverge at random and are replicated in both directions, by one thread and by the pool. After a
-//! replication in both directions, both sides must have the same documents, and a second replication must change
-//! nothing.
+//! Tests that edit pairs of peers at random, and replicate each pair in both directions, by one thread and by the pool.
+//! After a replication in both directions, both peers must have the same documents. A second replication must then copy
+//! no document.
 use crate::tests::checks::holds;
 use crate::tests::feeds::id;
 use crate::tests::merges::below;
@@ -19,10 +19,10 @@ use std::process::Abort;
 use std::sync::Wait;
 use std::thread::Threads;
 
-/// The number of rounds in which both sides diverge and then synchronize.
+/// The number of rounds of a test. In each round, both peers are edited and then replicated.
 const MEETINGS: usize = 3;
 
-/// Returns a body from a small set at random, so that both sides sometimes make the same change.
+/// Returns one of three bodies at random, so that two peers sometimes make the same edit.
 pub(crate) fn body(rt: &impl Abort, alloc: Global, rng: &mut ChaCha8Rng) -> Body {
     let text = format!(in alloc; "{{\"n\":{}}}", below(rng, 3)).expect(rt, "memory");
     let value = Value::from_slice(alloc, text.as_bytes()).expect(rt, "a value");
@@ -57,7 +57,7 @@ fn edit_one(
     let _revised = peer.edit(&id, parent, deleted, &body);
 }
 
-/// Makes random edits of documents.
+/// Makes a given number of random edits of a peer's documents.
 fn edit(
     rt: &impl Abort,
     alloc: Global,
@@ -71,7 +71,7 @@ fn edit(
     }
 }
 
-/// Makes random edits of all documents except d0.
+/// Makes a given number of random edits of a peer's documents other than d0.
 fn edit_others(
     rt: &impl Abort,
     alloc: Global,
@@ -130,7 +130,7 @@ pub(crate) fn assert_same(rt: &impl Abort, alloc: Global, a: &Peer<Rules>, b: &P
     }
 }
 
-/// Asserts that two peers have the same documents, except that the second peer has never accepted d0.
+/// Asserts that two peers have the same documents, except that only the first peer has d0.
 fn assert_same_but_d0(rt: &impl Abort, alloc: Global, a: &Peer<Rules>, b: &Peer<Rules>) {
     for number in 1..IDS {
         let same = is_same(rt, alloc, a, b, &id(rt, alloc, number));
@@ -141,7 +141,7 @@ fn assert_same_but_d0(rt: &impl Abort, alloc: Global, a: &Peer<Rules>, b: &Peer<
     holds(rt, b.db().tree(&d0).is_none(), "the other side hasn't");
 }
 
-/// Creates a plan of the next session, with windows that scan 1 to 4 rows, at random.
+/// Creates the plan of the next session, whose windows scan a random number (1 to 4) of rows.
 pub(crate) fn plan(
     rt: &impl Abort,
     rng: &mut ChaCha8Rng,
@@ -159,7 +159,7 @@ pub(crate) fn plan(
     }
 }
 
-/// Replicates in both directions, with the pool if the number of workers is above 0, and otherwise with one thread.
+/// Replicates two peers in both directions, by one thread if the plan has no workers, and otherwise by the pool.
 fn meet<R: Abort + Threads + Wait + Sync>(
     rt: &R,
     alloc: Global,
@@ -216,7 +216,8 @@ fn refusing(rt: &impl Abort, alloc: Global) -> Peer<Rules> {
     Peer::new(alloc, 2, Rules { deny: Some(deny) })
 }
 
-/// Tests two peers. The second peer refuses d0. After each round, both peers have the same documents except d0.
+/// Tests two peers, of which the second refuses d0. After each round, both peers must have the same documents except
+/// d0.
 fn beside_refusals<R: Abort + Threads + Wait + Sync>(
     rt: &R,
     alloc: Global,

@@ -23,18 +23,19 @@ use std::process::Abort;
 /// The number of steps of a list.
 const STEPS: usize = 80;
 
-/// The number of steps at the start of a list that each load a document.
+/// The number of loads at the start of each list of steps.
 const LOADS: usize = 4;
 
-/// A generator of random steps. The model takes each generated step, and the generator adds the step to its list.
+/// A generator of random steps. The generator's model takes each step that is generated.
 #[derive(Drop)]
 struct Dealer {
     alloc: Global,
     rng: ChaCha8Rng,
-    /// The revisions of a document that is edited repeatedly, oldest first.
+    /// The revisions of the document `EDITED`, oldest first.
     chain: Vec<Rev>,
     model: PlainWorld,
-    /// The number of generated steps. The field `turn` counts only the steps in the order of a replication.
+    /// The number of generated steps. The field `turn` counts only the steps that were generated in the order of a
+    /// replication.
     number: usize,
     turn: usize,
 }
@@ -66,7 +67,8 @@ impl Dealer {
         self.model.picked = all_or_some(&mut self.rng);
     }
 
-    /// Returns an index into a list of the message bag, which is usually the last index, and sometimes out of range.
+    /// Returns an index for a list of `length` items. The index is usually the last index of the list. The index is
+    /// sometimes random, and may then be out of range.
     fn place(&mut self, length: usize) -> usize {
         if below(&mut self.rng, 6) == 0 {
             below(&mut self.rng, 5)
@@ -75,7 +77,7 @@ impl Dealer {
         }
     }
 
-    /// Returns the id of the session to continue, or sometimes the id of another session.
+    /// Returns the id of the session to continue, or sometimes a random session id.
     fn session(&mut self) -> u128 {
         if below(&mut self.rng, 8) == 0 {
             below(&mut self.rng, 4) as u128
@@ -90,7 +92,7 @@ impl Dealer {
         if below(&mut self.rng, 8) == 0 { 1 } else { 0 }
     }
 
-    /// Generates the load of a document.
+    /// Generates a step that loads a random document.
     fn load(&mut self, rt: &impl Abort, at_source: bool) -> Step {
         let side = self.model.side(at_source);
         let (doc, _answer) = document_by_chance(rt, self.alloc, &mut self.rng, side, EDITED);
@@ -101,7 +103,8 @@ impl Dealer {
         }
     }
 
-    /// Returns the index of an edit's parent, usually the document's leaf, or `None` for an edit without a parent.
+    /// Returns the index of the parent for an edit (usually the document's leaf), or `None` for an edit without a
+    /// parent.
     fn parent(&mut self, at_source: bool) -> Option<usize> {
         let held = self.model.side(at_source).tree(EDITED).count();
         let generation = if below(&mut self.rng, 4) == 0 {
@@ -116,7 +119,7 @@ impl Dealer {
         }
     }
 
-    /// Generates the edit of a document.
+    /// Generates a step that edits the document `EDITED`.
     fn edit(&mut self, rt: &impl Abort, at_source: bool) -> Step {
         let place = self.parent(at_source);
         self.model.edit(at_source, place);
@@ -143,13 +146,13 @@ impl Dealer {
         }
     }
 
-    /// Generates the reading of the source's log.
+    /// Generates a step that reads the source's log.
     fn read_log(&mut self, rt: &impl Abort) -> Step {
         self.model.read_log(rt, self.alloc);
         Step::ReadLog
     }
 
-    /// Generates the beginning of a session from a log that was read.
+    /// Generates a step that begins a session from a log that was read.
     fn begin(&mut self, rt: &impl Abort) -> Step {
         let session = self.session();
         let sizes = self.model.sizes();
@@ -164,7 +167,7 @@ impl Dealer {
         }
     }
 
-    /// Generates the reading of a page, usually the next page of a session.
+    /// Generates a step that reads a page, usually the next page of a session.
     fn page(&mut self, rt: &impl Abort) -> Step {
         let since = if below(&mut self.rng, 4) == 0 {
             below(&mut self.rng, 5) as u64
@@ -179,7 +182,7 @@ impl Dealer {
         Step::Page { since, goal, limit }
     }
 
-    /// Generates the storing of a window.
+    /// Generates a step that stores a window in a session.
     fn append(&mut self, rt: &impl Abort) -> Step {
         let session = self.session();
         let sizes = self.model.sizes();
@@ -191,7 +194,7 @@ impl Dealer {
         }
     }
 
-    /// Generates a request for a window.
+    /// Generates a step that requests leaves of a window.
     fn diff(&mut self, rt: &impl Abort) -> Step {
         let sizes = self.model.sizes();
         let window = self.place(sizes.0);
@@ -199,7 +202,7 @@ impl Dealer {
         Step::Diff { window }
     }
 
-    /// Generates a fetch for a request.
+    /// Generates a step that fetches the documents for a request.
     fn fetch(&mut self, rt: &impl Abort) -> Step {
         let sizes = self.model.sizes();
         let asked = self.place(sizes.1);
@@ -207,7 +210,7 @@ impl Dealer {
         Step::Fetch { asked }
     }
 
-    /// Generates the settling of a parcel.
+    /// Generates a step that settles a parcel.
     fn settle(&mut self, rt: &impl Abort) -> Step {
         let session = self.session();
         let sizes = self.model.sizes();
@@ -219,7 +222,7 @@ impl Dealer {
         }
     }
 
-    /// Generates the recording or concluding of a session.
+    /// Generates a step that records or concludes a session.
     fn record(&mut self, rt: &impl Abort, concludes: bool) -> Step {
         let session = self.session();
         self.model
@@ -233,7 +236,7 @@ impl Dealer {
         }
     }
 
-    /// Generates the storing of an entry in the source's log.
+    /// Generates a step that stores an entry in the source's log.
     fn put_entry(&mut self, rt: &impl Abort) -> Step {
         let sizes = self.model.sizes();
         let entry = self.place(sizes.3);
@@ -241,13 +244,13 @@ impl Dealer {
         Step::PutEntry { entry }
     }
 
-    /// Generates a backup of the source.
+    /// Generates a step that backs up the source.
     fn back_up(&mut self, rt: &impl Abort) -> Step {
         self.model.back_up(rt, self.alloc);
         Step::Backup
     }
 
-    /// Generates a restore of the source.
+    /// Generates a step that restores the source from a backup.
     fn restore(&mut self, rt: &impl Abort) -> Step {
         let copies = self.model.copies();
         let backup = self.place(copies);
@@ -255,13 +258,13 @@ impl Dealer {
         Step::Restore { backup }
     }
 
-    /// Generates the loss of all messages.
+    /// Generates a crash, which loses all messages.
     fn crash(&mut self) -> Step {
         self.model.crash();
         Step::Crash
     }
 
-    /// Generates the next step of a replication.
+    /// Generates step `turn % 9` of the nine steps of a replication, counted from 0.
     fn carry_on(&mut self, rt: &impl Abort, turn: usize) -> Step {
         match turn % 9 {
             0 => self.read_log(rt),
@@ -276,7 +279,7 @@ impl Dealer {
         }
     }
 
-    /// Generates a step that is out of order, given the number of the kind of step.
+    /// Generates a step of the given kind, for example a load, an edit, a backup, or a random step of a replication.
     fn odd(&mut self, rt: &impl Abort, kind: usize) -> Step {
         match kind {
             0 | 1 => self.load(rt, true),
@@ -310,8 +313,8 @@ impl Dealer {
     }
 }
 
-/// Computes all revisions of the document that is edited repeatedly. The model does not interpret the strings of the
-/// revisions.
+/// Computes the revisions of the document `EDITED`, because the model represents revisions by indices and computes no
+/// signatures.
 fn make_chain(rt: &impl Abort, alloc: Global, chain: &mut Vec<Rev>) {
     for _ in 0..6u64 {
         let parent = chain.last().copied();
@@ -331,7 +334,7 @@ fn deal(rt: &impl Abort, alloc: Global, dealer: &mut Dealer) -> Vec<Step> {
 
 // ---- comparing
 
-/// Whether a database has exactly the first `held` revisions of the document that is edited repeatedly.
+/// Whether a database has exactly the first `held` revisions of the document `EDITED`.
 fn has_chain(rt: &impl Abort, alloc: Global, db: &Database, held: usize, chain: &[Rev]) -> bool {
     match db.tree(&id(rt, alloc, EDITED)) {
         Some(tree) => {
@@ -342,7 +345,7 @@ fn has_chain(rt: &impl Abort, alloc: Global, db: &Database, held: usize, chain: 
     }
 }
 
-/// Converts a log entry to its plain form.
+/// Converts a log entry to the plain model's form of an entry.
 fn done_of(entry: &Entry) -> Done {
     Done {
         session: entry.session.0,
@@ -357,7 +360,8 @@ fn done_of(entry: &Entry) -> Done {
     }
 }
 
-/// Whether a log, newest first, has the expected entries, oldest first.
+/// Whether a log has exactly the expected entries. The log begins with the newest entry, and the list `wanted` begins
+/// with the oldest entry.
 fn is_log(log: &Log, wanted: &[Done]) -> bool {
     let mut same = log.len() == wanted.len();
     for (place, done) in wanted.iter().rev().enumerate() {
@@ -383,7 +387,7 @@ fn compare_documents(
     );
 }
 
-/// Asserts that a log, newest first, has the expected entries, oldest first.
+/// Asserts that a log has exactly the expected entries, which are given oldest first.
 fn compare_log(rt: &impl Abort, log: Option<Log>, wanted: &[Done]) {
     let log = log.expect(rt, "a log");
     holds(rt, is_log(&log, wanted), "a log");
@@ -431,7 +435,7 @@ fn is_clean(
     }
 }
 
-/// Asserts that two peers agree with the model.
+/// Asserts that a source and a target agree with the model.
 fn compare_peers(
     rt: &impl Abort,
     alloc: Global,
@@ -469,14 +473,15 @@ fn world(
     World::new(alloc, source, target, chosen).expect(rt, "two peers")
 }
 
-/// Takes a list of steps, and asserts that the world agrees with its model.
+/// Performs a list of steps in a world, and asserts that the world agrees with the model.
 fn take(rt: &impl Abort, alloc: Global, world: &mut World<Rules>, steps: &[Step], dealer: &Dealer) {
     world.run(alloc, steps).expect(rt, "memory");
     holds(rt, world.bag_sizes() == dealer.model.sizes(), "the bag");
     compare_peers(rt, alloc, world.source(), world.target(), dealer);
 }
 
-/// Generates a list of steps, and takes the steps in a world. Returns the common checkpoint of both logs, or 0.
+/// Generates a list of steps, and performs the steps in a world. Returns the recorded sequence of the last entry in the
+/// model's source log, or 0 if the log is empty.
 fn taken(rt: &impl Abort, alloc: Global, dealer: &mut Dealer, world: &mut World<Rules>) -> u64 {
     let steps = deal(rt, alloc, dealer);
     take(rt, alloc, world, &steps, dealer);

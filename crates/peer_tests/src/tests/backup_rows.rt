@@ -1,5 +1,5 @@
-//! Test rows for backups. In these tests, a source is restored from a backup, and calls get data from other lives of
-//! the source. No allocation fails in the test rows.
+//! Test rows for backups. In these tests, a source is restored from a backup, and calls get windows and log entries
+//! from other lives of the source. The expected results hold if no allocation fails.
 use crate::tests::peers::{Call, Lists, Rep, Rows, expect};
 use rev_tree::SessionId;
 
@@ -83,8 +83,8 @@ const AHEAD: Rows = &[
     ),
 ];
 
-/// Calls that restore the source, which then has the documents, local writes and log of the backup. Another document
-/// then gets the sequence that the document d4 had before the restore.
+/// Calls that restore the source from the first backup. The source then has the documents, the local writes and the log
+/// of the backup. The new document e gets the sequence that the document d4 had before the restore.
 const PUT_BACK: Rows = &[
     (Call::Restore(SOURCE, FIRST), "restored"),
     (Call::Life(SOURCE), "1"),
@@ -109,12 +109,12 @@ fn other_life_refused(rt: HostRuntime) {
             Call::PutEntryOf(SOURCE, REP, TARGET, S2),
             "OtherLife { now: 1 }",
         ),
-        // The condition of `Older` is true, too, but `PutEntry` checks the condition of `OtherLife` first.
+        // The given entry is older than the stored entry, but `PutEntry` reports the other life first.
         (Call::PutEntry(SOURCE, REP, S1, 1), "OtherLife { now: 1 }"),
         (Call::SourceLog(SOURCE, REP), "1 at 3;"),
         (Call::Page(SOURCE, 3, 4), "3 to 4: 4 e 1-a;"),
-        // The second session's windows end at 6, but `Append` checks the life of the window before the window's bounds.
-        // The third session does not exist yet.
+        // The window begins below 6, the end of the second session's windows, but `Append` reports the other life
+        // first. The third session does not exist yet.
         (Call::Append(TARGET, S2, SECOND), "OtherLife { now: 0 }"),
         (Call::Append(TARGET, S3, SECOND), "NoSuchSession"),
         (
@@ -125,7 +125,7 @@ fn other_life_refused(rt: HostRuntime) {
         (Call::SourceLog(SOURCE, REP), "3 at 4;1 at 3;"),
         (Call::Audit(SOURCE, TARGET), "clean"),
         (Call::Tree(TARGET, "d4"), "1-a of 1"),
-        // The third session has the new life of the source, so its entry is accepted.
+        // The source accepts the third session's entry, because this session has the source's new life.
         (Call::PutEntryOf(SOURCE, REP, TARGET, S3), "put"),
     ];
     static LISTS: Lists = &[COPIED, AHEAD, PUT_BACK, ROWS];
@@ -136,7 +136,7 @@ fn other_life_refused(rt: HostRuntime) {
 fn copies_are_refused_by_name(rt: HostRuntime) {
     const ROWS: Rows = &[
         (Call::Backup(TARGET), "IsTarget"),
-        // The condition of `ForeignBackup` is true, too, but `Restore` checks the condition of `IsTarget` first.
+        // The backup is from another peer, but `Restore` first reports that the peer is a target.
         (Call::Restore(TARGET, FIRST), "IsTarget"),
         (Call::Peer(3, None), "made"),
         (Call::Restore(OTHER, FIRST), "ForeignBackup"),
@@ -163,7 +163,8 @@ fn a_life_is_above_both(rt: HostRuntime) {
         (Call::Numbers(SOURCE), "1 at 4"),
         (Call::Tree(SOURCE, "e"), "1-a of 1"),
         (Call::Backup(SOURCE), "1 at 4"),
-        // Another peer with the same UUID, in life 0, is restored from the backup, and keeps its filter.
+        // A new peer, with the source's UUID and a filter, is restored from the third backup. The new peer keeps this
+        // filter.
         (Call::Peer(1, Some("d")), "made"),
         (Call::Restore(OTHER, THIRD), "restored"),
         (Call::Life(OTHER), "4"),

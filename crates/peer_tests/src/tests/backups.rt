@@ -1,4 +1,4 @@
-//! Backing up and restoring the peers of a bench.
+//! Functions that back up and restore the peers of a bench.
 use crate::tests::records::fault_text;
 use crate::tests::texts::numbers_text;
 use repl_target::{Backup, Peer, Rules};

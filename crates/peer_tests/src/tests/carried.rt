@@ -8,7 +8,7 @@ use rev_tree::SessionId;
 use std::alloc::Global;
 use test_support::shown;
 
-/// Returns the documents at the leaves of a document, winner first.
+/// Returns the text of each leaf of a document (with the leaf's ancestry and content), winner first.
 pub(crate) fn leaves(alloc: Global, db: &Database, id: &str) -> Option<String> {
     let Ok(id) = DocId::parse(alloc, id) else {
         return None;
@@ -22,7 +22,7 @@ pub(crate) fn leaves(alloc: Global, db: &Database, id: &str) -> Option<String> {
     all_at(alloc, db, &id, leaves.as_slice())
 }
 
-/// Returns the documents at the given revisions of a document.
+/// Returns the texts of the given revisions of a document.
 fn all_at(alloc: Global, db: &Database, id: &DocId, revs: &[Rev]) -> Option<String> {
     let mut all = Some(String::new(alloc));
     for rev in revs {
@@ -31,7 +31,7 @@ fn all_at(alloc: Global, db: &Database, id: &DocId, revs: &[Rev]) -> Option<Stri
     all
 }
 
-/// Returns the document at a revision.
+/// Returns the text of a revision of a document.
 fn at(alloc: Global, db: &Database, id: &DocId, rev: Rev) -> Option<String> {
     match db.document(alloc, id, rev) {
         Ok(Some(doc)) => doc_text(alloc, &doc),
@@ -39,7 +39,8 @@ fn at(alloc: Global, db: &Database, id: &DocId, rev: Rev) -> Option<String> {
     }
 }
 
-/// Returns the ids of the documents that a session refused, in order, each id with the reason.
+/// Returns the texts of those leaves of a document that are in a session's ledger, in the ledger's order, each with the
+/// reason.
 pub(crate) fn refused(
     alloc: Global,
     peer: &Peer<Rules>,
@@ -52,7 +53,7 @@ pub(crate) fn refused(
     }
 }
 
-/// Returns the documents with an id in a ledger, each with its reason.
+/// Returns the texts of a ledger's rows for the document with a given id.
 fn refused_of(alloc: Global, rows: &[Refused], id: &str) -> Option<String> {
     let mut all = Some(String::new(alloc));
     for row in rows {
@@ -63,7 +64,7 @@ fn refused_of(alloc: Global, rows: &[Refused], id: &str) -> Option<String> {
     all
 }
 
-/// Returns the text of a document in a ledger, with the reason.
+/// Returns the text of a ledger row: the fetched document, and the reason.
 fn refused_text(alloc: Global, row: &Refused) -> Option<String> {
     joined(doc_text(alloc, row.doc()), shown(alloc, &row.reason()))
 }

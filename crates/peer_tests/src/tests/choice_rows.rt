@@ -102,7 +102,7 @@ fn pages_under_a_choice(rt: HostRuntime) {
         (Call::Choose(&["d9"]), "1 d9"),
         (Call::Page(0, 4, 2, Some(0)), "0 to 2: 2 d2 1-a;"),
         (Call::Page(2, 4, 2, Some(0)), "2 to 4: 4 d4 1-a;"),
-        // A page's end may be above the sequence of its last row, and a page may have no rows.
+        // A page may end above the sequence of the page's last row, and a page may have no rows.
         (Call::Page(0, 4, 3, Some(0)), "0 to 3: 2 d2 1-a;"),
         (Call::Page(0, 4, 1, Some(0)), "0 to 1:"),
         (Call::Page(2, 3, 500, Some(0)), "2 to 3:"),
@@ -121,8 +121,8 @@ fn pages_under_a_choice(rt: HostRuntime) {
     expect(&rt, rt.alloc(), LISTS);
 }
 
-/// The rows `chosen_copied` have three replications. The first replication selects two documents, the second
-/// replication selects all documents, and the third replication selects the same two documents as the first.
+/// Calls that perform three replications. The first and the third replication select the same two documents, and the
+/// second replication selects all documents.
 const COPIED: Rows = &[
     (Call::Choose(&["d4", "d2", "d2"]), "2 d2 d4"),
     (Call::Choose(&["d2", "d4"]), "2 d2 d4"),
@@ -203,7 +203,8 @@ fn holes_of_chosen_documents(rt: HostRuntime) {
         (Call::HoleAbove(0, Some(0)), "clean"),
         (Call::HoleAbove(0, Some(1)), "hole 1 d1 1-a"),
         (Call::HoleAbove(1, None), "hole 3 d3 1-a"),
-        // Documents that another selection replicated count as covered for the replication of all documents.
+        // A leaf that is stored at the target is covered for each selection, even if a replication of another selection
+        // or a load stored the leaf.
         (
             Call::LoadTarget(r#"{"_id":"d1","_rev":"1-a"}"#),
             "Changed { seq: 3 }",

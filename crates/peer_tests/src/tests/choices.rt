@@ -1,4 +1,4 @@
-//! Selections, two peers between which selected documents are replicated, and calls on selections and peers.
+//! Calls on selections of documents, and on two peers between which the selected documents are replicated.
 use crate::tests::peers::{agreed, found_text, load, source_log, target_log};
 use crate::tests::plans::plan;
 use crate::tests::records::{fault_text, report_text};
@@ -24,9 +24,10 @@ pub(crate) enum Call<'a> {
     LoadTarget(&'a str),
     /// Select documents by id, and store the selection as the bench's next selection.
     Choose(&'a [&'a str]),
-    /// Select a number of documents, numbered from 1, with the first id given twice, as the bench's next selection.
+    /// Select the documents with the numbers from 1 to a given number, and store the selection as the bench's next
+    /// selection. The call passes the first id twice.
     ChooseMany(u32),
-    /// Copy a selection, and store the copy as the next selection of the test's state.
+    /// Copy a selection, and store the copy as the bench's next selection.
     Copy(usize),
     /// Read whether two selections are equal.
     Equal(usize, usize),
@@ -47,9 +48,9 @@ pub(crate) enum Call<'a> {
     Append(SessionId, u64, u64, Under),
     /// Audit the target.
     Audit(Under),
-    /// Read the first leaf above a sequence of the source that the target does not cover.
+    /// Search the source's feed above a sequence for the first leaf that the target does not cover.
     HoleAbove(u64, Under),
-    /// Compare the logs of the replication.
+    /// Compare the source's and the target's log of the replication.
     Common(Under),
     /// Read the log of the replication at the source.
     SourceLog(Under),
@@ -57,7 +58,7 @@ pub(crate) enum Call<'a> {
     TargetLog(Under),
 }
 
-/// The calls of a test, and each call's expected result.
+/// The calls of a test, each with the expected result.
 pub(crate) type Rows = &'static [(Call<'static>, &'static str)];
 
 /// A source, a target, and selections.
@@ -80,14 +81,14 @@ impl Bench {
         }
     }
 
-    /// Performs the calls in order, and asserts that each call returns its expected result.
+    /// Performs the calls in order, and asserts that each call returns the expected result.
     fn run(&mut self, rt: &impl Abort, calls: &[(Call, &str)]) {
         for (i, (call, wanted)) in calls.iter().enumerate() {
             expect_answer(rt, i, self.answer(call), wanted);
         }
     }
 
-    /// Performs a call and returns its result as a string.
+    /// Performs a call, and returns the call's result as a string.
     fn answer(&mut self, call: &Call) -> Option<String> {
         match *call {
             Call::Load(text) => load(self.alloc, &mut self.source, text),
@@ -114,7 +115,7 @@ impl Bench {
     }
 }
 
-/// Returns the selection of a call.
+/// Returns the selection that a call uses.
 fn under_of(call: &Call) -> Under {
     match *call {
         Call::Has(under, _)
@@ -132,7 +133,7 @@ fn under_of(call: &Call) -> Under {
     }
 }
 
-/// Performs a call with a selection.
+/// Performs a call that uses a selection.
 fn of_peers(
     alloc: Global,
     source: &mut Peer<Rules>,
@@ -154,7 +155,7 @@ fn of_peers(
     }
 }
 
-/// Performs a read-only call with a selection.
+/// Performs a read-only call that uses a selection.
 fn read(
     alloc: Global,
     source: &Peer<Rules>,
@@ -217,7 +218,7 @@ fn choose_ids(alloc: Global, choices: &mut Vec<Chosen>, ids: Vec<DocId>) -> Opti
     }
 }
 
-/// Stores a selection, and returns the number of its ids, followed by the ids if the selection is small.
+/// Stores a selection, and returns the number of the selection's ids, followed by the ids if the selection is small.
 fn keep(alloc: Global, choices: &mut Vec<Chosen>, chosen: Chosen) -> Option<String> {
     let text = ids_text(alloc, chosen.ids());
     let Ok(()) = choices.push(chosen) else {
@@ -226,7 +227,7 @@ fn keep(alloc: Global, choices: &mut Vec<Chosen>, chosen: Chosen) -> Option<Stri
     text
 }
 
-/// Returns the number of a selection's ids, followed by the ids if the selection is small.
+/// Returns the number of ids of a selection, followed by the ids if the selection is small.
 fn ids_text(alloc: Global, ids: &[DocId]) -> Option<String> {
     let mut all = shown(alloc, &ids.len());
     if ids.len() < 10 {
@@ -269,7 +270,7 @@ fn number_id(alloc: Global, number: u32) -> Option<DocId> {
     DocId::parse(alloc, text.as_str()).ok()
 }
 
-/// Selects a number of documents, numbered from 1, with the first id given twice.
+/// Selects the documents with the numbers 1 to `count`, and passes the first id twice.
 fn choose_many(alloc: Global, choices: &mut Vec<Chosen>, count: u32) -> Option<String> {
     let mut ids = Vec::new(alloc);
     for number in 0..count {
@@ -401,7 +402,7 @@ fn begin(
     }
 }
 
-/// Performs lists of calls on a new bench, and asserts that each call returns its expected result.
+/// Performs lists of calls on a new bench, and asserts that each call returns the expected result.
 pub(crate) fn expect(rt: &impl Abort, alloc: Global, lists: &[Rows]) {
     let mut bench = Bench::new(alloc);
     for calls in lists {

@@ -1,10 +1,10 @@
-//! Test rows for databases: pages, puts, edits, requests and fetches. No allocation fails in the test rows.
+//! Test rows for databases: pages, puts, edits, requests and fetches. The expected results hold if no allocation fails.
 use crate::tests::databases::{Bench, Call, Rows, expect};
 
 /// The index of the first database of a bench, from which documents are fetched.
 const A: usize = 0;
 
-/// The index of the second database of a bench, which requests the leaves that it lacks.
+/// The index of the second database of a bench, which requests missing leaves.
 const B: usize = 1;
 
 /// The index of the first window, request or parcel that was read or fetched.
@@ -35,7 +35,8 @@ static THREE: Rows = &[
     (Call::Numbers(A), "7 at 5"),
 ];
 
-/// Calls that store, in database A, the document d with the leaves 2-b and 2-a, whose parent is 1-r.
+/// Calls that store the document d in database A. The document has the leaves 2-b and 2-a, and both leaves have the
+/// parent 1-r.
 static BOTH: Rows = &[
     (
         Call::Put(
@@ -50,8 +51,8 @@ static BOTH: Rows = &[
     ),
 ];
 
-/// Calls that read the complete feed of `BOTH`, and compute the request of the empty database B for the leaves in this
-/// feed.
+/// Calls that read the complete feed of database A, and compute the request of the empty database B for the leaves in
+/// this feed.
 static BOTH_ASKED: Rows = &[
     (Call::Page(A, 0, 2, 10), "0 to 2: 2 d 2-b,2-a;"),
     (Call::Diff(B, FIRST), "0 to 2: d 2-b,2-a;"),
@@ -84,7 +85,7 @@ fn a_changed_document_moves_in_the_feed(rt: HostRuntime) {
             Call::Page(A, 1, 6, 10),
             "1 to 6: 2 b 1-b; 5 c 1-e,1-d,1-c; 6 a 2-x;",
         ),
-        // No document of the database changed between the sequences 2 and 4.
+        // No document of the database has its latest change at the sequence 3 or 4.
         (Call::Page(A, 2, 4, 1), "2 to 4:"),
     ];
     expect(&rt, rt.alloc(), &[7], &[THREE, ROWS]);
@@ -112,8 +113,8 @@ fn puts_as_given(rt: HostRuntime) {
         (Call::Tree(A, "e"), "no document"),
         (Call::Document(A, "d", "2-b"), r#" d 2-b,1-a live {"n":1};"#),
         (Call::Document(A, "d", "3-c"), " d 3-c,2-b,1-a live {};"),
-        // These calls read a revision without a content, a revision that does not exist, and a document that does not
-        // exist.
+        // The next three calls read a revision without a content, a revision that does not exist, and a document that
+        // does not exist.
         (Call::Document(A, "d", "1-a"), "no content"),
         (Call::Document(A, "d", "2-x"), "no content"),
         (Call::Document(A, "e", "2-b"), "no content"),
@@ -181,8 +182,8 @@ fn edits_refused_by_name(rt: HostRuntime) {
     static ROWS: Rows = &[
         (Call::Edit(A, "d", "1-a", false, "{}", 0), "NoSuchDocument"),
         (Call::Put(A, TWO), "Changed { seq: 1 }"),
-        // Three edits fail with `Conflict`. The first of them names a parent that is not a leaf, and the second names a
-        // parent that is not in the tree. The third edit names no parent, although the document has a live leaf.
+        // Three edits fail with `Conflict`. The first edit names a parent that is not a leaf, and the second edit names
+        // a parent that is not in the tree. The third edit names no parent, although the document has a live leaf.
         (Call::Edit(A, "d", "1-a", false, "{}", 0), "Conflict"),
         (Call::Edit(A, "d", "2-x", false, "{}", 0), "Conflict"),
         (Call::Edit(A, "d", "", false, "{}", 0), "Conflict"),
@@ -342,8 +343,8 @@ fn pages_of_few_documents_with_high_sequences(rt: HostRuntime) {
 fn copies_of_a_database(rt: HostRuntime) {
     /// The greatest life.
     const LAST: u64 = 9_007_199_254_740_991;
-    // The database at `SAME` is a copy of the first database in the same life, and the database at `OTHER` is a copy in
-    // another life.
+    // The indices of three copies: a copy of the first database in the same life, a copy in another life, and a copy of
+    // the second copy.
     const SAME: usize = 1;
     const OTHER: usize = 2;
     const LATEST: usize = 3;
@@ -370,7 +371,7 @@ fn copies_of_a_database(rt: HostRuntime) {
         (Call::Life(OTHER), "9"),
         (Call::Tree(A, "a"), "1-a of 1"),
         (Call::Tree(SAME, "a"), "1-a of 1"),
-        // If a copy is copied, the new copy has the life of the first copy.
+        // A copy of a copy has the life of the first copy if no life is given.
         (Call::Copy(OTHER, None), "made"),
         (Call::Life(LATEST), "9"),
         (Call::Numbers(LATEST), "7 at 6"),

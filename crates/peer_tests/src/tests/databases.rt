@@ -1,4 +1,4 @@
-//! Databases, the values that are read and fetched from them, and calls on databases.
+//! Calls on databases, and benches that hold databases and the values that calls read and fetched.
 use crate::tests::texts::{
     asked_text, base_fault_text, body, doc, doc_text, expect_answer, node_text, numbers_text,
     parcel_text, tree_text, window_text,
@@ -11,17 +11,18 @@ use std::alloc::Global;
 use std::process::Abort;
 use test_support::{rev, rev_text, shown};
 
-/// A call on a database. A call gives each database, window, request or parcel by its index.
+/// A call on a database. A call names each database, window, request or parcel by an index.
 #[derive(Clone, Copy)]
 pub(crate) enum Call<'a> {
     /// Create the bench's next database with a UUID and an update sequence.
     DatabaseAt(u128, u64),
     /// Put a document.
     Put(usize, &'a str),
-    /// Edit a document, given its id, the parent revision (an empty string for none), the deleted flag, the body, and
-    /// the number of the local write.
+    /// Edit a document, given the document's id, the parent revision (an empty string for none), the deleted flag, the
+    /// body, and the number of the local write.
     Edit(usize, &'a str, &'a str, bool, &'a str, u64),
-    /// Copy a database, optionally into another life, and store the copy as the bench's next database.
+    /// Copy a database, and store the copy as the bench's next database. The copy has the given life, or the database's
+    /// life if no life is given.
     Copy(usize, Option<u64>),
     /// Read the UUID and the update sequence.
     Numbers(usize),
@@ -45,7 +46,7 @@ pub(crate) enum Call<'a> {
     Fetch(usize, usize),
 }
 
-/// The calls of a test, and each call's expected result.
+/// The calls of a test, each with the expected result.
 pub(crate) type Rows = &'static [(Call<'static>, &'static str)];
 
 /// The windows, requests and parcels that were read and fetched.
@@ -67,7 +68,7 @@ impl Held {
     }
 }
 
-/// Databases, with the values that were read and fetched from them.
+/// A bench: databases, and the values that were read and fetched from the databases.
 #[derive(Drop)]
 pub(crate) struct Bench {
     alloc: Global,
@@ -91,14 +92,14 @@ impl Bench {
         }
     }
 
-    /// Performs the calls in order, and asserts that each call returns its expected result.
+    /// Performs the calls in order, and asserts that each call returns the expected result.
     pub(crate) fn run(&mut self, rt: &impl Abort, calls: &[(Call, &str)]) {
         for (i, (call, wanted)) in calls.iter().enumerate() {
             expect_answer(rt, i, self.answer(call), wanted);
         }
     }
 
-    /// Performs a call and returns its result as a string.
+    /// Performs a call, and returns the call's result as a string.
     fn answer(&mut self, call: &Call) -> Option<String> {
         match *call {
             Call::DatabaseAt(uuid, seq) => make_at(self.alloc, &mut self.databases, uuid, seq),
@@ -184,7 +185,8 @@ fn make_at(alloc: Global, databases: &mut Vec<Database>, uuid: u128, seq: u64) -
 /// The greatest life: 2^53 - 1.
 const LAST_LIFE: u64 = 9_007_199_254_740_991;
 
-/// Copies a database, optionally into a given life, and stores the copy as the bench's next database.
+/// Copies a database, and stores the copy as the bench's next database. The copy has the given life, or the database's
+/// life if no life is given.
 fn copy(
     alloc: Global,
     databases: &mut Vec<Database>,
@@ -200,7 +202,7 @@ fn copy(
     made_text(alloc, databases.push(copy).ok())
 }
 
-/// Copies a database, optionally into a life.
+/// Copies a database in a given life, or in the same life if no life is given.
 fn copied(alloc: Global, db: &Database, life: Option<u64>) -> Option<Database> {
     match life {
         Some(life) if life <= LAST_LIFE => db.copy_in(alloc, life).ok(),
@@ -224,7 +226,7 @@ fn page(
     }
 }
 
-/// Requests the leaves of a window that a database lacks.
+/// Requests those leaves of a window that a database lacks.
 fn diff(alloc: Global, db: &Database, held: &mut Held, window: usize) -> Option<String> {
     let Some(window) = held.windows.get(window) else {
         return None;
@@ -232,7 +234,7 @@ fn diff(alloc: Global, db: &Database, held: &mut Held, window: usize) -> Option<
     keep_asked(alloc, &mut held.asked, missed(alloc, db, window))
 }
 
-/// Returns the leaves of a window that a database lacks.
+/// Returns a database's request for those leaves of a window that the database lacks.
 fn missed(alloc: Global, db: &Database, window: &Window) -> Option<Asked> {
     db.revs_diff(alloc, window).ok()
 }
@@ -258,7 +260,7 @@ pub(crate) fn made_text(alloc: Global, kept: Option<()>) -> Option<String> {
     }
 }
 
-/// Stores a window, and returns its text.
+/// Stores a window, and returns the window's text.
 pub(crate) fn keep_window(
     alloc: Global,
     windows: &mut Vec<Window>,
@@ -271,7 +273,7 @@ pub(crate) fn keep_window(
     text
 }
 
-/// Stores an optional request, and returns its text.
+/// Stores an optional request, and returns the request's text.
 pub(crate) fn keep_asked(
     alloc: Global,
     lists: &mut Vec<Asked>,
@@ -287,7 +289,7 @@ pub(crate) fn keep_asked(
     text
 }
 
-/// Stores an optional parcel, and returns its text.
+/// Stores an optional parcel, and returns the parcel's text.
 pub(crate) fn keep_parcel(
     alloc: Global,
     parcels: &mut Vec<Parcel>,
@@ -303,7 +305,7 @@ pub(crate) fn keep_parcel(
     text
 }
 
-/// Performs lists of calls on a new bench with databases of the given UUIDs, and asserts that each call returns its
+/// Performs lists of calls on a new bench with databases of the given UUIDs, and asserts that each call returns the
 /// expected result.
 pub(crate) fn expect(rt: &impl Abort, alloc: Global, uuids: &[u128], lists: &[Rows]) {
     let mut bench = Bench::new(rt, alloc, uuids);

@@ -33,7 +33,7 @@ fn sigs(alloc: Global, length: u32) -> Option<Vec<Sig>> {
     Some(sigs)
 }
 
-/// Returns the document d with an empty body, and with an ancestry from a given generation down.
+/// Returns the document d with an empty body, and with an ancestry whose newest revision has a given generation.
 fn doc(alloc: Global, start: u32, sigs: &[Sig]) -> Option<Doc> {
     let Ok(id) = DocId::parse(alloc, "d") else {
         return None;
@@ -81,7 +81,7 @@ pub(crate) fn load_wide(alloc: Global, peer: &mut Peer<Rules>, leaves: u32) -> O
     Some(text)
 }
 
-/// Returns a body of a given number of letters x.
+/// Returns a body with a string of a given number of letters x.
 fn letters_body(alloc: Global, letters: usize) -> Option<Body> {
     let Ok(mut text) = r#"{"t":""#.to_string(alloc) else {
         return None;
@@ -97,7 +97,7 @@ fn letters_body(alloc: Global, letters: usize) -> Option<Body> {
     body(alloc, text.as_str())
 }
 
-/// Creates d by an edit, with a body of a given number of letters x.
+/// Creates the document d by an edit. The body has a string of a given number of letters x.
 pub(crate) fn edit_large(alloc: Global, peer: &mut Peer<Rules>, letters: usize) -> Option<String> {
     let Some(body) = letters_body(alloc, letters) else {
         return None;
@@ -161,7 +161,7 @@ fn tree_sizes(alloc: Global, tree: &Tree) -> Option<String> {
     .ok()
 }
 
-/// Replicates a peer into another by one thread.
+/// Replicates one peer into another peer by one thread.
 pub(crate) fn replicate(
     alloc: Global,
     source: &mut Peer<Rules>,

@@ -1,4 +1,4 @@
-//! Test rows with large values and ample memory, in which no call fails.
+//! Test rows with large values. No call fails, because enough memory is available.
 use crate::tests::peers::{Call, Lists, Rows, expect};
 use rev_tree::SessionId;
 
@@ -50,7 +50,7 @@ fn a_tree_of_1_001_leaves(rt: HostRuntime) {
 #[test]
 fn a_body_of_100_kb(rt: HostRuntime) {
     const ROWS: Rows = &[
-        // The expected signature, which another program computed, is the MD5 of a line feed, the kind, a line feed and
+        // Another program computed the expected signature: the MD5 of a line feed, the kind (`live`), a line feed and
         // the body.
         (
             Call::EditLarge(SOURCE, 100_000),

@@ -60,7 +60,7 @@ fn a_hub_spreads_what_anybody_writes(rt: HostRuntime) {
         (Call::Audit(0, 3), "clean"),
         (Call::Audit(3, 0), "clean"),
         (Call::Audit(1, 2), "clean"),
-        // A peer that is added later gets the documents that other peers replicate to this peer.
+        // A peer that is added after a replication gets the documents by a later hop.
         (Call::Add(5, None), "4"),
         (Call::Along(&[(2, 4)]), "done"),
         (Call::Tree(4, "d"), "1-b,1-a of 2"),
@@ -76,7 +76,7 @@ fn a_broken_chain_brings_nothing_to_its_end(rt: HostRuntime) {
             Call::Load(0, r#"{"_id":"d","_rev":"1-a"}"#),
             "Changed { seq: 1 }",
         ),
-        // In this list, the second hop of the chain from peer 0 to peer 2 is before the chain's first hop.
+        // This list has both hops of the chain from peer 0 to peer 2 in reverse order.
         (Call::Along(&[(1, 2), (0, 1), (3, 2)]), "done"),
         (Call::Tree(1, "d"), "1-a of 1"),
         (Call::Tree(2, "d"), "no document"),
@@ -105,13 +105,14 @@ fn a_refused_document_stays_away_and_others_go_on(rt: HostRuntime) {
             Call::Load(1, r#"{"_id":"d","_rev":"1-a"}"#),
             "Changed { seq: 2 }",
         ),
-        // The call succeeds although a filter refuses the document x1, and all peers get the document d.
+        // The replication through the hub succeeds although the hub refuses the document x1. All peers get the document
+        // d.
         (Call::Hub(2, 2), "done"),
         (Call::Tree(0, "x1"), "no document"),
         (Call::Tree(2, "x1"), "no document"),
         (Call::Tree(0, "d"), "1-a of 1"),
         (Call::Tree(2, "d"), "1-a of 1"),
-        // The next replication through the hub refuses the document x1 a second time.
+        // In the next replication, the hub refuses the document x1 a second time.
         (Call::Edit(2, "d", "1-a", r#"{"v":1}"#), SECOND),
         (Call::Edit(1, "x1", "1-a", r#"{"v":1}"#), SECOND),
         (Call::Hub(2, 2), "done"),
@@ -162,7 +163,7 @@ fn a_history_that_is_cut_off_stays_so(rt: HostRuntime) {
 #[test]
 fn trees_that_disagree_do_so_still(rt: HostRuntime) {
     const ROWS: Rows = &[
-        // A revision has different parents at two peers.
+        // The revision 2-c of d has different parents at the peers 0 and 1.
         (
             Call::Load(0, r#"{"_id":"d","_revisions":{"start":2,"ids":["c","x"]}}"#),
             "Changed { seq: 1 }",
@@ -171,7 +172,7 @@ fn trees_that_disagree_do_so_still(rt: HostRuntime) {
             Call::Load(1, r#"{"_id":"d","_revisions":{"start":2,"ids":["c","y"]}}"#),
             "Changed { seq: 1 }",
         ),
-        // A revision has different contents at two peers.
+        // The revision 1-a of e has different contents at the peers 0 and 1.
         (
             Call::Load(0, r#"{"_id":"e","_rev":"1-a","v":1}"#),
             "Changed { seq: 2 }",
@@ -216,7 +217,7 @@ fn hops_that_are_refused(rt: HostRuntime) {
             Call::Load(0, r#"{"_id":"f","_rev":"1-a"}"#),
             "Changed { seq: 3 }",
         ),
-        // If a hop's replication stops below its goal, the call returns an error.
+        // If the replication of a hop stops below the goal, the call returns an error.
         (
             Call::AlongTwoRows(&[(0, 2), (2, 3)]),
             "hop 0: Unfinished { low_water: 2 }",

@@ -17,15 +17,15 @@ use test_support::{rev_text, shown};
 /// The indices of a hop's source and target peer.
 type Places = (usize, usize);
 
-/// A call on a network. Peers are named by index. The sessions of the replications in a test are numbered
-/// consecutively.
+/// A call on a network. A call names each peer by the peer's index. The sessions of the replications in a test are
+/// numbered consecutively.
 #[derive(Clone, Copy)]
 pub(crate) enum Call<'a> {
-    /// Add a peer with a UUID and the prefix that its filter refuses.
+    /// Add a peer with a UUID, and with a filter that refuses document ids with a given prefix.
     Add(u128, Option<&'a str>),
     /// Load a document.
     Load(usize, &'a str),
-    /// Edit a document, given its id, the parent revision (an empty string for none) and the body.
+    /// Edit a document, given the document's id, the parent revision (an empty string for none) and the body.
     Edit(usize, &'a str, &'a str, &'a str),
     /// Replicate along hops.
     Along(&'a [Places]),
@@ -38,17 +38,17 @@ pub(crate) enum Call<'a> {
     Audit(usize, usize),
     /// Read the tree of a document.
     Tree(usize, &'a str),
-    /// Read the documents at the leaves of a document, winner first.
+    /// Read the ancestry and the content of each leaf of a document, winner first.
     Leaves(usize, &'a str),
 }
 
-/// The calls of a test, and each call's expected result.
+/// The calls of a test, each with the expected result.
 pub(crate) type Rows = &'static [(Call<'static>, &'static str)];
 
 /// Lists of calls that are performed in order.
 pub(crate) type Lists = &'static [Rows];
 
-/// A network, and the number of its last session.
+/// A network, and the number of the network's last session.
 #[derive(Drop)]
 struct Bench {
     alloc: Global,
@@ -57,7 +57,7 @@ struct Bench {
 }
 
 impl Bench {
-    /// Performs a call and returns its result as a string.
+    /// Performs a call, and returns the call's result as a string.
     fn answer(&mut self, call: &Call) -> Option<String> {
         match *call {
             Call::Add(uuid, deny) => self.add(uuid, deny),
@@ -82,7 +82,7 @@ impl Bench {
         }
     }
 
-    /// Adds a peer, and returns its index.
+    /// Adds a peer, and returns the peer's index.
     fn add(&mut self, uuid: u128, deny: Option<&str>) -> Option<String> {
         let deny = match deny {
             Some(prefix) => {
@@ -127,7 +127,7 @@ impl Bench {
         }
     }
 
-    /// Creates the plan of the next session, with windows of one row if the replication stops early.
+    /// Creates the plan of the next session. If `stop_after` is given, each window of the session has one row.
     fn next_plan(&mut self, stop_after: Option<u64>) -> Option<Plan> {
         self.session = self.session.saturating_add(1);
         let batch = if stop_after.is_some() { 1 } else { 500 };
@@ -189,7 +189,7 @@ impl Bench {
     }
 }
 
-/// Reads the tree of a document, or the documents at its leaves.
+/// Reads the tree of a document, or the ancestry and the content of each leaf of the document.
 fn of_database(alloc: Global, db: &Database, call: &Call) -> Option<String> {
     match *call {
         Call::Tree(_, id) => tree(alloc, db, id),
@@ -206,7 +206,7 @@ fn done_text(alloc: Global, done: Result<(), NetFault>) -> Option<String> {
     }
 }
 
-/// Returns the error of a call on a network.
+/// Returns the text of an error of a call on a network.
 pub(crate) fn net_fault_text(alloc: Global, fault: NetFault) -> Option<String> {
     match fault {
         NetFault::Hop(at, why) => {
@@ -217,7 +217,7 @@ pub(crate) fn net_fault_text(alloc: Global, fault: NetFault) -> Option<String> {
     }
 }
 
-/// Performs lists of calls on a new network, and asserts that each call returns its expected result.
+/// Performs lists of calls on a new network, and asserts that each call returns the expected result.
 pub(crate) fn expect(rt: &impl Abort, alloc: Global, lists: Lists) {
     let mut bench = Bench {
         alloc,
@@ -243,7 +243,7 @@ fn three(alloc: Global) -> Option<Vec<Peer<Rules>>> {
     Some(peers)
 }
 
-/// Makes local writes at two of the peers.
+/// Makes local writes at the second peer and at the third peer.
 fn write(alloc: Global, peers: &mut [Peer<Rules>]) -> Option<()> {
     let Some(doc) = doc(alloc, r#"{"_id":"d","_rev":"1-a"}"#) else {
         return None;
@@ -296,7 +296,7 @@ fn replicate(alloc: Global, peers: &mut [Peer<Rules>]) -> Option<()> {
     sync_by_hub(alloc, peers, &there, &back).ok()
 }
 
-/// Returns the trees of the two documents at each of three peers that wrote and replicated.
+/// Returns the leaves of the documents d and e at each of three peers, after writes and replications.
 fn replicated(alloc: Global) -> Option<String> {
     let Some(mut peers) = three(alloc) else {
         return None;
@@ -315,7 +315,7 @@ fn replicated(alloc: Global) -> Option<String> {
     all
 }
 
-/// Asserts the trees of the peers of a slice after writes and replications.
+/// Asserts that all three peers of a slice have the documents d and e after writes and replications.
 pub(crate) fn of_slice(rt: &impl Abort, alloc: Global) {
     const WANTED: &str = " d 1-a live {}; e 1-a7b2c897c2eeb544e2e818194f53a9e3 live {};";
     let mut all = String::new(alloc);

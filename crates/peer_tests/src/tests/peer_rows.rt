@@ -1,4 +1,5 @@
-//! Test rows for peers, with local writes, sessions, each error, logs and audits. No allocation fails in the test rows.
+//! Test rows for peers, with local writes, sessions, each error, logs and audits. The expected results hold if no
+//! allocation fails.
 use crate::tests::peers::{Beginning, Call, Lists, Rep, Rows, expect};
 use rev_tree::SessionId;
 
@@ -35,14 +36,15 @@ const OTHER_REP: Rep = Rep {
     target: 2,
 };
 
-/// The document d at 1-a.
+/// The document d with the revision 1-a and an empty body.
 const D: &str = r#"{"_id":"d","_rev":"1-a"}"#;
 
-/// The revision that an edit of d at 1-a with an empty body creates. The signature of the edit's revision is the MD5 of
+/// The revision that an edit of d creates from the parent 1-a and an empty body. The revision's signature is the MD5 of
 /// the parent, the kind and the body.
 const NEXT: &str = "2-1c600d37126a8e6d3c67d6f7a6a5c299";
 
-/// The parameters of a session of the replication `REP` from 0 to 1, without a base session.
+/// The parameters of a session of the replication `REP` that starts at sequence 0, has the goal 1, and has no base
+/// session.
 const TO_ONE: Beginning = Beginning {
     rep: REP,
     base: None,
@@ -50,7 +52,8 @@ const TO_ONE: Beginning = Beginning {
     goal: 1,
 };
 
-/// The parameters of a session of the replication `REP` from 0 to 9, without a base session.
+/// The parameters of a session of the replication `REP` that starts at sequence 0, has the goal 9, and has no base
+/// session.
 const TO_NINE: Beginning = Beginning {
     rep: REP,
     base: None,
@@ -58,7 +61,8 @@ const TO_NINE: Beginning = Beginning {
     goal: 9,
 };
 
-/// The parameters of a session of the replication `REP` from 1 to 2, whose base is the first session.
+/// The parameters of a session of the replication `REP` that starts at sequence 1, has the goal 2, and has the first
+/// session as its base.
 const FROM_ONE: Beginning = Beginning {
     rep: REP,
     base: Some(S1),
@@ -157,7 +161,7 @@ fn a_refused_descendant_covers(rt: HostRuntime) {
     expect(&rt, rt.alloc(), LISTS);
 }
 
-/// The update sequence one below the maximum. A database with this update sequence can change once.
+/// The update sequence that is one less than the maximum. A database with this update sequence can change once.
 const LAST_BUT_ONE: u64 = 9_007_199_254_740_990;
 
 #[test]
@@ -183,7 +187,7 @@ fn sequences_run_out(rt: HostRuntime) {
         (Call::Fetch(SOURCE, FIRST), FETCHED),
     ];
     // The parcel's first document gets the last update sequence, and the parcel's second document gets no sequence. If
-    // the parcel is settled a second time, the first document is recorded as an arrival a second time.
+    // the parcel is settled a second time, the session records another arrival of the first document.
     const STOPPED: &str = "Stopped 1, rest e, SeqFull";
     const TWICE: &str =
         "session 1 from 0 to 0 checked 0 found 0 read 2 written 2 failed 0, 10 to 11";
@@ -303,8 +307,8 @@ fn a_session_from_beginning_to_end(rt: HostRuntime) {
         ),
     ];
     const THEN: Rows = &[
-        // The filter refuses the document `secret`. The document d is refused because its ancestry contradicts the
-        // target's tree of d, in which 2-c has the parent 1-b.
+        // The filter refuses the document `secret`. The document d is refused because the fetched ancestry contradicts
+        // the target's tree of d, in which 2-c has the parent 1-b.
         (Call::Settle(TARGET, S1, FIRST), "written 1 failed 2"),
         (Call::Covered(TARGET, "secret", "1-a"), "true"),
         (Call::Covered(TARGET, "d", "3-d"), "true"),
@@ -336,7 +340,7 @@ fn local_writes_are_numbered(rt: HostRuntime) {
     const SECOND_WRITE: &str =
         r#"{"_id":"d","_revisions":{"start":3,"ids":["c","1c600d37126a8e6d3c67d6f7a6a5c299","x"]}}"#;
     const ROWS: Rows = &[
-        // Local writes are not filtered.
+        // A peer's filter does not apply to local writes.
         (Call::Peer(1, Some("d")), "made"),
         (
             Call::Edit(SOURCE, "d", "1-a", false, "{}"),
@@ -478,7 +482,7 @@ fn a_session_that_is_not_there_is_refused(rt: HostRuntime) {
         (Call::Record(TARGET, S1, 10), "NoSuchSession"),
         (Call::Conclude(TARGET, S1, 10), "NoSuchSession"),
         (Call::Entry(TARGET, S1), "NoSuchSession"),
-        // A session whose goal is below a window's end.
+        // The goal of this session is below the end of the window.
         (
             Call::Begin(TARGET, S1, Beginning { goal: 0, ..TO_ONE }, 10),
             "begun",
@@ -497,8 +501,8 @@ fn a_session_that_is_not_there_is_refused(rt: HostRuntime) {
 fn a_foreign_document_is_refused(rt: HostRuntime) {
     const E: &str = r#"{"_id":"e","_rev":"1-a"}"#;
     const ROWS: Rows = &[
-        // The window of the peer `OTHER` has the bounds of the stored window, but the document e has no row in the
-        // stored window.
+        // The session's window and the window of the peer `OTHER` have the same bounds, but the session's window has no
+        // row of the document e.
         (Call::Load(OTHER, E), "Changed { seq: 1 }"),
         (Call::Page(OTHER, 0, 1), "0 to 1: 1 e 1-a;"),
         (Call::Diff(TARGET, SECOND), "0 to 1: e 1-a;"),
@@ -520,7 +524,8 @@ fn a_foreign_document_is_refused_before_a_done_window(rt: HostRuntime) {
     const ROWS: Rows = &[
         (Call::Fetch(SOURCE, FIRST), "0 to 1: d 1-a live {};"),
         (Call::Settle(TARGET, S1, FIRST), "written 1 failed 0"),
-        // For a done window, settling returns `ForeignParcel` if the parcel's document has no row in the window.
+        // Even if the window is done, settling returns `ForeignParcel` for a parcel with a document that has no row in
+        // the window.
         (Call::Load(OTHER, E), "Changed { seq: 1 }"),
         (Call::Page(OTHER, 0, 1), "0 to 1: 1 e 1-a;"),
         (Call::Diff(TARGET, SECOND), "0 to 1: e 1-a;"),
@@ -537,7 +542,7 @@ fn a_foreign_document_is_refused_before_a_done_window(rt: HostRuntime) {
 fn the_leaves_of_a_done_window_are_let_go(rt: HostRuntime) {
     const ROWS: Rows = &[
         (Call::Windows(TARGET, S1), "0 to 1 of 0 with 1 rows;"),
-        // A window with a leaf that is not covered is not done.
+        // A window is not done while one of the window's leaves is uncovered.
         (Call::Fetch(OTHER, FIRST), "0 to 1: gone d 1-a;"),
         (Call::Settle(TARGET, S1, FIRST), "Uncovered 1 d 1-a"),
         (Call::Windows(TARGET, S1), "0 to 1 of 0 with 1 rows;"),
@@ -644,8 +649,8 @@ const TWELVE: Rows = &[
     ),
 ];
 
-/// Calls that make two sessions at the target, which record the sequences 9 and 5. The source's feed has no row below
-/// sequence 12.
+/// Calls that begin two sessions at the target. The sessions record the sequences 9 and 5. The source's feed has no row
+/// below sequence 12.
 const RECORDED: Rows = &[
     (Call::Begin(TARGET, S1, TO_NINE, 10), "begun"),
     (Call::Page(SOURCE, 0, 9), "0 to 9:"),
@@ -726,7 +731,8 @@ fn an_audit_is_clean(rt: HostRuntime) {
             Call::Conclude(TARGET, S1, 11),
             "session 1 from 0 to 1 checked 1 found 1 read 1 written 1 failed 0",
         ),
-        // Before `PutEntryOf`, the logs of source and target have no common session, and after this call they have one.
+        // The first audit runs when the logs of source and target have no common session. `PutEntryOf` makes the first
+        // session common to both logs.
         (Call::Audit(SOURCE, TARGET), "clean"),
         (Call::PutEntryOf(SOURCE, REP, TARGET, S1), "put"),
         (Call::Common(SOURCE, TARGET, REP), "1 at 1"),

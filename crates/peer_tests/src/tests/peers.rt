@@ -1,4 +1,4 @@
-//! Peers, the values that are read and fetched from them, and calls on peers.
+//! Calls on peers, and benches that hold peers and the values that calls read and fetched.
 use crate::tests::databases::{
     Held, edit_text, keep_asked, keep_parcel, keep_window, made_text, node, parent_of, put_text,
     tree,
@@ -19,7 +19,7 @@ use std::alloc::{AllocError, Global};
 use std::process::Abort;
 use test_support::{bare_entry, rev, shown};
 
-/// The replication of all documents between two databases, by UUID.
+/// A replication of all documents, given by the UUIDs of the source and the target.
 #[derive(Clone, Copy)]
 pub(crate) struct Rep {
     pub(crate) source: u128,
@@ -37,7 +37,7 @@ impl Rep {
     }
 }
 
-/// The parameters of a session: its replication, base, start and goal.
+/// The parameters of a session: the replication, the base, the start and the goal.
 #[derive(Clone, Copy)]
 pub(crate) struct Beginning {
     pub(crate) rep: Rep,
@@ -46,16 +46,17 @@ pub(crate) struct Beginning {
     pub(crate) goal: u64,
 }
 
-/// A call on a peer. A call gives each peer, window, request or parcel by its index.
+/// A call on a peer. A call names each peer, window, request or parcel by an index.
 #[derive(Clone, Copy)]
 pub(crate) enum Call<'a> {
-    /// Create the next peer with a UUID and the prefix that its filter refuses.
+    /// Create the next peer with a UUID, and with a filter that refuses document ids with a given prefix.
     Peer(u128, Option<&'a str>),
     /// Create the bench's next peer, whose database has a given update sequence.
     PeerAt(u128, Option<&'a str>, u64),
     /// Load a document.
     Load(usize, &'a str),
-    /// Edit a document, given its id, the parent revision (an empty string for none), the deleted flag, and the body.
+    /// Edit a document, given the document's id, the parent revision (an empty string for none), the deleted flag, and
+    /// the body.
     Edit(usize, &'a str, &'a str, bool, &'a str),
     /// Read the UUID and the update sequence.
     Numbers(usize),
@@ -89,11 +90,11 @@ pub(crate) enum Call<'a> {
     Entry(usize, SessionId),
     /// Read the windows of a session, and whether each window still has its complete rows.
     Windows(usize, SessionId),
-    /// Read the log at a peer of a replication of which the peer is the target.
+    /// Read the log that a peer has of a replication into this peer.
     TargetLog(usize, Rep),
-    /// Read the log at a peer of a replication of which the peer is the source.
+    /// Read the log that a peer has of a replication from this peer.
     SourceLog(usize, Rep),
-    /// Create the entry of a session that recorded up to a sequence, and store the entry in a source's log of a
+    /// Create an entry with a given session and recorded sequence, and store the entry in a source's log of a
     /// replication.
     PutEntry(usize, Rep, SessionId, u64),
     /// Store the target's entry of a session in the source's log of a replication.
@@ -103,41 +104,41 @@ pub(crate) enum Call<'a> {
     Backup(usize),
     /// Restore a peer from a backup.
     Restore(usize, usize),
-    /// Compare the logs of a replication at its source and its target.
+    /// Compare the source's and the target's log of a replication.
     Common(usize, usize, Rep),
     /// Audit a replication from the first peer, the source, into the second peer, the target.
     Audit(usize, usize),
     /// Check a plan between two peers, with a given maximum number of rows of a window.
     CheckPlan(usize, usize, u64),
-    /// Begin the session of a plan at the second peer, the target, from the first peer, the source, with a timestamp.
+    /// Begin the session of a plan from the first peer (the source) into the second peer (the target), with a
+    /// timestamp.
     BeginPlan(SessionId, u64),
     /// Read the entry of a session of the second peer, and store the entry in the first peer's log.
     RecordAtSource(SessionId),
-    /// Read the first leaf above a sequence of the first peer, the source, that the second peer, the target, does not
-    /// cover.
+    /// Search the first peer's feed above a sequence for the first leaf that the second peer does not cover.
     HoleAbove(usize, usize, u64),
     /// Replicate the first peer into the second peer, given the session id and the maximum number of rows of a window.
     Replicate(SessionId, u64),
-    /// Load d with a given number of revisions in its ancestry.
+    /// Load the document d with an ancestry of a given number of revisions.
     LoadLong(usize, u32),
-    /// Load a given number of leaves of d.
+    /// Load a given number of leaves of the document d.
     LoadWide(usize, u32),
-    /// Create d with a given number of letters in its body.
+    /// Create the document d with a body of a given number of letters.
     EditLarge(usize, usize),
-    /// Read the size of the tree of d.
+    /// Read the size of the tree of the document d.
     Sizes(usize),
 }
 
-/// The calls of a test, and each call's expected result.
+/// The calls of a test, each with the expected result.
 pub(crate) type Rows = &'static [(Call<'static>, &'static str)];
 
 /// Lists of calls that are performed in order.
 ///
-/// A test names one static that has all lists of the test, because the prover processes each list that a test names
-/// separately.
+/// A test names one static with all lists of the test. If a test named several lists, the prover would process each of
+/// these lists separately.
 pub(crate) type Lists = &'static [Rows];
 
-/// Peers, their backups, and the values that were read and fetched from them.
+/// A bench: peers, backups of the peers, and the values that were read and fetched from the peers.
 #[derive(Drop)]
 struct Bench {
     alloc: Global,
@@ -157,14 +158,14 @@ impl Bench {
         }
     }
 
-    /// Performs the calls in order, and asserts that each call returns its expected result.
+    /// Performs the calls in order, and asserts that each call returns the expected result.
     fn run(&mut self, rt: &impl Abort, calls: &[(Call, &str)]) {
         for (i, (call, wanted)) in calls.iter().enumerate() {
             expect_answer(rt, i, self.answer(call), wanted);
         }
     }
 
-    /// Performs a call and returns its result as a string.
+    /// Performs a call, and returns the call's result as a string.
     fn answer(&mut self, call: &Call) -> Option<String> {
         match *call {
             Call::Peer(uuid, deny) => make(self.alloc, &mut self.peers, uuid, deny),
@@ -193,7 +194,7 @@ impl Bench {
     }
 }
 
-/// Returns the index of the peer of a call on exactly one peer.
+/// Returns the index of the peer that a call uses, if the call uses exactly one peer.
 fn place_of(call: &Call) -> Option<usize> {
     match *call {
         Call::Load(at, _)
@@ -241,7 +242,7 @@ fn of_one(alloc: Global, peer: &mut Peer<Rules>, held: &mut Held, call: &Call) -
     }
 }
 
-/// Performs a call on one peer that uses no other value of the bench.
+/// Performs a call that uses one peer, and no other value of the bench.
 fn of_one_alone(alloc: Global, peer: &mut Peer<Rules>, call: &Call) -> Option<String> {
     match *call {
         Call::Load(_, text) => load(alloc, peer, text),
@@ -374,7 +375,7 @@ fn page(
     }
 }
 
-/// Requests the leaves of a window that a peer lacks.
+/// Requests those leaves of a window that a peer lacks.
 fn diff(alloc: Global, peer: &Peer<Rules>, held: &mut Held, window: usize) -> Option<String> {
     let Some(window) = held.windows.get(window) else {
         return None;
@@ -382,7 +383,7 @@ fn diff(alloc: Global, peer: &Peer<Rules>, held: &mut Held, window: usize) -> Op
     keep_asked(alloc, &mut held.asked, missed(alloc, peer, window))
 }
 
-/// Returns the leaves of a window that a peer lacks.
+/// Returns a peer's request for those leaves of a window that the peer lacks.
 fn missed(alloc: Global, peer: &Peer<Rules>, window: &Window) -> Option<Asked> {
     peer.revs_diff(alloc, window).ok()
 }
@@ -459,7 +460,7 @@ fn put_of(
     put(alloc, source, rep, entry)
 }
 
-/// Compares the logs of a replication at its source and its target.
+/// Compares the source's and the target's log of a replication.
 pub(crate) fn agreed(
     alloc: Global,
     source: &Peer<Rules>,
@@ -475,7 +476,7 @@ pub(crate) fn agreed(
     common_text(alloc, &outgoing, &incoming)
 }
 
-/// Reads the log at a peer of a replication of which the peer is the target.
+/// Reads the log that a peer has of a replication into this peer.
 pub(crate) fn target_log(alloc: Global, peer: &Peer<Rules>, rep: &RepId) -> Option<String> {
     let Ok(log) = peer.target_log(alloc, rep) else {
         return None;
@@ -483,7 +484,7 @@ pub(crate) fn target_log(alloc: Global, peer: &Peer<Rules>, rep: &RepId) -> Opti
     log_text(alloc, &log)
 }
 
-/// Reads the log at a peer of a replication of which the peer is the source.
+/// Reads the log that a peer has of a replication from this peer.
 pub(crate) fn source_log(alloc: Global, peer: &Peer<Rules>, rep: &RepId) -> Option<String> {
     let Ok(log) = peer.source_log(alloc, rep) else {
         return None;
@@ -491,7 +492,7 @@ pub(crate) fn source_log(alloc: Global, peer: &Peer<Rules>, rep: &RepId) -> Opti
     log_text(alloc, &log)
 }
 
-/// Performs lists of calls on a new bench, and asserts that each call returns its expected result.
+/// Performs lists of calls on a new bench, and asserts that each call returns the expected result.
 pub(crate) fn expect(rt: &impl Abort, alloc: Global, lists: &[Rows]) {
     let mut bench = Bench::new(alloc);
     for calls in lists {
@@ -607,7 +608,7 @@ fn conclude(
     }
 }
 
-/// Stores the entry of a session that read nothing and recorded up to a sequence.
+/// Stores an entry of a session that read 0 documents and recorded the given sequence.
 fn put_entry(
     alloc: Global,
     peer: &mut Peer<Rules>,

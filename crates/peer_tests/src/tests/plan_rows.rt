@@ -3,7 +3,7 @@
 use crate::tests::peers::{Call, Lists, Rep, Rows, expect};
 use rev_tree::SessionId;
 
-/// The indices of the source, the target, and a peer that refuses the document d in a bench.
+/// The indices in a bench of the source, the target, and a peer that refuses the document d.
 const SOURCE: usize = 0;
 
 const TARGET: usize = 1;
@@ -20,7 +20,7 @@ const S1: SessionId = SessionId(1);
 
 const S2: SessionId = SessionId(2);
 
-/// The replication from the source into the target, and the replication from the source into the peer that refuses d.
+/// The replication from the source into the target.
 const REP: Rep = Rep {
     source: 1,
     target: 2,
@@ -48,7 +48,7 @@ fn plans_refused(rt: HostRuntime) {
         (Call::CheckPlan(SOURCE, TARGET, 10_001), "BadBatch"),
         (Call::CheckPlan(SOURCE, TARGET, 1), "can begin"),
         (Call::CheckPlan(SOURCE, TARGET, 10_000), "can begin"),
-        // `check_plan` checks the plan's window size before it compares the UUIDs of the peers.
+        // `check_plan` first checks the plan's window size, and then compares the UUIDs of both peers.
         (Call::CheckPlan(SOURCE, SOURCE, 0), "BadBatch"),
         (Call::CheckPlan(SOURCE, SOURCE, 500), "SamePeer"),
     ];

@@ -1,4 +1,4 @@
-//! The steps that all implementations of a replication share, as calls on the peers of a bench.
+//! Calls, on the peers of a bench, for the steps that are common to all implementations of a replication.
 use crate::tests::records::fault_text;
 use repl_log::Moment;
 use repl_target::{Peer, Plan, Rules, begin_plan, check_plan, record_at_source};
@@ -6,7 +6,7 @@ use rev_tree::SessionId;
 use std::alloc::Global;
 use test_support::shown;
 
-/// Creates the plan of a session with a maximum number of rows of a window and a timestamp.
+/// Creates the plan of a session, given the maximum number of rows of a window, and a timestamp.
 pub(crate) fn plan(session: SessionId, batch: u64, moment: u64) -> Option<Plan> {
     let Ok(at) = Moment::new(moment) else {
         return None;
@@ -65,7 +65,7 @@ pub(crate) fn record(
     let Some(plan) = plan(session, 500, 0) else {
         return None;
     };
-    // `record_at_source` requires a session that the target has.
+    // `record_at_source` requires that the target has the session.
     let Some(_windows) = target.windows(plan.session) else {
         return None;
     };

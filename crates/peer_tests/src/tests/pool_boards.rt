@@ -1,4 +1,4 @@
-//! Runs of the pool that show their progress on a board. Viewers read the board during a run.
+//! Tests of pool runs that show the progress of the run on a board. Viewers read the board during a run.
 ghost use Rattle.std.specs.Prelude.{◌≡◌, ◌≤◌, IfSome, IfOk, vec_len};
 ghost use Rattle.std.specs.List.{All};
 ghost use Rattle.progress_board.specs.Seats.{AreNew, CameWith};
@@ -29,7 +29,7 @@ const TWO_ROWS: How = How {
     stop_after: None,
 };
 
-/// The maximum number of times a thread polls a flag of another thread.
+/// The maximum number of times a thread polls a flag that another thread sets.
 const TURNS: u32 = 1_000_000;
 
 /// Calls that create an empty target, and a source with two documents of one revision each.
@@ -66,7 +66,7 @@ fn wait_for(told: &AtomicBool) -> bool {
     false
 }
 
-/// A gate that blocks the writer of the first window after settling, until a viewer has read the board.
+/// A gate that blocks the writer of the first window after the window was settled, until a viewer has read the board.
 #[derive(Drop)]
 struct HoldsSettled {
     held: AtomicBool,
@@ -75,7 +75,7 @@ struct HoldsSettled {
 }
 
 impl HoldsSettled {
-    /// Creates the gate with all its flags false.
+    /// Creates the gate with all flags set to false.
     fn new() -> HoldsSettled {
         HoldsSettled {
             held: AtomicBool::new(false),
@@ -110,8 +110,8 @@ fn read_while_held(board: &Board, gate: &HoldsSettled, viewer: BoardSeat) -> (u6
     seen
 }
 
-/// Performs a run on a board, which a viewer reads while the gate blocks the writer. Returns how the run ended, and the
-/// totals that the viewer read from the board.
+/// Performs a run on a board. A viewer reads the board while the gate blocks the writer. Returns how the run ended, and
+/// the totals that the viewer read from the board.
 fn run_held<R: Abort + Threads + Wait + Sync>(
     rt: &R,
     bench: &mut Bench,
@@ -213,8 +213,8 @@ fn sees_no_fall(board: &Board, viewer: BoardSeat) -> bool
     true
 }
 
-/// Performs a run on a board while four viewers read in loops. Returns how the run ended, and the number of viewers
-/// that saw no total of the board decrease.
+/// Performs a run on a board while four viewers read the board in loops. Returns how the run ended, and the number of
+/// viewers for which `sees_no_fall` returned true.
 fn run_watched<R: Abort + Threads + Wait + Sync>(
     rt: &R,
     bench: &mut Bench,

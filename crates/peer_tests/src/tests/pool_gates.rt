@@ -1,4 +1,4 @@
-//! Runs of the pool whose gate stops or blocks a worker.
+//! Tests of pool runs in which a gate stops or blocks a worker.
 use crate::tests::peers::Rep;
 use crate::tests::pool_rows::{CARRIED, DOCUMENTS, OPEN_PEERS};
 use crate::tests::pools::{Bench, Call, How, Rows};
@@ -38,7 +38,7 @@ const AGAIN: How = How {
     ..TWO_ROWS
 };
 
-/// The maximum number of times a gate polls while it blocks a worker.
+/// The maximum number of times a gate polls while the gate blocks a worker.
 const TURNS: u32 = 1_000_000;
 
 /// Calls that create an empty target, and a source with four documents of one revision each.
@@ -51,7 +51,7 @@ static FOUR: Rows = &[
 /// The result of a successful run of the replication.
 const WELL: &str = "session 1 from 0 to 4 checked 4 found 4 read 4 written 4 failed 0, fetched 4";
 
-/// Polls a flag at most `TURNS` times, until the flag is true.
+/// Polls a flag until the flag is true. After `TURNS` polls, the function stops and sets the flag `ran_out`.
 fn hold(told: &AtomicBool, ran_out: &AtomicBool) {
     for _ in 0..TURNS {
         if told.load(Ordering::SeqCst) {
@@ -62,8 +62,8 @@ fn hold(told: &AtomicBool, ran_out: &AtomicBool) {
     ran_out.store(true, Ordering::SeqCst);
 }
 
-/// A gate that blocks the first window's fetcher until the second window is recorded, and stores the recorded sequences
-/// of both windows.
+/// A gate that blocks the first window's fetcher until the second window is recorded. The gate also stores both
+/// recorded sequences.
 #[derive(Drop)]
 struct HoldsFetched {
     second: AtomicBool,
@@ -73,7 +73,7 @@ struct HoldsFetched {
 }
 
 impl HoldsFetched {
-    /// Creates the gate with all its flags false.
+    /// Creates the gate with all flags set to false.
     fn new() -> HoldsFetched {
         HoldsFetched {
             second: AtomicBool::new(false),
@@ -154,8 +154,8 @@ impl Gate for StopsOnce {
     }
 }
 
-/// A gate that counts the recordings in a run with windows of one row. The gate also notes whether a worker recorded a
-/// low water that is not the end of the worker's window.
+/// A gate that counts how often the workers of a run record the session. The windows of the run must have one row each.
+/// The gate also notes whether a worker recorded a low water other than the end of the worker's window.
 #[derive(Drop)]
 struct CountsRecordings {
     count: AtomicU64,
@@ -176,8 +176,8 @@ impl Gate for CountsRecordings {
     }
 }
 
-// This test detects a writer that records only every second window, or that returns another low water than it recorded.
-// No contract excludes such a writer.
+// This test detects a writer that records only every second window, or that reports a low water other than the recorded
+// low water. No contract excludes a writer with one of these defects.
 #[test]
 fn each_recording_tells_the_low_water(rt: HostRuntime) {
     const ONE_BY_ONE: How = How {
@@ -208,8 +208,8 @@ fn windows_done_out_of_order(rt: HostRuntime) {
     assert_eq!(rt; gate.at_first.load(Ordering::SeqCst), 4);
 }
 
-// This test detects a run that returns the session's count of read documents as the count of fetched documents. Here
-// the session has read 0 documents.
+// This test detects a run that returns the session's count of read documents as the count of fetched documents. In this
+// test, the session has read 0 documents.
 #[test]
 fn fetched_is_counted_where_a_run_stops(rt: HostRuntime) {
     const HALTED: &str = "Halted(Fetched(0)), fetched 2";
@@ -230,7 +230,7 @@ fn fetched_is_counted_where_a_run_stops(rt: HostRuntime) {
     }
 }
 
-/// For each stage, the beginning of the result of a run that stops at this stage.
+/// The beginnings of the results of runs that stop at the stages 0 to 4, in this order.
 static STOPPED: [&str; 5] = [
     "Halted(Took(",
     "Halted(Asked(",
@@ -265,7 +265,7 @@ pub(crate) fn expect_stop<G: Gate + Sync, R: Abort + Threads + Wait + Sync>(
     bench.run(rt, CLEAN);
 }
 
-/// Asserts that a further run begins at the common checkpoint and ends at the goal, and that both logs record the goal.
+/// Asserts that a second run begins at the common checkpoint and ends at the goal, and that both logs record the goal.
 pub(crate) fn go_on<R: Abort + Threads + Wait + Sync>(rt: &R, alloc: Global, bench: &mut Bench) {
     let from = bench
         .answer(rt, &Call::Common(A, B, REP))
@@ -278,8 +278,8 @@ pub(crate) fn go_on<R: Abort + Threads + Wait + Sync>(rt: &R, alloc: Global, ben
     bench.run(rt, AT_GOAL);
 }
 
-/// Performs a run with a given number of workers that stops, and a further run that completes the copy. The parameter
-/// `may_block` is the value that `Gate::may_block` returns.
+/// Performs a run that a gate stops at a stage of a window, and a second run that completes the replication. The
+/// parameter `may_block` is the value that `Gate::may_block` returns.
 fn stop_and_go_on<R: Abort + Threads + Wait + Sync>(
     rt: &R,
     alloc: Global,
@@ -297,8 +297,8 @@ fn stop_and_go_on<R: Abort + Threads + Wait + Sync>(
     bench.run(rt, CARRIED);
 }
 
-// The test makes runs with two fetchers and two writers, runs with two pairs of a fetcher and a writer, and runs with
-// one worker on the caller's thread.
+// The test performs runs with two fetchers and two writers, with two pairs of a fetcher and a writer, and with one
+// worker on the caller's thread.
 #[test]
 fn a_stop_at_each_place(rt: HostRuntime) {
     for kind in 0..5u64 {
@@ -317,8 +317,8 @@ static FULL: Rows = &[
     (Call::Fill(A, 20), "Changed { seq: 20 }"),
 ];
 
-// Both channels together hold eight windows. A writer that ended after an error would satisfy its contract, but the
-// fetchers would wait for the writer for ever.
+// The two channels of the pool together hold eight windows. A writer that ended after an error would satisfy the
+// writer's contract, but the fetchers would wait for the writer forever.
 #[test]
 fn more_windows_than_channels_hold(rt: HostRuntime) {
     const ONE_BY_ONE: How = How {

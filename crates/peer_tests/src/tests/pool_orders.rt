@@ -1,5 +1,5 @@
-//! Runs of the pool with two kinds of gates. The first gate counts its calls. The second gate blocks a worker at a
-//! stage of a window until another worker reaches a later stage.
+//! Tests of pool runs with two kinds of gates. The first gate counts how often workers call the gate. The second gate
+//! blocks a worker at a stage of a window until another worker has reached a given stage of a given window.
 use crate::tests::pool_gates::kind_of;
 use crate::tests::pools::{Bench, Call, How, Rows};
 use crate::tests::texts::expect_answer;
@@ -26,7 +26,8 @@ const fn in_windows_of(batch: u64) -> How {
     }
 }
 
-/// Counts the calls of the gate for each window, and all calls that are out of order.
+/// A gate that counts, for each window, how often workers call the gate. The gate also counts the calls that are out of
+/// order.
 #[derive(Drop)]
 struct Counts {
     places: Vec<AtomicU64>,
@@ -82,8 +83,8 @@ impl Gate for Counts {
     }
 }
 
-/// Asserts that a run calls its gate exactly once at each stage of a window, in order. The parameters are the number of
-/// workers, and the result of `Gate::may_block`.
+/// Asserts that a run calls the gate exactly once at each stage of each window, in order. The parameter `may_block` is
+/// the value that `Gate::may_block` returns.
 fn expect_in_order<R: Abort + Threads + Wait + Sync>(
     rt: &R,
     alloc: Global,
@@ -112,8 +113,8 @@ fn expect_in_order<R: Abort + Threads + Wait + Sync>(
 }
 
 // A call at a stage of a window is in order if the gate was called exactly once for each earlier stage of the window.
-// The test makes runs with separate fetchers and writers, with pairs of a fetcher and a writer, and with one worker on
-// the caller's thread.
+// The test performs runs with separate fetchers and writers, with pairs of a fetcher and a writer, and with one worker
+// on the caller's thread.
 #[test]
 fn each_place_once_and_in_order(rt: HostRuntime) {
     expect_in_order(&rt, rt.alloc(), 4, true);
@@ -121,14 +122,13 @@ fn each_place_once_and_in_order(rt: HostRuntime) {
     expect_in_order(&rt, rt.alloc(), 1, false);
 }
 
-/// A spot is the number of a stage, from 0, and the number of a window.
+/// A stage of a window: the number of the stage, from 0, and the number of the window.
 type Spot = (u64, u64);
 
-/// Pairs of spots (stages of windows). A worker at the first spot of a pair waits until a worker has reached the second
-/// spot.
+/// Pairs of stages of windows. A worker at the first stage of a pair waits until a worker has reached the second stage.
 type Holds = &'static [(Spot, Spot)];
 
-/// Returns the bit that represents a spot, that is, a stage of one of the first twelve windows.
+/// Returns the bit that represents a stage of one of the first twelve windows.
 pub(crate) fn bit_of(spot: Spot) -> u64 {
     let place = spot.0 % 5 + 5 * (spot.1 % 12);
     1 << place
@@ -137,8 +137,8 @@ pub(crate) fn bit_of(spot: Spot) -> u64 {
 /// The maximum number of times a blocked worker polls.
 const TURNS: u32 = 1_000_000;
 
-/// A gate that blocks workers at the spots in a table. Each worker is blocked until another worker has reached the
-/// second spot of the pair.
+/// A gate that blocks a worker at the first stage of each pair in a table, until another worker has reached the second
+/// stage of the pair.
 #[derive(Drop)]
 struct Orders {
     holds: Holds,
@@ -147,7 +147,7 @@ struct Orders {
 }
 
 impl Orders {
-    /// Creates the gate in its state before the first call.
+    /// Creates the gate, which no worker has called yet.
     fn new(holds: Holds) -> Orders {
         Orders {
             holds,
@@ -156,7 +156,8 @@ impl Orders {
         }
     }
 
-    /// Polls until a worker has reached a spot, a stage of a window.
+    /// Polls until a worker has reached a stage of a window. After `TURNS` polls, the function stops and sets the flag
+    /// `ran_out`.
     fn wait_for(&self, spot: Spot) {
         let wanted = bit_of(spot);
         for _ in 0..TURNS {
@@ -184,8 +185,8 @@ impl Gate for Orders {
     }
 }
 
-/// Performs a run of eight documents in windows of two rows, with one fetcher and one writer. The gate blocks these
-/// workers at the spots in `holds`.
+/// Performs a run of eight documents in windows of two rows, with one fetcher and one writer. The gate blocks the
+/// fetcher and the writer at the stages in `holds`.
 fn run_held<R: Abort + Threads + Wait + Sync>(rt: &R, alloc: Global, holds: Holds) {
     const WELL: &str =
         "session 1 from 0 to 8 checked 8 found 8 read 8 written 8 failed 0, fetched 8";
@@ -193,7 +194,7 @@ fn run_held<R: Abort + Threads + Wait + Sync>(rt: &R, alloc: Global, holds: Hold
         (Call::Peer(1, None), "made"),
         (Call::Peer(2, None), "made"),
         (Call::Fill(A, 8), "Changed { seq: 8 }"),
-        // The target has a document of its own, because the pool takes no lock for requests of a target without
+        // The target has the document `own`, because the pool takes no lock to compute the requests of a target without
         // documents.
         (
             Call::Load(B, r#"{"_id":"own","_rev":"1-a"}"#),
@@ -212,7 +213,7 @@ fn run_held<R: Abort + Threads + Wait + Sync>(rt: &R, alloc: Global, holds: Hold
     assert!(rt; !gate.ran_out.load(Ordering::SeqCst), "out of turns");
 }
 
-/// The kinds of places.
+/// The numbers of the stages of a window.
 const TOOK: u64 = 0;
 
 const ASKED: u64 = 1;
@@ -223,29 +224,35 @@ const SETTLED: u64 = 3;
 
 const RECORDED: u64 = 4;
 
-// Requesting, settling and recording take the target's lock. The run can end only if no blocked worker holds the lock.
+// Workers take the target's lock for requesting, settling and recording. The run can end only if no blocked worker
+// holds the lock.
 #[test]
 fn no_lock_is_held_at_any_place(rt: HostRuntime) {
     static HOLDS: Holds = &[
-        // The fetcher requests the second window while the gate blocks the writer at `Settled`.
+        // While the gate blocks the writer at the stage `Settled` of the first window, the fetcher requests the second
+        // window.
         ((TOOK, 1), (SETTLED, 0)),
         ((SETTLED, 0), (ASKED, 1)),
-        // The writer records the first window while the gate blocks the fetcher at `Asked`.
+        // While the gate blocks the fetcher at the stage `Asked` of the second window, the writer records the first
+        // window.
         ((ASKED, 1), (RECORDED, 0)),
-        // The writer settles the second window while the gate blocks the fetcher at `Took`. Before, the gate blocks the
-        // writer until the fetcher has reached `Took`.
+        // The gate blocks the writer until the fetcher has reached the stage `Took` of the third window. While the gate
+        // then blocks the fetcher at this stage, the writer settles the second window.
         ((RECORDED, 0), (TOOK, 2)),
         ((TOOK, 2), (SETTLED, 1)),
-        // The writer records the second window while the gate blocks the fetcher at `Fetched`.
+        // While the gate blocks the fetcher at the stage `Fetched` of the third window, the writer records the second
+        // window.
         ((SETTLED, 1), (FETCHED, 2)),
         ((FETCHED, 2), (RECORDED, 1)),
-        // The fetcher requests the last window while the gate blocks the writer at `Recorded`.
+        // While the gate blocks the writer at the stage `Recorded` of the second window, the fetcher requests the last
+        // window.
         ((RECORDED, 1), (ASKED, 3)),
     ];
     run_held(&rt, rt.alloc(), HOLDS);
 }
 
-// The fetcher fetches further windows while the gate blocks the writer, because fetching needs no work of the writer.
+// While the gate blocks the writer, the fetcher fetches further windows, because fetching does not depend on the
+// writer.
 #[test]
 fn fetching_goes_on_beside_a_held_writer(rt: HostRuntime) {
     static HOLDS: Holds = &[((SETTLED, 0), (FETCHED, 2))];

@@ -1,4 +1,4 @@
-//! Documents for runs of the pool, with conflicts, several revisions, deletions and an incomplete history.
+//! Documents for tests of the pool: documents with conflicts, several revisions, deletions and an incomplete history.
 use crate::tests::peers::Rep;
 use crate::tests::pools::{Call, Rows};
 use rev_tree::SessionId;

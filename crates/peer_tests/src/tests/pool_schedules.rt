@@ -1,4 +1,4 @@
-//! Runs of the pool in random orders. The gate of a run blocks all workers, and releases one worker at a time.
+//! Tests of runs of the pool in random orders. The gate of a run blocks all workers, and releases one worker at a time.
 use crate::tests::peers::Rep;
 use crate::tests::pool_gates::{expect_stop, go_on, kind_of};
 use crate::tests::pool_orders::bit_of;
@@ -27,7 +27,7 @@ const TWO_ROWS: How = How {
     stop_after: None,
 };
 
-/// The number of windows of a run, and the number of workers in each group.
+/// The number of windows of a run, and the number of fetchers, which is also the number of writers.
 const WINDOWS: u64 = 3;
 
 const WORKERS: u64 = 2;
@@ -35,16 +35,17 @@ const WORKERS: u64 = 2;
 /// The number of places at which a run calls the gate (five for each window).
 const PLACES: u64 = 15;
 
-/// Bit masks. `FETCHED` has the bit of the place `Fetched` of each window, and `RECORDED` has the bit of the place
+/// Bit masks. `FETCHED` has a bit for the place `Fetched` of each window, and `RECORDED` has a bit for the place
 /// `Recorded` of each window.
 const FETCHED: u64 = 0b001_0000_1000_0100;
 
 const RECORDED: u64 = 0b100_0010_0001_0000;
 
-/// After this number of naps, the gate releases a worker even if an expected worker has not called the gate.
+/// After blocked workers have slept this number of times, the gate releases a worker even if an expected worker has not
+/// called the gate.
 const SURE_NAPS: u32 = 20_000;
 
-/// The maximum number of times a worker checks whether its turn has come.
+/// The maximum number of times a blocked worker checks whether the gate has released the worker.
 const LOOKS: u32 = 1_000_000;
 
 /// Returns the next state of Knuth's linear congruential generator.
@@ -54,12 +55,13 @@ fn next_state(state: u64) -> u64 {
         .wrapping_add(1_442_695_040_888_963_407)
 }
 
-/// Returns the number of bits of a number.
+/// Returns the number of bits that are set in a number.
 fn bits(number: u64) -> u64 {
     u64::from(number.count_ones())
 }
 
-/// Returns the place of the n-th blocked worker, counted from 0 in the order of windows.
+/// Returns the n-th place, counted from 0, at which a worker is blocked. The places are ordered by window, and then by
+/// stage.
 fn nth_held(held: u64, nth: u64) -> u64 {
     let mut passed = 0u64;
     for place in 0..PLACES {
@@ -87,7 +89,8 @@ struct Turns {
     naps: u32,
     /// The place at which the gate stops a worker, or 0 if the gate stops no worker.
     stop_at: u64,
-    /// The numbers of the places that workers have left, in the order of leaving. Each number plus 1 takes four bits.
+    /// The numbers of the places that workers have left, in the order of leaving. Each place's number, increased by 1,
+    /// takes four bits.
     order: u64,
     ran_out: bool,
 }
@@ -96,10 +99,11 @@ impl Turns {
     /// Returns the number of workers that will certainly call the gate, and the number of workers that may call the
     /// gate.
     ///
-    /// A fetcher has a window until it has passed the place `Fetched`. A writer has a parcel until it has passed the
-    /// place `Recorded`. A fetcher that finds no further window sends an end message to a writer. The fetcher may send
-    /// this message before the other fetcher sends its last parcel. If all three windows are fetched and one window is
-    /// recorded, perhaps only one writer is left for the other two windows. A stopped worker drops all messages.
+    /// A fetcher has a window until the fetcher has passed the place `Fetched`. A writer has a parcel until the writer
+    /// has passed the place `Recorded`. A fetcher that finds no further window sends an end message to a writer,
+    /// perhaps before the other fetcher sends the last parcel. If all three windows are fetched and one window is
+    /// recorded, one writer may have ended. The other writer then handles both remaining windows. A worker that the
+    /// gate stops drops all messages.
     fn awaited(&self) -> (u64, u64) {
         let fetched = bits(self.left & FETCHED);
         let recorded = bits(self.left & RECORDED);
@@ -115,7 +119,9 @@ impl Turns {
         (may, may)
     }
 
-    /// Chooses one of the blocked workers after all expected workers have come. Returns whether a worker was chosen.
+    /// Chooses one of the blocked workers at random, and returns whether a worker was chosen. Before the first nap, the
+    /// function chooses a worker only if all workers are blocked that may call the gate. Before `SURE_NAPS` naps, the
+    /// function chooses a worker only if all workers are blocked that will certainly call the gate.
     fn choose(&mut self) -> bool {
         let held = bits(self.held);
         if held == 0 {
@@ -156,7 +162,7 @@ impl Turns {
         self.naps = 0;
     }
 
-    /// Counts a nap of a blocked worker while no worker is chosen.
+    /// Counts a nap (sleep) of a blocked worker.
     fn nap(&mut self) {
         self.naps = self.naps.saturating_add(1);
     }
@@ -167,13 +173,13 @@ impl Turns {
 struct Drawn {
     stop_at: u64,
     turns: Mutex<Turns>,
-    /// A counter that wakes blocked workers when a worker is chosen.
+    /// A counter on which blocked workers sleep, and which is increased when a worker is chosen.
     bell: AtomicU64,
     ran_out: AtomicBool,
 }
 
 impl Drawn {
-    /// Creates the gate in its state before the first call.
+    /// Creates the gate, which no worker has called yet.
     fn new(seed: u64, stop_at: u64) -> Drawn {
         Drawn {
             stop_at,
@@ -207,7 +213,7 @@ impl Drawn {
         goes
     }
 
-    /// Sleeps until the next signal, at most a millisecond.
+    /// Sleeps until another worker is chosen, but at most a millisecond.
     fn sleep<R: Wait>(&self, rt: &R, rung: u64) {
         let low = (rung % 4_294_967_296) as u32;
         self.bell.park_timeout(rt, low, Duration::from_millis(1));
@@ -216,7 +222,8 @@ impl Drawn {
         }
     }
 
-    /// Blocks a worker at its place until the gate releases the worker.
+    /// Blocks the worker at a place until the gate releases the worker. After `LOOKS` checks, the function stops and
+    /// sets the flag `ran_out`.
     fn hold<R: Wait>(&self, rt: &R, here: u64) {
         for _ in 0..LOOKS {
             let rung = self.bell.load(Ordering::SeqCst);
@@ -282,9 +289,9 @@ fn different(sorted: &[u64]) -> u64 {
 /// machine.
 const SEEDS: u64 = 250;
 
-/// Performs runs in the orders of `SEEDS` seeds. More than half of the orders must be different.
-// The order of a run affects only the target's sequences. All other values that the test reads after a run are the same
-// for every order.
+/// Performs one run for each of `SEEDS` seeds, and asserts that the runs have more than `SEEDS` / 2 different orders.
+// The order of a run affects only the target's sequences. Apart from the target's sequences, all values that the test
+// reads after a run are the same for every order.
 fn run_orders<R: Abort + Threads + Wait + Sync>(rt: &R, alloc: Global, first: u64) {
     let mut orders = Vec::new(alloc);
     for number in 0..SEEDS {
@@ -316,7 +323,8 @@ fn last_orders_end_alike(rt: HostRuntime) {
     run_orders(&rt, rt.alloc(), 750);
 }
 
-/// Performs a run that stops at one place, in the order of a seed, and a further run that completes the copy.
+/// Performs a run that the gate stops at one place, in an order that the seed determines. A second run then completes
+/// the replication.
 fn stop_drawn<R: Abort + Threads + Wait + Sync>(rt: &R, alloc: Global, seed: u64) {
     let (kind, window) = (seed % 5, seed / 5 % WINDOWS);
     let gate = Drawn::new(seed, bit_of((kind, window)));

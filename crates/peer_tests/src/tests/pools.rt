@@ -1,4 +1,4 @@
-//! Peers that are replicated by the pool, and calls on these peers.
+//! Calls on peers that the pool replicates, and benches that hold these peers.
 ghost use Rattle.std.specs.Prelude.{◌≡◌, vec_len};
 ghost use Rattle.std.specs.List.{All};
 ghost use Rattle.pool_workers.specs.Boards.{WorksAt};
@@ -30,12 +30,12 @@ pub(crate) struct How {
     pub(crate) stop_after: Option<u64>,
 }
 
-/// A call on peers. Each peer is named by its index.
+/// A call on peers. A call names each peer by the peer's index.
 #[derive(Clone, Copy)]
 pub(crate) enum Call<'a> {
-    /// Create the next peer, given its UUID and the prefix of the document ids that its filter refuses.
+    /// Create the next peer with a UUID, and with a filter that refuses document ids with a given prefix.
     Peer(u128, Option<&'a str>),
-    /// Create the next peer, given its UUID and the update sequence of its database.
+    /// Create the next peer with a UUID, and with a database that has a given update sequence.
     PeerAt(u128, u64),
     /// Load a given number of documents d0, d1 and so on.
     Fill(usize, u64),
@@ -47,24 +47,24 @@ pub(crate) enum Call<'a> {
     Tree(usize, &'a str),
     /// Read the entry of a session.
     Entry(usize, SessionId),
-    /// Read the documents at the leaves of a document, winner first.
+    /// Read the ancestry and the content of each leaf of a document, winner first.
     Leaves(usize, &'a str),
     /// Read the refused leaves of a document from a session's ledger, with the reasons.
     Refused(usize, SessionId, &'a str),
-    /// Read the log at a peer of a replication of which the peer is the source.
+    /// Read the log that a peer has of a replication from this peer.
     SourceLog(usize, Rep),
-    /// Read the log at a peer of a replication of which the peer is the target.
+    /// Read the log that a peer has of a replication into this peer.
     TargetLog(usize, Rep),
-    /// Compare the logs of a replication at its source and its target.
+    /// Compare the source's and the target's log of a replication.
     Common(usize, usize, Rep),
     /// Audit a replication from the first peer, the source, into the second peer, the target.
     Audit(usize, usize),
 }
 
-/// The calls of a test, and each call's expected result.
+/// The calls of a test, each with the expected result.
 pub(crate) type Rows = &'static [(Call<'static>, &'static str)];
 
-/// Peers, and the number of workers of a run.
+/// A bench: peers, and the number of workers of a run.
 #[derive(Drop)]
 pub(crate) struct Bench {
     alloc: Global,
@@ -89,14 +89,14 @@ impl Bench {
         self.fetchers
     }
 
-    /// Performs the calls in order, and asserts that each call returns its expected result.
+    /// Performs the calls in order, and asserts that each call returns the expected result.
     pub(crate) fn run<R: Abort + Threads + Wait + Sync>(&mut self, rt: &R, calls: &[(Call, &str)]) {
         for (i, (call, wanted)) in calls.iter().enumerate() {
             expect_answer(rt, i, self.answer(rt, call), wanted);
         }
     }
 
-    /// Performs a call and returns its result as a string.
+    /// Performs a call, and returns the call's result as a string.
     pub(crate) fn answer<R: Abort + Threads + Wait + Sync>(
         &mut self,
         rt: &R,
@@ -160,7 +160,8 @@ impl Bench {
         *self.peers.get_mut(at).expect(rt, "a place") = peer;
     }
 
-    /// Replicates one peer into another with a gate. Returns how the run ended, and the number of fetched documents.
+    /// Replicates one peer into another peer by the pool, with a gate. Returns how the run ended, and the number of
+    /// fetched documents.
     pub(crate) fn replicate<G: Gate + Sync, R: Abort + Threads + Wait + Sync>(
         &mut self,
         rt: &R,
@@ -324,7 +325,7 @@ fn outcome_text(alloc: Global, outcome: Result<Report, PoolFault>) -> Option<Str
     }
 }
 
-/// Loads the document with a given number.
+/// Loads the document whose id has a given number.
 fn load_number(alloc: Global, peer: &mut Peer<Rules>, number: u64) -> Option<String> {
     match format!(in alloc; "{{\"_id\":\"d{number}\",\"_rev\":\"1-a\"}}") {
         Ok(text) => load(alloc, peer, text.as_str()),

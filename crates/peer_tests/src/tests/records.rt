@@ -41,7 +41,7 @@ fn written_text(alloc: Global, report: Report) -> Option<String> {
     format!(in alloc; " written {written} failed {failures}").ok()
 }
 
-/// Returns the text of an entry, with its report and its timestamps.
+/// Returns the text of a log entry: the report and the timestamps.
 pub(crate) fn entry_text(alloc: Global, entry: Entry) -> Option<String> {
     let report = Report {
         session: entry.session,
@@ -52,7 +52,7 @@ pub(crate) fn entry_text(alloc: Global, entry: Entry) -> Option<String> {
     joined(report_text(alloc, report), moments_text(alloc, entry))
 }
 
-/// Returns the timestamps of an entry.
+/// Returns the text of the timestamps of a log entry.
 fn moments_text(alloc: Global, entry: Entry) -> Option<String> {
     let (begun, ended) = (entry.start_time.seconds(), entry.end_time.seconds());
     format!(in alloc; ", {begun} to {ended}").ok()
@@ -83,7 +83,7 @@ pub(crate) fn common_text(alloc: Global, outgoing: &Log, incoming: &Log) -> Opti
     }
 }
 
-/// Returns the error of a call on a session.
+/// Returns the text of an error of a call on a session.
 pub(crate) fn fault_text(alloc: Global, fault: TargetFault) -> Option<String> {
     match fault {
         TargetFault::Uncovered { seq, id, rev } => place_text(alloc, "Uncovered", seq, &id, rev),

@@ -36,7 +36,7 @@ fn what_a_target_misses(rt: HostRuntime) {
             Call::Compare("d"),
             "2 missing 3-d contradicts 2-b differing 2-c",
         ),
-        // The target has the source's deleted leaf as a live leaf.
+        // The document e has the leaf 1-a at both peers, but only the source's leaf is deleted.
         (
             Call::Target(r#"{"_id":"e","_rev":"1-a"}"#),
             "Changed { seq: 3 }",

@@ -1,4 +1,4 @@
-//! Queries about a source peer, and about a target peer into which the source is replicated.
+//! Queries about two peers: a source, and a target into which the source is replicated.
 use crate::tests::databases::tree;
 use crate::tests::large::load_wide;
 use crate::tests::peers::load;
@@ -32,7 +32,8 @@ pub(crate) enum Call<'a> {
     Replicate,
     /// Compare a document of the source with the target's document.
     Compare(&'a str),
-    /// Read the totals of the differences of all documents in the source's feed, or of one selected document.
+    /// Read the totals of the differences between source and target, for all documents in the source's feed or for one
+    /// document.
     Total(Option<&'a str>),
     /// Read the leaves of a document of the source that are in conflict.
     Conflict(&'a str),
@@ -40,16 +41,16 @@ pub(crate) enum Call<'a> {
     Census,
     /// Read the ledger of the session.
     Ledger,
-    /// Read the documents of all leaves of a source's document.
+    /// Read the ancestry and the content of each leaf of a document of the source.
     Documents(&'a str),
     /// Read the tree of a document of the target.
     Tree(&'a str),
 }
 
-/// The calls of a test, and each call's expected result.
+/// The calls of a test, each with the expected result.
 pub(crate) type Rows = &'static [(Call<'static>, &'static str)];
 
-/// The source, and the target, whose filter denies ids that begin with x.
+/// A source, and a target with a filter that denies ids that begin with x.
 #[derive(Drop)]
 struct Bench {
     alloc: Global,
@@ -58,7 +59,7 @@ struct Bench {
 }
 
 impl Bench {
-    /// Performs a call and returns its result as a string.
+    /// Performs a call, and returns the call's result as a string.
     fn answer(&mut self, call: &Call) -> Option<String> {
         match *call {
             Call::Source(text) => load(self.alloc, &mut self.source, text),
@@ -194,7 +195,7 @@ fn choice(alloc: Global, id: &str) -> Option<Chosen> {
     Chosen::new(ids).ok()
 }
 
-/// Returns revisions, each after a space.
+/// Returns a string of revisions, with a space before each revision.
 fn revs_text(alloc: Global, revs: &[Rev]) -> Option<String> {
     let mut all = Some(String::new(alloc));
     for rev in revs {
@@ -226,7 +227,7 @@ fn contradiction_text(alloc: Global, found: &Comparison) -> Option<String> {
     }
 }
 
-/// Returns a row of a ledger.
+/// Returns the text of a ledger row.
 fn row_text(alloc: Global, row: LedgerRow) -> Option<String> {
     match row {
         LedgerRow::Denied { rev } => { joined(plain(alloc, " denied"), revs_text(alloc, &[rev])) }
@@ -237,7 +238,7 @@ fn row_text(alloc: Global, row: LedgerRow) -> Option<String> {
     }
 }
 
-/// Returns the rows of a ledger, each row after the id of the row's document.
+/// Returns the texts of a ledger's rows, each with the id of the document and then the row.
 fn ledger(alloc: Global, rows: &[Refused]) -> Option<String> {
     let mut all = Some(String::new(alloc));
     for row in rows {
@@ -258,7 +259,7 @@ fn two_peers(rt: &impl Abort, alloc: Global) -> Bench {
     }
 }
 
-/// Performs the calls, and asserts that each call returns its expected result.
+/// Performs the calls, and asserts that each call returns the expected result.
 pub(crate) fn expect(rt: &impl Abort, alloc: Global, rows: Rows) {
     let mut bench = two_peers(rt, alloc);
     for (i, (call, wanted)) in rows.iter().enumerate() {

@@ -57,7 +57,7 @@ fn bounds_text(alloc: Global, lo: u64, hi: u64) -> Option<String> {
     format!(in alloc; "{lo} to {hi}:").ok()
 }
 
-/// Returns the bounds of a window, and its rows.
+/// Returns the bounds and the rows of a window.
 pub(crate) fn window_text(alloc: Global, window: &Window) -> Option<String> {
     let mut all = bounds_text(alloc, window.lo(), window.hi());
     for row in window.rows() {
@@ -92,7 +92,7 @@ fn one_stored_text(alloc: Global, window: &StoredWindow) -> Option<String> {
     }
 }
 
-/// Returns the bounds of a request, and its documents.
+/// Returns the bounds and the documents of a request.
 pub(crate) fn asked_text(alloc: Global, asked: &Asked) -> Option<String> {
     let mut all = bounds_text(alloc, asked.lo(), asked.hi());
     for wanted in asked.docs() {
@@ -109,7 +109,7 @@ fn wanted_text(alloc: Global, wanted: &Wanted) -> Option<String> {
     format!(in alloc; " {} {revs};", wanted.id().text()).ok()
 }
 
-/// Returns the bounds of a parcel, its documents, and the gone revisions.
+/// Returns the bounds, the documents and the gone revisions of a parcel.
 pub(crate) fn parcel_text(alloc: Global, parcel: &Parcel) -> Option<String> {
     let mut all = bounds_text(alloc, parcel.lo(), parcel.hi());
     for doc in parcel.docs() {
@@ -134,7 +134,7 @@ pub(crate) fn numbers_text(alloc: Global, db: &Database) -> Option<String> {
     format!(in alloc; "{} at {}", db.uuid(), db.update_seq()).ok()
 }
 
-/// Returns the text of a fetched document, with its id, its ancestry, whether it is deleted, and its body.
+/// Returns the text of a fetched document: the id, the ancestry, `live` or `deleted`, and the body.
 pub(crate) fn doc_text(alloc: Global, doc: &Doc) -> Option<String> {
     let Ok(body) = std::str::from_utf8(doc.body().text()) else {
         return None;
@@ -146,7 +146,7 @@ pub(crate) fn doc_text(alloc: Global, doc: &Doc) -> Option<String> {
     format!(in alloc; " {} {revs} {kind} {body};", doc.id().text()).ok()
 }
 
-/// Returns the leaves of a tree, winner first, and its number of revisions.
+/// Returns the leaves of a tree, winner first, and the number of the tree's revisions.
 pub(crate) fn tree_text(alloc: Global, tree: &Tree) -> Option<String> {
     let Ok(leaves) = tree.leaves(alloc) else {
         return None;
@@ -157,7 +157,7 @@ pub(crate) fn tree_text(alloc: Global, tree: &Tree) -> Option<String> {
     format!(in alloc; "{text} of {}", tree.rev_count()).ok()
 }
 
-/// Returns the text of a revision of a tree, with its parent, its origin and its content.
+/// Returns the text of a revision of a tree: the parent, the origin and the content.
 pub(crate) fn node_text(alloc: Global, tree: &Tree, rev: Rev) -> Option<String> {
     let all = parent_text(alloc, tree, rev);
     let all = joined(all, origin_text(alloc, tree.origin(rev)));
@@ -172,7 +172,7 @@ fn parent_text(alloc: Global, tree: &Tree, rev: Rev) -> Option<String> {
     }
 }
 
-/// Returns the text of an origin between commas, if the origin exists.
+/// Returns the text of an origin, with a comma before and after the origin, or `None` without an origin.
 fn origin_text(alloc: Global, origin: Option<Origin>) -> Option<String> {
     match origin {
         Some(origin) => format!(in alloc; ", {origin:?}, ").ok(),
@@ -192,7 +192,7 @@ fn content_text(alloc: Global, tree: &Tree, rev: Rev) -> Option<String> {
     format!(in alloc; "{kind} {body}").ok()
 }
 
-/// Returns the error of a call on a database.
+/// Returns the text of an error of a call on a database.
 pub(crate) fn base_fault_text(alloc: Global, fault: BaseFault) -> Option<String> {
     match fault {
         BaseFault::RevExists { rev } => named_text(alloc, "RevExists", &[rev]),

@@ -1,4 +1,4 @@
-//! Takes steps that are given by name in a world, and reads the effects of the steps.
+//! Performs named steps in a world, and reads the effects of these steps.
 use crate::tests::databases::tree;
 use crate::tests::peers::{agreed, entry, source_log, target_log};
 use crate::tests::texts::{body, doc, expect_answer};
@@ -11,14 +11,14 @@ use std::alloc::{AllocError, Global};
 use std::process::Abort;
 use test_support::rev;
 
-/// The replication of a world's peers, which have UUIDs 1 and 2.
+/// The replication from a world's source, with UUID 1, into the world's target, with UUID 2.
 const REP: RepId = RepId {
     source: 1,
     target: 2,
     chosen: None,
 };
 
-/// A step of a world, with its documents as strings. All timestamps are 0.
+/// A step of a world. The documents of the step are strings. All timestamps are 0.
 #[derive(Clone, Copy)]
 pub(crate) enum Act<'a> {
     /// Edit a document at the source, given the document's id, the parent revision and the body.
@@ -50,7 +50,7 @@ pub(crate) enum Question<'a> {
     Common,
     /// The entry of a session.
     Entry(SessionId),
-    /// The log of the replication that a side (source or target) has.
+    /// The log that a side (source or target) has of the replication.
     Log(u128),
     /// The tree of a document at a side.
     Tree(u128, &'a str),
@@ -65,7 +65,7 @@ pub(crate) enum Question<'a> {
 /// Steps in order.
 pub(crate) type Acts = &'static [Act<'static>];
 
-/// Questions about a world, each with its expected result.
+/// Questions about a world, each with the expected result.
 pub(crate) type Told = &'static [(Question<'static>, &'static str)];
 
 /// Creates the timestamp 0.
@@ -162,7 +162,7 @@ fn push_step(all: &mut Vec<Step>, step: Option<Step>) -> Option<()> {
     }
 }
 
-/// Takes the steps that a list of acts describes.
+/// Performs the steps that a list of acts describes.
 fn take(alloc: Global, world: &mut World<Rules>, acts: &[Act]) -> Option<()> {
     let Some(steps) = steps(alloc, acts) else {
         return None;
@@ -170,7 +170,7 @@ fn take(alloc: Global, world: &mut World<Rules>, acts: &[Act]) -> Option<()> {
     world.run(alloc, &steps).ok()
 }
 
-/// Returns the log of the replication that a side (source or target) has.
+/// Returns the log that a side (source or target) has of the replication.
 fn side_log(alloc: Global, world: &World<Rules>, side: u128) -> Option<String> {
     if side == 1 {
         source_log(alloc, world.source(), &REP)
@@ -222,7 +222,7 @@ fn answer(alloc: Global, world: &World<Rules>, question: Question) -> Option<Str
     }
 }
 
-/// Takes steps in a world, and asserts the results of questions about the world.
+/// Performs steps in a world, and asserts the results of questions about the world.
 fn tell(rt: &impl Abort, alloc: Global, world: &mut World<Rules>, lists: &[Acts], told: Told) {
     for acts in lists {
         if take(alloc, world, acts).is_none() {
@@ -245,7 +245,7 @@ fn world(rt: &impl Abort, alloc: Global) -> World<Rules> {
     World::new(alloc, source, target, None).expect(rt, "two peers")
 }
 
-/// Takes lists of steps in a world of two empty peers, and asserts the results of questions about the world.
+/// Performs lists of steps in a world of two empty peers, and asserts the results of questions about the world.
 pub(crate) fn expect(rt: &impl Abort, alloc: Global, lists: &[Acts], told: Told) {
     let mut world = world(rt, alloc);
     tell(rt, alloc, &mut world, lists, told);
@@ -264,8 +264,8 @@ fn load_many(alloc: Global, world: &mut World<Rules>, count: u64) -> Option<()> 
     Some(())
 }
 
-/// Takes lists of steps in a world whose source has a given number of documents, and asserts the results of questions
-/// about the world.
+/// Performs lists of steps in a world whose source has a given number of documents, and asserts the results of
+/// questions about the world.
 pub(crate) fn expect_of_many(
     rt: &impl Abort,
     alloc: Global,

@@ -44,8 +44,8 @@ pub record IsFed (p : PeerValue) (id : Id) (r : RevId) (session : SessionId) (se
   pub listed : IsListed by id seq
   pub arrived : IsArrival by id r
 
--- The given origin of revision r of document `id` is true: peer p has the local write (`IsLocal`), or the session with
--- a row and an arrival (`IsFed`), that the origin names.
+-- The given origin of revision r of document `id` is true. If the origin is a local write, peer p has the write
+-- (`IsLocal`). If the origin is a session and a sequence, peer p has the session with a row and an arrival (`IsFed`).
 abbrev pub ComesFrom : PeerValue → Id → RevId → Origin → Type 0
 ComesFrom p id r (Local n) = IsLocal p id r n
 ComesFrom p id r (Feed session seq) = IsFed p id r session seq

@@ -13,7 +13,7 @@ Follows parents [] = Unit {0}
 Follows parents (r ∷ []) = Unit {0}
 Follows parents (r ∷ (s ∷ rest)) = (get parents r ≡ Some s) × Follows parents (s ∷ rest)
 
--- If write w's generations decrease by one from each revision to the next, each revision of w, except the last, has the
--- next revision of w as its parent in the document's tree.
+-- If the generations of write w fall by one (`FallsByOne`), each revision of w except the last has the next revision of
+-- w as its parent in the document's tree.
 abbrev pub StandsIn : DatabaseValue → WrittenValue → Type 0
 StandsIn db w = FallsByOne w.ancestry → Follows (tree_of db.docs w.id).parents w.ancestry

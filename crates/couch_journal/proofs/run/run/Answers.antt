@@ -33,9 +33,7 @@ returns-in-Select g c =
     task_ran c.args.task.now (tasks.Select c.in-Select.size) c.args.options.now _ _ _ _ _ c.run_select.result c.in-Select.is (t.0, t.1, t.2, t.3, tt)
 
 pub returns-in-Received : goal.returns-in-Received
-returns-in-Received g c =
-    let t = c.run_received.ensures in
-    task_ran c.args.task.now (tasks.Received c.in-Received.only_lacks) c.args.options.now _ _ _ _ _ c.run_received.result c.in-Received.is (t.0, t.1, t.2, t.3, tt)
+returns-in-Received g c = task_ran c.args.task.now (tasks.Received c.in-Received.only_lacks) c.args.options.now _ _ _ _ _ c.run_received.result c.in-Received.is c.run_received.ensures
 
 pub returns-in-Lacking : goal.returns-in-Lacking
 returns-in-Lacking g c =
