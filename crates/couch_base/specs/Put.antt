@@ -19,7 +19,8 @@ is_change (Ok merges.Changed) = true
 is_change (Ok merges.Same) = false
 is_change (Err c) = false
 
--- The result of a put, given the result of the merge, whether a sequence is left, and the next sequence.
+-- The result of a put, computed from three arguments: the result of the merge, whether the database has an unused
+-- sequence, and the next sequence.
 abbrev pub put_told : Result Merged Contradiction → Bool → ℕ → Result Put BaseFault
 put_told (Err c) room next = Err (faults.Contradiction c.child c.known c.given)
 put_told (Ok merges.Same) room next = Ok answers.Same
