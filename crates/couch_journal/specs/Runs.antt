@@ -34,15 +34,15 @@ use Rattle.couch_journal.specs.declared.options.NoTask.TheVariants.{Words, Unkno
 
 -- ---- the tasks on responses
 
--- A JSON value is the response that a task reads. The task prints `text`, and `refused` is true exactly if the response
--- says that a document was rejected.
+-- The JSON value j is the response that a task reads. The task prints `text`, and `refused` is true exactly if the
+-- response says that a document was rejected.
 abbrev pub Shows : Response → Json → List ℕ → Bool → Type 0
 Shows (Page several) j text refused = (page_in several j ≡ Some text) × (refused ≡ false)
 Shows Refused j text refused =
     (entries : Items) × (as_array j ≡ Some entries) × (text ≡ refused_text entries) × (refused ≡ any_refused entries)
 Shows Info j text refused = (is_info j ≡ true) × (text ≡ info_text j) × (refused ≡ false)
 
--- A JSON value is not the response that a task reads.
+-- The JSON value j is not the response that a task reads.
 abbrev pub ShowsNothing : Response → Json → Type 0
 ShowsNothing (Page several) j = page_in several j ≡ None
 ShowsNothing Refused j = as_array j ≡ None
@@ -78,8 +78,8 @@ RunsResponse response ended input text (Err fault) =
 
 -- ---- `seal`
 
--- The task `seal` was run. A block that can contain every line of the input is sealed. Otherwise the outcome has the
--- number, from 1, of the first line that a block cannot contain, and the output is empty.
+-- The task `seal` was run. If a block can contain every line of the input, the block is sealed. If a block cannot
+-- contain a line of the input, the outcome has the number, from 1, of the first such line, and the output is empty.
 abbrev pub Seals : List ℕ → List ℕ → List ℕ → List ℕ → Outcome → Type 0
 Seals chain seq input text outcomes.Done = IsSeal chain seq input text
 Seals chain seq input text (outcomes.Wrong line) =
@@ -115,7 +115,8 @@ RunsAsk ended input text result =
     (λ lines rest. wrong_or (wrong_line is_wrong lines rest) outcomes.Done) ended input text result
 
 -- The task `received` was run: the output has the requested documents of the response, and then the lines for the
--- request. A revision that is missing determines the outcome, unless a line is wrong.
+-- request. The outcome names the first wrong line, or, if no line is wrong, says whether a requested revision was not
+-- received.
 abbrev pub RunsReceived : Bool → Type 0 → List ℕ → List ℕ → Result Outcome ScriptFault → Type 0
 RunsReceived only ended input text result =
     RunsLines (passed_on only) (received_text only)
@@ -123,7 +124,8 @@ RunsReceived only ended input text result =
 
 -- ---- the tasks
 
--- The input, the output and the result of a task. The results of the tasks in the last case have no contract.
+-- The input, the output and the result of a task. For the tasks of the last case, every output and every result is
+-- allowed.
 abbrev pub RunsTask : Task → Options → Type 0 → List ℕ → List ℕ → Result Outcome ScriptFault → Type 0
 RunsTask (tasks.Page several) o ended input text result = RunsResponse (Page several) ended input text result
 RunsTask tasks.Refused o ended input text result = RunsResponse Refused ended input text result

@@ -88,7 +88,7 @@ IsNumber (Some text) n =
     IsNumeral 10 (without_leading_plus text.now) × (digits_value 10 (without_leading_plus text.now) < 2 ^ 64)
     × (n ≡ digits_value 10 (without_leading_plus text.now))
 
--- A task has the arguments and the options of a command line that names it.
+-- The task `task` has the given name, and the values of the arguments and options o.
 abbrev pub Fits : Named → Options → Task → Type 0
 Fits named.Page o task = task ≡ tasks.Page o.several
 Fits named.Ask o task = task ≡ tasks.Ask
