@@ -13,7 +13,7 @@ use Rattle.relay_core.specs.Messages.{Text}
 
 pub record HeadView : Type 0 where
   pub status : ℕ
-  -- The length of the body, as the head states.
+  -- The length of the response's body in bytes, as stated in the response's head.
   pub size : ℕ
   pub who : Option Side
   pub date : Text

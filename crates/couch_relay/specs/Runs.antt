@@ -123,8 +123,8 @@ pub record AreOptions (options : Options) (choice : Text) (o : RequestOptions) :
   pub query : string_bytes o.query ≡ options.query.now
   pub choice_is : string_bytes o.choice ≡ choice
 
--- The byte that a text on one line has instead of byte b: a blank if b is a line feed or a carriage return, otherwise
--- b.
+-- The byte that replaces byte b if a text is written on one line: a blank for a line feed or a carriage return,
+-- otherwise b itself.
 abbrev pub on_line : ℕ → ℕ
 on_line b = if b == 10 || b == 13 then 32 else b
 
