@@ -61,8 +61,8 @@ SetNothing text number NoNumber = (s : Settings) → AreSettings text number s �
 SetNothing text number File = text (codes "file") ≡ None → ⊥
 SetNothing text number Memory = Unit {0}
 
--- The reason why the arguments give no options: `clap` returns an error, no options match the arguments, there is a
--- positional argument, or an allocation failed.
+-- The reason why the arguments give no options. The reason is one of four: an error of `clap`, arguments that no
+-- options match, a positional argument, or a failed allocation.
 abbrev pub Refuses : List (List ℕ) → NoSettings → Type 0
 Refuses words (Words error) = HasKind (fault_of options words) error
 Refuses words NoNumber = (o : Options) → Says words o → ⊥
