@@ -118,7 +118,7 @@ pub record Takes (old : Sketch) (line : List ℕ) (new : Sketch) (text : List �
   pub db : new.db ≡ old.db
 
 -- The result of a line of a script's output: the drawing of the item that the line completes, or an error. After a
--- failed allocation, no document of the picture waits for further leaves.
+-- failed allocation, the picture has no open document.
 abbrev pub Pictures : Answering Sketch (List ℕ)
 Pictures old line (Ok text) new = Takes old line new text
 Pictures old line (Err name) new =
@@ -131,8 +131,8 @@ abbrev pub first_sketch : Form → Option (List ℕ) → Sketch
 first_sketch form db = record { form = form; db = db; begun = None }
 
 -- A picture of a script's output, which has a start, the drawings for the output's lines, and an end. The Boolean
--- `clean` says whether memory was sufficient for drawing every line of the script's output. In the picture, input texts
--- have no hidden characters. In SVG, input texts have no markup either.
+-- `clean` says whether memory was sufficient for drawing every line of the script's output. Input texts have no hidden
+-- characters in the picture, and also no markup if the picture is an SVG picture.
 pub record IsPictureOf (form : Form) (db : Option (List ℕ)) (input : List ℕ) (clean : Bool) (picture : List ℕ) : Type 0 where
   pub head : List ℕ
   pub head_drawn : Draws [] head []
