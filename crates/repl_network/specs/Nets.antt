@@ -58,7 +58,7 @@ pub record IsNet (peers : List PeerValue) : Type 0 where
   pub tied : AreTied peers
   pub closed : AreClosed peers
 
--- ---- a document in all peers of a network
+-- ---- the trees of a document in all peers of a network
 
 -- In the trees of all peers, a revision of the document never has two different parents or two different contents.
 abbrev pub AllAgree : List PeerValue → Id → Type 0
@@ -97,11 +97,12 @@ LeadsEverywhere hops count = (m n : ℕ) → m < count → n < count → Leads h
 
 -- ---- guarantees
 
--- The effect of consecutive hops on a document that each plan selects and no peer has refused. The peers of the network
--- must be consistent, and the document's trees must have agreed and had complete histories. If a chain of hops leads
--- from one place to another, the second peer has all revisions of the document that the first peer had. If a chain of
--- hops leads from every place to every other place, the document is the same in all peers. After the hops, each
--- revision of the document's trees was at some peer before the hops, and the trees agree and have complete histories.
+-- The effect of consecutive hops on a document that each plan selects and no peer has refused. Before the hops, the
+-- peers of the network must be consistent, and the document's trees must agree and have complete histories. If a chain
+-- of hops leads from one place to another, the second peer has all revisions of the document that the first peer had.
+-- If a chain of hops leads from every place to every other place, the document is the same in all peers. After the
+-- hops, each revision of the document's trees was at some peer before the hops, and the trees agree and have complete
+-- histories.
 pub record Spreads (peers : List PeerValue) (hops : List Hop) (peers' : List PeerValue) (id : Id) : Type 0 where
   pub along : (m n : ℕ) (p q : PeerValue) → IsAt peers m p → IsAt peers' n q → Leads hops m n
       → (r : RevId) → has (tree_of p.db.docs id) r ≡ true → has (tree_of q.db.docs id) r ≡ true
