@@ -56,9 +56,9 @@ pub data IsRecorded (plan : Plan) (fault : Option PoolFault) (complete : Bool) (
   refused : {why : TargetFault} → fault ≡ None → complete ≡ true → conclude_answer before plan.session ≡ Err why
       → after ≡ closed before plan → IsRecorded plan fault complete before after (faults.Refused why)
 
--- The outcome of a run before the run stores the session's entry at the source, and the outcome afterwards. A run that
--- was successful so far returns `Memory` if the allocation for the entry fails. If a run had failed already, the run's
--- error does not change.
+-- The arguments of `UnlessMemory` are the outcomes of a run before and after the run stores the session's entry at the
+-- source. A run that was successful so far returns `Memory` if the allocation for the entry fails. If a run had failed
+-- already, the run's error does not change.
 abbrev pub UnlessMemory : Result Report PoolFault → Result Report PoolFault → Type 0
 UnlessMemory (Ok report) result = (result ≡ Ok report) ⊎ (result ≡ Err faults.Memory)
 UnlessMemory (Err why) result = result ≡ Err why
@@ -183,7 +183,7 @@ pub record RunsOn {F : Type 0} (refuses : F → Document → Bool) (may_fill : T
   -- source.
   pub grown : LeftPeer refuses source.1 target plan target'
   -- A run's target keeps all sessions and revisions, as `IsLaterPeer` says. For every selection and all backups of the
-  -- source, consistent peers stay consistent.
+  -- source, the two peers are consistent after the run if they were consistent before.
   pub later : IsLaterPeer target.1 target'.1
   pub tied : (chosen : Choice) (backups : List BackupValue) → IsTiedWith backups source.1 target.1 chosen
       → IsTiedWith backups source'.1 target'.1 chosen
