@@ -19,8 +19,8 @@ pub record IsValue (t u : List ℕ) : Type 0 where
   pub first : is_space (slice_index t 0) ≡ false
   pub json : is_json u ≡ true
 
--- A name k without its opening quotation mark. The other parameters of `IsNamed` are whether the name is the first of
--- its object, the number d of open lists and objects, and the name's meaning.
+-- A name k without its opening quotation mark. The parameter `first` says whether k is the first name of its object, d
+-- is the number of open lists and objects, and `name` is the meaning of k.
 pub record IsNamed (wanted : Wanted) (first : Bool) (d : ℕ) (k : List ℕ) (name : Name) : Type 0 where
   pub string : EndsString k
   pub json : is_json (34 ∷ k) ≡ true

@@ -12,7 +12,7 @@ use Rattle.response_parser.specs.declared.place.Name.{Name}
 use Rattle.response_parser.specs.declared.place.Name.TheVariants as names
 use Rattle.response_parser.specs.declared.place.Found.TheVariants.{Nothing}
 
--- Whether the parser does not use its stored text at the given place.
+-- Whether the parser makes no use of its stored text at the given place.
 abbrev pub is_idle : Place → Bool
 is_idle Start = false
 is_idle Begin = false
