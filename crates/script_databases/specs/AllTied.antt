@@ -48,7 +48,8 @@ abbrev pub AreCopiesOf : State → List ℕ → List BackupValue → Type 0
 AreCopiesOf s n backups =
     (b : BackupValue) → Among b backups → (k : NamedBackupValue) × Among k s.backups × (k.db ≡ n) × (k.backup ≡ b)
 
--- For every selection, each database, as a source with its backups, is consistent with each database as a target.
+-- For every selection, each database as a source, with its backups, is consistent with each database (including itself)
+-- as a target.
 pub record AllTied (s : State) : Type 0 where
   pub known : IsKnown s
   pub tied : (n m : List ℕ) (p q : PeerValue) → peer_at s n ≡ Some p → peer_at s m ≡ Some q → (chosen : Choice)
