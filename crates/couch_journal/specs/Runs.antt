@@ -69,8 +69,8 @@ Prints response input text outcomes.NoSums = ⊥
 Prints response input text outcomes.Differs = ⊥
 Prints response input text (outcomes.Said said) = (text ≡ []) × IsNotShown response input said
 
--- A task on a response was run. After an error, the output is empty, or it is a prefix of the output for the complete
--- input. The statement `ended` says that the input was read to its end.
+-- The effect of running a task on a response. After an error, the output is empty, or it is a prefix of the output for
+-- the complete input. The statement `ended` says that the input was read to its end.
 abbrev pub RunsResponse : Response → Type 0 → List ℕ → List ℕ → Result Outcome ScriptFault → Type 0
 RunsResponse response ended input text (Ok outcome) = ended × Prints response input text outcome
 RunsResponse response ended input text (Err fault) =
@@ -78,8 +78,9 @@ RunsResponse response ended input text (Err fault) =
 
 -- ---- `seal`
 
--- The task `seal` was run. If a block can contain every line of the input, the block is sealed. If a block cannot
--- contain a line of the input, the outcome has the number, from 1, of the first such line, and the output is empty.
+-- The outcome of the task `seal`. If a block can contain every line of the input, the block is sealed. If a block
+-- cannot contain a line of the input, the outcome has the number, from 1, of the first such line, and the output is
+-- empty.
 abbrev pub Seals : List ℕ → List ℕ → List ℕ → List ℕ → Outcome → Type 0
 Seals chain seq input text outcomes.Done = IsSeal chain seq input text
 Seals chain seq input text (outcomes.Wrong line) =
@@ -95,9 +96,10 @@ RunsSeal chain seq ended input text (Err fault) = (text ≡ []) ⊎ (ended × Is
 
 -- ---- the tasks on lines
 
--- A task on lines was run. The functions `prints`, `output` and `outcome` give the text that is printed before the end
--- of the input, the complete output, and the outcome. After an error, the output is a prefix of the text for the first
--- lines of the input. If the input was read to its end, the output can be a prefix of the complete output.
+-- The effect of running a task on lines. The functions `prints`, `output` and `outcome` give the text that is printed
+-- before the end of the input, the complete output, and the outcome. After an error, the output is a prefix of the text
+-- for the first lines of the input. If the input was read to its end, the output can be a prefix of the complete
+-- output.
 abbrev pub RunsLines : (List (List ℕ) → List ℕ) → (List (List ℕ) → List ℕ → List ℕ) → (List (List ℕ) → List ℕ → Outcome)
     → Type 0 → List ℕ → List ℕ → Result Outcome ScriptFault → Type 0
 RunsLines prints output outcome ended input text (Ok result) =
@@ -108,15 +110,15 @@ RunsLines prints output outcome ended input text (Err fault) =
     × All (λ line. has_line_end line ≡ false) lines × (text ++ back ≡ prints lines))
     ⊎ (ended × ((lines : List (List ℕ)) × (rest back : List ℕ) × AreLines input lines rest × (text ++ back ≡ output lines rest)))
 
--- The task `ask` was run: the output is the request for the leaves of the input's list.
+-- The effect of running the task `ask`: the output is the request for the leaves of the input's list.
 abbrev pub RunsAsk : Type 0 → List ℕ → List ℕ → Result Outcome ScriptFault → Type 0
 RunsAsk ended input text result =
     RunsLines (λ lines. asked_items false (leaves_in lines)) (λ lines rest. ask_body (leaves_in lines))
     (λ lines rest. wrong_or (wrong_line is_wrong lines rest) outcomes.Done) ended input text result
 
--- The task `received` was run: the output has the requested documents of the response, and then the lines for the
--- request. The outcome names the first wrong line, or, if no line is wrong, says whether a requested revision was not
--- received.
+-- The effect of running the task `received`: the output has the requested documents of the response, and then the lines
+-- for the request. The outcome names the first wrong line, or, if no line is wrong, says whether a requested revision
+-- was not received.
 abbrev pub RunsReceived : Bool → Type 0 → List ℕ → List ℕ → Result Outcome ScriptFault → Type 0
 RunsReceived only ended input text result =
     RunsLines (passed_on only) (received_text only)

@@ -81,7 +81,7 @@ has_other_option n o =
 abbrev pub arguments_given : Options → ℕ
 arguments_given o = if is_some o.second then 2 else if is_some o.first then 1 else 0
 
--- An argument is the decimal numeral of a number of at most 64 bits.
+-- The given argument is a decimal numeral of the number n, which has at most 64 bits.
 abbrev pub IsNumber : Option (Bor (List ℕ)) → ℕ → Type 0
 IsNumber None n = ⊥
 IsNumber (Some text) n =
@@ -112,11 +112,11 @@ Fits named.Info o task = task ≡ tasks.Info
 abbrev pub Takes : Named → Options → Task → Type 0
 Takes n o task = (has_other_option n o ≡ false) × (arguments_given o ≡ arguments_of n) × Fits n o task
 
--- A command line names the given task.
+-- The command line with the options o names the given task.
 abbrev pub IsTaskOf : Options → Task → Type 0
 IsTaskOf o task = (n : Named) × (o.task.now ≡ word_of n) × Takes n o task
 
--- A command line names no task, or its task does not take the arguments and options.
+-- The command line with the options o names no task, or names a task that does not take the arguments and options o.
 abbrev pub IsTaskless : Options → Type 0
 IsTaskless o =
     ((n : Named) → o.task.now ≡ word_of n → ⊥)
