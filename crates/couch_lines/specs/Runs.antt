@@ -54,8 +54,8 @@ abbrev pub form_of : Bool → Form
 form_of true = Svg
 form_of false = Text
 
--- A task of `couch_lines` was run with the given result. The bytes `left` remained in the reader before the run. The
--- writer had accepted the bytes `held` before the run, and `held'` after the run.
+-- The given task of `couch_lines` was run with the given result. The bytes `left` remained in the reader before the
+-- run. The writer had accepted the bytes `held` before the run, and `held'` after the run.
 abbrev pub IsDone : Task → Option (List ℕ) → Option (List ℕ) → Option (List ℕ) → Result ℕ AnswerFault → Type 0
 IsDone task left held held' result = Converts result (wanted_of task) (words_of_task task) left held held'
 

@@ -40,7 +40,7 @@ word_of named.Leaves = codes "leaves"
 word_of named.Bulk = codes "bulk"
 word_of named.Trees = codes "trees"
 
--- An optional argument is absent, or is the name of a database.
+-- The optional argument `word` is absent, or is the name of a database.
 abbrev pub IsNamedOrNone : Option (List ℕ) → Option (List ℕ) → Type 0
 IsNamedOrNone word None = word ≡ None
 IsNamedOrNone word (Some db) = IsNamed word db
