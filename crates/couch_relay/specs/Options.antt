@@ -50,7 +50,7 @@ command_line = with_options (with_numbers (with_arguments (program_app (codes "c
 
 -- ---- option values
 
--- The text of an option is a decimal numeral of the number n. If the option has no text, n is `default`.
+-- The number n is the value of an option's text, which is a decimal numeral. If the option has no text, n is `default`.
 abbrev pub IsValue : Option Text → ℕ → ℕ → Type 0
 IsValue None default n = n ≡ default
 IsValue (Some text) default n = IsNumber 64 text n
