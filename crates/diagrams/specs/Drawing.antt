@@ -144,8 +144,8 @@ pub record IsPictureOf (form : Form) (db : Option (List ℕ)) (input : List ℕ)
   pub parts : picture ≡ (head ++ text) ++ tail
   pub safe : (shows : List ℕ) → IsSafe form (shown form (chars shows))
 
--- The call wrote a picture whose input is all remaining bytes of the reader (`left`). The writer had accepted the bytes
--- `held` before the call, and the bytes `held'` after the call.
+-- The call wrote a picture of the input, which is all remaining bytes of the reader (`left`). The writer had accepted
+-- the bytes `held` before the call, and the bytes `held'` after the call.
 pub record IsPictured (form : Form) (db : Option (List ℕ)) (clean : Bool) (left held held' : Option (List ℕ)) : Type 0 where
   pub input : List ℕ
   pub gives : Gives left input
@@ -165,8 +165,8 @@ IsDrawnUntil Write form db input text = ⊤
 IsDrawnUntil Memory form db input text = BeginsPicture (AnswersFirst Pictures (first_sketch form db) input) text
 IsDrawnUntil Cut form db input text = BeginsPicture (AnswersCut Pictures (first_sketch form db) input) text
 
--- After an error, the call has written a prefix of a picture whose input is all remaining bytes of the reader (`left`).
--- The writer had accepted the bytes `held` before the call, and the bytes `held'` after the call.
+-- The call failed, and has written a prefix of a picture of the input, which is all remaining bytes of the reader
+-- (`left`). The writer had accepted the bytes `held` before the call, and the bytes `held'` after the call.
 pub record IsPicturedUntil (fault : ScriptFault) (form : Form) (db : Option (List ℕ)) (left held held' : Option (List ℕ)) : Type 0 where
   pub input : List ℕ
   pub gives : Gives left input
