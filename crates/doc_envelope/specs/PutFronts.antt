@@ -1,4 +1,4 @@
--- The beginnings of envelopes whose documents are wrapped before they end.
+-- The beginnings of envelopes that are written before the end of the document to wrap has been read.
 use Rattle.std.specs.Prelude.{◌≡◌, ℕ, ◌<◌, ◌-◌, length, take, drop, List, [], ◌∷◌, ◌++◌, codes, true}
 use Rattle.json.specs.Print.{escape}
 use Rattle.doc_envelope.specs.Members.{Outside, Quoted, first_length, members_in}

@@ -1,5 +1,5 @@
--- Beginnings of documents whose output is written before the document ends. A run of bytes in a string is written at
--- once, and is not stored.
+-- Beginnings of documents for which output is written before the document's end is read. A run of bytes in a string is
+-- written at once, and is not stored.
 use Rattle.std.specs.Prelude.{◌≡◌, ℕ, ◌≤◌, ◌-◌, ◌&&◌, ◌==◌, nat_le, nat_lt, length, drop, List, [], ◌∷◌, ◌++◌, Bool, true, not}
 use Rattle.std.specs.List.{list_all}
 use Rattle.doc_envelope.specs.Members.{Mode, Outside, Quoted, first_length, mode_behind}
