@@ -85,13 +85,13 @@ abbrev pub AllChoose : List Hop → Id → Type 0
 AllChoose [] id = Unit {0}
 AllChoose (h ∷ hops) id = (is_chosen h.plan.chosen id ≡ true) × AllChoose hops id
 
--- A chain of hops leads from one place to another. A chain consists of some of the listed hops, in order. Each hop of a
--- chain begins at the place at which the previous hop ends.
+-- A chain of the listed hops leads from the place `from` to the place `to`. A chain consists of some of the listed
+-- hops, in order. Each hop of a chain begins at the place at which the previous hop ends.
 abbrev pub Leads : List Hop → ℕ → ℕ → Type 0
 Leads [] from to = from ≡ to
 Leads (h ∷ hops) from to = Leads hops from to ⊎ (from ≡ h.from) × Leads hops h.to to
 
--- A chain of hops leads from every place to every other place.
+-- For every two places, a chain of the listed hops leads from the first place to the second place.
 abbrev pub LeadsEverywhere : List Hop → ℕ → Type 0
 LeadsEverywhere hops count = (m n : ℕ) → m < count → n < count → Leads hops m n
 
