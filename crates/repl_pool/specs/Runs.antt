@@ -31,7 +31,7 @@ use Rattle.repl_pool.specs.Pages.{IsPaged}
 
 -- ---- end of a run
 
--- The session of a run was concluded. No worker failed or stopped, and all sent parcels were received.
+-- The session of the given run was concluded. No worker failed or stopped, and all sent parcels were received.
 pub record IsConcluded (plan : Plan) (fault : Option PoolFault) (complete : Bool) (before after : PeerValue)
     (report : Report) : Type 0 where
   pub free : fault ≡ None
