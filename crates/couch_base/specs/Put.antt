@@ -1,4 +1,4 @@
--- Storing a document, as specified in docs/PROFILE.md, "Merging" and "Sequences".
+-- This file defines the effect of storing a document, as specified in docs/PROFILE.md, "Merging" and "Sequences".
 use Rattle.std.specs.Prelude.{◌≡◌, ℕ, ◌+◌, Bool, true, false, IsTrue, nat_lt, List, Result, Ok, Err, if◌then◌else◌}
 use Rattle.rev_tree.specs.Content.{ContentValue}
 use Rattle.rev_tree.specs.Tree.{merged, merge_answer}
