@@ -1,4 +1,4 @@
--- Running the program `couch_journal` over any reader and writer.
+-- This file defines the effect of running the program `couch_journal` with any reader and any writer.
 use Rattle.std.specs.Prelude.{◌≡◌, ◌⊎◌, ◌++◌, [], ℕ, List, suc, Bool, true, false, All, Option, option_map, None, Some, Result, Ok, Err}
 use Rattle.json.specs.Json.{Json, Items}
 use Rattle.json.specs.Find.{as_array}

@@ -108,7 +108,7 @@ Fits named.Name o task = (word : Bor (List ℕ)) × (o.first ≡ Some word) × (
 Fits named.Compare o task = task ≡ tasks.Compare o.documents
 Fits named.Info o task = task ≡ tasks.Info
 
--- The named task takes the arguments and the options of a command line, and has their values.
+-- The task with the name n takes the arguments and options o, and the task `task` has the values of o (`Fits`).
 abbrev pub Takes : Named → Options → Task → Type 0
 Takes n o task = (has_other_option n o ≡ false) × (arguments_given o ≡ arguments_of n) × Fits n o task
 
