@@ -153,7 +153,7 @@ pub record IsPictured (form : Form) (db : Option (List ℕ)) (clean : Bool) (lef
   pub pictured : IsPictureOf form db input clean picture
   pub written : Appends held held' picture
 
--- A text is the start of a picture, followed by drawings for which the condition `holds` is true.
+-- The given text is the start of a picture, followed by drawings for which the condition `holds` is true.
 abbrev pub BeginsPicture : (List ℕ → Type 0) → List ℕ → Type 0
 BeginsPicture holds text = (head : List ℕ) × Draws [] head [] × (drawn : List ℕ) × holds drawn × (text ≡ head ++ drawn)
 
