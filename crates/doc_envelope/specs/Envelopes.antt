@@ -1,4 +1,4 @@
--- Documents in envelopes, as specified in docs/PROFILE.md, "Documents in envelopes".
+-- This file defines the envelope of a document, as specified in docs/PROFILE.md, "Documents in envelopes".
 use Rattle.std.specs.Prelude.{ℕ, ◌&&◌, ◌||◌, List, [], ◌∷◌, ◌++◌, Bool, true, false, not, cond, codes, Option, Some, None, option_map, option_and_then, is_some}
 use Rattle.std.specs.List.{filter}
 use Rattle.std.specs.Str.{is_utf8, bytes_eq}
@@ -65,7 +65,7 @@ enveloped x = cond (is_enveloped x) (Some (envelope_of x)) None
 
 -- ---- unwrapping
 
--- A text, or `None` if it is blank.
+-- The given text, or `None` if the text is blank.
 abbrev pub if_any : List ℕ → Option (List ℕ)
 if_any t = cond (is_blank t) None (Some t)
 
