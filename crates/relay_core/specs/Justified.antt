@@ -9,8 +9,8 @@ use Rattle.relay_core.specs.Leaves.{names, are_distinct, leaf_count, docs_where,
 
 -- ---- what settles a leaf
 
--- Whether a `_revs_diff` request of documents with distinct ids names the given leaf, and the target's response does
--- not name the leaf as missing.
+-- Whether the target's response to a `_revs_diff` request shows that the target has the given leaf. The documents of
+-- the request must have distinct ids and name the leaf, and the response must not name the leaf as missing.
 abbrev pub finds : RequestView → ResponseView → Text → Text → Bool
 finds (revs_diff docs) (missing_response missing) id leaf = are_distinct docs && (names docs id leaf && not (names missing id leaf))
 finds q r id leaf = false
