@@ -101,8 +101,8 @@ LeadsEverywhere hops count = (m n : ℕ) → m < count → n < count → Leads h
 -- peers of the network must be consistent, and the document's trees must agree and have complete histories. If a chain
 -- of hops leads from one place to another, the second peer has all revisions of the document that the first peer had.
 -- If a chain of hops leads from every place to every other place, the document is the same in all peers. After the
--- hops, each revision of the document's trees was at some peer before the hops, and the trees agree and have complete
--- histories.
+-- hops, the document's trees agree and have complete histories, and each revision in these trees was at some peer
+-- before the hops.
 pub record Spreads (peers : List PeerValue) (hops : List Hop) (peers' : List PeerValue) (id : Id) : Type 0 where
   pub along : (m n : ℕ) (p q : PeerValue) → IsAt peers m p → IsAt peers' n q → Leads hops m n
       → (r : RevId) → has (tree_of p.db.docs id) r ≡ true → has (tree_of q.db.docs id) r ≡ true
