@@ -1,5 +1,5 @@
--- Responses to `_changes` and `_revs_diff`, with the leaves in them, as specified in docs/PROFILE.md, "CouchDB's
--- answers", and in CouchDB's API, "/{db}/_changes" and "/{db}/_revs_diff".
+-- The grammar of responses to `_changes` and `_revs_diff`, and the leaves in the responses, as specified in
+-- docs/PROFILE.md, "CouchDB's answers", and in CouchDB's API, "/{db}/_changes" and "/{db}/_revs_diff".
 --
 -- In this file, k is a name without its opening quotation mark, s is white space, and d is the number of open lists and
 -- objects. In this file, t is the text of a value up to the comma or brace that follows the value, and u is the same

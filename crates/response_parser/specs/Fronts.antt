@@ -1,4 +1,4 @@
--- The beginning of a long document's output, which is written before the document ends, as specified in
+-- The beginning of a long document's output, which is written before the document's end is read, as specified in
 -- docs/PROFILE.md, "Documents in envelopes".
 use Rattle.std.specs.Prelude.{◌≡◌, ℕ, ◌≤◌, nat_eq, length, List, ◌++◌, false, Some}
 use Rattle.std.specs.List.{starts_with}

@@ -1,5 +1,5 @@
--- CouchDB's responses in terms of the JSON grammar, with the documents in them, as specified in docs/PROFILE.md,
--- "CouchDB's answers". The grammar of the kit's JSON library decides whether a text is JSON (`is_json`).
+-- The grammar of CouchDB's responses, and the documents in the responses, as specified in docs/PROFILE.md, "CouchDB's
+-- answers". The grammar of the kit's JSON library decides whether a text is JSON (`is_json`).
 use Rattle.std.specs.Prelude.{◌≡◌, ℕ, ◌+◌, ◌<◌, ◌==◌, slice_index, List, [], ◌∷◌, ◌++◌, Bool, true, false, codes, Some}
 use Rattle.doc_envelope.specs.Texts.{Spaces, EndsString, Closed, is_space, is_json}
 use Rattle.doc_envelope.specs.Names.{is_log}
@@ -85,7 +85,7 @@ mutual
 
 -- ---- responses
 
--- Responses in order, with white space around them.
+-- A list of responses, in order, with white space around each response.
 pub data AreAnswers (wanted : Wanted) : List ℕ → List Piece → Type 0 where
   no_more : {s : List ℕ} → Spaces s → AreAnswers wanted s []
   of_object : (s : List ℕ) {o more : List ℕ} {ps qs : List Piece} → Spaces s → IsObject wanted 0 o ps → AreAnswers wanted more qs

@@ -1,4 +1,4 @@
--- Runs of bytes that the parser reads without storing them.
+-- This file defines the effect of runs of bytes that the parser reads, but does not store.
 use Rattle.std.specs.Prelude.{◌≡◌, ◌⊎◌, ℕ, ◌≤◌, ◌==◌, nat_eq, length, List, true, false}
 use Rattle.std.specs.List.{starts_with}
 use Rattle.doc_envelope.specs.Names.{is_log}
