@@ -1,4 +1,5 @@
--- Why a line fails, as specified in docs/PROFILE.md, "Order of checks", "Names of refusals" and "Answers".
+-- The errors with which a line of a script may fail, as specified in docs/PROFILE.md, "Order of checks", "Names of
+-- refusals" and "Answers".
 use Rattle.std.specs.Prelude.{◌≡◌, ◌⊎◌, ℕ, List, Result, Ok, Err, codes}
 use Rattle.rev_core.specs.declared.fault.RevFault.{RevFault}
 use Rattle.rev_core.specs.declared.fault.RevFault.TheVariants as rev
