@@ -81,7 +81,8 @@ has_other_option n o =
 abbrev pub arguments_given : Options → ℕ
 arguments_given o = if is_some o.second then 2 else if is_some o.first then 1 else 0
 
--- The given argument is a decimal numeral of the number n, which has at most 64 bits.
+-- The given argument consists of an optional plus sign and the decimal digits of the number n, which has at most 64
+-- bits.
 abbrev pub IsNumber : Option (Bor (List ℕ)) → ℕ → Type 0
 IsNumber None n = ⊥
 IsNumber (Some text) n =
