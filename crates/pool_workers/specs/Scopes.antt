@@ -1,4 +1,4 @@
--- This file defines what is known before the threads of a run are started, and after all threads have ended, as
+-- This file defines what the threads of a run have at their start, and what is known after all threads have ended, as
 -- specified in docs/PROFILE.md, "The pool".
 use Rattle.std.specs.Prelude.{◌≡◌, ◌≤◌, ℕ, List, [], Option, IfSome, vec_capacity}
 use Rattle.crossbeam_channel.specs.Claims.{view, IsSeatAt}
