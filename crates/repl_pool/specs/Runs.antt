@@ -153,9 +153,9 @@ LeavesOrPuts plan source target source' target' outcome =
 
 -- The guarantees of a successful run. A successful run returns the report of the plan's session, which began at the
 -- common checkpoint and has recorded the source's update sequence. After a successful run, the target covers the
--- source's selected feed above the common checkpoint. If the target was empty and refused no document, each selected
--- document is the same on both sides. After a successful run, the fetchers' counts add up to the number of documents
--- read.
+-- source's selected feed above the common checkpoint. If the target was empty before the run and refused no document,
+-- each selected document is the same at the source and at the target after the run. After a successful run, the
+-- fetchers' counts add up to the number of documents read.
 pub record EndsWell (source target target' : PeerValue) (plan : Plan) (n : ℕ) (report : Report) : Type 0 where
   pub reported : IsReported source target target' plan report
   pub covered : CoversFrom source target' plan.chosen (start_between source target plan.chosen)
