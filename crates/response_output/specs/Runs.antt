@@ -58,9 +58,9 @@ RestBreaks (Device fault) s w front held held' =
     (starts_with nat_eq s.text front ≡ true) × WritesInPart fault (rest_text w s.text (length front)) held held'
 
 -- A device or an allocation failed after `before`, a prefix of the given bytes. The output for `before` consists of the
--- texts of the items in `before`, and the beginning `last` of the next item. The output for `before` has three parts:
--- `part`, which was written before the given bytes were read; `text`, which was written later; and `missing`, which was
--- not written. The text `missing` is empty, unless a write failed.
+-- texts of the items in `before`, and the beginning `last` of the next item. The output for `before` consists of the
+-- texts `part`, `text` and `missing`. The text `part` was written before the given bytes were read, `text` was written
+-- later, and `missing` was not written. The text `missing` is empty, unless a write failed.
 pub record Begins (fault : ScriptFault) (s : State) (w : Words) (part bytes : List ℕ) (held held' : Option (List ℕ)) : Type 0 where
   pub before : List ℕ
   pub behind : List ℕ
