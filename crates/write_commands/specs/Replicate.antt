@@ -246,7 +246,7 @@ StopsIfAsked options (Stopped low_water) = options.alone ≡ true → (most : �
 StopsIfAsked options ending = Unit {0}
 
 -- The errors with which a `replicate` line may fail: `NoDatabase`, `BadMoment`, the error of an invalid selection, and
--- the errors that `Fails` lists, which include `Memory`.
+-- those that `Fails` lists. `Fails` also lists `Memory`.
 abbrev pub MayFail : ReplicateAsk → Refusal → Type 0
 MayFail ask refusal =
     (refusal ≡ why.NoDatabase) ⊎ (refusal ≡ why.BadMoment) ⊎ (choice_given ask.doc_ids ≡ Err refusal)
