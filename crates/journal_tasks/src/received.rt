@@ -38,8 +38,9 @@ struct Doc {
 type Docs = IndexMap<String, Doc>;
 
 /// The input of the task `received` is the requested leaves, an empty line, and the received documents. The task prints
-/// the requested documents. For each line of the request, the task prints a state line, and a lacks line if a leaf was
-/// not received. With `only_lacks` the task prints only the lacks lines. The task holds the request in memory.
+/// the requested documents. For each line of the request, the task prints a state line with the received leaves, and a
+/// lacks line with the requested leaves if a leaf was not received. With `only_lacks`, the task prints no documents, and
+/// only state lines with the leaves that were not received. The task holds the request in memory.
 #[derive(Drop)]
 pub struct Received {
     alloc: Global,
