@@ -116,9 +116,8 @@ RunsAsk ended input text result =
     RunsLines (λ lines. asked_items false (leaves_in lines)) (λ lines rest. ask_body (leaves_in lines))
     (λ lines rest. wrong_or (wrong_line is_wrong lines rest) outcomes.Done) ended input text result
 
--- The effect of running the task `received`: the output has the requested documents of the response, and then the lines
--- for the request. The outcome names the first wrong line, or, if no line is wrong, says whether a requested revision
--- was not received.
+-- The task `received` was run. Unless `only` is true, the output begins with the requested documents of the response.
+-- If no line is wrong, the lines for the request follow, and a missing revision determines the outcome.
 abbrev pub RunsReceived : Bool → Type 0 → List ℕ → List ℕ → Result Outcome ScriptFault → Type 0
 RunsReceived only ended input text result =
     RunsLines (passed_on only) (received_text only)
