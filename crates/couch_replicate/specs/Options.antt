@@ -53,7 +53,7 @@ Says words o = AreOptions (λ id. first_of id (matches_of options words)) (λ id
 
 -- ---- arguments without settings
 
--- The reason why the texts of the options give no settings, which is one of three: texts that no settings match, a
+-- The reason why the texts of the options give no settings. The reason is one of three: texts that no settings match, a
 -- positional argument, or a failed allocation.
 abbrev pub SetNothing : (List ℕ → Option (List ℕ)) → (List ℕ → Option (List ℕ)) → NoSettings → Type 0
 SetNothing text number (Words error) = ⊥
