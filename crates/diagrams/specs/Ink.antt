@@ -102,9 +102,9 @@ pub data Sign : Type 0 where
   log : Form → List ℕ → Sign
   -- A piece of a picture that shows the start time of a session.
   moment : Form → List ℕ → Sign
-  -- A piece of a picture that shows the bar of a session in a log. The three numbers are the number of documents that
-  -- the session wrote, the number of documents that the session read, and the greatest number of documents that one
-  -- session of the log read.
+  -- A piece of a picture that shows the bar of a session in a log. The first two numbers are the numbers of documents
+  -- that the session wrote and read. The third number is the greatest number of documents that one session of the log
+  -- read.
   chart : Form → ℕ → ℕ → ℕ → Sign
 
 abbrev pub leaf_ink : Form → RevId → Bool → Bool → List ℕ
