@@ -70,8 +70,8 @@ abbrev pub newest_common : List EntryView → List EntryView → Option (Text ×
 newest_common [] source = None
 newest_common (e ∷ target) source = if has_pair source e.session e.seq then Some (e.session, e.seq) else newest_common target source
 
--- The sequence at which a window begins, given the newest pair of session and sequence that is in both logs: the
--- sequence of this pair, or 0 if there is no such pair.
+-- A window begins at the sequence of the newest pair of session and sequence in both logs, or at 0 if there is no such
+-- pair.
 abbrev pub seq_of : Option (Text × Text) → Text
 seq_of None = codes "0"
 seq_of (Some pair) = pair.1
