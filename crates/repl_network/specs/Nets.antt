@@ -58,7 +58,7 @@ pub record IsNet (peers : List PeerValue) : Type 0 where
   pub tied : AreTied peers
   pub closed : AreClosed peers
 
--- ---- the trees of a document in all peers of a network
+-- ---- the trees of a document
 
 -- In the trees of all peers, a revision of the document never has two different parents or two different contents.
 abbrev pub AllAgree : List PeerValue → Id → Type 0
