@@ -126,7 +126,7 @@ abbrev pub agreed : WorldValue → List EntryValue → Option (SessionId × ℕ)
 agreed w log = common log (target_log w.target (rep_of w))
 
 -- The parameters of a new session of the target. A new session begins at the common checkpoint of the target's log and
--- a log in the bag, and has the life that is stored with the log in the bag.
+-- a log in the bag. The session has the life that is stored with the log in the bag.
 abbrev pub beginning_in : WorldValue → ℕ → ℕ × List EntryValue → Beginning
 beginning_in w goal log = record {
   scope = record { rep = rep_of w; life = log.0; base = base_at (agreed w log.1); goal = goal };
