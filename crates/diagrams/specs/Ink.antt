@@ -256,8 +256,8 @@ counts_of (c ∷ cs) (n ∷ ns) = count c n ∷ counts_of cs ns
 counts_of cs ns = []
 
 -- The bar that a picture shows after the numbers of a line, if there is one. For a line of `compare`, the filled part
--- of the bar represents the compared leaves that the target has. For a line of a session, the filled part of the bar
--- represents the documents written, of all documents read. A line of `info` has no bar.
+-- of the bar represents the compared leaves that the target has. For a line of a session, the complete bar represents
+-- the documents read, and the filled part represents the documents written. A line of `info` has no bar.
 abbrev pub bars_of : Form → Table → List ℕ → List Sign
 bars_of form tables.Compared ns = bar form (get_or ns 1 0 - get_or ns 2 0) (get_or ns 1 0) ∷ []
 bars_of form tables.Info ns = []
