@@ -1,4 +1,4 @@
--- The beginnings of documents that are written before the end of the envelope to unwrap has been read.
+-- Beginnings of a document that are written before the end of the document's envelope is read.
 use Rattle.std.specs.Prelude.{◌≡◌, ℕ, ◌<◌, length, drop, List, [], ◌∷◌, ◌++◌, codes, false, Some}
 use Rattle.doc_envelope.specs.Members.{Outside, first_length, is_blank, members_in}
 use Rattle.doc_envelope.specs.Envelopes.{string_of}
