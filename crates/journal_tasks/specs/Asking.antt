@@ -16,7 +16,7 @@ asked_items begun [] = []
 asked_items begun (leaf ∷ leaves) =
     (if begun then codes "," else codes "{\"docs\":[") ++ asked_leaf leaf ++ asked_items true leaves
 
--- Whether a request has begun after items for the given leaves.
+-- Whether a request has begun after the items for the given leaves were added.
 abbrev pub has_begun : Bool → List (List ℕ × List ℕ) → Bool
 has_begun begun [] = begun
 has_begun begun (leaf ∷ leaves) = true

@@ -8,7 +8,7 @@ use Rattle.journal_tasks.specs.declared.count.Count.{Count}
 abbrev pub failed : Option ℕ → ℕ → Option ℕ
 failed before number = option_or before (Some number)
 
--- The number of the first wrong line of an input, with the bytes `rest` after its `count` lines.
+-- The number of the first wrong line of an input, which has `count` lines and then the bytes `rest`.
 abbrev pub failed_end : Option ℕ → ℕ → List ℕ → Option ℕ
 failed_end before count rest = if nat_eq (length rest) 0 then before else failed before (count + 1)
 
