@@ -4,7 +4,8 @@ use Rattle.std.specs.Prelude.{ℕ}
 use Rattle.clap.specs.declared.error.kind.ErrorKind.{ErrorKind}
 use Rattle.clap.specs.declared.error.kind.ErrorKind.TheVariants.{DisplayHelp, DisplayVersion, OutOfMemory}
 
--- The exit status for an error of `clap`. A request for help or for the version is an error with the exit status 0.
+-- The exit status for an error of `clap`. For a request for help or for the version, which `clap` reports as an error,
+-- the exit status is 0.
 abbrev pub kind_status : ErrorKind → ℕ
 kind_status OutOfMemory = 3
 kind_status DisplayHelp = 0

@@ -24,7 +24,7 @@ IsFlag text flag =
     ((text ≡ None) → flag ≡ false) × ((text ≡ Some (codes "true")) → flag ≡ true)
     × ((text ≡ Some (codes "false")) → flag ≡ false)
 
--- For each argument, the result of `clap` has the argument's first value in the command line `words`: the value as
+-- For each argument, the result m of `clap` has two values from the command line `words`: the argument's first value as
 -- given, and the value that `get_one` and `get_flag` read.
 abbrev pub IsFound : App → List (List ℕ) → ArgMatches → Type 0
 IsFound line words m =

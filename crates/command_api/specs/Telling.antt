@@ -18,7 +18,7 @@ abbrev pub told_of : Result (List ℕ) Refusal → Told
 told_of (Ok text) = Ok text
 told_of (Err refusal) = Err (name_of refusal)
 
--- A script's line fails with a given error, and leaves the script's state unchanged.
+-- The given line of a script fails with the given error, and leaves the script's state unchanged.
 abbrev pub Refuses : Refusal → State → Told → State → Type 0
 Refuses refusal old told new = (told ≡ Err (name_of refusal)) × (new ≡ old)
 
@@ -28,11 +28,11 @@ abbrev pub AnswersIn : {L : Type 0} → Answering State L → Answering State (R
 AnswersIn answers old (Ok ask) told new = answers old ask told new
 AnswersIn answers old (Err refusal) told new = Refuses refusal old told new
 
--- A script's line has a given result, and leaves the script's state unchanged.
+-- The given line of a script has the given result, and leaves the script's state unchanged.
 abbrev pub Reads : Result (List ℕ) Refusal → State → Told → State → Type 0
 Reads text old told new = (told ≡ told_of text) × (new ≡ old)
 
--- A script's line prints the given output and leads to the given state, or the line fails with the given error and
+-- The given line of a script prints the given output and leads to the given state, or fails with the given error and
 -- leaves the state unchanged.
 abbrev pub Does : Result (List ℕ × State) Refusal → State → Told → State → Type 0
 Does (Ok done) old told new = (told ≡ Ok done.0) × (new ≡ done.1)
@@ -46,8 +46,8 @@ abbrev pub told_hushed : Bool → Told → Told
 told_hushed quiet (Ok text) = Ok (hushed quiet text)
 told_hushed quiet (Err name) = Err name
 
--- A line's result is a result that the relation `answers` allows. If the program is quiet, the output of a successful
--- line is removed from the result.
+-- The result `told` of a line is one that the relation `answers` allows. If the program is quiet, the output of a
+-- successful line is removed from this result.
 abbrev pub UnlessQuiet : {L : Type 0} → Answering State L → Answering State L
 UnlessQuiet answers old ask told new =
     (loud : Told) × answers old ask loud new × (told ≡ told_hushed old.program.quiet loud)

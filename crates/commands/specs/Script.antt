@@ -11,11 +11,11 @@ use Rattle.script_databases.specs.declared.refusal.Refusal.TheVariants as why
 use Rattle.command_api.specs.Telling.{AnswersIn}
 use Rattle.commands.specs.words.{Asked, asked_in, WordsAnswer}
 
--- A script's line is the JSON object with members `ms`.
+-- The text `line` is the JSON object with the members `ms`.
 abbrev pub IsObject : List ℕ → Members → Type 0
 IsObject line ms = IsUtf8 line × (read line ≡ Some (object ms))
 
--- A script's line is not a JSON object.
+-- The text `line` is not a JSON object.
 abbrev pub IsNoObject : List ℕ → Type 0
 IsNoObject line = (ms : Members) → IsObject line ms → ⊥
 

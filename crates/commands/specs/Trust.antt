@@ -19,8 +19,8 @@ IsTrusted (sync ask) told new = IsMet new ask told
 IsTrusted (restore ask) told new = IsRestored told
 IsTrusted ask told new = Unit {0}
 
--- The results that a script's line may have, with the guarantees of a script. All databases of a script are consistent
--- with each other before and after a line, and the line's output satisfies `IsTrusted`.
+-- The results that a script's line may have, together with the guarantees that hold for every script. All databases of
+-- a script are consistent with each other before and after a line, and the line's output satisfies `IsTrusted`.
 abbrev pub TrustedLines : Answering State (List ℕ)
 TrustedLines old line told new =
     (asked : Result Asked Refusal) × Asks line asked × AnswersAsked old asked told new × AllTied old × AllTied new

@@ -31,8 +31,8 @@ edit_id before deleted body = named faults.GenerationFull (edit_rev before delet
 abbrev pub edit_revs : Option RevId → Bool → List ℕ → Result (List RevId) BaseFault
 edit_revs before deleted body = edit_id before deleted body >>= λ rev. Ok (rev ∷ option_to_list before)
 
--- The new revision of an edit and the revision's parent, or the edit's error. `edited` does not check whether a
--- sequence is left.
+-- The new revision of an edit and the revision's parent, or the edit's error. The function `edited` does not check
+-- whether the database has an unused sequence.
 abbrev pub edited : DatabaseValue → Id → Option RevId → Bool → List ℕ → Result (RevId × Option RevId) BaseFault
 edited db id parent deleted body = do
   before ← parent_answer (tree_in db.docs id) parent

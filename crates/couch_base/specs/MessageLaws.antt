@@ -1,4 +1,4 @@
--- Requests for revisions, and parcels, satisfy their invariants.
+-- Lemmas: a request for revisions satisfies the invariant of requests, and a parcel satisfies the invariant of parcels.
 use Rattle.std.specs.Prelude.{◌≡◌, ℕ, zero, suc, true, false, not, ◌&&◌, ◌||◌, List, [], ◌∷◌, ◌++◌, map, refl}
 use Rattle.std.proofs.Common.{ap, sym, ◌∙◌, inl, inr, arith}
 use Rattle.std.proofs.lemmas.Bool.{or_right, false≢true, cases_Bool, or_left, or_cases, and_from, or_parts, and_left}

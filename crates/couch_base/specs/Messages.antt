@@ -1,5 +1,5 @@
--- Requesting missing revisions, and fetching them, as specified in docs/PROFILE.md, "Missing revisions" and "Fetching",
--- and CouchDB, "Replication Protocol", `_revs_diff`, and a fetch with `latest`.
+-- Requests for missing revisions, and fetched parcels, as specified in docs/PROFILE.md, "Missing revisions" and
+-- "Fetching", and in CouchDB, "Replication Protocol", `_revs_diff`, and a fetch with `latest`.
 use Rattle.std.specs.Prelude.{◌≡◌, ℕ, ◌<◌, Bool, true, false, ◌&&◌, ◌||◌, List, [], ◌∷◌, ◌++◌, map, length, Option, refl}
 use Rattle.std.specs.Coded.{Coded, code_by, coded×, coded_ℕ, coded_list}
 use Rattle.std.specs.List.{list_any, list_all, AllByRecursion}

@@ -1,4 +1,4 @@
--- Storing a document, as specified in docs/PROFILE.md, "Merging" and "Sequences".
+-- This file defines the effect of storing a document, as specified in docs/PROFILE.md, "Merging" and "Sequences".
 use Rattle.std.specs.Prelude.{◌≡◌, ℕ, ◌+◌, Bool, true, false, IsTrue, nat_lt, List, Result, Ok, Err, if◌then◌else◌}
 use Rattle.rev_tree.specs.Content.{ContentValue}
 use Rattle.rev_tree.specs.Tree.{merged, merge_answer}
@@ -19,7 +19,8 @@ is_change (Ok merges.Changed) = true
 is_change (Ok merges.Same) = false
 is_change (Err c) = false
 
--- The result of a put, given the result of the merge, whether a sequence is left, and the next sequence.
+-- The result of a put, computed from three arguments: the result of the merge, whether the database has an unused
+-- sequence, and the next sequence.
 abbrev pub put_told : Result Merged Contradiction → Bool → ℕ → Result Put BaseFault
 put_told (Err c) room next = Err (faults.Contradiction c.child c.known c.given)
 put_told (Ok merges.Same) room next = Ok answers.Same
@@ -45,8 +46,8 @@ PutGives result expected = result ≡ expected
 abbrev pub content_of : Bool → List ℕ → ContentValue
 content_of deleted body = record { deleted = deleted; body = body }
 
--- The database after a put of document d. If the merge of a put changes the document's tree and a sequence is left, the
--- document has the merged tree after the put.
+-- The database after a put of document d. If the merge of a put changes the document's tree and the database has an
+-- unused sequence, the document has the merged tree after the put.
 abbrev pub after_put : DatabaseValue → Document → Origin → DatabaseValue
 after_put db d o =
     if is_changed (put_answer db d) then with_tree db d.id

@@ -1,4 +1,4 @@
--- Trees of new documents. The trees are prepared before the documents are settled.
+-- This file defines the prepared trees of new documents, which are built before the documents are settled.
 use Rattle.std.specs.Prelude.{◌≡◌, ℕ, List, Option, Some, slice_get}
 use Rattle.rev_tree.specs.Tree.{merged, no_revisions}
 use Rattle.rev_tree.specs.declared.origin.Origin.TheVariants.{Feed}

@@ -155,7 +155,7 @@ Sets g h id k = (q : Id) → h q ≡ cond (bytes_eq id q) (Some k) (g q)
 abbrev pub feed_without : Id → List (ℕ × Id) → List (ℕ × Id)
 feed_without id index = filter (λ e. not (bytes_eq e.1 id)) index
 
--- The effect on a table of a change of one document. The change takes the next sequence.
+-- The effect on the table of a database if one document changes. The change takes the next sequence.
 pub record IsWritten (old new : TableValue) (id : Id) (tree : TreeValue) : Type 0 where
   pub kept : IsKept new
   pub value : (uuid life : ℕ) → database_of uuid life new ≡ with_tree (database_of uuid life old) id tree

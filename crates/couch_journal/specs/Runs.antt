@@ -1,4 +1,4 @@
--- Running the program `couch_journal` over any reader and writer.
+-- This file defines the effect of running the program `couch_journal` with any reader and any writer.
 use Rattle.std.specs.Prelude.{◌≡◌, ◌⊎◌, ◌++◌, [], ℕ, List, suc, Bool, true, false, All, Option, option_map, None, Some, Result, Ok, Err}
 use Rattle.json.specs.Json.{Json, Items}
 use Rattle.json.specs.Find.{as_array}
@@ -34,15 +34,15 @@ use Rattle.couch_journal.specs.declared.options.NoTask.TheVariants.{Words, Unkno
 
 -- ---- the tasks on responses
 
--- A JSON value is the response that a task reads. The task prints `text`, and `refused` is true exactly if the response
--- says that a document was rejected.
+-- The JSON value j is the response that a task reads. The task prints `text`, and `refused` is true exactly if the
+-- response says that a document was rejected.
 abbrev pub Shows : Response → Json → List ℕ → Bool → Type 0
 Shows (Page several) j text refused = (page_in several j ≡ Some text) × (refused ≡ false)
 Shows Refused j text refused =
     (entries : Items) × (as_array j ≡ Some entries) × (text ≡ refused_text entries) × (refused ≡ any_refused entries)
 Shows Info j text refused = (is_info j ≡ true) × (text ≡ info_text j) × (refused ≡ false)
 
--- A JSON value is not the response that a task reads.
+-- The JSON value j is not the response that a task reads.
 abbrev pub ShowsNothing : Response → Json → Type 0
 ShowsNothing (Page several) j = page_in several j ≡ None
 ShowsNothing Refused j = as_array j ≡ None
@@ -69,8 +69,8 @@ Prints response input text outcomes.NoSums = ⊥
 Prints response input text outcomes.Differs = ⊥
 Prints response input text (outcomes.Said said) = (text ≡ []) × IsNotShown response input said
 
--- A task on a response was run. After an error, the output is empty, or it is a prefix of the output for the complete
--- input. The statement `ended` says that the input was read to its end.
+-- The effect of running a task on a response. After an error, the output is empty, or it is a prefix of the output for
+-- the complete input. The statement `ended` says that the input was read to its end.
 abbrev pub RunsResponse : Response → Type 0 → List ℕ → List ℕ → Result Outcome ScriptFault → Type 0
 RunsResponse response ended input text (Ok outcome) = ended × Prints response input text outcome
 RunsResponse response ended input text (Err fault) =
@@ -78,8 +78,9 @@ RunsResponse response ended input text (Err fault) =
 
 -- ---- `seal`
 
--- The task `seal` was run. A block that can contain every line of the input is sealed. Otherwise the outcome has the
--- number, from 1, of the first line that a block cannot contain, and the output is empty.
+-- The outcome of the task `seal`. If a block can contain every line of the input, the block is sealed. If a block
+-- cannot contain a line of the input, the outcome has the number, from 1, of the first such line, and the output is
+-- empty.
 abbrev pub Seals : List ℕ → List ℕ → List ℕ → List ℕ → Outcome → Type 0
 Seals chain seq input text outcomes.Done = IsSeal chain seq input text
 Seals chain seq input text (outcomes.Wrong line) =
@@ -95,9 +96,10 @@ RunsSeal chain seq ended input text (Err fault) = (text ≡ []) ⊎ (ended × Is
 
 -- ---- the tasks on lines
 
--- A task on lines was run. The functions `prints`, `output` and `outcome` give the text that is printed before the end
--- of the input, the complete output, and the outcome. After an error, the output is a prefix of the text for the first
--- lines of the input. If the input was read to its end, the output can be a prefix of the complete output.
+-- The effect of running a task on lines. The functions `prints`, `output` and `outcome` give the text that is printed
+-- before the end of the input, the complete output, and the outcome. After an error, the output is a prefix of the text
+-- for the first lines of the input. If the input was read to its end, the output can be a prefix of the complete
+-- output.
 abbrev pub RunsLines : (List (List ℕ) → List ℕ) → (List (List ℕ) → List ℕ → List ℕ) → (List (List ℕ) → List ℕ → Outcome)
     → Type 0 → List ℕ → List ℕ → Result Outcome ScriptFault → Type 0
 RunsLines prints output outcome ended input text (Ok result) =
@@ -108,14 +110,15 @@ RunsLines prints output outcome ended input text (Err fault) =
     × All (λ line. has_line_end line ≡ false) lines × (text ++ back ≡ prints lines))
     ⊎ (ended × ((lines : List (List ℕ)) × (rest back : List ℕ) × AreLines input lines rest × (text ++ back ≡ output lines rest)))
 
--- The task `ask` was run: the output is the request for the leaves of the input's list.
+-- The effect of running the task `ask`: the output is the request for the leaves of the input's list.
 abbrev pub RunsAsk : Type 0 → List ℕ → List ℕ → Result Outcome ScriptFault → Type 0
 RunsAsk ended input text result =
     RunsLines (λ lines. asked_items false (leaves_in lines)) (λ lines rest. ask_body (leaves_in lines))
     (λ lines rest. wrong_or (wrong_line is_wrong lines rest) outcomes.Done) ended input text result
 
--- The task `received` was run. Unless `only` is true, the output begins with the requested documents of the response.
--- If no line is wrong, the lines for the request follow, and a missing revision determines the outcome.
+-- The effect of running the task `received`. Unless `only` is true, the output begins with the requested documents of
+-- the response. If no line is wrong, the lines for the request follow, and the outcome says whether a requested
+-- revision was not received.
 abbrev pub RunsReceived : Bool → Type 0 → List ℕ → List ℕ → Result Outcome ScriptFault → Type 0
 RunsReceived only ended input text result =
     RunsLines (passed_on only) (received_text only)
@@ -123,7 +126,8 @@ RunsReceived only ended input text result =
 
 -- ---- the tasks
 
--- The input, the output and the result of a task. The results of the tasks in the last case have no contract.
+-- The input, the output and the result of a task. For the tasks of the last case, every output and every result is
+-- allowed.
 abbrev pub RunsTask : Task → Options → Type 0 → List ℕ → List ℕ → Result Outcome ScriptFault → Type 0
 RunsTask (tasks.Page several) o ended input text result = RunsResponse (Page several) ended input text result
 RunsTask tasks.Refused o ended input text result = RunsResponse Refused ended input text result

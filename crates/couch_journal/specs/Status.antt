@@ -16,7 +16,7 @@ abbrev pub wrong_or : Option ℕ → Outcome → Outcome
 wrong_or (Some line) otherwise = Wrong line
 wrong_or None otherwise = otherwise
 
--- The outcome of a task, by whether it found that something is missing.
+-- The outcome of a task, given whether the task found that something is missing.
 abbrev pub missing_or_done : Bool → Outcome
 missing_or_done true = Missing
 missing_or_done false = Done

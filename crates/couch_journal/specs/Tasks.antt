@@ -81,14 +81,15 @@ has_other_option n o =
 abbrev pub arguments_given : Options → ℕ
 arguments_given o = if is_some o.second then 2 else if is_some o.first then 1 else 0
 
--- An argument is the decimal numeral of a number of at most 64 bits.
+-- The given argument consists of an optional plus sign and the decimal digits of the number n, which has at most 64
+-- bits.
 abbrev pub IsNumber : Option (Bor (List ℕ)) → ℕ → Type 0
 IsNumber None n = ⊥
 IsNumber (Some text) n =
     IsNumeral 10 (without_leading_plus text.now) × (digits_value 10 (without_leading_plus text.now) < 2 ^ 64)
     × (n ≡ digits_value 10 (without_leading_plus text.now))
 
--- A task has the arguments and the options of a command line that names it.
+-- The task `task` has the given name, and the values of the arguments and options o.
 abbrev pub Fits : Named → Options → Task → Type 0
 Fits named.Page o task = task ≡ tasks.Page o.several
 Fits named.Ask o task = task ≡ tasks.Ask
@@ -108,15 +109,15 @@ Fits named.Name o task = (word : Bor (List ℕ)) × (o.first ≡ Some word) × (
 Fits named.Compare o task = task ≡ tasks.Compare o.documents
 Fits named.Info o task = task ≡ tasks.Info
 
--- The named task takes the arguments and the options of a command line, and has their values.
+-- The task with the name n takes the arguments and options o, and the task `task` has the values of o (`Fits`).
 abbrev pub Takes : Named → Options → Task → Type 0
 Takes n o task = (has_other_option n o ≡ false) × (arguments_given o ≡ arguments_of n) × Fits n o task
 
--- A command line names the given task.
+-- The command line with the options o names the given task.
 abbrev pub IsTaskOf : Options → Task → Type 0
 IsTaskOf o task = (n : Named) × (o.task.now ≡ word_of n) × Takes n o task
 
--- A command line names no task, or its task does not take the arguments and options.
+-- The command line with the options o names no task, or names a task that does not take the arguments and options o.
 abbrev pub IsTaskless : Options → Type 0
 IsTaskless o =
     ((n : Named) → o.task.now ≡ word_of n → ⊥)

@@ -54,16 +54,16 @@ abbrev pub form_of : Bool → Form
 form_of true = Svg
 form_of false = Text
 
--- A task of `couch_lines` was run with the given result. The bytes `left` remained in the reader before the run. The
--- writer had accepted the bytes `held` before the run, and `held'` after the run.
+-- The given task of `couch_lines` was run with the given result. The bytes `left` remained in the reader before the
+-- run. The writer had accepted the bytes `held` before the run, and `held'` after the run.
 abbrev pub IsDone : Task → Option (List ℕ) → Option (List ℕ) → Option (List ℕ) → Result ℕ AnswerFault → Type 0
 IsDone task left held held' result = Converts result (wanted_of task) (words_of_task task) left held held'
 
 -- The guarantees of a task if its input has the form that the task expects. A `load` task writes a `load` line for each
 -- document in CouchDB responses, in order, with the document's text or envelope. The tasks `ids` and `diff` write each
--- leaf of a response into a request body. A task whose input is script output writes the input's documents into request
--- bodies, or a `doc` line for each leaf of the input's changes. A task does not reject input of the expected form. If a
--- task returns an error, the writer may have only a part of the task's output (`ReadsAnswers`).
+-- leaf of a response into a request body. If the input is the output of a script, a task writes either the input's
+-- documents into request bodies, or a `doc` line for each leaf in the input's changes. A task does not reject input of
+-- the expected form. If a task returns an error, the writer may have only a part of the task's output (`ReadsAnswers`).
 abbrev pub Makes : Task → Option (List ℕ) → Option (List ℕ) → Option (List ℕ) → Result ℕ AnswerFault → Type 0
 Makes (Load db whole) left held held' result = (answers : List ℕ) → (documents : List Piece) → left ≡ Some answers
     → IsAnswered (wanted_of (Load db whole)) answers documents → ReadsAnswers (loads_of (string_bytes db)) documents held held' result

@@ -40,7 +40,7 @@ word_of named.Leaves = codes "leaves"
 word_of named.Bulk = codes "bulk"
 word_of named.Trees = codes "trees"
 
--- An optional argument is absent, or is the name of a database.
+-- The optional argument `word` is absent, or is the name of a database.
 abbrev pub IsNamedOrNone : Option (List ℕ) → Option (List ℕ) → Type 0
 IsNamedOrNone word None = word ≡ None
 IsNamedOrNone word (Some db) = IsNamed word db
@@ -160,8 +160,8 @@ Says words task = SaysBy (text_said words) (flag_said words (codes "whole")) (fl
 abbrev pub Refused : List (List ℕ) → NoTask → Type 0
 Refused words why = RefusesBy (text_said words) (flag_said words (codes "whole")) (flag_said words (codes "svg")) why
 
--- The reason why the program runs no task: `clap` rejects the command line, the command line names no task, or an
--- allocation failed.
+-- The reason why the program runs no task, which is an error of `clap`, a command line that names no task, or a failed
+-- allocation.
 abbrev pub Refuses : List (List ℕ) → NoTask → Type 0
 Refuses words (Words error) = HasKind (fault_of command_line words) error
 Refuses words Unknown = Refused words Unknown

@@ -13,7 +13,7 @@ use Rattle.relay_core.specs.Messages.{Text}
 
 pub record HeadView : Type 0 where
   pub status : ℕ
-  -- The length of the body, as the head states.
+  -- The length of the response's body in bytes, as stated in the response's head.
   pub size : ℕ
   pub who : Option Side
   pub date : Text
@@ -50,7 +50,8 @@ pub record IsHead (line : Text) (head : HeadView) : Type 0 where
 
 -- ---- a response
 
--- The list `bytes` consists of the list `line`, which has no line feed, of a line feed, and of the list `rest`.
+-- The list `bytes` consists of the list `line`, then a line feed, and then the list `rest`. The list `line` has no line
+-- feed.
 pub record IsLine (bytes line rest : List ℕ) : Type 0 where
   pub is : bytes ≡ line ++ 10 ∷ rest
   pub one : has_line_end line ≡ false

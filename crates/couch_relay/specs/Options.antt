@@ -50,13 +50,13 @@ command_line = with_options (with_numbers (with_arguments (program_app (codes "c
 
 -- ---- option values
 
--- The text of an option is a decimal numeral of the number n. If the option has no text, n is `default`.
+-- The number n is the value of an option's text, which is a decimal numeral. If the option has no text, n is `default`.
 abbrev pub IsValue : Option Text → ℕ → ℕ → Type 0
 IsValue None default n = n ≡ default
 IsValue (Some text) default n = IsNumber 64 text n
 
--- Each field of o has the value that the text of the field's option gives. The functions `text` and `number` return the
--- text of an option, given the option's name.
+-- Each field of the options o has the value that the text of one argument or option gives. The functions `text` and
+-- `number` return the text of an option, given the option's name.
 pub record AreGiven (text number : Text → Option Text) (o : Options) : Type 0 where
   pub source : o.source.now ≡ unwrap_or (text (codes "SOURCE")) []
   pub target : o.target.now ≡ unwrap_or (text (codes "TARGET")) []
@@ -75,8 +75,8 @@ pub record AreGiven (text number : Text → Option Text) (o : Options) : Type 0 
 abbrev pub Says : List Text → Options → Type 0
 Says words o = AreGiven (λ id. first_of id (matches_of command_line words)) (λ id. one_of id (matches_of command_line words)) o
 
--- The reason why the arguments give no options: `clap` returns an error, no options have the values of the arguments,
--- or an allocation failed.
+-- The reason why the arguments give no options. The reason is one of three: an error of `clap`, arguments whose values
+-- no options have, or a failed allocation.
 abbrev pub Refuses : List Text → NoOptions → Type 0
 Refuses words (Words error) = HasKind (fault_of command_line words) error
 Refuses words NoNumber = (o : Options) → Says words o → ⊥

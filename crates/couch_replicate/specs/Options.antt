@@ -53,16 +53,16 @@ Says words o = AreOptions (λ id. first_of id (matches_of options words)) (λ id
 
 -- ---- arguments without settings
 
--- The reason why the texts of the options give no settings: no settings match the texts, there is a positional
--- argument, or an allocation failed.
+-- The reason why the texts of the options give no settings. The reason is one of three: texts that no settings match, a
+-- positional argument, or a failed allocation.
 abbrev pub SetNothing : (List ℕ → Option (List ℕ)) → (List ℕ → Option (List ℕ)) → NoSettings → Type 0
 SetNothing text number (Words error) = ⊥
 SetNothing text number NoNumber = (s : Settings) → AreSettings text number s → ⊥
 SetNothing text number File = text (codes "file") ≡ None → ⊥
 SetNothing text number Memory = Unit {0}
 
--- The reason why the arguments give no options: `clap` returns an error, no options match the arguments, there is a
--- positional argument, or an allocation failed.
+-- The reason why the arguments give no options. The reason is one of four: an error of `clap`, arguments that no
+-- options match, a positional argument, or a failed allocation.
 abbrev pub Refuses : List (List ℕ) → NoSettings → Type 0
 Refuses words (Words error) = HasKind (fault_of options words) error
 Refuses words NoNumber = (o : Options) → Says words o → ⊥

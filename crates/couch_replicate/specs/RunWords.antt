@@ -35,12 +35,12 @@ Answered program given taken held held' (Err fault) =
 
 -- The effect of a run of `couch_replicate` with the given command line. If the command line gives no settings, no byte
 -- is read or written. If the command line gives settings, a script is run with these settings. The writer has passed on
--- the script's output, unless a write failed. `Answered` is true for the reader's remaining bytes as the script's
--- input, and also for the bytes that the reads returned. If a run of a script succeeded, the script's input has ended.
--- The arguments of `RunsWords` about the reader are the remaining bytes and the bytes that the reads returned, each
--- before and after the run. A further argument of `RunsWords` says whether the reads reached the input's end. The
--- arguments of `RunsWords` about the writer are the bytes that the writer was given before and after the run, and the
--- bytes that the writer passed on.
+-- the script's output, unless a write failed. The statement `Answered` is made twice: once with the reader's remaining
+-- bytes as the script's input, and once with the bytes that the reads returned. If a run of a script succeeded, the
+-- script's input has ended. The arguments of `RunsWords` about the reader are the remaining bytes and the bytes that
+-- the reads returned, each before and after the run. A further argument of `RunsWords` says whether the reads reached
+-- the input's end. The arguments of `RunsWords` about the writer are the bytes that the writer was given before and
+-- after the run, and the bytes that the writer passed on.
 abbrev pub RunsWords : List (List ℕ) → Option (List ℕ) → Option (List ℕ) → Option (List ℕ) → Option (List ℕ) → Type 0
     → Option (List ℕ) → Option (List ℕ) → Option (List ℕ) → Ended → Type 0
 RunsWords words left left' took took' at_end held held' sent (NotRun why) =

@@ -118,7 +118,7 @@ pub record Takes (old : Sketch) (line : List ℕ) (new : Sketch) (text : List �
   pub db : new.db ≡ old.db
 
 -- The result of a line of a script's output: the drawing of the item that the line completes, or an error. After a
--- failed allocation, no document of the picture waits for further leaves.
+-- failed allocation, the picture has no open document.
 abbrev pub Pictures : Answering Sketch (List ℕ)
 Pictures old line (Ok text) new = Takes old line new text
 Pictures old line (Err name) new =
@@ -131,8 +131,8 @@ abbrev pub first_sketch : Form → Option (List ℕ) → Sketch
 first_sketch form db = record { form = form; db = db; begun = None }
 
 -- A picture of a script's output, which has a start, the drawings for the output's lines, and an end. The Boolean
--- `clean` says whether memory was sufficient for drawing every line of the script's output. In the picture, input texts
--- have no hidden characters. In SVG, input texts have no markup either.
+-- `clean` says whether memory was sufficient for drawing every line of the script's output. Input texts have no hidden
+-- characters in the picture, and also no markup if the picture is an SVG picture.
 pub record IsPictureOf (form : Form) (db : Option (List ℕ)) (input : List ℕ) (clean : Bool) (picture : List ℕ) : Type 0 where
   pub head : List ℕ
   pub head_drawn : Draws [] head []
@@ -144,8 +144,8 @@ pub record IsPictureOf (form : Form) (db : Option (List ℕ)) (input : List ℕ)
   pub parts : picture ≡ (head ++ text) ++ tail
   pub safe : (shows : List ℕ) → IsSafe form (shown form (chars shows))
 
--- The call wrote a picture whose input is all remaining bytes of the reader (`left`). The writer had accepted the bytes
--- `held` before the call, and the bytes `held'` after the call.
+-- The call wrote a picture of the input, which is all remaining bytes of the reader (`left`). The writer had accepted
+-- the bytes `held` before the call, and the bytes `held'` after the call.
 pub record IsPictured (form : Form) (db : Option (List ℕ)) (clean : Bool) (left held held' : Option (List ℕ)) : Type 0 where
   pub input : List ℕ
   pub gives : Gives left input
@@ -153,7 +153,7 @@ pub record IsPictured (form : Form) (db : Option (List ℕ)) (clean : Bool) (lef
   pub pictured : IsPictureOf form db input clean picture
   pub written : Appends held held' picture
 
--- A text is the start of a picture, followed by drawings for which the condition `holds` is true.
+-- The given text is the start of a picture, followed by drawings for which the condition `holds` is true.
 abbrev pub BeginsPicture : (List ℕ → Type 0) → List ℕ → Type 0
 BeginsPicture holds text = (head : List ℕ) × Draws [] head [] × (drawn : List ℕ) × holds drawn × (text ≡ head ++ drawn)
 
@@ -165,8 +165,8 @@ IsDrawnUntil Write form db input text = ⊤
 IsDrawnUntil Memory form db input text = BeginsPicture (AnswersFirst Pictures (first_sketch form db) input) text
 IsDrawnUntil Cut form db input text = BeginsPicture (AnswersCut Pictures (first_sketch form db) input) text
 
--- After an error, the call has written a prefix of a picture whose input is all remaining bytes of the reader (`left`).
--- The writer had accepted the bytes `held` before the call, and the bytes `held'` after the call.
+-- The call failed, and has written a prefix of a picture of the input, which is all remaining bytes of the reader
+-- (`left`). The writer had accepted the bytes `held` before the call, and the bytes `held'` after the call.
 pub record IsPicturedUntil (fault : ScriptFault) (form : Form) (db : Option (List ℕ)) (left held held' : Option (List ℕ)) : Type 0 where
   pub input : List ℕ
   pub gives : Gives left input

@@ -102,8 +102,9 @@ pub data Sign : Type 0 where
   log : Form → List ℕ → Sign
   -- A piece of a picture that shows the start time of a session.
   moment : Form → List ℕ → Sign
-  -- A piece of a picture that shows the bar of a session in a log. The numbers count the documents that the session
-  -- wrote, the documents that the session read, and the most documents that one session of the log read.
+  -- A piece of a picture that shows the bar of a session in a log. The first two numbers are the numbers of documents
+  -- that the session wrote and read. The third number is the greatest number of documents that one session of the log
+  -- read.
   chart : Form → ℕ → ℕ → ℕ → Sign
 
 abbrev pub leaf_ink : Form → RevId → Bool → Bool → List ℕ
@@ -255,8 +256,8 @@ counts_of (c ∷ cs) (n ∷ ns) = count c n ∷ counts_of cs ns
 counts_of cs ns = []
 
 -- The bar that a picture shows after the numbers of a line, if there is one. For a line of `compare`, the filled part
--- of the bar represents the compared leaves that the target has. For a line of a session, the filled part of the bar
--- represents the documents written, of all documents read. A line of `info` has no bar.
+-- of the bar represents the compared leaves that the target has. For a line of a session, the complete bar represents
+-- the documents read, and the filled part represents the documents written. A line of `info` has no bar.
 abbrev pub bars_of : Form → Table → List ℕ → List Sign
 bars_of form tables.Compared ns = bar form (get_or ns 1 0 - get_or ns 2 0) (get_or ns 1 0) ∷ []
 bars_of form tables.Info ns = []
@@ -266,7 +267,7 @@ bars_of form tables.Session ns = bar form (get_or ns 5 0) (get_or ns 4 0) ∷ []
 abbrev pub signs_of_row : Form → Table → List ℕ → List ℕ → List Sign
 signs_of_row form table name ns = heading form table name ∷ (counts_of (columns_of table) ns ++ bars_of form table ns)
 
--- The greatest of `most` and the numbers of documents that the given sessions read.
+-- The greatest number of documents that one of the given sessions read, or the number `most` if `most` is greater.
 abbrev pub most_from : ℕ → List Entry → ℕ
 most_from most [] = most
 most_from most (e ∷ es) = most_from (max most e.read) es

@@ -1,5 +1,5 @@
--- The escaping of hidden characters, and in SVG of markup characters, in an input text, as specified in
--- docs/PROFILE.md, "Pictures".
+-- This file defines how hidden characters of an input text, and in SVG also markup characters, are escaped, as
+-- specified in docs/PROFILE.md, "Pictures".
 use Rattle.std.specs.Prelude.{◌≡◌, ℕ, ◌==◌, ◌||◌, List, [], ◌∷◌, ◌++◌, Bool, true, false, if◌then◌else◌, codes}
 use Rattle.std.specs.List.{flat_map}
 use Rattle.visible_text.specs.Visible.{IsSeen, escape_of, is_hidden}

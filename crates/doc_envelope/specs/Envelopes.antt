@@ -1,4 +1,4 @@
--- Documents in envelopes, as specified in docs/PROFILE.md, "Documents in envelopes".
+-- This file defines the envelope of a document, as specified in docs/PROFILE.md, "Documents in envelopes".
 use Rattle.std.specs.Prelude.{ℕ, ◌&&◌, ◌||◌, List, [], ◌∷◌, ◌++◌, Bool, true, false, not, cond, codes, Option, Some, None, option_map, option_and_then, is_some}
 use Rattle.std.specs.List.{filter}
 use Rattle.std.specs.Str.{is_utf8, bytes_eq}
@@ -24,8 +24,8 @@ stays m =
 abbrev pub goes : List ℕ → Bool
 goes m = not (stays m)
 
--- The member of an envelope that holds the wrapped members, if there are any. Its value is one string, the members'
--- texts with commas between them.
+-- The member of an envelope that holds the wrapped members, if there are any. The value of this member `whole` is one
+-- string, which has the texts of the wrapped members with commas between them.
 abbrev pub whole_of : List (List ℕ) → List (List ℕ)
 whole_of [] = []
 whole_of (m ∷ ms) = (whole_name ++ 58 ∷ quoted (joined (m ∷ ms))) ∷ []
@@ -65,7 +65,7 @@ enveloped x = cond (is_enveloped x) (Some (envelope_of x)) None
 
 -- ---- unwrapping
 
--- A text, or `None` if it is blank.
+-- The given text, or `None` if the text is blank.
 abbrev pub if_any : List ℕ → Option (List ℕ)
 if_any t = cond (is_blank t) None (Some t)
 
@@ -73,7 +73,8 @@ if_any t = cond (is_blank t) None (Some t)
 abbrev pub string_of : List ℕ → Option (List ℕ)
 string_of t = cond (is_utf8 t) (option_and_then as_str (document t)) None
 
--- The text of an envelope's member, or the texts of the members that it holds if its name is `whole`.
+-- The text that the member m of an envelope gives to the document: the content of m's string if the name of m is
+-- `whole`, otherwise m itself.
 abbrev pub unfolded_member : List ℕ → Option (List ℕ)
 unfolded_member m = cond (has_name m whole_name) (option_and_then if_any (string_of (value_of m whole_name))) (Some m)
 

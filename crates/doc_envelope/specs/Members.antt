@@ -43,8 +43,8 @@ length_in m n (b ∷ t) = cond (ends_member m n b) 0 (length_in (mode_behind m b
 abbrev pub first_length : List ℕ → ℕ
 first_length t = length_in Outside 0 t
 
--- The texts of an object's members, from the object's remaining text up to the bracket that closes the object. The
--- first of these members begins with the text u, which comes before the remaining text.
+-- The texts of an object's members, from the object's remaining text up to the bracket that closes the object. The text
+-- of the first member begins with u, the part of this member that comes before the remaining text.
 unfoldable pub members_in : Mode → ℕ → List ℕ → List ℕ → List (List ℕ)
 members_in m n u [] = cond (length u == 0) [] (u ∷ [])
 members_in m n u (b ∷ t) =

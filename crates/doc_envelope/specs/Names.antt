@@ -1,4 +1,4 @@
--- The names of an object's members, with the quotation marks, and the values of the members.
+-- This file defines the name (with the quotation marks) and the value of a member of a JSON object.
 use Rattle.std.specs.Prelude.{ℕ, ◌==◌, nat_eq, length, drop, take, List, [], ◌∷◌, Bool, cond, codes}
 use Rattle.std.specs.List.{starts_with}
 use Rattle.doc_envelope.specs.Members.{first_length}

@@ -51,7 +51,8 @@ pub data AreIds : List ℕ → Type 0 where
   last_id : {s : List ℕ} → IsUtf8 s → AreIds (quoted s ++ 93 ∷ 125 ∷ [])
   more_ids : {s t : List ℕ} → IsUtf8 s → AreIds t → AreIds (quoted s ++ 44 ∷ t)
 
--- The text t is a number, and then the strings of the member `ids`, a list that is the last member of an object.
+-- The text t consists of a number and the member `ids` with a list of strings, up to the bracket that closes the
+-- object.
 pub record IsStarted (t : List ℕ) : Type 0 where
   pub digits : List ℕ
   pub ids : List ℕ

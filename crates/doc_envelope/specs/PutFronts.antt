@@ -1,4 +1,4 @@
--- The beginnings of envelopes whose documents are wrapped before they end.
+-- Beginnings of an envelope that are written before the end of the wrapped document is read.
 use Rattle.std.specs.Prelude.{◌≡◌, ℕ, ◌<◌, ◌-◌, length, take, drop, List, [], ◌∷◌, ◌++◌, codes, true}
 use Rattle.json.specs.Print.{escape}
 use Rattle.doc_envelope.specs.Members.{Outside, Quoted, first_length, members_in}
@@ -6,11 +6,11 @@ use Rattle.doc_envelope.specs.Names.{has_name}
 use Rattle.doc_envelope.specs.Steps.{texts_with, helds_by}
 use Rattle.doc_envelope.specs.Streams.{Front, MayStream, Opens, mode_after}
 
--- The text of an envelope without its closing brace and without its member `whole`, for the beginning s of a document.
+-- For a document's beginning s, the text of the envelope without the closing brace and without the member `whole`.
 abbrev pub made_from : List ℕ → List ℕ
 made_from s = texts_with (123 ∷ []) (members_in Outside 0 [] (drop 1 s))
 
--- The texts that an envelope stores in its string, for the beginning s of a document.
+-- For a document's beginning s, the texts that the envelope stores in the string of its member `whole`.
 abbrev pub held_from : List ℕ → List ℕ
 held_from s = helds_by [] (members_in Outside 0 [] (drop 1 s))
 

@@ -1,5 +1,5 @@
--- Beginnings of documents whose output is written before the document ends. A run of bytes in a string is written at
--- once, and is not stored.
+-- Beginnings of documents for which output is written before the document's end is read. A run of bytes in a string is
+-- written at once, and is not stored.
 use Rattle.std.specs.Prelude.{◌≡◌, ℕ, ◌≤◌, ◌-◌, ◌&&◌, ◌==◌, nat_le, nat_lt, length, drop, List, [], ◌∷◌, ◌++◌, Bool, true, not}
 use Rattle.std.specs.List.{list_all}
 use Rattle.doc_envelope.specs.Members.{Mode, Outside, Quoted, first_length, mode_behind}
@@ -23,8 +23,8 @@ pub record MayStream (s : List ℕ) : Type 0 where
   pub long : 16 ≤ length s
   pub plain : IsRun (drop (length s - 8) s)
 
--- The text t is the beginning of an object without the object's opening brace. The text u is the last part of t, from
--- the beginning of a member that does not end in t.
+-- The text t is the beginning of an object without the object's opening brace. The last member in t is incomplete, and
+-- the text u is the part of this member that is in t.
 pub data Opens : List ℕ → List ℕ → Type 0 where
   open_last : {u : List ℕ} → first_length u ≡ length u → Opens u u
   open_later : {u : List ℕ} (m t : List ℕ) → first_length (m ++ 44 ∷ t) ≡ length m → Opens t u → Opens (m ++ 44 ∷ t) u

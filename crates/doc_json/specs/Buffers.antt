@@ -1,4 +1,4 @@
--- The buffer's new content begins with its previous content.
+-- The new content of a buffer, `new`, begins with the buffer's old content, `old`.
 use Rattle.std.specs.Prelude.{◌≡◌, ℕ, List, ◌++◌}
 
 pub record Keeps (old new : List ℕ) : Type 0 where

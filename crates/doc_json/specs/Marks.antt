@@ -1,4 +1,5 @@
--- The table that rejects most ids that are not selected: crates/doc_json/README.md, "Design notes".
+-- The table by which a selection rejects most ids that are not selected, as described in crates/doc_json/README.md,
+-- "Design notes".
 use Rattle.std.specs.Prelude.{◌≡◌, ℕ, ◌+◌, ◌-◌, ◌*◌, ◌%◌, ◌<◌, Bool, true, false, List, [], ◌∷◌, length, drop, get_or}
 use Rattle.std.specs.List.{AllByRecursion}
 

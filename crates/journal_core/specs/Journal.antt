@@ -5,8 +5,8 @@ use Rattle.sha2.specs.Sha256.{sha256}
 use Rattle.hex.specs.Hex.{encode_lower}
 use Rattle.line_reader.specs.Lines.{joined}
 
--- The hash of a block: the SHA-256 of the hash before it (`chain`), its sequence, and the bytes of its lines, in
--- hexadecimal digits.
+-- The hash of a block, in hexadecimal digits: the SHA-256 of the previous hash `chain`, the block's sequence, and the
+-- bytes of the block's lines.
 unfoldable pub block_hash : List ℕ → List ℕ → List ℕ → List ℕ
 block_hash chain seq body = encode_lower (sha256 (chain ++ codes " " ++ seq ++ codes "\n" ++ body))
 

@@ -1,4 +1,4 @@
--- Reading a journal line by line.
+-- This file defines the state of a reader that reads a journal line by line.
 use Rattle.std.specs.Prelude.{◌≡◌, ℕ, ◌+◌, ◌&&◌, List, [], ◌∷◌, ◌++◌, Bool, true, false, Option, None, Some, if◌then◌else◌, bytes_eq, nat_eq, drop, length, fold}
 use Rattle.line_reader.specs.Lines.{joined}
 use Rattle.journal_core.specs.Journal.{block_hash, first_chain, first_seq, is_sum, sum_head, sum_line}
@@ -83,7 +83,8 @@ pub record IsAt (blocks : Blocks) (place : Place) : Type 0 where
 abbrev pub is_confirmed : Place → Bool
 is_confirmed place = place.whole && nat_eq (length (joined place.held)) 0
 
--- The effect of a line on a journal reader, given the places before (`place`) and after it (`place'`).
+-- The effect of a line on a journal reader, given the reader's place before the line (`place`) and after the line
+-- (`place'`).
 abbrev pub TookAs : Place → Place → List ℕ → Took → Type 0
 TookAs place place' line Held = place' ≡ held_more place line
 TookAs place place' line (Closed body) = (hash : List ℕ) × (place' ≡ closed place line hash) × (body.items ≡ joined place.held)

@@ -1,4 +1,4 @@
--- The first line of an input that has a wrong form.
+-- This file defines which line of an input is the first line with a wrong form.
 use Rattle.std.specs.Prelude.{ℕ, suc, Bool, if◌then◌else◌, nat_eq, List, [], ◌∷◌, length, Option, None, Some, option_map}
 use Rattle.std.specs.Option.{option_or}
 

@@ -17,7 +17,7 @@ texts_of texts = map string_bytes texts
 abbrev pub leaves_view : Leaves → LeavesView
 leaves_view leaves = (string_bytes leaves.seq, string_bytes leaves.id, texts_of leaves.revs.items)
 
--- The list xs after item x is inserted before its first item, or `None` if the item or the list is absent.
+-- The list xs with the item x added at the beginning, or `None` if x or xs is absent.
 abbrev pub with_first : {A : Type 0} → Option A → Option (List A) → Option (List A)
 with_first None xs = None
 with_first (Some x) None = None

@@ -18,7 +18,7 @@ seq_in (object ms) = None
 abbrev pub seq_at : List ℕ → Json → Option (List ℕ)
 seq_at name j = option_and_then seq_in (get name j)
 
--- A text, or the text `other` if there is no text.
+-- The given optional text, or the text `other` if the optional text is absent.
 abbrev pub text_or : List ℕ → Option (List ℕ) → List ℕ
 text_or other None = other
 text_or other (Some text) = text

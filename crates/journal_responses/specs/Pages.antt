@@ -1,4 +1,4 @@
--- A page of changes, and its output.
+-- This file defines the contents of a page of changes, and the output for the page.
 use Rattle.std.specs.Prelude.{ℕ, Bool, true, ◌&&◌, ◌==◌, not, nat_eq, nat_le, if◌then◌else◌, List, [], ◌++◌, Option, None, Some, option_map, option_and_then, codes, decimal, length, flat_map, fold}
 use Rattle.std.specs.List.{list_all}
 use Rattle.std.specs.Char.{is_ascii_digit}

@@ -1,4 +1,5 @@
--- Tasks that have an argument, such as an option of the command line.
+-- This file defines the steps of tasks whose effect depends on an argument, for example on an option of the command
+-- line.
 use Rattle.line_reader.specs.Tasks.{Ended, EndsBy, Kept, Steps, StepsBy}
 
 -- The effect of a line, for each value of the argument.

@@ -9,14 +9,14 @@ use Rattle.journal_tasks.specs.declared.ask.Ask.{Ask}
 abbrev pub asked_leaf : List ℕ × List ℕ → List ℕ
 asked_leaf leaf = codes "{\"id\":" ++ quoted leaf.0 ++ codes ",\"rev\":" ++ quoted leaf.1 ++ codes "}"
 
--- The items of a `_bulk_get` request for the given leaves. If the request has begun before, a comma precedes the first
--- item, and otherwise the request's beginning.
+-- The items of a `_bulk_get` request for the given leaves. If the request has already begun, a comma precedes the first
+-- item. If not, the request's beginning precedes the first item.
 abbrev pub asked_items : Bool → List (List ℕ × List ℕ) → List ℕ
 asked_items begun [] = []
 asked_items begun (leaf ∷ leaves) =
     (if begun then codes "," else codes "{\"docs\":[") ++ asked_leaf leaf ++ asked_items true leaves
 
--- Whether a request has begun after items for the given leaves.
+-- Whether a request has begun after the items for the given leaves were added.
 abbrev pub has_begun : Bool → List (List ℕ × List ℕ) → Bool
 has_begun begun [] = begun
 has_begun begun (leaf ∷ leaves) = true

@@ -8,11 +8,12 @@ use Rattle.journal_tasks.specs.declared.count.Count.{Count}
 abbrev pub failed : Option ℕ → ℕ → Option ℕ
 failed before number = option_or before (Some number)
 
--- The number of the first wrong line of an input, with the bytes `rest` after its `count` lines.
+-- The number of the first wrong line of an input, which has `count` lines and then the bytes `rest`.
 abbrev pub failed_end : Option ℕ → ℕ → List ℕ → Option ℕ
 failed_end before count rest = if nat_eq (length rest) 0 then before else failed before (count + 1)
 
--- The count after a line that was counted, if the line is wrong or not.
+-- The count after the newest counted line was checked. If this line is wrong, and no earlier line was wrong, the count
+-- records this line as the first wrong line.
 abbrev pub counted_as : Bool → Count → Count
 counted_as wrong count = if wrong then record { lines = count.lines; wrong = failed count.wrong count.lines } else count
 
@@ -22,7 +23,7 @@ abbrev pub wrong_line : {A : Type 0} → (A → Bool) → List A → List ℕ �
 wrong_line test lines rest =
     option_map suc (option_or (first_index test lines) (if nat_eq (length rest) 0 then None else Some (length lines)))
 
--- The stored count of the given lines, of which those that pass the test are wrong.
+-- The value `count` is the stored count of the given lines, and a line is wrong if its item passes the test.
 pub record IsCounting {A : Type 0} (test : A → Bool) (lines : List A) (count : Count) : Type 0 where
   pub lines_is : count.lines ≡ length lines
   pub wrong_is : count.wrong ≡ option_map suc (first_index test lines)

@@ -15,6 +15,6 @@ abbrev pub second_part : List (List ℕ) → List (List ℕ)
 second_part [] = []
 second_part (line ∷ lines) = if is_empty_line line then lines else second_part lines
 
--- Whether an input has a second part, which is whether one of its lines is empty.
+-- Whether an input has a second part, that is, whether one of the input's lines is empty.
 abbrev pub has_second_part : List (List ℕ) → Bool
 has_second_part lines = list_any is_empty_line lines

@@ -14,7 +14,7 @@ use Rattle.journal_tasks.specs.declared.received.Doc.{Doc}
 use Rattle.journal_tasks.specs.declared.received.Received.{Received}
 use Rattle.journal_tasks.specs.declared.received.Wanted.{Wanted}
 
--- ---- the request and the response
+-- ---- the contents of a request and of a response
 
 -- The leaves that a line of a request names.
 abbrev pub named : EntryView → List LeavesView
@@ -42,7 +42,8 @@ heads_in lines = flat_map (λ line. head_of (entry_in line)) lines
 abbrev pub is_requested : List LeavesView → List ℕ → Bool
 is_requested requested id = list_any (λ leaves. bytes_eq leaves.1 id) requested
 
--- Whether a revision was received, which is whether a received leaf is the revision or has the revision as an ancestor.
+-- Whether revision `rev` of document `id` was received: one of the document's received leaves is `rev`, or has `rev` as
+-- an ancestor.
 abbrev pub is_received : List HeadView → List ℕ → List ℕ → Bool
 is_received heads id rev = list_any (λ head. bytes_eq head.0 id && knows_rev head.1 rev) heads
 
@@ -134,7 +135,7 @@ DocView = List WantedView × List (List ℕ)
 abbrev pub doc_view : Doc → DocView
 doc_view doc = (map wanted_view doc.wanted.items, texts_of doc.leaves.keys)
 
--- What is stored for a document with the given id, if it was requested.
+-- The stored data of the document with the given id, if the document was requested.
 abbrev pub doc_at : {S : Type 0} → IndexMap (String Global) Doc S → List ℕ → Option DocView
 doc_at docs id = option_map doc_view (get_by_text docs id)
 
@@ -146,31 +147,31 @@ doc_or_new doc = unwrap_or doc ([], [])
 abbrev pub received_by : LeafView → WantedView → WantedView
 received_by arrived wanted = (wanted.0, wanted.1 || knows_rev arrived wanted.0)
 
--- A document after revisions of it were requested.
+-- The stored data of a document after the revisions `revs` of the document were requested.
 abbrev pub with_wanted : List (List ℕ) → DocView → DocView
 with_wanted revs doc = (doc.0 ++ map (λ rev. (rev, false)) revs, doc.1)
 
--- A document after a leaf of it was received.
+-- The stored data of a document after the leaf `arrived` of the document was received.
 abbrev pub with_leaf : LeafView → DocView → DocView
 with_leaf arrived doc = (map (received_by arrived) doc.0, add_rev doc.1 arrived.0)
 
--- The documents after leaves of one of them were requested.
+-- The stored data of all documents after leaves of one document were requested.
 abbrev pub wanted_at : LeavesView → (List ℕ → Option DocView) → List ℕ → Option DocView
 wanted_at leaves docs id =
     if bytes_eq leaves.1 id then Some (with_wanted leaves.2 (doc_or_new (docs leaves.1))) else docs id
 
--- The documents after a line of the request.
+-- The stored data of all documents after a line of the request was read.
 abbrev pub requested_by : EntryView → (List ℕ → Option DocView) → List ℕ → Option DocView
 requested_by (state leaves) docs id = wanted_at leaves docs id
 requested_by (lacks leaves) docs id = wanted_at leaves docs id
 requested_by (leaf head) docs id = docs id
 requested_by wrong docs id = docs id
 
--- The documents after a leaf of one of them was received.
+-- The stored data of all documents after a leaf of one document was received.
 abbrev pub leaf_at : HeadView → (List ℕ → Option DocView) → List ℕ → Option DocView
 leaf_at head docs id = if bytes_eq head.0 id then option_map (with_leaf head.1) (docs head.0) else docs id
 
--- The documents after a line of the response.
+-- The stored data of all documents after a line of the response was read.
 abbrev pub answered_by : EntryView → (List ℕ → Option DocView) → List ℕ → Option DocView
 answered_by (state leaves) docs id = docs id
 answered_by (lacks leaves) docs id = docs id
@@ -192,12 +193,12 @@ is_marked wanted rev = list_any (λ item. item.1 && bytes_eq item.0 rev) wanted
 abbrev pub unmarked : List WantedView → List (List ℕ) → List (List ℕ)
 unmarked wanted revs = filter (λ rev. not (is_marked wanted rev)) revs
 
--- The lines that are printed for a line of the request, by what is stored for its document.
+-- The lines that are printed for a line of the request, given the stored data of the line's document.
 abbrev pub told_by : Bool → Option DocView → LeavesView → List ℕ
 told_by only None leaves = []
 told_by only (Some doc) leaves = told_of only doc.1 (unmarked doc.0 leaves.2) leaves
 
--- Whether a revision of a line of the request was not received, by what is stored for its document.
+-- Whether a revision that a line of the request names was not received, given the stored data of the line's document.
 abbrev pub lacks_by : Option DocView → LeavesView → Bool
 lacks_by None leaves = false
 lacks_by (Some doc) leaves = not (is_empty (unmarked doc.0 leaves.2))
@@ -206,7 +207,7 @@ lacks_by (Some doc) leaves = not (is_empty (unmarked doc.0 leaves.2))
 abbrev pub wanted_revs : List LeavesView → List ℕ → List (List ℕ)
 wanted_revs requested id = flat_map (λ leaves. if bytes_eq leaves.1 id then leaves.2 else []) requested
 
--- What is stored for a document after the given request and response.
+-- The stored data of a document after the given request and response were read.
 abbrev pub doc_of : List LeavesView → List HeadView → List ℕ → Option DocView
 doc_of requested heads id =
     if is_requested requested id then Some (map (λ rev. (rev, is_received heads id rev)) (wanted_revs requested id), received_leaves heads id) else None

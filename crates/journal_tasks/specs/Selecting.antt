@@ -1,4 +1,4 @@
--- The selection of documents of a journal.
+-- This file defines which documents of a journal are selected.
 use Rattle.std.specs.Prelude.{ℕ, Bool, true, ◌&&◌, nat_le, if◌then◌else◌, List, Option, None, Some, bytes_eq}
 
 -- Whether a document is requested by its id. If no id is given, every document is requested.

@@ -1,4 +1,4 @@
--- Members of an object while they are read: names with values, in the order of the names.
+-- The members of an object while the object is read: names with values, in the order of the names.
 use Rattle.std.specs.Prelude.{◌≡◌, ℕ, List, [], ◌∷◌, ◌++◌, map, take, drop, Some, slice_get, slice_set}
 use Rattle.std.specs.Borrow.{Bor}
 use Rattle.std.specs.BTreeMap.{insert_entry}

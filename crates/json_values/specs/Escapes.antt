@@ -1,4 +1,4 @@
--- Escapes, both for the content of a string and for the lexer, which skips them.
+-- This file defines how an escape in a JSON string is decoded, and how the lexer skips an escape.
 use Rattle.std.specs.Prelude.{◌≡◌, ℕ, ◌+◌, ◌-◌, ◌<◌, ◌≤◌, get_or, None, MatchOption, List, length, drop, Option}
 use Rattle.std.specs.Char.{encode_utf8, len_utf8}
 use Rattle.json.specs.Text.{Within, content, plain, after_backslash, after_u, after_high, prepend}
@@ -11,8 +11,9 @@ mode after_backslash = in_escape
 mode after_u = in_string
 mode (after_high h) = in_string
 
--- Reading the escape at index i of d gives r: the character r.0, and the index r.1 after the escape. With its
--- backslash, an escape is at least as long as the character that it denotes. The lexer skips an escape in a string.
+-- Reading the escape at index i of the text d gives the pair r: the escape's character, and the index after the escape.
+-- With its backslash, an escape is at least as long as the character that it denotes. The lexer skips an escape in a
+-- string.
 abbrev pub Escape : List ℕ → Within → ℕ → Option (ℕ × ℕ) → Type 0
 Escape d within i r =
     MatchOption r (content within (drop i d) ≡ None) (λ p.

@@ -1,4 +1,5 @@
--- The JSON text that remains from the next lexeme on, and which of the read strings are known to need no escapes.
+-- The state of the lexer in contracts: the JSON text from the next lexeme on, and flags that say which of the read
+-- strings are known to need no escapes.
 use Rattle.std.specs.Prelude.{◌≡◌, ℕ, ◌+◌, ◌≤◌, ◌==◌, Bool, List, length, drop, get_or, true}
 use Rattle.std.specs.List.{list_any}
 use Rattle.std.specs.Str.{IsUtf8}

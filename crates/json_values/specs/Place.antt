@@ -20,7 +20,8 @@ NotBeforeComma AfterValue text = head text ≢ 44
 NotBeforeComma AfterComma text = ⊤
 NotBeforeComma Failed text = ⊤
 
--- At any position at which a value may begin, the text `old` gives token t, and then the tokens of the text `new`.
+-- The text `old` gives the token t, and then the tokens of the text `new`, at every position at which a value may
+-- begin.
 abbrev pub Begins : List ℕ → Token → Place → List ℕ → Type 0
 Begins old t place new = (p : spec.Place) → may_begin p ≡ true → punctuate p (lex between old) ≡ t ∷ tokens_at place new
 

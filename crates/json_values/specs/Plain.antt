@@ -1,4 +1,4 @@
--- Which strings of a JSON value are known to need no escapes.
+-- Definitions for flags that say which strings of a JSON value are known to need no escapes.
 use Rattle.std.specs.Prelude.{◌≡◌, ℕ, Bool, true, List, length, ⊤, refl}
 use Rattle.std.specs.Coded.{Coded, code_by, coded×, coded_bool}
 use Rattle.std.specs.List.{prefix_len}
@@ -11,7 +11,7 @@ use Rattle.json_values.specs.declared.plain_texts.PlainTexts.{PlainTexts}
 abbrev pub PlainIf : Bool → List ℕ → Type 0
 PlainIf known s = known ≡ true → prefix_len is_plain s ≡ length s
 
--- At any depth of a JSON value, the strings that the flags claim to need no escapes need none.
+-- At every depth of a JSON value, a string needs no escapes if the flags say so.
 abbrev mutual
   pub ArePlain : PlainTexts → Data → Type 0
   ArePlain known null = ⊤
@@ -33,7 +33,7 @@ abbrev mutual
 abbrev pub Narrows : PlainTexts → PlainTexts → Type 0
 Narrows old new = (new.names ≡ true → old.names ≡ true) × (new.values ≡ true → old.values ≡ true)
 
--- The string of a token needs no escapes, if the flags claim that it needs no escapes.
+-- The string of a token needs no escapes if the flags say so.
 abbrev pub IsPlainToken : PlainTexts → Token → Type 0
 IsPlainToken known Token.begin_object = ⊤
 IsPlainToken known Token.end_object = ⊤

@@ -10,8 +10,8 @@ use Rattle.json.specs.declared.token.Token.{Token}
 use Rattle.serde_json.specs.Data.{Num}
 use Rattle.serde_json.specs.Read.{number_of}
 
--- Reading the number or literal at index i of d gives r: the token r.0, and the index r.1 from which the next lexeme is
--- searched. If r is `None`, the number or literal is not valid.
+-- Reading the number or literal at index i of the text d gives the pair r: the token, and the index at which the search
+-- for the next lexeme begins. If r is `None`, the number or literal is not valid.
 abbrev pub WordAt : List ℕ → ℕ → Option (Token × ℕ) → spec.Token → Type 0
 WordAt d i r w =
     MatchOption r (w ≡ bad) (λ p. (w ≡ token_of p.0) × (is_good w ≡ true) × (i < p.1) × (p.1 ≤ length d) × (lex between (drop p.1 d) ≡ drop 1 (lex between (drop i d))))

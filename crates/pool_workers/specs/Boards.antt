@@ -115,7 +115,7 @@ halt_in (Err halt) = Some halt
 
 -- ---- seats in use
 
--- The seats that f gives for the elements of a list, from the last element to the first.
+-- The seats that the function f returns for the elements of a list, in reverse order of the elements.
 abbrev pub held : {X : Type 0} → (X → Option BoardSeat) → List X → List BoardSeat
 held f [] = []
 held f (x ∷ xs) = held f xs ++ option_to_list (f x)

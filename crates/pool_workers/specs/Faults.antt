@@ -1,4 +1,4 @@
--- Why a run of the pool fails, as specified in docs/PROFILE.md, "The pool".
+-- The errors with which a run of the pool may fail, as specified in docs/PROFILE.md, "The pool".
 use Rattle.std.specs.Prelude.{◌≡◌, ◌⊎◌, Option, Some}
 use Rattle.repl_peer.specs.declared.fault.TargetFault.{TargetFault}
 use Rattle.repl_peer.specs.declared.fault.TargetFault.TheVariants as refusals

@@ -1,5 +1,5 @@
--- What the threads of a run start with, and what is known after all threads have ended, as specified in
--- docs/PROFILE.md, "The pool".
+-- This file defines what the threads of a run have at their start, and what is known after all threads have ended, as
+-- specified in docs/PROFILE.md, "The pool".
 use Rattle.std.specs.Prelude.{◌≡◌, ◌≤◌, ℕ, List, [], Option, IfSome, vec_capacity}
 use Rattle.crossbeam_channel.specs.Claims.{view, IsSeatAt}
 use Rattle.crossbeam_channel.specs.Ends.{sends_on}

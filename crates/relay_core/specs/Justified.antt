@@ -9,13 +9,13 @@ use Rattle.relay_core.specs.Leaves.{names, are_distinct, leaf_count, docs_where,
 
 -- ---- what settles a leaf
 
--- Whether a `_revs_diff` request of documents with distinct ids names the given leaf, and the target's response does
--- not name the leaf as missing.
+-- Whether the target's response to a `_revs_diff` request shows that the target has the given leaf. The documents of
+-- the request must have distinct ids and name the leaf, and the response must not name the leaf as missing.
 abbrev pub finds : RequestView → ResponseView → Text → Text → Bool
 finds (revs_diff docs) (missing_response missing) id leaf = are_distinct docs && (names docs id leaf && not (names missing id leaf))
 finds q r id leaf = false
 
--- Whether the server that rejected a request is the target, and rejected the request as too large (status 413).
+-- Whether the target rejected a request as too large, that is, with status 413.
 abbrev pub is_too_large : Side → ℕ → Bool
 is_too_large Target status = status == 413
 is_too_large Source status = false
@@ -70,8 +70,8 @@ abbrev pub newest_common : List EntryView → List EntryView → Option (Text ×
 newest_common [] source = None
 newest_common (e ∷ target) source = if has_pair source e.session e.seq then Some (e.session, e.seq) else newest_common target source
 
--- The sequence at which a window begins: the sequence of the newest pair of session and sequence in both logs, or 0
--- without such a pair.
+-- A window begins at the sequence of the newest pair of session and sequence in both logs, or at 0 if there is no such
+-- pair.
 abbrev pub seq_of : Option (Text × Text) → Text
 seq_of None = codes "0"
 seq_of (Some pair) = pair.1
@@ -79,8 +79,8 @@ seq_of (Some pair) = pair.1
 -- ---- progress of a run
 
 -- Consecutive pages of changes lead from the sequence `begin` to the sequence s. After each page of a run, the target
--- had, or refused, each leaf of the page. The number n counts the leaves of the pages up to s that the target refused
--- and does not have.
+-- had, or refused, each leaf of the page. The number n is the number of leaves in the pages up to s that the target
+-- refused and does not have.
 pub data Reached : Text → List Exchange → Text → ℕ → Type 0 where
   begun : {begin : Text} {h : List Exchange} {s : Text} {n : ℕ} → begin ≡ s → n ≡ 0 → Reached begin h s n
   paged : {begin : Text} {h : List Exchange} {s : Text} {n : ℕ} (before after rest : List Exchange) (since : Text) (wait : Option ℕ) (page : PageView) (m : ℕ) → h ≡ rest ++ (after ++ exchange_of (get_changes since wait) (page_response page) ∷ before) → Reached begin before since m → AreSettled after page.rows → page.last_seq ≡ s → n ≡ m + leaf_count (not_found after page.rows) → Reached begin h s n
@@ -111,8 +111,8 @@ pub record IsReady (h : List Exchange) (side : Side) (log : LogView) (s : Text) 
   pub ready : AreReady h target source s failures
   pub own : log ≡ log_of side target source
 
--- The target stored its log in the given exchange, with the recorded sequence s. If an exchange is a notice, the
--- exchanges before it decide whether the target has just stored its log.
+-- The target stored its log in the given exchange, with the recorded sequence s. If the given exchange is a notice, the
+-- statement `before`, which is about the earlier exchanges, must be true instead.
 abbrev pub IsStoring : RequestView → ResponseView → Text → Type 0 → Type 0
 IsStoring (put_log Target log checkpoint) stored_response s before = checkpoint.seq ≡ s
 IsStoring (tell notice) r s before = before

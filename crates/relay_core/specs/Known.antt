@@ -1,4 +1,4 @@
--- The request of a phase of the relay, and what the phase knows about the history.
+-- This file defines the relay's next request in a phase, and what is known about the history in the phase.
 use Rattle.std.specs.Prelude.{ℕ, ◌≡◌, ◌-◌, ◌^◌, ◌≤◌, true, if◌then◌else◌, List, [], ◌∷◌, ◌++◌, Option, None, Some, min, option_map, take, drop, slice_get, string_bytes}
 use Rattle.std.specs.Option.{option_map_or}
 use Rattle.relay_core.specs.declared.messages.Side.TheVariants.{Source, Target}
@@ -25,7 +25,7 @@ begin_of run = seq_of (option_map pair_view run.begin)
 abbrev pub wait_of : Run → Option ℕ
 wait_of run = if run.waits then Some (if run.is_open then 5000 else 60000) else None
 
--- The documents that the relay's current carry transfers to the target.
+-- The documents of the relay's current `carry` request, which transfers these documents to the target.
 abbrev pub part_of : Transfer → List DocView
 part_of t = docs_view (take t.size (drop t.carried t.missing.items))
 
@@ -40,7 +40,8 @@ asked_by run (stages.TargetPut target source checkpoint) = put_log Target (log_v
 asked_by run (stages.SourcePut source checkpoint) = put_log Source (log_view source) (checkpoint_view checkpoint)
 asked_by run (stages.Done fault) = done (option_map fault_view fault) run.counts (begin_of run)
 
--- The next notice of the relay's phase, or the request of the phase's stage if no notice is left.
+-- The next request of the relay in a phase: the phase's next notice, or, after the last notice, the request of the
+-- phase's stage.
 abbrev pub asked_of : Phase → RequestView
 asked_of phase = option_map_or (λ n. tell (notice_view n)) (slice_get phase.notices.items phase.told) (asked_by phase.run phase.stage)
 
@@ -64,9 +65,9 @@ pub record IsRead (h : List Exchange) (begin since : Text) (failures : ℕ) (tar
   pub target_is : last_log Target later ≡ Some target
   pub reached : IsReachedFrom before begin since failures
 
--- The source returned a page of changes, and the transfer of the page is in progress. The documents `missing` have the
--- leaves of the page that no response after the page shows to be at the target. The target refused each leaf that the
--- error rows `rows` name.
+-- The source returned a page of changes, and the transfer of the page is in progress. The documents `missing` have
+-- those leaves of the page that, according to the responses after the page, the target does not have. The target
+-- refused each leaf that the error rows `rows` name.
 pub record IsOpen (h : List Exchange) (begin since last : Text) (failures : ℕ) (missing : List DocView) (rows : List RowErrorView) : Type 0 where
   pub before : List Exchange
   pub after : List Exchange

@@ -1,4 +1,4 @@
--- The kept entries of a log's history, as the values that contracts use.
+-- The values that contracts use for those entries of a log's history that are kept.
 use Rattle.std.specs.Prelude.{List, map}
 use Rattle.relay_requests.specs.declared.logs.Recorded.{Recorded}
 use Rattle.relay_requests.specs.Logs as logs

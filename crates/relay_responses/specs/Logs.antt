@@ -1,4 +1,5 @@
--- Rows with errors, and replication logs, as specified in docs/PROFILE.md, "Responses to the relay".
+-- This file defines the error rows and the replication logs in responses, as specified in docs/PROFILE.md, "Responses
+-- to the relay".
 use Rattle.std.specs.Prelude.{List, [], Option, None, Some, option_map, option_and_then, codes, Bool, false}
 use Rattle.std.specs.Option.{option_map_or}
 use Rattle.json.specs.Json.{Json, null, boolean, number, string, array, object}

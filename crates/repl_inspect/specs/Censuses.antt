@@ -1,4 +1,5 @@
--- Counting the content of a database, as specified in docs/PROFILE.md, "Revision trees" and "Leaves and the winner".
+-- The counts of a database's documents, leaves and revisions, as specified in docs/PROFILE.md, "Revision trees" and
+-- "Leaves and the winner".
 use Rattle.std.specs.Prelude.{Bool, ◌==◌, List, map, length}
 use Rattle.std.specs.List.{sum_by, count_by}
 use Rattle.std.specs.FinMap.{len}

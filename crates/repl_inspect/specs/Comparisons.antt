@@ -1,4 +1,5 @@
--- Comparing documents of two databases, as specified in docs/PROFILE.md, "Missing revisions" and "Changes feed".
+-- The comparisons of documents in two databases, as specified in docs/PROFILE.md, "Missing revisions" and "Changes
+-- feed".
 use Rattle.std.specs.Prelude.{List, map}
 use Rattle.couch_base.specs.Database.{Id, DatabaseValue, tree_of}
 use Rattle.couch_base.specs.Feed.{RowValue}

@@ -1,4 +1,5 @@
--- Loading documents into an empty database, as specified in docs/PROFILE.md, "Local writes", "Fetching" and "Merging".
+-- The effect of loading documents into an empty database, as specified in docs/PROFILE.md, "Local writes", "Fetching"
+-- and "Merging".
 use Rattle.std.specs.Prelude.{◌+◌, ◌≤◌, List, [], ◌∷◌, length}
 use Rattle.std.specs.List.{flat_map}
 use Rattle.std.specs.Result.{IsOk}

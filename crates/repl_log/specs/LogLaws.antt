@@ -203,7 +203,7 @@ pub common-at : (source target : List EntryValue) (i recorded : ℕ) (x : EntryV
 common-at source target i recorded x so_far is held = so_far ∙ turned source target i x is ∙ common-shared source (drop (i + 1) target) x recorded held
 
 -- Suppose that the target's entries before index i do not affect the common checkpoint. If the source's log lacks the
--- session of the target's entry at index i, this entry does not affect the common checkpoint either.
+-- session of the target's entry at index i, this entry also does not affect the common checkpoint.
 pub common-behind : (source target : List EntryValue) (i : ℕ) (x : EntryValue) → common source target ≡ common source (drop i target) → slice_get target i ≡ Some x → recorded_of source x.session ≡ None
     → common source target ≡ common source (drop (i + 1) target)
 common-behind source target i x so_far is none = so_far ∙ turned source target i x is ∙ common-passed source (drop (i + 1) target) x none

@@ -61,7 +61,7 @@ module _ {X V : Type 0} (value : X → V) (session : V → SessionId) where
   pub newest_first-cons : (e : SessionId × X) (es : List (SessionId × X)) → newest_first value (e ∷ es) ≡ newest_first value es ++ value e.1 ∷ []
   newest_first-cons e es = reverse_onto (map (λ (e : SessionId × X). value e.1) es) (value e.1) []
 
-  -- After a value was appended to a table, it is the table's newest value.
+  -- A value that was just appended to a table is the table's newest value.
   pub newest_first-push : (s : SessionId) (x : X) (es : List (SessionId × X)) → newest_first value (es ++ (s, x) ∷ []) ≡ value x ∷ newest_first value es
   newest_first-push s x es = ap reverse (map_push (λ (e : SessionId × X). value e.1) es (s, x)) ∙ reverse-append (map (λ (e : SessionId × X). value e.1) es) (value x ∷ [])
 

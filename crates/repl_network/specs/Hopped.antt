@@ -50,8 +50,8 @@ AllHopped peers (hop ∷ hops) peers' = (mid : List PeerValue) × Ended peers ho
 abbrev pub AllLawful : List PeerValue → Type 0
 AllLawful peers = (n : ℕ) (p : PeerValue) → IsAt peers n p → LawfulDatabase p.db
 
--- The function `change` gives the peer at index `place` from the peer that was at this index before. No other peer of
--- the network has changed.
+-- The peer at index `place` is the result of applying the function `change` to the peer that was at this index before.
+-- No other peer of the network has changed.
 pub record IsChangedAt (place : ℕ) (change : PeerValue → PeerValue) (peers peers' : List PeerValue) : Type 0 where
   pub before : PeerValue
   pub at : IsAt peers place before

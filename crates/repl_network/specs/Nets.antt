@@ -58,7 +58,7 @@ pub record IsNet (peers : List PeerValue) : Type 0 where
   pub tied : AreTied peers
   pub closed : AreClosed peers
 
--- ---- a document in all peers of a network
+-- ---- the trees of a document
 
 -- In the trees of all peers, a revision of the document never has two different parents or two different contents.
 abbrev pub AllAgree : List PeerValue → Id → Type 0
@@ -85,23 +85,24 @@ abbrev pub AllChoose : List Hop → Id → Type 0
 AllChoose [] id = Unit {0}
 AllChoose (h ∷ hops) id = (is_chosen h.plan.chosen id ≡ true) × AllChoose hops id
 
--- A chain of hops leads from one place to another. A chain consists of some of the listed hops, in order. Each hop of a
--- chain begins at the place at which the previous hop ends.
+-- A chain of the listed hops leads from the place `from` to the place `to`. A chain consists of some of the listed
+-- hops, in order. Each hop of a chain begins at the place at which the previous hop ends.
 abbrev pub Leads : List Hop → ℕ → ℕ → Type 0
 Leads [] from to = from ≡ to
 Leads (h ∷ hops) from to = Leads hops from to ⊎ (from ≡ h.from) × Leads hops h.to to
 
--- A chain of hops leads from every place to every other place.
+-- For every two places, a chain of the listed hops leads from the first place to the second place.
 abbrev pub LeadsEverywhere : List Hop → ℕ → Type 0
 LeadsEverywhere hops count = (m n : ℕ) → m < count → n < count → Leads hops m n
 
 -- ---- guarantees
 
--- The effect of consecutive hops on a document that each plan selects and no peer has refused. The peers of the network
--- must be consistent, and the document's trees must have agreed and had complete histories. If a chain of hops leads
--- from one place to another, the second peer has all revisions of the document that the first peer had. If a chain of
--- hops leads from every place to every other place, the document is the same in all peers. After the hops, each
--- revision of the document's trees was at some peer before the hops, and the trees agree and have complete histories.
+-- The effect of consecutive hops on a document that each plan selects and no peer has refused. Before the hops, the
+-- peers of the network must be consistent, and the document's trees must agree and have complete histories. If a chain
+-- of hops leads from one place to another, the second peer has all revisions of the document that the first peer had.
+-- If a chain of hops leads from every place to every other place, the document is the same in all peers. After the
+-- hops, the document's trees agree and have complete histories, and each revision in these trees was at some peer
+-- before the hops.
 pub record Spreads (peers : List PeerValue) (hops : List Hop) (peers' : List PeerValue) (id : Id) : Type 0 where
   pub along : (m n : ℕ) (p q : PeerValue) → IsAt peers m p → IsAt peers' n q → Leads hops m n
       → (r : RevId) → has (tree_of p.db.docs id) r ≡ true → has (tree_of q.db.docs id) r ≡ true

@@ -1,3 +1,3 @@
--- The logs of a peer, and common checkpoints.
+-- These modules define the logs of a peer, and the common checkpoint of two logs.
 pub mod Logs
 pub mod Checkpoint

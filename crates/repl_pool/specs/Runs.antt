@@ -31,7 +31,7 @@ use Rattle.repl_pool.specs.Pages.{IsPaged}
 
 -- ---- end of a run
 
--- The session of a run was concluded. No worker failed or stopped, and all sent parcels were received.
+-- The session of the given run was concluded. No worker failed or stopped, and all sent parcels were received.
 pub record IsConcluded (plan : Plan) (fault : Option PoolFault) (complete : Bool) (before after : PeerValue)
     (report : Report) : Type 0 where
   pub free : fault ≡ None
@@ -56,9 +56,9 @@ pub data IsRecorded (plan : Plan) (fault : Option PoolFault) (complete : Bool) (
   refused : {why : TargetFault} → fault ≡ None → complete ≡ true → conclude_answer before plan.session ≡ Err why
       → after ≡ closed before plan → IsRecorded plan fault complete before after (faults.Refused why)
 
--- The outcome of a run before the run stores the session's entry at the source, and the outcome afterwards. A run that
--- was successful so far returns `Memory` if the allocation for the entry fails. If a run had failed already, the run's
--- error does not change.
+-- The arguments of `UnlessMemory` are the outcomes of a run before and after the run stores the session's entry at the
+-- source. A run that was successful so far returns `Memory` if the allocation for the entry fails. If a run had failed
+-- already, the run's error does not change.
 abbrev pub UnlessMemory : Result Report PoolFault → Result Report PoolFault → Type 0
 UnlessMemory (Ok report) result = (result ≡ Ok report) ⊎ (result ≡ Err faults.Memory)
 UnlessMemory (Err why) result = result ≡ Err why
@@ -153,9 +153,9 @@ LeavesOrPuts plan source target source' target' outcome =
 
 -- The guarantees of a successful run. A successful run returns the report of the plan's session, which began at the
 -- common checkpoint and has recorded the source's update sequence. After a successful run, the target covers the
--- source's selected feed above the common checkpoint. If the target was empty and refused no document, each selected
--- document is the same on both sides. After a successful run, the fetchers' counts add up to the number of documents
--- read.
+-- source's selected feed above the common checkpoint. If the target was empty before the run and refused no document,
+-- each selected document is the same at the source and at the target after the run. After a successful run, the
+-- fetchers' counts add up to the number of documents read.
 pub record EndsWell (source target target' : PeerValue) (plan : Plan) (n : ℕ) (report : Report) : Type 0 where
   pub reported : IsReported source target target' plan report
   pub covered : CoversFrom source target' plan.chosen (start_between source target plan.chosen)
@@ -183,7 +183,7 @@ pub record RunsOn {F : Type 0} (refuses : F → Document → Bool) (may_fill : T
   -- source.
   pub grown : LeftPeer refuses source.1 target plan target'
   -- A run's target keeps all sessions and revisions, as `IsLaterPeer` says. For every selection and all backups of the
-  -- source, consistent peers stay consistent.
+  -- source, the two peers are consistent after the run if they were consistent before.
   pub later : IsLaterPeer target.1 target'.1
   pub tied : (chosen : Choice) (backups : List BackupValue) → IsTiedWith backups source.1 target.1 chosen
       → IsTiedWith backups source'.1 target'.1 chosen

@@ -1,4 +1,4 @@
--- Replication in one direction and in both directions.
+-- These modules define replication in one direction and in both directions.
 pub mod Replication
 pub mod Expected
 pub mod Calls

@@ -28,8 +28,8 @@ pub record IsWorld (refuses : Document → Bool) (w : WorldValue) : Type 0 where
 
 -- ---- tied worlds
 
--- The bag has a window at index `place`. If the window at `place` has the source's current life, the request `a` (in
--- `OwnParcel` the parcel `p`) is consistent with this window.
+-- The bag has a window at index `place`. If the window at `place` has the source's current life, this window is
+-- consistent with the request `a` in `OwnAsked`, and with the parcel `p` in `OwnParcel`.
 pub record OwnAsked (w : WorldValue) (place : ℕ) (a : AskedValue) : Type 0 where
   pub window : WindowValue
   pub own : slice_get w.bag.windows place ≡ Some window

@@ -4,9 +4,9 @@
 -- documents, and log entries. Messages between two databases may be late, repeated, reordered or lost. A world has two
 -- peers, and every message that was sent and not lost. A step is one call on a peer, with any message of the bag. A
 -- message stays in the bag when a step uses it, so later steps can use the message in any order. A world has backups of
--- the source. If a backup is restored, the source's database begins a new life. A crash loses all messages, but the
--- peers and the backups stay. A statement that is true after every list of steps is true for every exchange between the
--- two databases, even if other clients write to the databases during the exchange.
+-- the source. If a backup is restored, the source's database begins a new life. A crash deletes all messages, but does
+-- not change the peers and the backups. A statement that is true after every list of steps is true for every exchange
+-- between the two databases, even if other clients write to the databases during the exchange.
 use Rattle.std.specs.Prelude.{◌≡◌, ◌⊎◌, ℕ, ◌==◌, ◌≤◌, List, [], ◌∷◌, ◌++◌, Bool, if◌then◌else◌, Option, Some, None, IfSome, Result, Ok, Err, take, slice_get}
 use Rattle.rev_tree.specs.declared.origin.SessionId.{SessionId}
 use Rattle.doc_json.specs.Document.{Document}
@@ -126,7 +126,7 @@ abbrev pub agreed : WorldValue → List EntryValue → Option (SessionId × ℕ)
 agreed w log = common log (target_log w.target (rep_of w))
 
 -- The parameters of a new session of the target. A new session begins at the common checkpoint of the target's log and
--- a log of the bag, and has the life of the bag's log.
+-- a log in the bag. The session has the life that is stored with the log in the bag.
 abbrev pub beginning_in : WorldValue → ℕ → ℕ × List EntryValue → Beginning
 beginning_in w goal log = record {
   scope = record { rep = rep_of w; life = log.0; base = base_at (agreed w log.1); goal = goal };

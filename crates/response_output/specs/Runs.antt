@@ -46,10 +46,10 @@ pub data WritesInPart (fault : ScriptFault) (made : List ℕ) (held held' : Opti
   in_part : (text missing : List ℕ) → made ≡ text ++ missing → Appends held held' text → fault ≡ Write → WritesInPart fault made held held'
   nothing : Appends held held' [] → IsWhole fault [] → WritesInPart fault made held held'
 
--- An error at the end of a document, after the text `front` was written for the document's beginning. The error is
--- `LateMember` if the document's text does not begin with `front`. If the document's text begins with `front`, a device
--- or an allocation failed, and the rest of the document was not written completely. The parser has the state s at the
--- document's end.
+-- An error occurred at the end of a document, after the text `front` was written for the document's beginning. The
+-- error is `LateMember` if the document's text does not begin with `front`. If the document's text begins with `front`,
+-- a device or an allocation failed, and the rest of the document was not written completely. The parser has the state s
+-- at the document's end.
 abbrev pub RestBreaks : AnswerFault → State → Words → List ℕ → Option (List ℕ) → Option (List ℕ) → Type 0
 RestBreaks (Refused why at) s w front held held' = ⊥
 RestBreaks (LateMember at) s w front held held' =
@@ -58,9 +58,9 @@ RestBreaks (Device fault) s w front held held' =
     (starts_with nat_eq s.text front ≡ true) × WritesInPart fault (rest_text w s.text (length front)) held held'
 
 -- A device or an allocation failed after `before`, a prefix of the given bytes. The output for `before` consists of the
--- texts of the items in `before`, and the beginning `last` of the next item. Of the output for `before`, the text
--- `part` was written before the given bytes were read, and `text` was written later. The unwritten text `missing` is
--- empty, unless a write failed.
+-- texts of the items in `before`, and the beginning `last` of the next item. The output for `before` consists of the
+-- texts `part`, `text` and `missing`. The text `part` was written before the given bytes were read, `text` was written
+-- later, and `missing` was not written. The text `missing` is empty, unless a write failed.
 pub record Begins (fault : ScriptFault) (s : State) (w : Words) (part bytes : List ℕ) (held held' : Option (List ℕ)) : Type 0 where
   pub before : List ℕ
   pub behind : List ℕ
@@ -75,8 +75,8 @@ pub record Begins (fault : ScriptFault) (s : State) (w : Words) (part bytes : Li
 
 -- The given bytes begin with `front` and the byte `last`, which ends a long document. The output `begun`, which was
 -- written for the beginning of the long document, is not the beginning of the document's output (`IsLate`). The items
--- in `front` were written, and then the text `begun`. The text `part` was written before the given bytes were read. Up
--- to the end of the long document, the parser has read `at` bytes.
+-- in `front` were written, and then the text `begun`. The text `part` was written before the given bytes were read. At
+-- the end of the long document, the parser has read `at` bytes.
 pub record IsLateAt (at : ℕ) (s : State) (w : Words) (part bytes : List ℕ) (held held' : Option (List ℕ)) : Type 0 where
   pub front : List ℕ
   pub last : ℕ
@@ -203,7 +203,8 @@ Converts (Ok passed) wanted w left held held' = Answered wanted w left held held
 Converts (Err fault) wanted w left held held' = Stopped wanted w left held held' fault
 
 -- The effect of a run on responses with the given items: the items are written, and the input is not rejected. After
--- the error `LateMember`, the first items are written, and the text `begun` for a part of the next item.
+-- the error `LateMember`, the first items are written, and then the text `begun`, which belongs to a part of the next
+-- item.
 abbrev pub ReadsAnswers : Words → List Piece → Option (List ℕ) → Option (List ℕ) → Result ℕ AnswerFault → Type 0
 ReadsAnswers w all held held' (Ok passed) = Appends held held' (all_text w all)
 ReadsAnswers w all held held' (Err (Refused why at)) = ⊥

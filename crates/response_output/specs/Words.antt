@@ -78,7 +78,7 @@ first_rev_text w text =
 abbrev pub with_first_rev : Words → Words
 with_first_rev w = record (counted_up (over w)) { listed = true }
 
--- Whether the next revision is added to a document's list of revisions that already has a revision.
+-- Whether the next revision is added to a document's list of revisions, and is not the first revision of this list.
 abbrev pub is_further : Words → Bool
 is_further w = has_lists w.form && w.listed
 

@@ -1,4 +1,5 @@
--- The output of a script, with the changes in it, as specified in docs/PROFILE.md, "Lines of documents".
+-- The grammar of a script's output, and the changes in the output, as specified in docs/PROFILE.md, "Lines of
+-- documents".
 use Rattle.std.specs.Prelude.{◌≡◌, ℕ, ◌||◌, ◌==◌, List, [], ◌∷◌, ◌++◌, Bool, true, false, not, codes}
 use Rattle.std.specs.List.{list_all}
 use Rattle.std.specs.Str.{bytes_eq}

@@ -1,5 +1,5 @@
--- Responses to `_changes` and `_revs_diff`, with the leaves in them, as specified in docs/PROFILE.md, "CouchDB's
--- answers", and in CouchDB's API, "/{db}/_changes" and "/{db}/_revs_diff".
+-- The grammar of responses to `_changes` and `_revs_diff`, and the leaves in the responses, as specified in
+-- docs/PROFILE.md, "CouchDB's answers", and in CouchDB's API, "/{db}/_changes" and "/{db}/_revs_diff".
 --
 -- In this file, k is a name without its opening quotation mark, s is white space, and d is the number of open lists and
 -- objects. In this file, t is the text of a value up to the comma or brace that follows the value, and u is the same
@@ -75,14 +75,14 @@ named_by name s s' value = 34 ∷ (name ++ (s ++ 58 ∷ (s' ++ value)))
 
 -- ---- the feed
 
--- A member of an entry of `changes`, such as {"rev":"1-x"}.
+-- A member of an object in the list `changes`, such as the member `rev` of {"rev":"1-x"}.
 pub data IsRevMember : Bool → Bool → List ℕ → List Piece → Type 0 where
   rev_of : {t u : List ℕ} (s s' : List ℕ) → Spaces s → Spaces s' → IsValue t u → (slice_index u 0 == 34) ≡ true
       → IsRevMember false false (named_by (codes "rev\"") s s' t) ((Rev, u) ∷ [])
   skipped_rev : {t : List ℕ} → IsSkipped true false 5 t → IsRevMember false false t []
 
--- A member of a feed row, such as {"seq":"1-g","id":"a","changes":[{"rev":"1-x"}]}, in which the id comes before the
--- revisions.
+-- A member of a feed row, such as the member `id` of {"seq":"1-g","id":"a","changes":[{"rev":"1-x"}]}. In a feed row,
+-- the id must come before the revisions.
 pub data IsRowMember : Bool → Bool → List ℕ → List Piece → Type 0 where
   id_of : {n : Bool} {t u : List ℕ} (s s' : List ℕ) → Spaces s → Spaces s' → IsValue t u → (slice_index u 0 == 34) ≡ true
       → IsRowMember n true (named_by (codes "id\"") s s' t) ((Id, u) ∷ [])
@@ -104,7 +104,7 @@ pub data AreMissing : List ℕ → List Piece → Type 0 where
   missing : {r t : List ℕ} {ps : List Piece} (s s' : List ℕ) → EndsString r → is_json (34 ∷ r) ≡ true → Spaces s → Spaces s' → AreMissing t ps
       → AreMissing (34 ∷ (r ++ (s ++ 44 ∷ (s' ++ t)))) ((Rev, 34 ∷ r) ∷ ps)
 
--- A member of the entry of a document, such as {"missing":["1-x"],"possible_ancestors":[]}.
+-- A member of a document's entry, such as the member `missing` of {"missing":["1-x"],"possible_ancestors":[]}.
 pub data IsEntryMember : Bool → Bool → List ℕ → List Piece → Type 0 where
   missing_of : {l : List ℕ} {ps : List Piece} (s s' s'' s''' : List ℕ) → Spaces s → Spaces s' → Spaces s'' → AreMissing l ps → Spaces s'''
       → IsEntryMember false false (named_by (codes "missing\"") s s' (91 ∷ (s'' ++ (l ++ s''')))) ps

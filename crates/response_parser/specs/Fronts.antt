@@ -1,4 +1,4 @@
--- The beginning of a long document's output, which is written before the document ends, as specified in
+-- The beginning of a long document's output, which is written before the document's end is read, as specified in
 -- docs/PROFILE.md, "Documents in envelopes".
 use Rattle.std.specs.Prelude.{◌≡◌, ℕ, ◌≤◌, nat_eq, length, List, ◌++◌, false, Some}
 use Rattle.std.specs.List.{starts_with}
@@ -47,8 +47,9 @@ pub record HasWritten (s : State) (written : List ℕ) : Type 0 where
   pub is : written ≡ cut.written
 
 -- The parser has just found a document in the state s, and `written` is the output for a long beginning of the
--- document. A member that the document's envelope does not wrap follows the document's long beginning. Without the
--- runs, the document's output therefore does not begin with the beginning's output (`cut.front`).
+-- document. A member that the document's envelope does not wrap follows the document's long beginning. Therefore the
+-- output for the document without its runs does not begin with `cut.front`, the output for the beginning without its
+-- runs.
 pub record IsLate (s : State) (written : List ℕ) : Type 0 where
   pub cut : Cut
   pub rest : List ℕ

@@ -1,5 +1,5 @@
--- CouchDB's responses in terms of the JSON grammar, with the documents in them, as specified in docs/PROFILE.md,
--- "CouchDB's answers". The grammar of the kit's JSON library decides whether a text is JSON (`is_json`).
+-- The grammar of CouchDB's responses, and the documents in the responses, as specified in docs/PROFILE.md, "CouchDB's
+-- answers". The grammar of the kit's JSON library decides whether a text is JSON (`is_json`).
 use Rattle.std.specs.Prelude.{◌≡◌, ℕ, ◌+◌, ◌<◌, ◌==◌, slice_index, List, [], ◌∷◌, ◌++◌, Bool, true, false, codes, Some}
 use Rattle.doc_envelope.specs.Texts.{Spaces, EndsString, Closed, is_space, is_json}
 use Rattle.doc_envelope.specs.Names.{is_log}
@@ -19,8 +19,8 @@ pub record IsValue (t u : List ℕ) : Type 0 where
   pub first : is_space (slice_index t 0) ≡ false
   pub json : is_json u ≡ true
 
--- A name k without its opening quotation mark. The other parameters of `IsNamed` are whether the name is the first of
--- its object, the number d of open lists and objects, and the name's meaning.
+-- A name k without its opening quotation mark. The parameter `first` says whether k is the first name of its object, d
+-- is the number of open lists and objects, and `name` is the meaning of k.
 pub record IsNamed (wanted : Wanted) (first : Bool) (d : ℕ) (k : List ℕ) (name : Name) : Type 0 where
   pub string : EndsString k
   pub json : is_json (34 ∷ k) ≡ true
@@ -85,7 +85,7 @@ mutual
 
 -- ---- responses
 
--- Responses in order, with white space around them.
+-- A list of responses, in order, with white space around each response.
 pub data AreAnswers (wanted : Wanted) : List ℕ → List Piece → Type 0 where
   no_more : {s : List ℕ} → Spaces s → AreAnswers wanted s []
   of_object : (s : List ℕ) {o more : List ℕ} {ps qs : List Piece} → Spaces s → IsObject wanted 0 o ps → AreAnswers wanted more qs

@@ -1,4 +1,5 @@
--- The output of a script, with the documents in it, as specified in docs/PROFILE.md, "Lines of documents".
+-- The grammar of a script's output, and the documents in the output, as specified in docs/PROFILE.md, "Lines of
+-- documents".
 use Rattle.std.specs.Prelude.{◌≡◌, ℕ, ◌==◌, List, [], ◌∷◌, ◌++◌, true, false, not}
 use Rattle.std.specs.List.{list_all}
 use Rattle.doc_envelope.specs.Texts.{is_space}
@@ -11,7 +12,7 @@ use Rattle.response_parser.specs.declared.place.Wanted.{Wanted}
 abbrev pub InOneLine : List ℕ → Type 0
 InOneLine t = list_all (λ b. not (b == 10)) t ≡ true
 
--- Lines of a script's output with their line ends, and the documents in them.
+-- Lines of a script's output with their line ends, and the documents in the lines.
 pub data AreLines (wanted : Wanted) : List ℕ → List Piece → Type 0 where
   no_lines : AreLines wanted [] []
   -- An empty line, or white space before a line.
@@ -22,6 +23,6 @@ pub data AreLines (wanted : Wanted) : List ℕ → List Piece → Type 0 where
   answer : {b : ℕ} (x : List ℕ) {t : List ℕ} {ps : List Piece} → is_lower b ≡ true → is_space b ≡ false → InOneLine x → AreLines wanted t ps
       → AreLines wanted (b ∷ (x ++ 10 ∷ t)) ps
 
--- The output of a script, with or without the last line end, and the documents in it.
+-- The output of a script, with or without the last line end, and the documents in the output.
 abbrev pub IsScript : Wanted → List ℕ → List Piece → Type 0
 IsScript wanted text held = AreLines wanted (text ++ 10 ∷ []) held

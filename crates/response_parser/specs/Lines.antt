@@ -1,4 +1,5 @@
--- The effect of one byte of a line of a script's output, as specified in docs/PROFILE.md, "Lines of documents".
+-- The effect of one byte of a line of a script's output on the parser's state, as specified in docs/PROFILE.md, "Lines
+-- of documents".
 use Rattle.std.specs.Prelude.{ℕ, ◌&&◌, ◌||◌, ◌==◌, nat_le, [], ◌∷◌, Bool, cond, codes}
 use Rattle.std.specs.Str.{bytes_eq}
 use Rattle.doc_envelope.specs.Texts.{is_json}

@@ -1,5 +1,6 @@
--- A parser that does not store the runs of a long document. The *full* state is the state of a parser that stores each
--- byte. The *stored* state has the same fields, but its text lacks the runs.
+-- This file compares a parser that does not store the runs of a long document with a parser that stores each byte. The
+-- *full* state is the state of a parser that stores each byte. The *stored* state has the same fields, but its text
+-- lacks the runs.
 use Rattle.std.specs.Prelude.{◌≡◌, ℕ, ◌≤◌, ◌==◌, length, slice_index, List, ◌++◌, Bool, true, false}
 use Rattle.doc_envelope.specs.Names.{is_log}
 use Rattle.response_parser.specs.Names.{is_plain}
@@ -12,7 +13,7 @@ use Rattle.response_parser.specs.declared.place.Name.{Name}
 use Rattle.response_parser.specs.declared.place.Name.TheVariants as names
 use Rattle.response_parser.specs.declared.place.Found.TheVariants.{Nothing}
 
--- Whether the parser does not use its stored text at the given place.
+-- Whether the parser makes no use of its stored text at the given place.
 abbrev pub is_idle : Place → Bool
 is_idle Start = false
 is_idle Begin = false

@@ -1,4 +1,5 @@
--- The effect of one byte outside of names and values, as specified in docs/PROFILE.md, "CouchDB's answers".
+-- The effect of one byte outside of names and values on the parser's state, as specified in docs/PROFILE.md, "CouchDB's
+-- answers".
 use Rattle.std.specs.Prelude.{ℕ, ◌+◌, ◌-◌, ◌&&◌, ◌||◌, ◌==◌, nat_lt, [], ◌∷◌, Bool, true, false, not, cond, codes}
 use Rattle.doc_envelope.specs.Texts.{is_space, is_json}
 use Rattle.response_parser.specs.Wanted.{wants_leaves, wants_changes, is_strict}

@@ -1,4 +1,4 @@
--- The effect of several bytes of a value that the parser reads at once.
+-- The effect on the parser's state if the parser reads several bytes of a value at once.
 use Rattle.std.specs.Prelude.{◌≡◌, ℕ, ◌==◌, length, take, List, [], ◌∷◌, ◌++◌, Bool, true, false}
 use Rattle.response_parser.specs.State.{State, more}
 use Rattle.response_parser.specs.Reading.{after, pieces}
@@ -35,8 +35,8 @@ pub record Copies (s : State) (bytes : List ℕ) (name : Name) (quoted : Bool) (
   pub none : pieces s bytes ≡ []
 
 -- If the parser can copy the given bytes up to position `from` into a value, the parser can also copy the bytes up to
--- position `to`. For both positions, parameters of `Continues` say whether the position is within a string, and how
--- many brackets are open.
+-- position `to`. The parameters q and n say whether the position `from` is within a string, and how many brackets are
+-- open there. The parameters q' and n' say the same of the position `to`.
 abbrev pub Continues : List ℕ → ℕ → Bool → ℕ → ℕ → Bool → ℕ → Type 0
 Continues bytes from q n to q' n' =
     (s : State) → (name : Name) → (q0 : Bool) → (n0 : ℕ) → IsInValue s name q0 n0 → Copies s (take from bytes) name q n

@@ -1,4 +1,5 @@
--- The effect of one byte, as specified in docs/PROFILE.md, "CouchDB's answers" and "Lines of documents".
+-- The effect of one byte of the input on the parser's state, as specified in docs/PROFILE.md, "CouchDB's answers" and
+-- "Lines of documents".
 use Rattle.std.specs.Prelude.{ℕ, Bool, true, false, cond}
 use Rattle.response_parser.specs.State.{State, more}
 use Rattle.response_parser.specs.Signs.{in_sign}

@@ -1,4 +1,4 @@
--- The effect of one byte of a value, as specified in docs/PROFILE.md, "CouchDB's answers".
+-- The effect of one byte of a value on the parser's state, as specified in docs/PROFILE.md, "CouchDB's answers".
 use Rattle.std.specs.Prelude.{ℕ, ◌+◌, ◌-◌, ◌&&◌, ◌||◌, ◌==◌, nat_lt, length, slice_index, List, [], ◌∷◌, ◌++◌, true, not, cond, Option, Some, None}
 use Rattle.doc_envelope.specs.Texts.{is_space, is_json}
 use Rattle.doc_envelope.specs.Names.{is_log}

@@ -1,5 +1,5 @@
--- Ancestries, as specified in docs/PROFILE.md, "Ancestries", and in the member `_revisions` of CouchDB, "Replication
--- Protocol".
+-- This file defines ancestries, as specified in docs/PROFILE.md, "Ancestries", and in CouchDB, "Replication Protocol",
+-- the member `_revisions`.
 use Rattle.std.specs.Prelude.{◌≡◌, ℕ, ◌+◌, ◌-◌, ◌<◌, Bool, List, [], ◌∷◌, length, Option, Some, None, Result, Ok, Err, if◌then◌else◌, nat_lt, ◌==◌}
 use Rattle.std.specs.List.{AllByRecursion, list_any}
 use Rattle.std.specs.Ordering.{eq_by_cmp}

@@ -183,7 +183,7 @@ same_by_leaves s t ours theirs agree whole_s whole_t there back = record {
 
 -- ---- leaves of equal trees
 
--- If two orders compare k with each element of a list equally, both insert k into the list at the same position.
+-- Two orders insert k into a list at the same position if both orders compare k with each element in the same way.
 same_placed : {K : Type 0} (R S : K → K → Ordering) → IsTotalOrder R → (k : K) (ys : List K) → ((y : K) → list_any (eq_by_cmp R y) ys ≡ true → R k y ≡ S k y) → placed R k ys ≡ placed S k ys
 same_placed R S total k [] h = refl
 same_placed R S total k (y ∷ ys) h =

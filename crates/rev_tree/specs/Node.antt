@@ -1,4 +1,4 @@
--- A node of a revision tree, and how its parts are stored.
+-- This file defines a node of a revision tree, and how the parts of the node are stored.
 use Rattle.std.specs.Prelude.{ℕ, zero, suc, Bool, true, false, ◌+◌, ◌*◌, ◌^◌, Option, Some, None}
 use Rattle.rev_core.specs.Rev.{RevId}
 use Rattle.rev_tree.specs.Content.{ContentValue}

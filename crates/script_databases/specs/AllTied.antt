@@ -24,16 +24,16 @@ LeadToOthers s own logs = (l : RepId × List EntryValue) → Among l logs → Is
 abbrev pub ComeFromOthers : State → ℕ → List SessionValue → Type 0
 ComeFromOthers s own sessions = (x : SessionValue) → Among x sessions → IsOther s own x.rep.source
 
--- Backup k has the UUID of the database under whose name it is stored. Each log of the backup belongs to a replication
--- into another database of the script.
+-- The backup k is stored under the name of a database, and has the UUID of this database. Each log of the backup
+-- belongs to a replication into another database of the script.
 pub record IsCopyOfOne (s : State) (k : NamedBackupValue) : Type 0 where
   pub peer : PeerValue
   pub there : peer_at s k.db ≡ Some peer
   pub uuid : k.backup.db.uuid ≡ peer.db.uuid
   pub logs : LeadToOthers s peer.db.uuid k.backup.outgoing
 
--- No two databases have the same UUID. Each backup is a backup of the database under whose name it is stored. Each log
--- and session belongs to a replication with another database.
+-- No two databases have the same UUID. Each backup is a backup of the database with the name under which the backup is
+-- stored. Each log and session belongs to a replication with another database.
 pub record IsKnown (s : State) : Type 0 where
   pub apart : (n m : List ℕ) (p q : PeerValue) → peer_at s n ≡ Some p → peer_at s m ≡ Some q → p.db.uuid ≡ q.db.uuid
       → n ≡ m
@@ -48,7 +48,8 @@ abbrev pub AreCopiesOf : State → List ℕ → List BackupValue → Type 0
 AreCopiesOf s n backups =
     (b : BackupValue) → Among b backups → (k : NamedBackupValue) × Among k s.backups × (k.db ≡ n) × (k.backup ≡ b)
 
--- For every selection, each database, as a source with its backups, is consistent with each database as a target.
+-- For every selection, each database as a source, with its backups, is consistent with each database (including itself)
+-- as a target.
 pub record AllTied (s : State) : Type 0 where
   pub known : IsKnown s
   pub tied : (n m : List ℕ) (p q : PeerValue) → peer_at s n ≡ Some p → peer_at s m ≡ Some q → (chosen : Choice)

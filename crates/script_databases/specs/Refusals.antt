@@ -1,4 +1,5 @@
--- Why a line fails, as specified in docs/PROFILE.md, "Order of checks", "Names of refusals" and "Answers".
+-- The errors with which a line of a script may fail, as specified in docs/PROFILE.md, "Order of checks", "Names of
+-- refusals" and "Answers".
 use Rattle.std.specs.Prelude.{◌≡◌, ◌⊎◌, ℕ, List, Result, Ok, Err, codes}
 use Rattle.rev_core.specs.declared.fault.RevFault.{RevFault}
 use Rattle.rev_core.specs.declared.fault.RevFault.TheVariants as rev
@@ -87,12 +88,13 @@ target_refusal target.BadBatch = why.BadBatch
 target_refusal target.SamePeer = why.SamePeer
 target_refusal target.Memory = why.Memory
 
--- Given the error of a replication: the low water if the error is `Unfinished`, otherwise the error of the line.
+-- The low water of a replication's error `Unfinished`, or, for every other error of a replication, the error of the
+-- line.
 abbrev pub stop_of : TargetFault → Result ℕ Refusal
 stop_of (target.Unfinished low_water) = Ok low_water
 stop_of fault = Err (target_refusal fault)
 
--- Given the error of a pool run: the low water if the error is `Unfinished`, otherwise the error of the line.
+-- The low water of a pool run's error `Unfinished`, or, for every other error of a pool run, the error of the line.
 abbrev pub run_stop_of : PoolFault → Result ℕ Refusal
 run_stop_of pool.NoWorkers = Err why.NoWorkers
 run_stop_of pool.TooManyWorkers = Err why.TooManyWorkers

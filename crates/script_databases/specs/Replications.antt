@@ -1,4 +1,4 @@
--- Replications between two of the databases, as specified in docs/PROFILE.md, "Command lines".
+-- Replications between two databases of a script, as specified in docs/PROFILE.md, "Command lines".
 use Rattle.std.specs.Prelude.{◌≡◌, ◌⊎◌, ℕ, Bool, false, nat_eq, List, Option, Some, Result, Ok, Err, IfOk, IfErr, OnOk, ◌≤◌}
 use Rattle.std.specs.List.{starts_with}
 use Rattle.std.specs.Option.{option_map_or}

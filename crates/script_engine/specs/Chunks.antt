@@ -1,4 +1,4 @@
--- Reading a script in chunks, as specified in docs/PROFILE.md, "Limits".
+-- This file defines how a script is read in chunks, as specified in docs/PROFILE.md, "Limits".
 use Rattle.std.specs.Prelude.{◌≡◌, ◌<◌, ◌≤◌, ◌⊎◌, ℕ, length, List, [], Bool, true, false, Option}
 use Rattle.std.specs.Io.KnownBytes.{Consumes, IsAtEnd, Keeps}
 use Rattle.script_engine.specs.Device.{FailsOnce, counted}

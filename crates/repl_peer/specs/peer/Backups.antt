@@ -1,4 +1,5 @@
--- Backups of peers, and restoring them, as specified in docs/PROFILE.md, "Backup and restore".
+-- This file defines backups of peers, and the effect of restoring a backup, as specified in docs/PROFILE.md, "Backup
+-- and restore".
 use Rattle.std.specs.Prelude.{ℕ, ◌+◌, ◌==◌, max, Bool, true, false, nat_lt, List, [], ◌∷◌, Result, Ok, Err, if◌then◌else◌}
 use Rattle.couch_base.specs.Lists.{Among}
 use Rattle.couch_base.specs.Database.{DatabaseValue, in_life, most}

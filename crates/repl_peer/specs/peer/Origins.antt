@@ -35,8 +35,8 @@ pub record IsArrival (s : SessionValue) (id : Id) (r : RevId) : Type 0 where
   pub of : arrival.id ≡ id
   pub brings : is_among r arrival.ancestry ≡ true
 
--- Peer p has the given session. A row of the session is of document `id` at sequence `seq`, and an arrival of the
--- session is of document `id` and has revision r.
+-- Peer p has the given session. The session has a row of document `id` at sequence `seq`, and an arrival of document
+-- `id` that has revision r.
 pub record IsFed (p : PeerValue) (id : Id) (r : RevId) (session : SessionId) (seq : ℕ) : Type 0 where
   pub by : SessionValue
   pub held : Among by p.sessions

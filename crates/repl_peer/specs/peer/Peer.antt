@@ -56,11 +56,11 @@ pub record PeerValue : Type 0 where
   pub sessions : List SessionValue
   pub outgoing : List (RepId × List EntryValue)
 
--- A new peer without documents whose update sequence is `seq`.
+-- A new peer, which has no documents, and whose update sequence is `seq`.
 abbrev pub new_peer_at : ℕ → ℕ → PeerValue
 new_peer_at uuid seq = record { db = no_documents_at uuid seq; locals = []; sessions = []; outgoing = [] }
 
--- A new peer without documents whose update sequence is 0.
+-- A new peer, which has no documents, and whose update sequence is 0.
 abbrev pub new_peer : ℕ → PeerValue
 new_peer uuid = new_peer_at uuid 0
 

@@ -75,8 +75,8 @@ pub record Steps (refuses : Document → Bool) (o : Origin) (d : Document) (befo
   pub goes : stops_at refuses before d ≡ false
   pub step : (w : WindowValue) → o ≡ fed w before.session.id d → after ≡ settle_one refuses w before d
 
--- The cause that settling reports if settling a document failed. The cause is `SeqFull` if no sequence was left for the
--- document, and `Memory` otherwise.
+-- The cause that settling reports if settling a document failed. The cause is `SeqFull` if the database had no unused
+-- sequence for the document, and `Memory` otherwise.
 abbrev pub cause_at : Bool → Cause
 cause_at full = if full then causes.SeqFull else causes.Memory
 

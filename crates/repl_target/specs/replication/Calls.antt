@@ -99,7 +99,7 @@ IsLeft refuses source given plan now =
     ⊎ (begins_answer source given plan ≡ Ok tt)
     × IsGrown refuses source.db plan.chosen plan.session (after_begins source given plan) now
 
--- If the id and the replication of a session have the property Q, each window of the session has the property P.
+-- Each window of a session has the property P if the session's id and replication have the property Q.
 abbrev pub EachStored : (SessionId → RepId → Type 0) → (WindowValue → Type 0) → List SessionValue → Type 0
 EachStored Q P sessions =
     (s : SessionValue) → Among s sessions → Q s.id s.rep → (w : WindowValue) → Among w s.windows → P w

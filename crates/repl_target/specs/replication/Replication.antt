@@ -92,7 +92,7 @@ next_window source plan since = page source since source.update_seq plan.batch p
 abbrev pub parcel_for : DatabaseValue → PeerValue → WindowValue → ParcelValue
 parcel_for source p w = open_revs source (revs_diff p.db w)
 
--- The plan's session stores window w, and then settling the parcel has the given result.
+-- The plan's session stores window w, and then the parcel is settled with the given result.
 abbrev pub StoresAndSettles : (Document → Bool) → Plan → PeerValue → WindowValue → ParcelValue
     → Result Settled TargetFault → PeerValue → Type 0
 StoresAndSettles refuses plan p w parcel result q =
