@@ -229,7 +229,8 @@ fn push_last(text: &mut Vec<u8>, rows: usize, last: &str, pending: &str) -> Resu
     Ok(())
 }
 
-/// Appends the text of a page: a state line for each row (or for each row with several leaves), and the last line.
+/// Appends a state line for each row of a page, and then the last line of the page's text. If `several` is true, only
+/// rows with two or more leaves have a state line.
 fn push_page(
     alloc: Global,
     text: &mut Vec<u8>,
