@@ -132,8 +132,8 @@ fn step<P: RowPrinter>(
     Ok(())
 }
 
-/// Returns the maximum number of feed rows that the read of one page scans. If at most `limit` documents are selected,
-/// a page cannot have more than `limit` rows, so the read scans all remaining rows.
+/// Returns the maximum number of feed rows that the command scans to read one page. If at most `limit` documents are
+/// selected, a page cannot have more than `limit` rows, so the read scans all remaining rows.
 fn scan_limit(limit: u64, chosen: Option<&Chosen>) -> u64
     requires { 0 < limit }
     ensures { 0 < result }
