@@ -206,8 +206,8 @@ pub(crate) fn after_target_log(alloc: Global, run: Run, response: Response) -> P
     }
 }
 
-/// Continues a run after both logs were read. The run stores both logs if the window is open, and the window began at
-/// the entry that is still the newest common entry of both logs. Otherwise a new window begins.
+/// Continues a run after both logs were read. The run stores both logs under two conditions: the window is open, and
+/// the entry at which the window began is still the newest entry that both logs have. Otherwise a new window begins.
 pub(crate) fn after_source_log(
     alloc: Global,
     run: Run,
