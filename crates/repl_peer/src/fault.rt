@@ -50,7 +50,7 @@ pub enum TargetFault {
     /// The peer already has a session with the given id.
     #[error("the session is there already")]
     SessionExists,
-    /// The base is not an earlier session of the session's replication.
+    /// The base of a new session is not an earlier session of the same replication.
     #[error("no such base session")]
     NoSuchBase,
     /// The start exceeds the recorded sequence of the base session. If there is no base session, the start exceeds 0.

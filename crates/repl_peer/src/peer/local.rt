@@ -18,9 +18,9 @@ use std::alloc::AllocError;
 
 /// Stores a user's document in the database, together with the local write that records it.
 ///
-/// The call builds the local write before it changes the database, so that an error changes nothing. If an allocation
-/// for the local write fails, the call returns `Memory` if the put would change the database, and otherwise the result
-/// of `Database::put_answer`.
+/// The call builds the local write before it changes the database, so that an error changes nothing. Suppose that an
+/// allocation for the local write fails. Then the call returns `Memory` if the put would change the database, and
+/// otherwise the result of `Database::put_answer`.
 pub(crate) fn load(
     db: &mut Database,
     locals: &mut Vec<Written>,
