@@ -13,13 +13,14 @@ use doc_envelope::is_log;
 use json_values::plain_end;
 use std::alloc::{AllocError, Global};
 
-/// The minimum number of bytes of a document before the first run that the parser does not store.
+/// The minimum number of bytes of a document that the parser stores before it passes bytes on without storing them.
 const LONG: usize = 262_144;
 
-/// The minimum number of bytes of a run in one read.
+/// The parser builds a front only for a run that has at least this number of bytes in one read.
 const RUN: usize = 1_024;
 
-/// After building a front, the parser reads a fourth of the number of the text's bytes before it builds the next front.
+/// After an attempt to build a front for a text of n bytes, the parser reads at least n / 4 further bytes before the
+/// next attempt.
 const SHARE: u64 = 4;
 
 /// The beginning of the current document's output, which the caller writes before the document ends. The front is empty
@@ -59,8 +60,9 @@ impl Front {
         self.text.clear();
     }
 
-    /// Reads a run of a long document's string without storing it. The caller must write what the front has gained, and
-    /// then the run. Returns the number of bytes in the run, or 0 if the parser must read the next bytes itself.
+    /// Reads a run of a long document's string without storing it. The caller must write the bytes that the call has
+    /// added to the front, and then the run. Returns the number of bytes in the run, or 0 if the parser must read the
+    /// next bytes itself.
     pub fn pass(&mut self, reading: &mut Reading, bytes: &[u8]) -> Result<usize, AllocError>
         ensures within { IfOk result (λ count. count ≤ length bytes.now) }
         ensures none { IfOk result (λ count. count ≡ 0 → (state_of reading.new ≡ state_of reading.old)
@@ -83,7 +85,8 @@ impl Front {
         Ok(count)
     }
 
-    /// Whether a run of `count` bytes may follow the stored text. The call builds the front if the text has grown.
+    /// Whether a run of `count` bytes (string bytes that are passed on without being stored) may follow the stored
+    /// text. The call builds the front if the text has grown.
     fn may_pass(&mut self, reading: &mut Reading, count: usize) -> Result<bool, AllocError>
         ensures same { OnOk result (state_of reading.new ≡ state_of reading.old) }
         ensures none { IfOk result (λ ok. ok ≡ false → (front_of self.new ≡ front_of self.old)
@@ -119,7 +122,7 @@ impl Front {
 }
 
 impl Reading {
-    /// Whether the current value is a long document in which a run may be passed on.
+    /// Whether the current value is a long document in which string bytes may be passed on without being stored.
     fn is_long(&self, name: Name) -> bool
         ensures { result ≡ true → IsLong name (state_of self.now) }
     {
@@ -133,7 +136,8 @@ impl Reading {
         }
     }
 
-    /// Builds the beginning of the current document's output. Returns `false` if no run may follow the stored text.
+    /// Builds the beginning of the current document's output. Returns `false` if no run (string bytes that are passed
+    /// on without being stored) may follow the stored text.
     fn make_front(&mut self) -> Result<bool, AllocError>
         ensures same { OnOk result (state_of self.new ≡ state_of self.old) }
         ensures starts { IfOk result
