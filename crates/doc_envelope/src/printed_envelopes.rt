@@ -29,8 +29,8 @@ pub fn is_printed_envelope(text: &[u8]) -> bool
     is_last(rest)
 }
 
-/// Returns the first member of an envelope and the text after the member's comma, or `None` if no comma follows the
-/// member, or if the member may be `whole`.
+/// Returns the first member of an envelope and the text after the member's comma. Returns `None` if no comma follows
+/// the member, or if the member may be `whole`.
 fn split_front(text: &[u8]) -> Option<(&[u8], &[u8])>
     ensures { IfSome result (λ p. text.now ≡ p.0.now ++ 44 ∷ p.1.now) }
 {

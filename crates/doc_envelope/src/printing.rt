@@ -151,8 +151,8 @@ fn is_start(text: &[u8]) -> bool
     }
 }
 
-/// Returns true only if a text is comma-separated ASCII strings without escapes, followed by the brackets that close
-/// their list and its object.
+/// Returns true only if a text consists of comma-separated ASCII strings without escapes, followed by the bracket that
+/// closes the list and the brace that closes the object.
 fn are_ids(text: &[u8]) -> bool
     ensures { result ≡ true → AreIds text.now }
 {
