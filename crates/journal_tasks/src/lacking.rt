@@ -110,7 +110,8 @@ impl Lacking {
         self.refused
     }
 
-    /// Returns the missing leaves that the response names, or `None` if it is not a response of `_revs_diff`.
+    /// Returns the missing leaves that the response names, or `None` if the text of the response is not a response of
+    /// `_revs_diff`.
     fn missing(&mut self) -> Result<Option<Docs>, AllocError> {
         let Ok(text) = str::from_utf8(self.response.as_slice()) else {
             return Ok(None);

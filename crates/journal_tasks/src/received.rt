@@ -38,7 +38,7 @@ struct Doc {
 type Docs = IndexMap<String, Doc>;
 
 /// The task's input is the requested leaves, an empty line and the received documents. The task prints the documents.
-/// For each line of the request, it prints a state line, and a lacks line if a leaf was not received.
+/// For each line of the request, the task prints a state line, and also a lacks line if a leaf was not received.
 ///
 /// The task holds the request in memory.
 #[derive(Drop)]
