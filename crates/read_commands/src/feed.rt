@@ -104,7 +104,7 @@ pub fn print_feed<P: RowPrinter>(
     Ok(())
 }
 
-/// Prints one page of the feed, which has at most `limit` rows.
+/// Prints one page of the feed. The page has at most `limit` rows.
 fn step<P: RowPrinter>(
     alloc: Global,
     piece: &mut Vec<u8>,
