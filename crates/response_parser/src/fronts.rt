@@ -1,4 +1,4 @@
-//! Passes long runs of bytes in a document's strings on, without storing them.
+//! Passes on long runs of bytes in a document's strings, without storing these bytes.
 ghost use Rattle.std.specs.Prelude.{◌≡◌, ◌<◌, ◌≤◌, ◌==◌, [], false, length, nat_eq, take, true, IfOk, OnOk};
 ghost use Rattle.std.specs.List.{list_all, starts_with};
 ghost use Rattle.doc_envelope.specs.Stored.{made_of};
@@ -23,8 +23,8 @@ const RUN: usize = 1_024;
 /// next attempt.
 const SHARE: u64 = 4;
 
-/// The beginning of the current document's output, which the caller writes before the document ends. The front is empty
-/// if the caller has not written a byte of the current document.
+/// The beginning of the current document's output. The caller writes this beginning before the document ends. The front
+/// is empty if the caller has not written a byte of the current document.
 #[derive(Drop)]
 pub struct Front {
     text: Vec<u8>,
@@ -60,9 +60,9 @@ impl Front {
         self.text.clear();
     }
 
-    /// Reads a run of a long document's string without storing it. The caller must write the bytes that the call has
-    /// added to the front, and then the run. Returns the number of bytes in the run, or 0 if the parser must read the
-    /// next bytes itself.
+    /// Reads a run of bytes in a string of a long document, without storing these bytes. The caller must write the
+    /// bytes that the call has added to the front, and then the run. Returns the number of bytes in the run, or 0 if
+    /// the parser must read the next bytes itself.
     pub fn pass(&mut self, reading: &mut Reading, bytes: &[u8]) -> Result<usize, AllocError>
         ensures within { IfOk result (λ count. count ≤ length bytes.now) }
         ensures none { IfOk result (λ count. count ≡ 0 → (state_of reading.new ≡ state_of reading.old)
