@@ -254,9 +254,9 @@ impl Databases {
     ///
     /// # Errors
     ///
-    /// The call first checks for `NoDatabase` (the name is unknown), and then for `NoBackup` (the database has no backup
-    /// of this name). The next checks are for `IsTarget` (the database has been a replication target), and last for
-    /// `LifeFull` (no life is left).
+    /// The call first checks for `NoDatabase` (the name is unknown), and then for `NoBackup` (the database has no
+    /// backup of this name). The call then checks for `IsTarget` (the database has been a replication target), and last
+    /// for `LifeFull` (no life is left).
     pub fn put_back(&mut self, db: &str, name: &str) -> Result<PutBack, Refusal>
         ensures answer { GivesOrMemory result
             (put_back_answer (peer_at self.old db.now) (backup_at self.old db.now name.now)) }
