@@ -166,8 +166,8 @@ impl Parcel {
 }
 
 /// Builds the trees that the given documents would have if the documents were new at the target. The call searches the
-/// window's rows in order. If a document has no row, the call builds no tree for this document and the documents after
-/// it.
+/// window's rows in order. If the search does not find a document's row, the call builds no tree for this document and
+/// the documents after it.
 fn make_all(
     alloc: Global,
     session: SessionId,

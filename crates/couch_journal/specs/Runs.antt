@@ -114,8 +114,8 @@ RunsAsk ended input text result =
     RunsLines (λ lines. asked_items false (leaves_in lines)) (λ lines rest. ask_body (leaves_in lines))
     (λ lines rest. wrong_or (wrong_line is_wrong lines rest) outcomes.Done) ended input text result
 
--- The task `received` was run: the output has the requested documents of the response, and then the lines for the
--- request. A revision that is missing determines the outcome, unless a line is wrong.
+-- The task `received` was run. Unless `only` is true, the output begins with the requested documents of the response.
+-- If no line is wrong, the lines for the request follow, and a missing revision determines the outcome.
 abbrev pub RunsReceived : Bool → Type 0 → List ℕ → List ℕ → Result Outcome ScriptFault → Type 0
 RunsReceived only ended input text result =
     RunsLines (passed_on only) (received_text only)

@@ -83,8 +83,8 @@ pub data IsNext : Option Document → Told → Option Document → Option Whole 
 
 -- ---- pictures
 
--- A picture of document d. The picture has the document's id, each leaf once, in any order, and the commands that
--- resolve the document's conflict.
+-- A picture of document d. The picture has the document's id and each leaf once, in any order. A text picture with a
+-- database name also has the commands that resolve the document's conflict.
 pub record IsPicture (form : Form) (db : Option (List ℕ)) (d : Document) (text : List ℕ) : Type 0 where
   pub leaves : List Leaf
   pub each : IsPermutation (states d) (map state_of leaves)

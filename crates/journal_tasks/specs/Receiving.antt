@@ -84,7 +84,7 @@ wrong_received lines rest = wrong_line (λ wrong. wrong) (wrong_flags lines) res
 abbrev pub passed_line : Bool → List LeavesView → List ℕ → List ℕ
 passed_line only requested line = if is_answer requested (entry_in line) && not only then line ++ codes "\n" else []
 
--- The text that is printed before the end of the input: the requested documents of the response.
+-- The text that is printed before the end of the input: the requested documents of the response, unless `only` is true.
 abbrev pub passed_on : Bool → List (List ℕ) → List ℕ
 passed_on only lines = flat_map (passed_line only (requested_in (first_part lines))) (second_part lines)
 
@@ -113,7 +113,7 @@ abbrev pub lacks_any : List (List ℕ) → Bool
 lacks_any lines =
     list_any (λ leaves. not (is_empty (missing_in (heads_in (second_part lines)) leaves))) (requested_in (first_part lines))
 
--- The output for the complete input. If a line is wrong, only the lines of the response are printed.
+-- The output for the complete input. If a line is wrong, the lines for the request are not printed.
 abbrev pub received_text : Bool → List (List ℕ) → List ℕ → List ℕ
 received_text only lines rest =
     passed_on only lines ++ (if is_none (wrong_received lines rest) then told_in only lines else [])
@@ -211,7 +211,7 @@ abbrev pub doc_of : List LeavesView → List HeadView → List ℕ → Option Do
 doc_of requested heads id =
     if is_requested requested id then Some (map (λ rev. (rev, is_received heads id rev)) (wanted_revs requested id), received_leaves heads id) else None
 
--- The given lines were read, and the documents of the response that were requested are printed.
+-- The given lines were read, and the text of `passed_on` is printed.
 pub record IsReceiving (only : Bool) (lines : List (List ℕ)) (text : List ℕ) (task : Received) : Type 0 where
   pub counting : IsCounting (λ wrong. wrong) (wrong_flags lines) task.count
   pub only_is : task.only_lacks ≡ only

@@ -37,10 +37,10 @@ struct Doc {
 /// The requested documents by their ids.
 type Docs = IndexMap<String, Doc>;
 
-/// The task's input is the requested leaves, an empty line and the received documents. The task prints the documents.
-/// For each line of the request, the task prints a state line, and also a lacks line if a leaf was not received.
-///
-/// The task holds the request in memory.
+/// The input of the task `received` is the requested leaves, an empty line, and the received documents. The task prints
+/// the requested documents. For each line of the request, the task prints a state line with the received leaves, and a
+/// lacks line with the requested leaves if a leaf was not received. With `only_lacks`, the task prints no documents, and
+/// only state lines with the leaves that were not received. The task holds the request in memory.
 #[derive(Drop)]
 pub struct Received {
     alloc: Global,

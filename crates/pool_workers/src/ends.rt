@@ -27,7 +27,7 @@ pub fn end_windows<S: SourceBrand, R: Wait>(
     }
 }
 
-/// Sends one end message to the writers for each of the `missing` fetchers that were not started.
+/// Sends `missing` end messages to the writers, each instead of the end message of a fetcher that was not started.
 pub fn end_parcels<S: SourceBrand, R: Wait>(
     rt: &R,
     channels: &Channels<S>,

@@ -24,8 +24,8 @@ use repl_target::WriteFilter;
 use std::sync::ledger::{Ledger, Share};
 use std::thread::Threads;
 
-/// The results of the fetchers: each fetcher's number of documents, the total number of sent parcels, and the reason if
-/// a fetcher stopped.
+/// The results of the fetchers: each fetcher's number of documents, and the reason if a fetcher stopped. If `stopped`
+/// is `None`, `sent` is the total number of sent parcels.
 #[derive(Drop)]
 pub struct FetchedAll {
     pub counts: Vec<u64>,
@@ -33,7 +33,7 @@ pub struct FetchedAll {
     pub stopped: Option<Halt>,
 }
 
-/// The results of the writers: the total number of settled parcels, and the reason if a writer stopped.
+/// The results of the writers: the reason if a writer stopped, or else the total number of settled parcels.
 #[derive(Drop)]
 pub struct WrittenAll {
     pub got: u64,

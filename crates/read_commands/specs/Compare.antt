@@ -26,8 +26,8 @@ use Rattle.read_commands.specs.declared.compare.CompareRest.{CompareRest}
 
 -- ---- its parameters
 
--- The parameters of `compare`, which prints the differences between a source and a target, for a selection of
--- documents.
+-- The parameters of `compare`. For each selected document of the source, `compare` prints the leaves that the target
+-- lacks, and revisions whose parent or content differs.
 pub record CompareAsk : Type 0 where
   pub source : List ℕ
   pub target : List ℕ

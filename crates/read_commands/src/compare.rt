@@ -1,4 +1,4 @@
-//! The command `compare`, which prints the differences between a source and a target, without using logs.
+//! The command `compare`, which prints how a target differs from a source's selected feed, without using logs.
 ghost use Rattle.std.specs.Prelude.{◌≡◌, ◌++◌, ◌<◌, ◌≤◌, [], length, true, if◌then◌else◌, IfOk, OnOk};
 ghost use Rattle.json_values.specs.LineView.{line_view};
 ghost use Rattle.read_commands.specs.Compare.{FitsCompare, compare_left, compared_line, compared_part, comparison_lines, contradicts_line, found_part};

@@ -206,8 +206,8 @@ pub(crate) fn after_target_log(alloc: Global, run: Run, response: Response) -> P
     }
 }
 
-/// Continues a run after both logs were read. The run stores both logs under two conditions: the window is open, and
-/// the entry at which the window began is still the newest entry that both logs have. Otherwise a new window begins.
+/// Continues a run after both logs were read. The run stores both logs if the window is open, and the newest common
+/// entry of both logs has not changed since the window began. Otherwise a new window begins (`anew`).
 pub(crate) fn after_source_log(
     alloc: Global,
     run: Run,

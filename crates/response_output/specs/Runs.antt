@@ -140,8 +140,8 @@ EndsAnswers s w held held' (Err (Refused why at)) =
 EndsAnswers s w held held' (Err (LateMember at)) = ⊥
 EndsAnswers s w held held' (Err (Device fault)) = EndsInPart fault (last_text w) held held' × (end_of s.place ≡ Ok tt)
 
--- The effect of the end of the input on a conversion. If the last line has no line end, the conversion first adds a
--- line end. The text `part` is the beginning of an item, and was written before the end of the input.
+-- The effect of the end of the input on a conversion. If the last line of a script's output has no line end, the
+-- conversion first adds a line end. The text `part`, the beginning of an item, was written before the input's end.
 abbrev pub Finishes : State → Words → List ℕ → Option (List ℕ) → Option (List ℕ) → Result ℕ AnswerFault → Type 0
 Finishes s w part held held' (Ok passed) =
     (text : List ℕ) × Appends held held' text × (part ++ text ≡ all_text w (pieces s (last_end s)))
@@ -157,14 +157,14 @@ Finishes s w part held held' (Err (Device fault)) =
 
 -- ---- everything from a reader
 
--- The input of a conversion consists of all remaining bytes of the reader, and of a line end if the last line has none.
--- No byte of the input is rejected.
+-- The input of a conversion consists of all remaining bytes of the reader, and of a line end if the last line of a
+-- script's output has none. No byte of the input is rejected.
 abbrev pub IsAll : Wanted → Option (List ℕ) → List ℕ → Type 0
 IsAll wanted left read =
     (input : List ℕ) × Gives left input × (read ≡ whole (start wanted) input) × (is_refused (after (start wanted) input).place ≡ false)
 
--- The input of a conversion consists of all remaining bytes of the reader, and of a line end if the last line has none.
--- Bytes of the input may be rejected.
+-- The input of a conversion consists of all remaining bytes of the reader, and of a line end if the last line of a
+-- script's output has none. Bytes of the input may be rejected.
 abbrev pub IsLeft : Wanted → Option (List ℕ) → List ℕ → Type 0
 IsLeft wanted left read = (input : List ℕ) × Gives left input × (read ≡ whole (start wanted) input)
 

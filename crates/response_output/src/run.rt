@@ -298,7 +298,7 @@ fn ended(reading: &Reading) -> Result<u64, AnswerFault>
     }
 }
 
-/// If the input's last line has no line end, passes a line feed to the parser.
+/// If the input ends within a line of a script's output, passes a line feed to the parser.
 fn feed_rest<W: ScriptWrite>(
     reading: &mut Reading,
     front: &mut Front,

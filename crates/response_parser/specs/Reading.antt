@@ -68,7 +68,7 @@ end_of (Revs place) = Err CutOff
 end_of (Line place) = Err CutOff
 end_of (Refused why) = Err why
 
--- Whether input that ends at the given place of the parser has a last line without a line end.
+-- Whether input that ends at the given place of the parser ends within a line of a script's output.
 abbrev pub has_rest : Place → Bool
 has_rest Start = false
 has_rest Begin = false
@@ -92,7 +92,7 @@ has_rest (Revs place) = false
 has_rest (Line place) = true
 has_rest (Refused why) = false
 
--- A line end if the last line of the input lacks a line end, otherwise the empty list.
+-- A line end if the input ends within a line of a script's output, otherwise the empty list.
 abbrev pub last_end : State → List ℕ
 last_end s = cond (has_rest s.place) (10 ∷ []) []
 

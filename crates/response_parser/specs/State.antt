@@ -25,7 +25,7 @@ pub record State : Type 0 where
   pub inner : Bool
   -- Whether the current response is a response of `_revs_diff`.
   pub diff : Bool
-  -- Whether the current response has a member `error`.
+  -- Whether the current response has a string `error`, after which the parser has entered no list or object.
   pub failed : Bool
   -- The number of brackets that are open within the parser's current value.
   pub nesting : ℕ

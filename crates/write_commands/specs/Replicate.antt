@@ -245,8 +245,8 @@ abbrev pub StopsIfAsked : Options → Ending → Type 0
 StopsIfAsked options (Stopped low_water) = options.alone ≡ true → (most : ℕ) × (options.stop_after ≡ Some most)
 StopsIfAsked options ending = Unit {0}
 
--- The errors with which a `replicate` line may fail. The line fails only if a database does not exist, the timestamp or
--- the selection is invalid, or the replication fails.
+-- The errors with which a `replicate` line may fail: `NoDatabase`, `BadMoment`, the error of an invalid selection, and
+-- those that `Fails` lists. `Fails` also lists `Memory`.
 abbrev pub MayFail : ReplicateAsk → Refusal → Type 0
 MayFail ask refusal =
     (refusal ≡ why.NoDatabase) ⊎ (refusal ≡ why.BadMoment) ⊎ (choice_given ask.doc_ids ≡ Err refusal)

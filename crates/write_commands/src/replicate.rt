@@ -51,8 +51,8 @@ pub struct Options {
     pub at: Option<u64>,
     /// The number of windows after which the replication stops.
     pub stop_after: Option<u64>,
-    /// Whether the command prints the counts of the progress board. The option has no effect if the replication uses
-    /// only one thread.
+    /// Whether the command prints the counts of the progress board. The option `progress` has no effect if `alone` is
+    /// true.
     pub progress: bool,
 }
 
