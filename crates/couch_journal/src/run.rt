@@ -278,8 +278,8 @@ fn run_select<R: ScriptRead, W: ScriptWrite>(
     Ok(wrong_or(task.wrong(), missing_or_done(task.lacks())))
 }
 
-/// Reads requested leaves and received documents. Prints the received documents and the missing leaves, or only the
-/// missing leaves if `only_lacks` is true.
+/// Reads requested leaves and received documents. Prints the requested documents and which leaves were received, or
+/// only the leaves that were not received if `only_lacks` is true.
 fn run_received<R: ScriptRead, W: ScriptWrite>(
     alloc: Global,
     only_lacks: bool,
