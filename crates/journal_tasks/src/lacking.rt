@@ -105,7 +105,8 @@ impl Lacking {
         self.count.wrong
     }
 
-    /// Whether the second part of the input is not a `_revs_diff` response, or names a leaf that is not in the list.
+    /// Returns true if the second part of the input is missing or is not a `_revs_diff` response, and also if the
+    /// response names a leaf that is not in the list.
     pub fn is_refused(&self) -> bool {
         self.refused
     }

@@ -414,9 +414,9 @@ impl LineTask for Received {
     }
 }
 
-/// Reads the requested leaves, an empty line and the received documents. Writes the received documents, and says for
-/// each line of the request which leaves were received. If `only_lacks` is true, the call writes only the missing
-/// leaves.
+/// Reads the requested leaves, an empty line and the received documents. Writes the requested documents, and says for
+/// each line of the request which leaves were received. If `only_lacks` is true, the call writes only which leaves were
+/// not received.
 ///
 /// # Errors
 ///
