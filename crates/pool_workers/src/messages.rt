@@ -15,7 +15,8 @@ use rev_tree::SessionId;
 use std::alloc::{AllocError, Global};
 use std::marker::{Model, PhantomData};
 
-/// The number of bytes by which the heap of a thread grows, which is enough for a parcel of 500 small documents.
+/// The number of bytes by which the heap of a thread grows. This number of bytes is enough for a parcel of 500 small
+/// documents.
 const HEAP_STEP: usize = 512 * 1024;
 
 /// The size in bytes of the block that `keep_heaps` frees. After the block was freed, a heap may keep twice this number

@@ -1,4 +1,4 @@
-//! The combined effect of a run, after the run's workers have ended.
+//! Combines the results of a run's workers, after the workers have ended.
 ghost use Rattle.std.specs.Prelude.{◌≡◌, ℕ, ◌≤◌, true, Option, Some, None, IfSome, length, sum, option_copied};
 ghost use Rattle.rev_tree.specs.declared.origin.SessionId.{SessionId};
 ghost use Rattle.crossbeam_channel.specs.Claims.{view, IsSeatAt};
