@@ -73,9 +73,9 @@ fn prepare_id(locals: &mut Vec<Written>, id: &DocId) -> Result<DocId, AllocError
 
 /// Edits a document, and stores the local write that records the edit.
 ///
-/// The call prepares the local write before it changes the database, so that an error changes nothing. If an allocation
-/// for the local write fails, the call returns the error of `Database::check_edit`, or `Memory` if `check_edit` returns
-/// no error.
+/// The call prepares the local write before it changes the database, so that an error changes nothing. Suppose that an
+/// allocation for the local write fails. Then the call returns the error of `Database::check_edit`, or `Memory` if
+/// `check_edit` returns no error.
 pub(crate) fn edit(
     db: &mut Database,
     locals: &mut Vec<Written>,
