@@ -151,8 +151,8 @@ impl Reading {
     }
 }
 
-/// Returns the number of bytes before the first quotation mark, backslash or control character, or 0 if one of these
-/// bytes is not printable ASCII.
+/// Returns the number of bytes before the first quotation mark, backslash or control character. Returns 0 if one of
+/// these bytes is not printable ASCII.
 fn run_length(bytes: &[u8]) -> usize
     ensures within { result ≤ length bytes.now }
     ensures run { IsRun (take result bytes.now) }
