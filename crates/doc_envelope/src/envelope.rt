@@ -27,7 +27,7 @@ pub struct Envelope {
     text: Vec<u8>,
     /// The text of the members that the envelope stores in its string.
     held: Vec<u8>,
-    /// If this field is true, each member outside of the envelope's string has the text that the kit's JSON library
+    /// If `printed` is true, each member outside of the envelope's string has the text that the kit's JSON library
     /// prints for this member.
     printed: bool,
     scratch: Scratch,
