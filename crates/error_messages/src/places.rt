@@ -133,9 +133,9 @@ fn is_special(member: &str) -> bool {
     member.as_bytes().first() == Some(&b'_')
 }
 
-/// Whether a document is rejected because of the given special member (a member whose name begins with `_`). Either the
-/// member `_deleted` is not a Boolean, or the member's name is not in the list of docs/PROFILE.md, "What `read_doc`
-/// accepts".
+/// Whether a document is rejected because of the given special member (a member whose name begins with `_`). A document
+/// is rejected for a member `_deleted` that is not a Boolean, and for a special member whose name is not in the list of
+/// docs/PROFILE.md, "What `read_doc` accepts".
 fn is_odd(member: &str, value: &LineValue<'_>) -> bool {
     if is_same_text("_deleted", member) {
         return value.as_bool().is_none();
