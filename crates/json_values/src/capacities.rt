@@ -6,8 +6,7 @@ use std::cell::Cell;
 /// Eight lengths of 8. Most arrays and objects have at most 8 elements.
 const FIRST: u64 = 0x0808_0808_0808_0808;
 
-/// The number of bytes from which on a text is long. For a long text, saving memory is worth some additional
-/// instructions.
+/// A text of at least `LONG_TEXT` bytes is long. For a long text, saving memory is worth some additional instructions.
 pub(crate) const LONG_TEXT: usize = 128 * 1024;
 
 /// The maximum initial capacity.
