@@ -15,12 +15,12 @@ use rev_tree::SessionId;
 use std::alloc::{AllocError, Global};
 use std::marker::{Model, PhantomData};
 
-/// The number of bytes by which the heap of a thread grows. This number of bytes is enough for a parcel of 500 small
+/// The number of bytes by which the heap of a thread grows. `HEAP_STEP` bytes are enough for a parcel of 500 small
 /// documents.
 const HEAP_STEP: usize = 512 * 1024;
 
-/// The size in bytes of the block that `keep_heaps` frees. After the block was freed, a heap may keep twice this number
-/// of free bytes at its end.
+/// The size in bytes of the block that `keep_heaps` frees. After a block of `HEAP_KEPT` bytes was freed, a heap may
+/// keep twice this number of free bytes at its end.
 const HEAP_KEPT: usize = 1024 * 1024;
 
 /// A page of the source's feed that was read for the run's plan, with only the rows of selected documents.
