@@ -26,8 +26,8 @@ use script_engine::{Chunks, ScriptFault, ScriptRead, ScriptWrite, write_all};
 use std::alloc::{AllocError, Global};
 use thiserror::Error;
 
-/// The maximum number of bytes that the parser reads at once. After these bytes, the loop looks again for a run of
-/// bytes that the parser does not store.
+/// The maximum number of bytes that the parser reads at once. After reading `PART` bytes, the loop looks again for a
+/// run of bytes that the parser does not store.
 const PART: usize = 4_096;
 
 /// Why reading stopped early.
@@ -184,8 +184,8 @@ fn ends_front(reading: &Reading, front: &Front) -> bool
     reading.found() == Found::Document && !front.text().is_empty()
 }
 
-/// Lets the parser read some of the given bytes. If these bytes complete an item, the call writes the item. Returns the
-/// number of bytes that were read.
+/// Lets the parser read some of the given bytes. If the bytes that the parser has read complete an item, the call
+/// writes the item. Returns the number of bytes that were read.
 fn feed_part<W: ScriptWrite>(
     reading: &mut Reading,
     front: &mut Front,
@@ -221,8 +221,8 @@ fn feed_part<W: ScriptWrite>(
     }
 }
 
-/// Writes a run of bytes that the parser does not store. If the given bytes do not begin with such a run, the call lets
-/// the parser read bytes. Returns the number of bytes that were read.
+/// Writes a run of bytes that the parser does not store. If the given bytes begin with no run that may be passed on
+/// without being stored, the call lets the parser read bytes. Returns the number of bytes that were read.
 fn feed_some<W: ScriptWrite>(
     reading: &mut Reading,
     front: &mut Front,
