@@ -16,7 +16,7 @@ use std::alloc::{AllocError, Global};
 /// The minimum number of bytes of a document that the parser stores before it passes bytes on without storing them.
 const LONG: usize = 262_144;
 
-/// The parser builds a front only for a run that has at least this number of bytes in one read.
+/// The parser builds a front only for a run that has at least `RUN` bytes in one read.
 const RUN: usize = 1_024;
 
 /// After an attempt to build a front for a text of n bytes, the parser reads at least n / 4 further bytes before the
@@ -151,8 +151,8 @@ impl Reading {
     }
 }
 
-/// Returns the number of bytes before the first quotation mark, backslash or control character. Returns 0 if one of
-/// these bytes is not printable ASCII.
+/// Returns the number of bytes before the first quotation mark, backslash or control character. Returns 0 if one of the
+/// bytes before that character is not printable ASCII.
 fn run_length(bytes: &[u8]) -> usize
     ensures within { result ≤ length bytes.now }
     ensures run { IsRun (take result bytes.now) }
