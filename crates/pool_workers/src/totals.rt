@@ -129,9 +129,8 @@ fn sum_up<F: WriteFilter, S: SourceBrand, T: TargetBrand<F>, L: Ledger, G: Gate>
 }
 
 /// Gives proofs three facts about a run. The call needs the complete pass (all 1,024 parts) of each channel. At most
-/// one fetcher took each window. If no fetcher halted, at most one writer received each parcel. Suppose that the number
-/// of sent parcels is the number of received parcels. Then the sent and the received parcels are the same, each with
-/// its number of documents.
+/// one fetcher took each window. If no fetcher halted, at most one writer received each parcel. If the numbers of sent
+/// and received parcels are equal, exactly the sent parcels were received, each with the same number of documents.
 fn each_once<S: SourceBrand, L: Ledger>(channels: &Channels<S>, ended: &mut Ended<S, L>)
     requires window_seat { IsSeatAt (sends_on channels.now.to_fetchers) ended.old.windows }
     requires parcel_seat { IsSeatAt (sends_on channels.now.to_writers) ended.old.parcels }
