@@ -7,8 +7,8 @@ use doc_json::has_fraction;
 use json_values::{LineValue, is_same_text};
 use std::alloc::AllocError;
 
-/// Appends the document, member or databases at fault and a colon. If the part at fault is unknown, the call appends
-/// nothing.
+/// Appends the part of the line that is at fault (a document, a member or databases), and then a colon. If the part at
+/// fault is unknown, the call appends nothing.
 #[tactic(auto, using(crate::proofs::Seen::seen_none))]
 pub(crate) fn push_place(
     text: &mut String,
