@@ -21,8 +21,8 @@ pub enum Reason {
     /// The write filter refuses the document.
     Filtered,
     /// The ancestry of the document contradicts the tree, because a revision has another parent in the tree. The
-    /// variant has the newest such revision (`child`), the revision's parent in the tree (`known`), and the revision's
-    /// parent in the ancestry (`given`).
+    /// variant has the newest revision with two different parents (`child`), the revision's parent in the tree
+    /// (`known`), and the revision's parent in the ancestry (`given`).
     Contradicting { child: Rev, known: Rev, given: Rev },
 }
 
