@@ -24,7 +24,7 @@ struct Spot {
 
 impl Spot {
     /// Returns the position after the next bytes of a value that can be copied together. If the next byte cannot be
-    /// copied together with others, the call returns the given position.
+    /// copied together with other bytes, the call returns the given position.
     #[inline(always)]
     fn next(self, bytes: &[u8]) -> Spot
         requires { self.count < length bytes.now }
