@@ -15,8 +15,8 @@ use crate::origin::Origin;
 use rev_core::Rev;
 
 impl Nodes {
-    /// Whether the tree has a parent for each child in an ancestry. Returns an error with the first child whose parent
-    /// in the tree differs from its parent in the ancestry.
+    /// Whether the tree has all edges (from child to parent) of an ancestry. Returns an error with the first child
+    /// whose parent in the tree differs from its parent in the ancestry.
     ///
     /// If the tree has the complete ancestry, the call needs only one lookup, because each node stores the index of its
     /// parent. If the tree has no parent for a child, the call looks up the parent that the ancestry gives. The lookup
