@@ -293,10 +293,10 @@ fn run_with<F: WriteFilter + Send + Sync, G: Gate + Sync, R: Threads + Wait + Sy
 /// If the run succeeds, the target covers each leaf of the source's selected feed above the session's start. A
 /// successful call returns the report of the session, which began at the common checkpoint and has recorded the
 /// source's update sequence. The fetchers' numbers of documents add up to the report's number of read documents. After
-/// a successful run that started with an empty target and refused no document, the target has the source's revisions,
-/// parents and contents of leaves of each selected document. If the run succeeds and the peers were consistent
-/// (docs/PROFILE.md, "Tied peers"), the target covers each leaf of the source's selected feed, even below the session's
-/// start.
+/// a successful run that started with an empty target, without refusing a document, the target has the source's
+/// revisions, parents and contents of leaves of each selected document. If the run succeeds and the peers were
+/// consistent (docs/PROFILE.md, "Tied peers"), the target covers each leaf of the source's selected feed, even below
+/// the session's start.
 ///
 /// At the source, the run changes only the outgoing logs, for every result. The target is unchanged, or has changed
 /// only by beginning the session and by calls with messages of the source. The target keeps all its documents, sessions
