@@ -383,8 +383,8 @@ impl<F: WriteFilter> World<F> {
         self.bag.put_parcel(window, parcel)
     }
 
-    /// Settles a parcel from the message bag for a session of the target: stores or refuses each document of the
-    /// parcel.
+    /// Settles a parcel from the message bag for a session of the target, that is, applies the documents of the parcel
+    /// in order.
     fn settle(&mut self, alloc: Global, session: SessionId, place: usize) -> Result<(), AllocError>
         ensures filters { self.new.0 ≡ self.old.0 }
         ensures ok { OnOk result
