@@ -39,9 +39,9 @@ pub trait Command<L>: Sized + Drop {
     fn read(line: L) -> Option<Self>
         ensures { needed (option_map asked result) ≡ asked_in (seen line) };
 
-    /// Runs the command, and writes its output into the buffer. The relation `answers` allows the result. Every command
-    /// may also fail with `Memory`, either without an effect, or with the effect of a success whose output could not be
-    /// stored.
+    /// Runs the command, and writes its output into the buffer. The relation `answers` allows the result of the
+    /// command. Every command may also fail with `Memory`. A command that fails with `Memory` either has no effect, or
+    /// has the effect of a success whose output could not be stored.
     fn serve<H: Threads + Wait + Sync>(
         &self,
         rt: &H,

@@ -175,8 +175,8 @@ where
         × Appends (W.held writer.old) (W.held writer.new) text
         × IsAnswered TrustedLines (no_databases (program_of settings.now)) input clean text state) }
     ensures end { OnOk result (IsAtEnd (R.left reader.new)) }
-    // The clause `took` states the guarantees of `answers` and `trust` for the bytes that the reads returned. The
-    // clause `ended` says that the last read found the end of the input.
+    // The clause `took` states the guarantees of the clauses `answers` and `trust`, for the input bytes that the reads
+    // returned. The clause `ended` says that the last read found the end of the input.
     ensures took { IfOk result
         (λ clean. (input : List ℕ) × (text : List ℕ) × (state : State)
         × Appends (R.taken reader.old) (R.taken reader.new) input × Appends (W.held writer.old) (W.held writer.new) text

@@ -120,8 +120,8 @@ impl Database {
         Ok(())
     }
 
-    /// For the requested revisions of one document, appends the fetched documents, and the requested revisions that the
-    /// document's tree does not have.
+    /// Fetches the requested revisions of one document. The call appends the fetched documents to one list, and the
+    /// requested revisions that the document's tree does not have to another list.
     fn fetch(
         &self,
         alloc: Global,

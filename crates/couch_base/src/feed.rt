@@ -40,7 +40,7 @@ impl<'a> Change<'a> {
         self.id
     }
 
-    /// Returns all leaves of the document, winner first. The call does not allocate for a single leaf.
+    /// Returns all leaves of the document, winner first. The call does not allocate if the document has a single leaf.
     pub fn leaves(&self, alloc: Global) -> Result<Revs, AllocError>
         ensures { IfOk result (λ revs. revs ≡ self.now.leaves) }
     {

@@ -65,7 +65,7 @@ or reading, writing or an allocation failed.";
 /// The reason why a command line names no task.
 #[derive(Drop)]
 pub(crate) enum NoTask {
-    /// The error of `clap`, which includes requests for help.
+    /// The error of `clap`. A request for help is also an error of `clap`.
     Words(Error),
     /// The task is unknown, or does not take the given arguments and options.
     Unknown,

@@ -17,8 +17,8 @@ use std::io;
 use std::io::{Eprint, Input, Print, Printer, Write};
 
 /// Runs the program, and returns its exit status. The exit status is 0 on success, 1 if something is missing, and 2 for
-/// a usage error. The exit status is 3 if the input is damaged or has another form, or if reading, writing or an
-/// allocation failed.
+/// a usage error. The exit status is 3 if the input is damaged or does not have the form that the task reads, or if
+/// reading, writing or an allocation failed.
 pub(crate) fn run_program<H: AllocGlobal + Env + Input + Print + Eprint>(rt: &H) -> u8
     ensures { result ≤ 3 }
 {
@@ -31,8 +31,8 @@ pub(crate) fn run_program<H: AllocGlobal + Env + Input + Print + Eprint>(rt: &H)
     }
 }
 
-/// Runs the program on standard input and output. Returns how the run ended, and both streams. The contract names the
-/// bytes that went through the streams. Output is buffered, and flushed at the end.
+/// Runs the program on standard input and output. Returns how the run ended, and both streams. The contract says which
+/// bytes the call read and wrote. Output is buffered, and flushed at the end.
 ///
 /// # Errors
 ///
@@ -68,8 +68,8 @@ fn flushed<W: ScriptWrite>(writer: &mut W, first: Ended) -> Ended
     }
 }
 
-/// Returns the end of a run whose last output could not be flushed. If the run failed before, the call returns the
-/// earlier failure.
+/// Returns how a run ended if the last output of the run could not be flushed. If the run failed before, the call
+/// returns the earlier failure.
 fn unflushed(ended: Ended) -> Ended
     ensures { result ≡ unflushed ended }
 {

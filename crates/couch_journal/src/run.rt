@@ -77,7 +77,8 @@ fn show_info(alloc: Global, value: &Value<'_>, text: &mut Vec<u8>) -> Result<boo
 ///
 /// # Errors
 ///
-/// Returns `Error` or `Other` if the value is not the response. Returns `Memory` if an allocation failed.
+/// Returns `Error` or `Other` if the JSON value is not a response of the kind `response`. Returns `Memory` if an
+/// allocation failed.
 fn show(
     alloc: Global,
     response: Response,
@@ -100,7 +101,8 @@ fn show(
 ///
 /// # Errors
 ///
-/// Returns `NotJson`, `Error` or `Other` if the body is not the response. Returns `Memory` if an allocation failed.
+/// Returns `NotJson`, `Error` or `Other` if the body is not a response of the kind `response`. Returns `Memory` if an
+/// allocation failed.
 fn read_response(
     alloc: Global,
     response: Response,
@@ -118,7 +120,7 @@ fn read_response(
     }
 }
 
-/// Writes the output for a response, and returns the outcome of its task.
+/// Writes the output for a response, and returns the outcome of the task that read the response.
 fn write_shown<W: ScriptWrite>(
     writer: &mut W,
     text: &[u8],
@@ -276,7 +278,8 @@ fn run_select<R: ScriptRead, W: ScriptWrite>(
     Ok(wrong_or(task.wrong(), missing_or_done(task.lacks())))
 }
 
-/// Reads requested leaves and received documents, and prints what was received.
+/// Reads requested leaves and received documents. Prints the requested documents and which leaves were received, or
+/// only the leaves that were not received if `only_lacks` is true.
 fn run_received<R: ScriptRead, W: ScriptWrite>(
     alloc: Global,
     only_lacks: bool,
@@ -439,7 +442,7 @@ fn run<R: ScriptRead, W: ScriptWrite>(
     }
 }
 
-/// Parses the arguments, of which the first is the program's name, and runs the task that they name.
+/// Parses the arguments, and runs the task that the arguments name. The first argument is the program's name.
 pub(crate) fn run_words<R: ScriptRead, W: ScriptWrite>(
     alloc: Global,
     words: &[String],

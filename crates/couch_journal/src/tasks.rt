@@ -27,19 +27,21 @@ pub(crate) enum Task<'a> {
     Refused,
     /// Prints the line with the checksum of a block, for the given hash of the previous block and the given sequence.
     Seal(&'a str, &'a str),
-    /// Prints how much of a journal its checksums confirm, or how much up to a sequence if a sequence is given.
+    /// Prints how much of a journal the journal's checksums confirm. If a sequence is given, the report ends at the
+    /// last block of this sequence.
     Confirm(Option<&'a str>),
     /// Prints the last state of each document of a journal, without verifying the journal's checksums if the Boolean is
     /// true.
     States(bool),
-    /// Prints the documents of the last states of a journal of a given size.
+    /// Prints the documents in the last states of a journal. The number in `Select` is the size of the journal in
+    /// bytes.
     Select(u64),
     /// Prints the documents that have two or more live leaves.
     Conflicts,
-    /// Prints a line for each leaf, which begins with the given word.
+    /// Prints a line for each leaf. Each line begins with the given word.
     Name(&'a str),
-    /// Prints the leaves of a list that another list lacks. If the Boolean is true, it prints only leaves of documents
-    /// that the other list lacks.
+    /// Prints the leaves of a list that another list lacks. If the Boolean is true, the task prints only the leaves of
+    /// documents that the other list lacks.
     Compare(bool),
     /// Prints the identity of a server or of a database.
     Info,
@@ -165,14 +167,14 @@ fn takes_unverified(named: Named) -> bool
     }
 }
 
-/// Whether an option is given that the task does not take.
+/// Whether an option is given, although the task does not take the option.
 fn is_other(given: bool, taken: bool) -> bool
     ensures { result ≡ is_other given taken }
 {
     given && !taken
 }
 
-/// Whether a command line has an option that its task does not take.
+/// Whether a command line has an option that the named task does not take.
 fn has_other_option(named: Named, options: &Options<'_>) -> bool
     ensures { result ≡ has_other_option named options.now }
 {
@@ -220,7 +222,7 @@ pub(crate) fn task_of<'a>(options: &Options<'a>) -> Option<Task<'a>>
     taken(named, options)
 }
 
-/// Returns the named task with its arguments and options, or `None` if they are wrong.
+/// Returns the named task with its arguments and options, or `None` if the arguments or the options are wrong.
 fn taken<'a>(named: Named, options: &Options<'a>) -> Option<Task<'a>>
     ensures some { IfSome result (Takes named options.now) }
     ensures none { IfNone result ((task : Task) → Takes named options.now task → ⊥) }

@@ -46,7 +46,7 @@ pub(crate) struct Options<'a> {
     pub(crate) filter: &'a str,
     pub(crate) query: &'a str,
     pub(crate) salt: &'a str,
-    /// Whether the first response is a selection of documents.
+    /// Whether the input begins with a response that is the selection of documents.
     pub(crate) choice: bool,
 }
 

@@ -36,7 +36,8 @@ struct Start {
 #[derive(Drop)]
 pub struct Ancestries {
     branches: Vec<Branch>,
-    /// The index of each branch except the first, by the parent and the first revision of the branch.
+    /// The indexes of all branches except the first. The key of a branch in this map consists of the branch's parent
+    /// and first revision.
     starts: Option<Box<IndexMap<Start, usize>>>,
 }
 
@@ -45,7 +46,7 @@ pub struct Ancestries {
 struct Climb {
     /// The revision that the path has reached, or `None` after the oldest revision.
     at: Option<Point>,
-    /// The branch from which the path reached the revision.
+    /// The branch that the path has left last, or `None` if the path has not left a branch.
     left: Option<usize>,
 }
 
@@ -115,7 +116,8 @@ impl Ancestries {
         self.start_at(at, rev)
     }
 
-    /// Returns the first point of the branch with a given start, if such a branch exists.
+    /// Returns the first revision of the branch with the given parent and first revision, if `starts` has such a
+    /// branch.
     fn start_at(&self, from: Option<Point>, rev: &Rev) -> Option<Point> {
         let starts = self.starts.as_ref()?;
         let branch = starts.get(&Start { from, rev: *rev })?;
@@ -240,7 +242,7 @@ impl Ancestries {
         (one, other)
     }
 
-    /// Returns the given path, moved from its branch to the revision from which this branch branches off.
+    /// Moves a path from its branch to the parent of the branch's first revision, and returns the moved path.
     fn climbed(&self, climb: Climb) -> Climb {
         match climb.at {
             Some(point) => Climb {
@@ -251,7 +253,8 @@ impl Ancestries {
         }
     }
 
-    /// Returns the revision of the path's ancestry that follows the first `count` revisions of the reached branch.
+    /// Returns the revision after the first `count` revisions of the reached branch, in the ancestry that the path
+    /// follows.
     fn next(&self, climb: Climb, count: usize) -> Option<&Rev> {
         if climb.count() > count {
             return self.rev_at(climb.branch(), count);

@@ -35,7 +35,7 @@ impl Leaf {
 
 /// Compares two leaves in the order of drawing. Leaves that share more revisions with the winner come first. Leaves
 /// that share the same number of revisions with the winner are ordered by their ancestors, beginning with the oldest
-/// ancestor. In this order, all leaves that share a revision are adjacent.
+/// ancestor. In the order of drawing, all leaves that share a revision are adjacent.
 fn order_of(ancestries: &Ancestries, one: &Leaf, other: &Leaf) -> Ordering {
     if one.apart != other.apart {
         return one.apart.cmp(&other.apart);

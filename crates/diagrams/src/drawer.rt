@@ -162,8 +162,9 @@ impl Drawer<'_> {
 }
 
 /// Reads the output of a script, and draws the output as text or as one SVG picture (docs/PROFILE.md, "Pictures"). The
-/// picture shows the documents of `show` and `conflicts`, the lines of `compare`, the numbers of `info` and of
-/// sessions, and logs. If the caller names the database, a text picture includes the commands that resolve conflicts.
+/// picture shows the documents of `show` and `conflicts`, and the lines of `compare`. The picture also shows the
+/// numbers of `info`, the numbers of sessions, and logs. If the caller names the database, a text picture includes the
+/// commands that resolve conflicts.
 ///
 /// Returns true if no allocation for a line failed.
 ///
@@ -186,8 +187,8 @@ pub fn draw_answers<R: ScriptRead, W: ScriptWrite>(
     ensures pictured { PicturedBy result form (option_map (λ s. s.now) db.entry)
         (R.left reader.old) (W.held writer.old) (W.held writer.new) }
     ensures end { OnOk result (IsAtEnd (R.left reader.new)) }
-    // The clause `took` describes the picture of the bytes that the reads returned. If the call succeeds, the reads
-    // returned the complete input.
+    // The clause `took` relates the written picture to the bytes that the reads returned. If the call succeeds, the
+    // reads returned the complete input.
     ensures took { (input : List ℕ) × Appends (R.taken reader.old) (R.taken reader.new) input
         × PicturedBy result form (option_map (λ s. s.now) db.entry) (Some input) (W.held writer.old) (W.held writer.new) }
     ensures ended { OnOk result (R.ended reader.new) }

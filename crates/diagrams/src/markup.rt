@@ -38,7 +38,7 @@ pub enum Markup {
     /// The markup after a document's id.
     TitleEnd,
     GroupEnd,
-    /// The markup of an SVG edge before, between and after the coordinates of its points.
+    /// The parts of an SVG edge's markup: before, between and after the coordinates of the edge's points.
     Path,
     Comma,
     Curve,

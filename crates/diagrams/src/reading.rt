@@ -23,7 +23,8 @@ pub enum Whole {
     Log(Log),
 }
 
-/// Returns the document whose lines are still being read after the line `told`, and the item that the line completes.
+/// Processes the line `told` of a script's output. Returns the document that is incomplete after the line, if there is
+/// one, and the item that the line completes, if there is one.
 pub fn next(
     alloc: Global,
     begun: Option<Document>,
@@ -48,8 +49,8 @@ pub fn next(
     }
 }
 
-/// Adds the leaf of a `leaf` line to the document. Returns the document as open if further leaves follow, or else as a
-/// complete item. If `revs` is empty, the call drops the document.
+/// Adds the leaf of a `leaf` line to the document. Returns the document as incomplete if further `leaf` lines must
+/// follow, and otherwise as a complete item. If `revs` is empty, the call drops the document.
 fn read_leaf(
     alloc: Global,
     mut document: Document,

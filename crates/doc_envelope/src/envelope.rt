@@ -27,8 +27,8 @@ pub struct Envelope {
     text: Vec<u8>,
     /// The text of the members that the envelope stores in its string.
     held: Vec<u8>,
-    /// Whether each member outside of the envelope's string certainly has the text that the kit's JSON library prints
-    /// for the member.
+    /// If `printed` is true, each member outside of the envelope's string has the text that the kit's JSON library
+    /// prints for this member.
     printed: bool,
     scratch: Scratch,
 }
@@ -193,8 +193,8 @@ impl Envelope {
         self.hold(member)
     }
 
-    /// Appends a member to the envelope, and checks whether the member has the text that the kit's JSON library prints
-    /// for it.
+    /// Appends a member to the envelope. The call sets `printed` to false unless the member is known to have the text
+    /// that the kit's JSON library prints.
     fn put_front(&mut self, member: &[u8]) -> Result<(), AllocError>
         ensures made { OnOk result (made_of self.new ≡ added (made_of self.old) member.now) }
         ensures held { held_of self.new ≡ held_of self.old }

@@ -79,7 +79,7 @@ fn string_end(text: &[u8], from: usize) -> usize
     at
 }
 
-/// Returns the number of bytes of the first member, which ends before a comma or a closing brace.
+/// Returns the number of bytes of the first member. The member ends before a comma or a closing brace.
 pub(crate) fn first_length(text: &[u8]) -> usize
     ensures value { result ≡ first_length text.now }
     ensures within { result ≤ length text.now }

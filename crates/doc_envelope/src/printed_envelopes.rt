@@ -7,8 +7,8 @@ use crate::members::split_member;
 use crate::printing::{after, is_printed_member};
 use json_values::plain_end;
 
-/// Returns true only if a text is JSON. The call recognizes envelopes that are as `Envelope::put` prints them, if `_id` is
-/// the first member.
+/// Returns true only if a text is JSON. The call recognizes an envelope whose text is as `Envelope::put` prints it, if
+/// the first member of the envelope is `_id`.
 #[inline(never)]
 pub fn is_printed_envelope(text: &[u8]) -> bool
     ensures { result ≡ true → is_json text.now ≡ true }
@@ -29,8 +29,8 @@ pub fn is_printed_envelope(text: &[u8]) -> bool
     is_last(rest)
 }
 
-/// Returns the first member of an envelope and the text after the member's comma, or `None` if no comma follows the
-/// member, or if the member may be `whole`.
+/// Returns the first member of an envelope and the text after the member's comma. Returns `None` if no comma follows
+/// the member, or if the member may be `whole`.
 fn split_front(text: &[u8]) -> Option<(&[u8], &[u8])>
     ensures { IfSome result (λ p. text.now ≡ p.0.now ++ 44 ∷ p.1.now) }
 {
@@ -41,7 +41,8 @@ fn split_front(text: &[u8]) -> Option<(&[u8], &[u8])>
     }
 }
 
-/// Returns true only if a text is a member that an envelope may have, and the brace that closes the envelope.
+/// Returns true only if a text consists of a member that an envelope may have, followed by the brace that closes the
+/// envelope.
 fn is_last(text: &[u8]) -> bool
     ensures { result ≡ true → EndsEnvelope text.now }
 {
@@ -81,8 +82,8 @@ fn is_quoted(value: &[u8]) -> bool
     }
 }
 
-/// Returns true only if a text is the content of a string and the closing quotation mark, as the kit's JSON library
-/// prints them. The content may have quotation marks and backslashes, but no other characters that need an escape.
+/// Returns true only if a text is a string's content followed by the closing quotation mark, as the kit's JSON library
+/// prints a string. The content may have quotation marks and backslashes, but no other characters that need an escape.
 fn ends_printed(text: &[u8]) -> bool
     ensures { result ≡ true → EndsPrinted text.now }
 {

@@ -6,8 +6,8 @@ ghost use Rattle.doc_envelope.specs.Printed.{IsPrintedMember, IsPrintedValue, Is
 use json::is_number;
 use json_values::plain_end;
 
-/// Returns true only if a member and all earlier members may be in an envelope, and have the texts that the kit's JSON
-/// library prints.
+/// Returns true only if `printed` is true for the earlier members, and the given member may be in an envelope and has
+/// the text that the kit's JSON library prints.
 pub(crate) fn still_printed(printed: bool, member: &[u8]) -> bool
     ensures { result ≡ true → (printed ≡ true) × IsPrintedMember member.now }
 {
@@ -115,8 +115,8 @@ fn is_revisions(value: &[u8]) -> bool
     }
 }
 
-/// Returns true only if a text is a number, the member `ids` with a list of strings, and the brace that closes an
-/// object.
+/// Returns true only if a text consists of a number, then the member `ids` with a list of strings, and then the brace
+/// that closes an object.
 fn is_started(start: &[u8]) -> bool
     ensures { result ≡ true → IsStarted start.now }
 {
@@ -151,8 +151,8 @@ fn is_start(text: &[u8]) -> bool
     }
 }
 
-/// Returns true only if a text is comma-separated ASCII strings without escapes, followed by the brackets that close
-/// their list and its object.
+/// Returns true only if a text consists of comma-separated ASCII strings without escapes, followed by the bracket that
+/// closes the list and the brace that closes the object.
 fn are_ids(text: &[u8]) -> bool
     ensures { result ≡ true → AreIds text.now }
 {

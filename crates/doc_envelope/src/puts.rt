@@ -11,8 +11,9 @@ use crate::streaming::{ends_first, may_stream};
 use std::alloc::AllocError;
 
 impl Envelope {
-    /// Wraps the beginning of a document. Returns true only if a run may follow the beginning. The result is then the
-    /// beginning of the envelope of each document that begins with `beginning`, if all later members are wrapped.
+    /// Wraps the beginning of a document. Returns true only if a run (string bytes that are passed on without being
+    /// stored) may follow the beginning of the document. If the call returns true, the built text is the beginning of
+    /// the envelope of each document that begins with `beginning`, if all later members of the document are wrapped.
     pub fn begin_put(&mut self, beginning: &[u8]) -> Result<bool, AllocError>
         ensures { IfOk result (λ ok. ok ≡ true → IsPutStart beginning.now (made_of self.new)) }
     {
@@ -27,8 +28,8 @@ impl Envelope {
     }
 }
 
-/// Returns true only if the beginning of a document ends in a string of the member `_attachments`, after the member
-/// `_revisions`.
+/// Returns true only if the beginning of a document ends inside a string of the member `_attachments`, and the member
+/// `_revisions` precedes this member.
 fn in_attachments(beginning: &[u8]) -> bool
     ensures { result ≡ true → InAttachments beginning.now }
 {
@@ -38,8 +39,8 @@ fn in_attachments(beginning: &[u8]) -> bool
     }
 }
 
-/// Returns the last member of the beginning of a document. Returns `None` if the member ends in the beginning, or if
-/// the member `_revisions` does not precede it.
+/// Returns the incomplete last member of the beginning of a document. Returns `None` if the last member is complete, or
+/// if the member `_revisions` does not precede the last member.
 fn open_member(beginning: &[u8]) -> Option<&[u8]>
     ensures { IfSome result (λ member. Opens (drop 1 beginning.now) member.now) }
 {

@@ -1,4 +1,4 @@
-//! Finds texts after which a run of bytes that are not stored may follow.
+//! Recognizes texts after which a run (string bytes that are passed on without being stored) may follow.
 ghost use Rattle.std.specs.Prelude.{◌≡◌, ◌<◌, ◌≤◌, ◌==◌, length, drop, get_or, cond, true, false, IfSome};
 ghost use Rattle.std.specs.List.{list_all};
 ghost use Rattle.doc_envelope.specs.Members.{Outside, Quoted, first_length};
@@ -8,7 +8,7 @@ use crate::envelope::behind_brace;
 use crate::members::first_length;
 use json_values::plain_end;
 
-/// Returns true only if a run may follow a text.
+/// Returns true only if a run (string bytes that are passed on without being stored) may follow a text.
 pub(crate) fn may_stream(text: &[u8]) -> bool
     ensures { result ≡ true → MayStream text.now }
 {
@@ -74,7 +74,7 @@ fn past_byte(quoted: bool, text: &[u8], at: usize) -> Option<usize>
     }
 }
 
-/// Returns true only if the first member of an object ends in a part of the object's text.
+/// Returns true only if the first member of an object ends within the given beginning of the object's text.
 pub(crate) fn ends_first(text: &[u8]) -> bool
     ensures { result ≡ true → first_length (drop 1 text.now) < length (drop 1 text.now) }
 {

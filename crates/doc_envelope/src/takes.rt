@@ -11,8 +11,9 @@ use crate::streaming::{ends_first, may_stream};
 use std::alloc::AllocError;
 
 impl Envelope {
-    /// Unwraps the beginning of an envelope. Returns true only if a run may follow the beginning. The result is then
-    /// the beginning of the document of each envelope that begins with `beginning`.
+    /// Unwraps the beginning of an envelope. Returns true only if a run (string bytes that are passed on without being
+    /// stored) may follow the beginning of the envelope. If the call returns true, the built text is the beginning of
+    /// each document whose envelope begins with `beginning`.
     pub fn begin_take(&mut self, beginning: &[u8]) -> Result<bool, AllocError>
         ensures { IfOk result (λ ok. ok ≡ true → IsTakeStart beginning.now (made_of self.new)) }
     {
@@ -31,8 +32,8 @@ impl Envelope {
         Ok(ends_first(self.text()) && may_stream(self.text()))
     }
 
-    /// Copies each complete member of an envelope. Returns the text of the last member, which is not complete. Returns
-    /// `None` if the envelope has a member `whole` that is not a string of members.
+    /// Copies each complete member of an envelope. Returns the text of the incomplete last member. Returns `None` if
+    /// the envelope has a member `whole` that is not a string of members.
     fn begin_unfold<'a>(&mut self, beginning: &'a [u8]) -> Result<Option<&'a [u8]>, AllocError>
         requires { 0 < length beginning.now }
         ensures { IfOk result (λ last. IfSome last (λ member. (t : List ℕ)
@@ -50,7 +51,8 @@ impl Envelope {
         Ok(Some(rest))
     }
 
-    /// Appends the members in the part of a JSON string. Returns `false` if the part has no content.
+    /// Appends the wrapped members in `string`, the beginning of a JSON string's content. Returns `false` if `string`
+    /// with a closing quotation mark is not a JSON string, or if this JSON string has only white space.
     fn take_open(&mut self, string: &[u8]) -> Result<bool, AllocError>
         ensures { IfOk result (λ ok. ok ≡ true
             → AppendsOpen string.now (made_of self.old) (made_of self.new)) }

@@ -56,7 +56,8 @@ impl IdText {
     }
 }
 
-/// The id of a document: a nonempty string that does not begin with `_`, or `_design/` and at least one more character.
+/// The id of a document: either a nonempty string that does not begin with `_`, or `_design/` followed by at least one
+/// more character.
 ///
 /// Ids are ordered by their bytes.
 #[derive(Debug)]

@@ -10,10 +10,10 @@ use std::sync::ArcSlice;
 /// The number of table entries for each id of the list.
 const PLACES_EACH: usize = 8;
 
-/// The minimum number of ids for which a table is sized.
+/// The table for a list of fewer than `FEWEST` ids has the size of a table for `FEWEST` ids.
 const FEWEST: usize = 8;
 
-/// The maximum number of ids for which a table is sized.
+/// The table for a list of more than `MOST` ids has the size of a table for `MOST` ids.
 const MOST: usize = 1024;
 
 /// The maximum number of entries of the table.

@@ -144,8 +144,8 @@ fn with_special<'v, V: JsonValue<'v>>(
     }
 }
 
-/// Returns the given member if the member has the given name, and otherwise the member of this name that was found
-/// before.
+/// Returns the member that was found before, if there is one. Otherwise, returns the given member if it has the name
+/// `wanted`.
 fn kept<'v, V: JsonValue<'v>>(
     found: Option<&'v V>,
     name: &str,

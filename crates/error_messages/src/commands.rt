@@ -1,5 +1,5 @@
-//! Finds out why an object is not a command: an unknown command or member, or a wrong type (docs/PROFILE.md, "Command
-//! lines").
+//! Finds the reason why an object is not a command, such as an unknown command, an unknown member, or a member of a
+//! wrong type (docs/PROFILE.md, "Command lines").
 
 use json_values::{LineValue, is_same_text};
 use uuid::Uuid;

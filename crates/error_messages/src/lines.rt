@@ -64,7 +64,7 @@ fn push_reason(
     }
 }
 
-/// Appends the part at fault of a command's object, and the meaning of the error name.
+/// Appends the part of a line's object that is at fault, and the meaning of the error name.
 fn push_read_reason(text: &mut String, name: &str, object: &LineValue<'_>) -> Result<(), AllocError>
     ensures { OnOk result (AddsSeen (string_bytes text.old) (string_bytes text.new)) }
 {

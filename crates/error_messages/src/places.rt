@@ -7,8 +7,8 @@ use doc_json::has_fraction;
 use json_values::{LineValue, is_same_text};
 use std::alloc::AllocError;
 
-/// Appends the document, member or databases at fault and a colon. If the part at fault is unknown, the call appends
-/// nothing.
+/// Appends the part of the line that is at fault (a document, a member or databases), and then a colon. If the part at
+/// fault is unknown, the call appends nothing.
 #[tactic(auto, using(crate::proofs::Seen::seen_none))]
 pub(crate) fn push_place(
     text: &mut String,
@@ -133,8 +133,9 @@ fn is_special(member: &str) -> bool {
     member.as_bytes().first() == Some(&b'_')
 }
 
-/// Whether a document with this special member is rejected: a member `_deleted` that is not a Boolean, or a member whose
-/// name is not in the list of docs/PROFILE.md, "What `read_doc` accepts".
+/// Whether a document is rejected because of the given special member (a member whose name begins with `_`). A document
+/// is rejected for a member `_deleted` that is not a Boolean, and for a special member whose name is not in the list of
+/// docs/PROFILE.md, "What `read_doc` accepts".
 fn is_odd(member: &str, value: &LineValue<'_>) -> bool {
     if is_same_text("_deleted", member) {
         return value.as_bool().is_none();

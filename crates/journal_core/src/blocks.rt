@@ -7,13 +7,14 @@ use crate::sums::{added, hash_of, is_same, is_sum, seq_in, sum_head, sum_line};
 use std::alloc::{AllocError, Global};
 use std::mem;
 
-/// The effect of reading a line of a journal.
+/// The result of reading a line of a journal: the line belongs to the current block, confirms the current block, or is
+/// damaged.
 #[derive(Drop)]
 pub enum Took {
     /// The line belongs to the current block of the journal.
     Held,
-    /// The line ends a block of the journal with a right checksum, which confirms the block. `Closed` has the bytes of
-    /// the block's lines.
+    /// The line ends a block of the journal with a right checksum, which confirms the block. The variant has the bytes
+    /// of the block's lines.
     Closed(Vec<u8>),
     /// The line ends a block with a wrong checksum, or follows a line with a wrong checksum.
     Damaged,
@@ -126,7 +127,8 @@ impl Blocks {
         Ok(seq)
     }
 
-    /// Returns the hash of the current block, or `None` if the line is not the block's right last line.
+    /// Returns the hash of the current block if the given line is the right last line of the block, and otherwise
+    /// `None`.
     fn hash_in(&self, line: &[u8], seq: &[u8]) -> Result<Option<String>, AllocError>
         requires { seq.now ≡ seq_of self.now.count line.now }
         ensures { IfOk result (λ hash. (place : Place) → IsAt self.now place

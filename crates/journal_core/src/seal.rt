@@ -10,8 +10,8 @@ use sha2::{Digest, Sha256};
 use std::alloc::{AllocError, Global};
 use std::mem;
 
-/// Returns the number of lines before the first wrong line, if there is one. The argument `before` is this number for
-/// the earlier lines, and `wrong` says whether the line after `count` lines is wrong.
+/// Returns the number of lines before the first wrong line, if there is one. The argument `before` is the result for
+/// the earlier lines, and `wrong` says whether the line after the first `count` lines is wrong.
 fn wrong_after(before: Option<u64>, wrong: bool, count: u64) -> Option<u64>
     ensures { result ≡ wrong_after before wrong count }
 {

@@ -38,8 +38,8 @@ pub fn rev_of(alloc: Global, generation: u64, name: &str) -> Result<String, Allo
     Ok(rev)
 }
 
-/// Whether a revision is in an ancestry. The newest revision of the ancestry has the generation `start`, and `names`
-/// has the signatures.
+/// Whether a revision is in an ancestry. The ancestry is given by the generation `start` of its newest revision, and by
+/// the signatures `names` of its revisions, newest first.
 fn is_in(alloc: Global, rev: &str, start: u64, names: &[String]) -> Result<bool, AllocError>
     ensures { IfOk result (λ is_in. is_in ≡ knows_at rev.now start (texts_of names.now)) }
 {

@@ -1,4 +1,4 @@
-//! Reads and writes the lines of a journal, which are lists of leaves and documents.
+//! Reads and writes the lines of a journal. A line of a journal may list the leaves of a document, or have a document.
 #![tactic(auto)]
 
 mod docs;

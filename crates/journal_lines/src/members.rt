@@ -36,7 +36,7 @@ pub fn items_at<'v, 'a>(value: &'v Value<'a>, name: &str) -> Option<&'v Vec<Valu
     }
 }
 
-/// Returns the number that a JSON value is, if the number has no sign, point and exponent.
+/// Returns the number in a JSON value, if the value is a number without sign, point and exponent.
 fn number_of(value: &Value<'_>) -> Option<u64>
     ensures { result ≡ number_in (value_view value.now) }
 {

@@ -16,7 +16,7 @@ fn token_of<'a>(text: &'a str) -> Option<&'a str>
     if is_token(text) { Some(text) } else { None }
 }
 
-/// Returns the sequence in a JSON value, which is the content of a string or the text of a number.
+/// Returns the sequence in a JSON value. The sequence is the content of a string or the text of a number.
 pub(crate) fn seq_of<'v, 'a>(value: &'v Value<'a>) -> Option<&'a str>
     ensures { option_map (λ s. s.now) result ≡ seq_in (value_view value.now) }
 {

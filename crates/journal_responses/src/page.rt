@@ -214,7 +214,8 @@ fn read_page(alloc: Global, value: &Value<'_>) -> Result<Option<Page>, AllocErro
     }))
 }
 
-/// Appends the last line of a page, with its number of rows, its last sequence and the number of documents after it.
+/// Appends the last line of a page's text, with the number of the page's rows, the page's last sequence, and the number
+/// of documents after the page.
 fn push_last(text: &mut Vec<u8>, rows: usize, last: &str, pending: &str) -> Result<(), AllocError>
     ensures { OnOk result (text.new.items ≡ text.old.items ++ last_line rows last.now pending.now) }
 {
@@ -229,7 +230,8 @@ fn push_last(text: &mut Vec<u8>, rows: usize, last: &str, pending: &str) -> Resu
     Ok(())
 }
 
-/// Appends the text of a page: a state line for each row (or for each row with several leaves), and the last line.
+/// Appends a state line for each row of a page, and then the last line of the page's text. If `several` is true, only
+/// rows with two or more leaves have a state line.
 fn push_page(
     alloc: Global,
     text: &mut Vec<u8>,

@@ -10,8 +10,8 @@ use line_reader::LineTask;
 use std::alloc::{AllocError, Global};
 
 /// The task's input is a list of leaves, an empty line and a second list of leaves. The task prints for each line of
-/// the second list the leaves that the first list does not have. With the option `documents`, the task prints only the
-/// documents that the first list does not have, with all their leaves.
+/// the second list the leaves that the first list does not have. With the option `documents`, the task prints only
+/// documents that the first list does not have. The task prints all leaves of such a document.
 ///
 /// The task holds the first list in memory.
 #[derive(Drop)]

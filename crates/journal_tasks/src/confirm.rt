@@ -182,8 +182,9 @@ impl LineTask for Confirm {
     }
 }
 
-/// Confirms the journal of a reader, and writes a report about the confirmed part. If the caller gives a sequence, the
-/// report ends at the last block of this sequence. If no block has the sequence, there is no output.
+/// Reads a journal, finds the part that the journal's checksums confirm, and writes a report about this part. If the
+/// caller gives a sequence, the report ends at the last block of this sequence. If no block has the sequence, there is
+/// no output.
 ///
 /// # Errors
 ///

@@ -44,7 +44,7 @@ fn parts_of(rev: &str) -> (u64, &str) {
     }
 }
 
-/// Whether a revision is an ancestor of another given leaf.
+/// Whether a revision is an ancestor of one of the given leaves.
 fn is_ancestor(alloc: Global, leaves: &[Leaf], rev: &str) -> Result<bool, AllocError> {
     for leaf in leaves {
         if leaf.rev.as_str() != rev && leaf.knows(alloc, rev)? {

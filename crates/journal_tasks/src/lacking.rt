@@ -105,12 +105,14 @@ impl Lacking {
         self.count.wrong
     }
 
-    /// Whether the second part of the input is not a `_revs_diff` response, or names a leaf that is not in the list.
+    /// Returns true if the second part of the input is missing or is not a `_revs_diff` response, and also if the
+    /// response names a leaf that is not in the list.
     pub fn is_refused(&self) -> bool {
         self.refused
     }
 
-    /// Returns the missing leaves that the response names, or `None` if it is not a response of `_revs_diff`.
+    /// Returns the missing leaves that the response names, or `None` if the text of the response is not a response of
+    /// `_revs_diff`.
     fn missing(&mut self) -> Result<Option<Docs>, AllocError> {
         let Ok(text) = str::from_utf8(self.response.as_slice()) else {
             return Ok(None);

@@ -5,8 +5,8 @@ use json::Scratch;
 use memchr::memchr;
 use std::alloc::{AllocError, Global};
 
-/// For each document, the last lacks line (a line that says that leaves are missing), unless a later state line
-/// follows.
+/// A table of documents that still lack leaves. For each document, the table has the last lacks line (a line that says
+/// that leaves are missing), unless a later state line of the document follows.
 #[derive(Drop)]
 pub(crate) struct Lacks {
     alloc: Global,

@@ -63,7 +63,7 @@ fn new_doc(alloc: Global) -> Doc
     }
 }
 
-/// Returns the document, or a document without revisions if there is none.
+/// Returns the given document, or a document without revisions if the argument is `None`.
 fn or_new(alloc: Global, doc: Option<Doc>) -> Doc
     ensures { doc_view result ≡ doc_or_new (option_map doc_view doc) }
 {
@@ -73,7 +73,8 @@ fn or_new(alloc: Global, doc: Option<Doc>) -> Doc
     }
 }
 
-/// Returns what is stored for a document, and stores a document without revisions.
+/// Replaces the stored document with the given id by a document without revisions. Returns the document that was stored
+/// before, or a document without revisions if the id is new.
 fn take_out(alloc: Global, docs: &mut Docs, id: &str) -> Result<Doc, AllocError>
     ensures taken { IfOk result (λ doc. doc_view doc ≡ doc_or_new (doc_at docs.old id.now)) }
     ensures others { OnOk result ((other : List ℕ) → bytes_eq id.now other ≡ false
@@ -163,7 +164,8 @@ fn with_wanted(alloc: Global, doc: Doc, revs: &[String]) -> Result<Doc, AllocErr
     })
 }
 
-/// Returns a document after a leaf of it was received, with the leaf and its ancestors marked as received.
+/// Returns a document after one of its leaves was received. In the result, the leaf and its ancestors are marked as
+/// received.
 fn with_leaf(alloc: Global, doc: Doc, leaf: &Leaf) -> Result<Doc, AllocError>
     ensures { IfOk result (λ after. doc_view after ≡ with_leaf (leaf_view leaf.now) (doc_view doc)) }
 {
@@ -182,7 +184,7 @@ fn want(alloc: Global, docs: &mut Docs, leaves: &Leaves) -> Result<(), AllocErro
     put(alloc, docs, leaves.id.as_str(), doc)
 }
 
-/// Reads a line of the request. Returns whether the line has the form of such a line.
+/// Reads a line of the request. Returns whether the line has the form of a line of the request.
 fn request(
     alloc: Global,
     docs: &mut Docs,
@@ -205,7 +207,7 @@ fn request(
     }
 }
 
-/// Records that a leaf was received. Returns whether its document was requested.
+/// Records that a leaf was received. Returns whether the leaf's document was requested.
 fn receive_leaf(alloc: Global, docs: &mut Docs, leaf: &Leaf) -> Result<bool, AllocError>
     ensures known { IfOk result (λ known. known ≡ is_some (doc_at docs.old (string_bytes leaf.now.id))) }
     ensures docs { OnOk result ((id : List ℕ) → doc_at docs.new id ≡ leaf_at (head_view leaf.now) (doc_at docs.old) id) }
@@ -231,7 +233,7 @@ fn receive(alloc: Global, docs: &mut Docs, entry: &Entry) -> Result<bool, AllocE
     }
 }
 
-/// Appends a line of the response, if its document was requested and not only missing leaves are printed.
+/// Appends a line of the response, if the line's document was requested and `only_lacks` is false.
 fn pass_on(text: &mut Vec<u8>, line: &[u8], known: bool, only_lacks: bool) -> Result<(), AllocError>
     ensures { OnOk result (text.new.items
         ≡ text.old.items ++ (if known && not only_lacks then line.now ++ codes "\n" else [])) }
@@ -243,7 +245,8 @@ fn pass_on(text: &mut Vec<u8>, line: &[u8], known: bool, only_lacks: bool) -> Re
     Ok(())
 }
 
-/// Appends the lines for a line of the request whose revisions `missing` were not received.
+/// Appends the output lines for a line of the request, given the received revisions and the revisions `missing` that
+/// were not received.
 fn push_told(
     alloc: Global,
     text: &mut Vec<u8>,
@@ -270,7 +273,8 @@ fn push_told(
     push_leaves(alloc, text, "lacks", seq, id, line.revs.as_slice())
 }
 
-/// Appends the lines for a line of the request. Returns whether a revision of the line was not received.
+/// Appends the output lines for a line of the request. Returns whether a revision that the line requests was not
+/// received.
 fn push_line(
     alloc: Global,
     text: &mut Vec<u8>,
@@ -410,8 +414,9 @@ impl LineTask for Received {
     }
 }
 
-/// Reads the requested leaves, an empty line and the received documents that the reader has, and prints what was
-/// received. With `only_lacks`, only the missing leaves are printed.
+/// Reads the requested leaves, an empty line and the received documents. Writes the requested documents, and says for
+/// each line of the request which leaves were received. If `only_lacks` is true, the call writes only which leaves were
+/// not received.
 ///
 /// # Errors
 ///

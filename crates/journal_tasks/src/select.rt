@@ -190,7 +190,7 @@ impl Select {
         Ok(())
     }
 
-    /// Reads a line of the second copy, and appends the line to the output if it is selected.
+    /// Reads a line of the second copy, and appends the line to the output if the line is selected.
     fn second_line(&mut self, line: &[u8], text: &mut Vec<u8>) -> Result<(), AllocError> {
         if self.selected.get(self.next).copied() != Some(self.count.lines) {
             return Ok(());

@@ -6,7 +6,7 @@ use std::cell::Cell;
 /// Eight lengths of 8. Most arrays and objects have at most 8 elements.
 const FIRST: u64 = 0x0808_0808_0808_0808;
 
-/// The length from which on a text is long, so that saving memory is worth some instructions.
+/// A text of at least `LONG_TEXT` bytes is long. For a long text, saving memory is worth some additional instructions.
 pub(crate) const LONG_TEXT: usize = 128 * 1024;
 
 /// The maximum initial capacity.
@@ -15,8 +15,9 @@ const MOST: usize = 16;
 /// The lengths of the arrays and objects that were read last, by kind and nesting depth. Depths that are equal modulo 4
 /// share an entry.
 ///
-/// In a line of many small objects, objects of the same depth usually have the same number of members. An object that
-/// begins with the length of the last one takes no more memory than it needs. No contract depends on a capacity.
+/// In a line of many small objects, objects of the same depth usually have the same number of members. If the initial
+/// capacity of an object is the length of the last object of the same depth, the object usually takes no more memory
+/// than it needs. No contract depends on a capacity.
 #[derive(Drop)]
 pub(crate) struct Capacities {
     /// Eight lengths of one byte each.

@@ -6,9 +6,9 @@ ghost use Rattle.json_values.specs.LineView.{line_view, line_items, line_members
 
 use serde_json::Number;
 
-/// A JSON value that was read from a line. Its strings are slices of the line or, if they had escapes, of the reader's
-/// buffer. Its arrays and objects are slices of the reader's arena. The members of an object are in byte order of their
-/// names, and each name occurs once.
+/// A JSON value that was read from a line. The strings of the value are slices of the line or, if a string had escapes,
+/// of the reader's buffer. The arrays and objects of the value are slices of the reader's arena. The members of an
+/// object are in byte order of their names, and each name occurs once.
 #[derive(Clone, Copy, Drop)]
 pub enum LineValue<'a> {
     Null,

@@ -20,7 +20,7 @@ use std::alloc::{AllocError, Global};
 const MAX_DEPTH: usize = 127;
 
 /// Reads JSON values, and reuses one buffer for all values. The buffer grows to the length of the longest text that was
-/// read, except of long texts without escapes. The result of a read does not depend on earlier reads.
+/// read, but does not grow for long texts without escapes. The result of a read does not depend on earlier reads.
 #[derive(Drop)]
 pub struct ValueReader {
     /// The buffer for unescaped strings.
@@ -66,8 +66,8 @@ impl ValueReader {
     }
 }
 
-/// Grows the buffer to at least the length of a text, unless the text is long and has no backslash. Such a text has no
-/// strings to unescape.
+/// Grows the buffer to at least the length of a text, unless the text is long and has no backslash. A text without a
+/// backslash has no strings to unescape.
 fn make_room(room: &mut Vec<u8>, text: &str) -> Result<(), AllocError>
     ensures ok { OnOk result (has_backslash text.now ≡ true → length text.now ≤ length room.new.items) }
     ensures full { OnErr result (0 < length text.now) }

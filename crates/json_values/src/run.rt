@@ -43,7 +43,8 @@ pub(crate) fn after_blanks(text: &[u8], from: usize) -> usize
     i
 }
 
-/// Returns a mask of those of sixteen bytes that are a quotation mark, a backslash or a control byte.
+/// Returns a bit mask that says for each of sixteen bytes whether the byte is a quotation mark, a backslash or a
+/// control byte.
 #[inline(always)]
 fn stops_16(v: u8x16) -> u64
     ensures { result ≡ mask_l (map is_stop v) }
@@ -53,7 +54,8 @@ fn stops_16(v: u8x16) -> u64
         | v.simd_lt(u8x16::splat(0x20))).to_bitmask()
 }
 
-/// Returns a mask of those of eight bytes that are a quotation mark, a backslash or a control byte.
+/// Returns a bit mask that says for each of eight bytes whether the byte is a quotation mark, a backslash or a control
+/// byte.
 #[inline(always)]
 fn stops_8(v: u8x8) -> u64
     ensures { result ≡ mask_l (map is_stop v) }
@@ -63,7 +65,8 @@ fn stops_8(v: u8x8) -> u64
         | v.simd_lt(u8x8::splat(0x20))).to_bitmask()
 }
 
-/// Returns a mask of those of four bytes that are a quotation mark, a backslash or a control byte.
+/// Returns a bit mask that says for each of four bytes whether the byte is a quotation mark, a backslash or a control
+/// byte.
 #[inline(always)]
 fn stops_4(v: u8x4) -> u64
     ensures { result ≡ mask_l (map is_stop v) }

@@ -1,4 +1,4 @@
-//! Reads the tokens of a JSON text, which are its lexemes, and checks commas and colons.
+//! Reads the lexemes of a JSON text as tokens, and checks commas and colons.
 ghost use Rattle.std.specs.Prelude.{◌≡◌, ◌≢◌, ◌≤◌, ◌⊎◌, ℕ, List, [], ◌∷◌, length, true, false, Some, None, IfOk, IfSome, MatchOption, MatchResult};
 ghost use Rattle.std.specs.Bool.{MatchBool};
 ghost use Rattle.json.specs.Word.{head};
@@ -306,7 +306,7 @@ impl<'a> Tokens<'a> {
 
     /// Returns the initial capacity of an array or object, before its first element is read. The capacity is 0 if the
     /// array or object is empty. In a short text, the capacity is otherwise 8. In a long text, the capacity is the
-    /// length of the last array or object of the same kind and depth.
+    /// length of the last array or object of the same kind and depth, but at most 16.
     #[inline(always)]
     pub(crate) fn room(&self, is_object: bool, depth: usize) -> usize {
         let next = self.lexer.peek();

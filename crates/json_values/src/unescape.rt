@@ -106,7 +106,7 @@ fn low_half(text: &[u8], i: usize, high: u32) -> Option<(char, usize)>
     Some((c, i + 6))
 }
 
-/// Reads the part of an escape after `\u`, which begins at index `i`.
+/// Reads the part of an escape after `\u`. The part after `\u` begins at index `i`.
 fn unicode(text: &[u8], i: usize) -> Option<(char, usize)>
     requires { i ≤ length text.now }
     ensures { Escape text.now after_u i result }
@@ -122,8 +122,8 @@ fn unicode(text: &[u8], i: usize) -> Option<(char, usize)>
     Some((c, i + 4))
 }
 
-/// Reads the part of an escape after its backslash, which begins at index `i`. Returns the character of the escape, and
-/// the index after the escape.
+/// Reads the part of an escape after its backslash. The part after the backslash begins at index `i`. Returns the
+/// character of the escape, and the index after the escape.
 fn escape(text: &[u8], i: usize) -> Option<(char, usize)>
     requires { i ≤ length text.now }
     ensures { Escape text.now after_backslash i result }

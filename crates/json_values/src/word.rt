@@ -184,8 +184,8 @@ fn digits_sum(rest: &[u8]) -> Option<(u64, usize)>
     if i == 0 { None } else { Some((n, i)) }
 }
 
-/// Reads a short number, which has a few digits and an optional minus sign, at an index, and returns it with the index
-/// after it.
+/// Reads a short number (a few digits and an optional minus sign) at an index. Returns the number, and the index after
+/// the number.
 #[inline(always)]
 pub(crate) fn integer(text: &[u8], from: usize) -> Option<(Number, usize)>
     requires { from ≤ length text.now }

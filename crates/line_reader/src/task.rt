@@ -5,12 +5,14 @@ use std::alloc::AllocError;
 
 /// A task that reads the lines of an input in order, and appends text.
 pub trait LineTask {
-    // The relation that defines the effect of a line. The relation's arguments are the task's state before the line,
-    // the line without the line end, the appended text, and the task's state after the line.
+    // The relation that defines how reading a line changes the task's state, and which text the task appends for the
+    // line. The relation's arguments are the task's state before the line, the line without the line end, the appended
+    // text, and the task's state after the line.
     ghost steps: { Self → List ℕ → List ℕ → Self → Type 0 };
 
-    // The relation that defines the effect of the input's end. The relation's arguments are the task's state before the
-    // end, the bytes after the last line end, the appended text, and the task's state after the end.
+    // The relation that defines how the input's end changes the task's state, and which text the task appends for the
+    // input's end. The relation's arguments are the task's state before the end, the bytes after the last line end, the
+    // appended text, and the task's state after the end.
     ghost ends: { Self → List ℕ → List ℕ → Self → Type 0 };
 
     /// Reads a line, given without its line end, and appends text.

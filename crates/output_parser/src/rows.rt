@@ -132,7 +132,7 @@ fn empty_name(front: &[u8]) -> Option<&[u8]>
     if front.is_empty() { Some(front) } else { None }
 }
 
-/// Returns the name of a database, which precedes the database's UUID in the line.
+/// Returns the name of a database. In the line, the name precedes the database's UUID.
 fn database_name(front: &[u8]) -> Option<&[u8]>
     ensures some { IfSome result (λ name. IsFront tables.Info name.now front.now) }
     ensures none { IfNone result ((name : List ℕ) → IsFront tables.Info name front.now → ⊥) }

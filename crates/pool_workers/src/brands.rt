@@ -5,7 +5,7 @@
 //! invariant of a type may refer to a brand's ghost members.
 use std::marker::Brand;
 
-/// The brand whose ghost members are the source's database, and the plan by which the run reads this database.
+/// A brand with two ghost members: the source's database, and the plan by which the run reads this database.
 pub trait SourceBrand {
     ghost use Rattle.couch_base.specs.Database.{DatabaseValue};
     ghost use Rattle.repl_target.specs.declared.replication.Plan.{Plan};

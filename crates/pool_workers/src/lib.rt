@@ -1,4 +1,4 @@
-//! The workers of a run of the pool: the workers' messages and steps, and the combined effect of all workers.
+//! The workers of a run of the pool: the workers' messages and steps, and the combined results of all workers.
 //!
 //! The rules are in docs/PROFILE.md, "The pool".
 #![tactic(auto)]

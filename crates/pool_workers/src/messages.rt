@@ -15,10 +15,12 @@ use rev_tree::SessionId;
 use std::alloc::{AllocError, Global};
 use std::marker::{Model, PhantomData};
 
-/// The number of bytes by which the heap of a thread grows, which is enough for a parcel of 500 small documents.
+/// The number of bytes by which the heap of a thread grows. `HEAP_STEP` bytes are enough for a parcel of 500 small
+/// documents.
 const HEAP_STEP: usize = 512 * 1024;
 
-/// Half of the number of free bytes that a heap may keep at its end (`keep_heaps`).
+/// The size in bytes of the block that `keep_heaps` frees. After a block of `HEAP_KEPT` bytes was freed, a heap may
+/// keep twice this number of free bytes at its end.
 const HEAP_KEPT: usize = 1024 * 1024;
 
 /// A page of the source's feed that was read for the run's plan, with only the rows of selected documents.

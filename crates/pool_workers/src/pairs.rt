@@ -1,7 +1,7 @@
 //! Pairs are threads that each alternate between the work of a fetcher and of a writer.
 //!
-//! If the gate never blocks a worker, half as many threads do the work of the fetchers and the writers, because each
-//! thread both fetches windows and settles parcels.
+//! If the gate never blocks a worker, each thread both fetches windows and settles parcels. A run with pairs therefore
+//! needs only half as many threads as the run has fetchers and writers.
 ghost use Rattle.std.specs.Prelude.{◌≡◌, ℕ, ◌+◌, ◌-◌, ◌<◌, ◌≤◌, ◌++◌, [], true, length, None, IfSome, IfOk, IfErr, vec_len, vec_capacity, option_copied, option_to_list};
 ghost use Rattle.std.specs.List.{All};
 ghost use Rattle.crossbeam_channel.specs.Claims.{view, IsSeatAt};

@@ -25,7 +25,7 @@ pub struct ParcelView {
 }
 
 /// The rule that the channel of parcels always satisfies. The sent parcels are exactly the received and the queued
-/// parcels, with the same numbers and numbers of documents.
+/// parcels. The rule compares parcels by their numbers and by their numbers of documents.
 pub struct Conserved;
 
 impl<S: SourceBrand> Protocol<ParcelMessage<S>, ParcelView> for Conserved {

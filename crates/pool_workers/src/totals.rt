@@ -1,4 +1,4 @@
-//! The combined effect of a run, after the run's workers have ended.
+//! Combines the results of a run's workers, after the workers have ended.
 ghost use Rattle.std.specs.Prelude.{◌≡◌, ℕ, ◌≤◌, true, Option, Some, None, IfSome, length, sum, option_copied};
 ghost use Rattle.rev_tree.specs.declared.origin.SessionId.{SessionId};
 ghost use Rattle.crossbeam_channel.specs.Claims.{view, IsSeatAt};
@@ -130,7 +130,7 @@ fn sum_up<F: WriteFilter, S: SourceBrand, T: TargetBrand<F>, L: Ledger, G: Gate>
 
 /// Gives proofs three facts about a run. The call needs the complete pass (all 1,024 parts) of each channel. At most
 /// one fetcher took each window. If no fetcher halted, at most one writer received each parcel. If the numbers of sent
-/// and received parcels are equal, the sent and the received parcels are the same, each with its number of documents.
+/// and received parcels are equal, exactly the sent parcels were received, each with the same number of documents.
 fn each_once<S: SourceBrand, L: Ledger>(channels: &Channels<S>, ended: &mut Ended<S, L>)
     requires window_seat { IsSeatAt (sends_on channels.now.to_fetchers) ended.old.windows }
     requires parcel_seat { IsSeatAt (sends_on channels.now.to_writers) ended.old.parcels }

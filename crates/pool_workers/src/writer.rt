@@ -136,8 +136,8 @@ impl<F: WriteFilter, S: SourceBrand, T: TargetBrand<F>, L: Ledger, G: Gate, R: W
     }
 
     /// Returns the session for which a parcel is prepared before the lock is taken. Returns `None` if the run has only
-    /// one writer, because no other writer waits for the lock. If the same thread builds and stores data, the data
-    /// stays in the processor's cache.
+    /// one writer, because no other writer waits for the lock. If the thread that builds data also stores the data, the
+    /// data stays in the processor's cache.
     fn session_ahead(&self) -> Option<SessionId> {
         if self.workers > 1 {
             Some(self.plan.session)

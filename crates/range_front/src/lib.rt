@@ -1,5 +1,5 @@
-//! A front has the windows of a feed, which are finished in any order, and the sequence up to which all windows are
-//! done.
+//! A front has the windows of a feed, and the sequence up to which all windows are done. The windows are finished in
+//! any order.
 //!
 //! The rules are in docs/PROFILE.md, "Goal and windows" and "Windows and low water".
 #![tactic(auto)]

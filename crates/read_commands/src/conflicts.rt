@@ -115,8 +115,8 @@ fn push_counts(answer: &mut Vec<u8>, census: &Census) -> Result<(), AllocError>
     answer.extend_from_slice(b" documents\n")
 }
 
-/// Prints each document in conflict, with the document's live leaves, and counts the documents of all rows, in conflict
-/// or not.
+/// Prints each document in conflict with the document's live leaves. Counts the documents of all rows, including the
+/// documents that are not in conflict.
 #[derive(Drop)]
 struct ConflictRows<'a> {
     database: &'a Database,

@@ -104,7 +104,7 @@ pub fn print_feed<P: RowPrinter>(
     Ok(())
 }
 
-/// Prints one page of the feed, which has at most `limit` rows.
+/// Prints one page of the feed. The page has at most `limit` rows.
 fn step<P: RowPrinter>(
     alloc: Global,
     piece: &mut Vec<u8>,
@@ -132,8 +132,8 @@ fn step<P: RowPrinter>(
     Ok(())
 }
 
-/// Returns the maximum number of feed rows that the read of one page scans. If at most `limit` documents are selected,
-/// a page cannot have more than `limit` rows, so the read scans all remaining rows.
+/// Returns the maximum number of feed rows that the command scans to read one page. If at most `limit` documents are
+/// selected, a page cannot have more than `limit` rows, so the read scans all remaining rows.
 fn scan_limit(limit: u64, chosen: Option<&Chosen>) -> u64
     requires { 0 < limit }
     ensures { 0 < result }

@@ -53,7 +53,7 @@ pub fn name_all(alloc: Global, docs: &[DocLeaves], named: &[DocLeaves]) -> Resul
     Ok(has_all(&leaves, named))
 }
 
-/// Returns those of the given leaves of one document that a set of leaves has.
+/// Returns the given leaves of one document that are in a set of leaves.
 fn revs_in(
     alloc: Global,
     leaves: &LeafSet<'_>,
@@ -88,8 +88,8 @@ fn push_doc(
     Ok(())
 }
 
-/// Returns the given documents with only the leaves that a set of leaves has. Documents without a leaf in the set are
-/// omitted.
+/// Returns the given documents, each with only those of its leaves that are in a set of leaves. Documents without a
+/// leaf in the set are omitted.
 fn leaves_in(
     alloc: Global,
     docs: &[DocLeaves],

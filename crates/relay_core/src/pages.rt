@@ -70,7 +70,7 @@ fn counted(counts: Counts, checked: u64, found: u64, failures: u64) -> Counts
     }
 }
 
-/// Returns the notices of a page, one for each refused leaf, and one for the progress if the settings request it.
+/// Returns the notices of a page: one for each refused leaf, and one for the progress if the settings request progress.
 fn notices_of(
     alloc: Global,
     refused: Vec<RefusedLeaf>,

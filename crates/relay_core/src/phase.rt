@@ -34,7 +34,7 @@ pub struct Run {
     pub begin: Option<Recorded>,
     /// The sequence up to which the target has, or has refused, each leaf.
     pub since: String,
-    /// Whether the current window is open. The run must still record an open window in both logs.
+    /// Whether the current window is open. An open window is a window that the run must record in both logs.
     pub is_open: bool,
     /// The number of pages with rows in the current window.
     pub pages: u64,

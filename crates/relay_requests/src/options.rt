@@ -21,7 +21,7 @@ pub struct RequestOptions {
     pub choice: String,
 }
 
-/// Returns the path of both replication logs, which depends on the source, the target, the filter, the query, the
+/// Returns the path of both replication logs. The path depends on the source, the target, the filter, the query, the
 /// selection and the salt.
 pub fn log_path(
     alloc: Global,

@@ -56,7 +56,8 @@ fn digits_of<'a>(text: &'a str) -> Option<&'a str>
     }
 }
 
-/// Returns the sequence in a JSON value, which is the content of a string or the digits of a non-negative integer.
+/// Returns the sequence in a JSON value. The sequence is the content of a string or the digits of a non-negative
+/// integer.
 fn sequence_of<'v, 'a>(value: &'v Value<'a>) -> Option<&'a str>
     ensures { option_map (λ s. s.now) result ≡ sequence_in (value_view value.now) }
 {

@@ -61,9 +61,10 @@ impl Comparison {
         self.missing.as_slice()
     }
 
-    /// Returns the first revision in the missing leaves' ancestries whose parents at source and target differ, and both
-    /// parents. The missing leaves are searched in order, and each leaf's ancestry from its newest revision to its
-    /// oldest. The target would refuse the missing leaf whose ancestry has the returned revision.
+    /// Searches the missing leaves' ancestries for the first revision whose parents at source and target differ.
+    /// Returns this revision and both parents, if such a revision exists. The missing leaves are searched in order, and
+    /// each leaf's ancestry from its newest revision to its oldest. The target would refuse the missing leaf whose
+    /// ancestry has the returned revision.
     pub fn contradiction(&self) -> Option<Contradiction>
         ensures { result ≡ self.now.contradiction }
     {
@@ -98,8 +99,8 @@ pub(crate) fn compare_trees(
     })
 }
 
-/// Returns the first revision in the given leaves' ancestries whose parents at source and target differ, and both
-/// parents. The given leaves are leaves of the source's document.
+/// Searches the given leaves' ancestries for the first revision whose parents at source and target differ. Returns this
+/// revision and both parents, if such a revision exists. The given leaves are leaves of the source's document.
 fn first_under(
     alloc: Global,
     source: &Tree,

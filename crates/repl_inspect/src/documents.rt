@@ -17,9 +17,9 @@ use std::alloc::{AllocError, Global};
 /// Returns the leaves of a document, winner first, each as a document with its known ancestry and its content. The list
 /// is empty if the database does not have the document.
 ///
-/// If the leaves of all documents in a selected feed are loaded in order into an empty peer with enough free sequences,
-/// the peer accepts every leaf. After the last load, each selected document is the same in the peer and in the original
-/// database.
+/// An empty peer with enough free sequences accepts every leaf of a selected feed, if the leaves of all documents in
+/// the feed are loaded in order. After the last load, each selected document is the same in the peer and in the
+/// original database.
 pub fn documents_of(alloc: Global, database: &Database, id: &DocId) -> Result<Vec<Doc>, AllocError>
     ensures documents { IfOk result (λ v. v.items ≡ documents_at database.now id.now) }
     ensures documents_load_back { LoadBack database.now }

@@ -84,9 +84,9 @@ pub fn load_at<F: WriteFilter>(
 /// Edits a document at one peer of a network (`Peer::edit`).
 ///
 /// If every two peers are consistent, they stay consistent, even if the call fails. The edit keeps the document's trees
-/// in agreement and with complete histories, unless a peer has the new revision with another parent or content. If only
-/// edits made the document, a peer has the new revision with another parent or content only if two different edits have
-/// the same MD5.
+/// in agreement and with complete histories, unless a peer has the new revision with another parent or content. For a
+/// document that only edits made, a peer has the new revision with another parent or content only if two different
+/// edits have the same MD5.
 pub fn edit_at<F: WriteFilter>(
     peers: &mut [Peer<F>],
     place: usize,

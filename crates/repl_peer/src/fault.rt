@@ -21,8 +21,8 @@ pub enum Reason {
     /// The write filter refuses the document.
     Filtered,
     /// The ancestry of the document contradicts the tree, because a revision has another parent in the tree. The
-    /// variant has the newest such revision (`child`), the revision's parent in the tree (`known`), and the revision's
-    /// parent in the ancestry (`given`).
+    /// variant has the newest revision with two different parents (`child`), the revision's parent in the tree
+    /// (`known`), and the revision's parent in the ancestry (`given`).
     Contradicting { child: Rev, known: Rev, given: Rev },
 }
 
@@ -50,7 +50,7 @@ pub enum TargetFault {
     /// The peer already has a session with the given id.
     #[error("the session is there already")]
     SessionExists,
-    /// The base is not an earlier session of the session's replication.
+    /// The base of a new session is not an earlier session of the same replication.
     #[error("no such base session")]
     NoSuchBase,
     /// The start exceeds the recorded sequence of the base session. If there is no base session, the start exceeds 0.

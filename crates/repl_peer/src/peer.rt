@@ -387,7 +387,8 @@ impl<F: WriteFilter> Peer<F> {
             .settle_session(&self.filter, &mut self.db, id, parcel, spent)
     }
 
-    /// Records and returns the low water of a session, which is the source's sequence up to which every window is done.
+    /// Records the low water of a session, and returns this low water. The low water is the source's sequence up to
+    /// which every window is done.
     ///
     /// Returns `NoSuchSession` if the peer has no session with the given id. Does not allocate.
     pub fn record(&mut self, id: SessionId, at: Moment) -> Result<u64, TargetFault>

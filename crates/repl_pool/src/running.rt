@@ -292,11 +292,11 @@ fn run_with<F: WriteFilter + Send + Sync, G: Gate + Sync, R: Threads + Wait + Sy
 ///
 /// If the run succeeds, the target covers each leaf of the source's selected feed above the session's start. A
 /// successful call returns the report of the session, which began at the common checkpoint and has recorded the
-/// source's update sequence. The fetchers' numbers of documents add up to the report's number of read documents. If the
-/// run succeeds without refusing a document, and the target was empty, the target has the source's revisions, parents
-/// and contents of leaves of each selected document. If the run succeeds and the peers were consistent
-/// (docs/PROFILE.md, "Tied peers"), the target covers each leaf of the source's selected feed, even below the session's
-/// start.
+/// source's update sequence. The fetchers' numbers of documents add up to the report's number of read documents. After
+/// a successful run that started with an empty target, without refusing a document, the target has the source's
+/// revisions, parents and contents of leaves of each selected document. If the run succeeds and the peers were
+/// consistent (docs/PROFILE.md, "Tied peers"), the target covers each leaf of the source's selected feed, even below
+/// the session's start.
 ///
 /// At the source, the run changes only the outgoing logs, for every result. The target is unchanged, or has changed
 /// only by beginning the session and by calls with messages of the source. The target keeps all its documents, sessions
@@ -311,8 +311,8 @@ fn run_with<F: WriteFilter + Send + Sync, G: Gate + Sync, R: Threads + Wait + Sy
 ///
 /// - `NoWorkers`, `TooManyWorkers`, `BadBatch`, `SamePeer`: the errors of `check_run`, in this order. After an error of
 ///   `check_run`, both peers are unchanged.
-/// - `Refused`: a step failed. The error is `Refused(Unfinished)` if no worker failed or stopped, but the plan's
-///   `stop_after` ended the windows below the source's update sequence.
+/// - `Refused`: a step failed. The error is `Refused(Unfinished)` if no worker failed or stopped, but the last window
+///   ended below the source's update sequence because of the plan's `stop_after`.
 /// - `Halted`: the gate returned `Stop` at the place that the error names.
 /// - `CountFull`: a fetcher's count of documents would exceed 9,007,199,254,740,991.
 /// - `Memory`: an allocation failed, or a thread cannot be created.

@@ -69,8 +69,9 @@ impl Plan {
 /// window. After the last window, the call records the session, first at the target and then in the source's log.
 ///
 /// If the call succeeds, the target covers each leaf of the source's selected feed above the start, and the report is
-/// the session's report. If the call succeeds, the target was empty, and no document was refused, each selected
-/// document has the source's revisions, parents and contents of leaves. The source's database never changes.
+/// the session's report. After a successful call that started with an empty target and refused no document, the target
+/// has the source's revisions, parents and contents of leaves of each selected document. The source's database never
+/// changes.
 ///
 /// Consistent peers (docs/PROFILE.md, "Tied peers") stay consistent for every selection and every result, so an audit
 /// after the call finds no uncovered leaf. If the peers are consistent and the call succeeds, each leaf of the source's

@@ -341,7 +341,7 @@ impl<F: WriteFilter> World<F> {
         }
     }
 
-    /// Stores a window of the message bag for a session.
+    /// Adds a window from the message bag to a session of the target.
     fn append(&mut self, alloc: Global, session: SessionId, place: usize) -> Result<(), AllocError>
         ensures filters { self.new.0 ≡ self.old.0 }
         ensures ok { OnOk result (self.new.1 ≡ appends self.old.1 session (slice_get self.old.1.bag.windows place)) }
@@ -383,7 +383,8 @@ impl<F: WriteFilter> World<F> {
         self.bag.put_parcel(window, parcel)
     }
 
-    /// Settles a parcel of the message bag for a session.
+    /// Settles a parcel from the message bag for a session of the target, that is, applies the documents of the parcel
+    /// in order.
     fn settle(&mut self, alloc: Global, session: SessionId, place: usize) -> Result<(), AllocError>
         ensures filters { self.new.0 ≡ self.old.0 }
         ensures ok { OnOk result

@@ -26,7 +26,8 @@ use script_engine::{Chunks, ScriptFault, ScriptRead, ScriptWrite, write_all};
 use std::alloc::{AllocError, Global};
 use thiserror::Error;
 
-/// The maximum number of bytes that the parser reads before the loop looks for a run that it does not store.
+/// The maximum number of bytes that the parser reads at once. After reading `PART` bytes, the loop looks again for a
+/// run of bytes that the parser does not store.
 const PART: usize = 4_096;
 
 /// Why reading stopped early.
@@ -133,8 +134,8 @@ fn tell_rest<W: ScriptWrite>(
     }
 }
 
-/// Writes a run that the parser did not store, and before the run what the front has gained since `told` bytes of it were
-/// written.
+/// Writes the text of the front after the first `told` bytes, which were written before, and then a run of bytes that
+/// the parser did not store.
 fn tell_run<W: ScriptWrite>(
     front: &Front,
     told: usize,
@@ -159,7 +160,7 @@ fn tell_run<W: ScriptWrite>(
     }
 }
 
-/// Returns the bytes that the parser reads at once.
+/// Returns the part of the given bytes that the parser reads at once: at most the first `PART` bytes.
 fn first_part(bytes: &[u8]) -> &[u8]
     requires { 0 < length bytes.now }
     ensures some { 0 < length result.now }
@@ -173,7 +174,7 @@ fn first_part(bytes: &[u8]) -> &[u8]
     }
 }
 
-/// Whether the last byte completed a document of which the front was written.
+/// Whether the last byte completed a document whose beginning (the front) has already been written.
 fn ends_front(reading: &Reading, front: &Front) -> bool
     ensures found { result ≡ true → (state_of reading.now).found ≡ Document }
     ensures some { result ≡ true → (length (front_of front.now) == 0) ≡ false }
@@ -183,7 +184,8 @@ fn ends_front(reading: &Reading, front: &Front) -> bool
     reading.found() == Found::Document && !front.text().is_empty()
 }
 
-/// Lets the parser read bytes, and writes the item that they complete. Returns the number of bytes that were read.
+/// Lets the parser read some of the given bytes. If the bytes that the parser has read complete an item, the call
+/// writes the item. Returns the number of bytes that were read.
 fn feed_part<W: ScriptWrite>(
     reading: &mut Reading,
     front: &mut Front,
@@ -219,8 +221,8 @@ fn feed_part<W: ScriptWrite>(
     }
 }
 
-/// Passes a run on that the parser does not store, or lets the parser read bytes. Returns the number of bytes that were
-/// read.
+/// Writes a run of bytes that the parser does not store. If the given bytes begin with no run that may be passed on
+/// without being stored, the call lets the parser read bytes. Returns the number of bytes that were read.
 fn feed_some<W: ScriptWrite>(
     reading: &mut Reading,
     front: &mut Front,
@@ -407,10 +409,10 @@ fn run_chunks<R: ScriptRead, W: ScriptWrite>(
 ///
 /// # Errors
 ///
-/// - `Refused` if the input is not a response. All items before the rejected byte have been written, and the beginning of
-///   a long document that the byte is in.
-/// - `LateMember` if the document that ends is long, and a member `_id`, `_rev`, `_revisions` or `_deleted` follows an
-///   attachment in it. All earlier items, and the beginning of the document, have been written.
+/// - `Refused` if the input is not a response. All items before the rejected byte have been written. If the rejected
+///   byte is in a long document, the beginning of this document has also been written.
+/// - `LateMember` if a long document ends in which a member `_id`, `_rev`, `_revisions` or `_deleted` follows an
+///   attachment. All earlier items, and the beginning of the document, have been written.
 /// - `Device` if the reader, the writer or an allocation failed. The fault in `Device` is `Read` if the reader failed
 ///   in this call, or after 4,294,967,295 reads of at most 65,536 bytes. The fault in `Device` is `Write` if the writer
 ///   failed in this call, and `Memory` if an allocation failed.
@@ -423,8 +425,8 @@ pub fn run_answers<R: ScriptRead, W: ScriptWrite>(
 ) -> Result<u64, AnswerFault>
     requires begins { state_of reading.old ≡ start reading.old.wanted }
 
-    // If the input consists of CouchDB responses, the call writes the contents of the responses. The call never rejects
-    // a CouchDB response if it skips objects without documents.
+    // If the input consists of CouchDB responses, the call writes the contents of the responses. If the parser skips
+    // objects without documents, the call never rejects a CouchDB response.
     ensures forms { (text : List ℕ) → (held : List Piece) → wants_documents reading.old.wanted ≡ true
         → is_strict reading.old.wanted ≡ false → R.left reader.old ≡ Some text
         → IsAnswered reading.old.wanted text held → ReadsAnswers (words_of_wording wording.old) held

@@ -142,8 +142,9 @@ impl Wording {
         Ok(())
     }
 
-    /// Formats a part of a document, which ends with `bytes`. The caller has written the first `told` bytes of `front`, and
-    /// the text before the document if `told` is not 0.
+    /// Formats a part of a document: the text of `front` after the first `told` bytes, and then `bytes`. The caller has
+    /// already written the first `told` bytes of `front`. If `told` is 0, the part begins with the text that the output
+    /// format has before an item.
     pub fn put_part(&mut self, front: &[u8], told: usize, bytes: &[u8]) -> Result<(), AllocError>
         requires { told ≤ length front.now }
         ensures text { OnOk result (made_of self.new ≡ part_text (words_of_wording self.old) front.now told bytes.now) }

@@ -24,7 +24,7 @@ struct Spot {
 
 impl Spot {
     /// Returns the position after the next bytes of a value that can be copied together. If the next byte cannot be
-    /// copied together with others, the call returns the given position.
+    /// copied together with other bytes, the call returns the given position.
     #[inline(always)]
     fn next(self, bytes: &[u8]) -> Spot
         requires { self.count < length bytes.now }
@@ -213,7 +213,7 @@ fn is_closing(byte: u8) -> bool
     byte == b'}' || byte == b']'
 }
 
-/// Returns the end of the first bytes of the input that belong to the current value and can be copied.
+/// Returns the position after the first bytes of the input that can be copied as a part of the current value.
 #[inline(always)]
 fn spot_after(bytes: &[u8], quoted: bool, nesting: u8) -> Spot
     ensures within { result.count ≤ length bytes.now }

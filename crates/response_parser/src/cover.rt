@@ -24,7 +24,8 @@ impl Reading {
         }
     }
 
-    /// Wraps the complete document in an envelope, and reports the envelope.
+    /// Wraps the complete document in an envelope, and reports the envelope. The call rejects the input if the document
+    /// cannot be wrapped.
     fn find_put(&mut self) -> Result<(), AllocError>
         requires { self.old.wanted ≡ Wanted.Enveloped }
         ensures { OnOk result (state_of self.new ≡ document_found (state_of self.old)) }
@@ -36,7 +37,8 @@ impl Reading {
         Ok(())
     }
 
-    /// Unwraps the complete envelope, and reports the document inside it.
+    /// Unwraps the complete envelope, and reports the document inside the envelope. The call rejects the input if the
+    /// envelope cannot be unwrapped.
     fn find_taken(&mut self) -> Result<(), AllocError>
         requires { self.old.wanted ≡ Wanted.Unfolded }
         ensures { OnOk result (state_of self.new ≡ document_found (state_of self.old)) }
@@ -48,7 +50,7 @@ impl Reading {
         Ok(())
     }
 
-    /// Reports the envelope or document that the call built, or rejects the input if the call could not build it.
+    /// Reports the envelope or document that the parser has built.
     fn find_made(&mut self) -> Result<(), AllocError>
         ensures { OnOk result (state_of self.new ≡ found_as (Some (made_of self.old.envelope)) (state_of self.old)) }
     {

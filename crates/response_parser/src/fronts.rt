@@ -1,4 +1,4 @@
-//! Passes long runs of bytes in a document's strings on, without storing them.
+//! Passes on long runs of bytes in a document's strings, without storing these bytes.
 ghost use Rattle.std.specs.Prelude.{◌≡◌, ◌<◌, ◌≤◌, ◌==◌, [], false, length, nat_eq, take, true, IfOk, OnOk};
 ghost use Rattle.std.specs.List.{list_all, starts_with};
 ghost use Rattle.doc_envelope.specs.Stored.{made_of};
@@ -13,17 +13,18 @@ use doc_envelope::is_log;
 use json_values::plain_end;
 use std::alloc::{AllocError, Global};
 
-/// The minimum number of bytes of a document before the first run that the parser does not store.
+/// The minimum number of bytes of a document that the parser stores before it passes bytes on without storing them.
 const LONG: usize = 262_144;
 
-/// The minimum number of bytes of a run in one read.
+/// The parser builds a front only for a run that has at least `RUN` bytes in one read.
 const RUN: usize = 1_024;
 
-/// After building a front, the parser reads a fourth of the number of the text's bytes before it builds the next front.
+/// After an attempt to build a front for a text of n bytes, the parser reads at least n / 4 further bytes before the
+/// next attempt.
 const SHARE: u64 = 4;
 
-/// The beginning of the current document's output, which the caller writes before the document ends. The front is empty
-/// if the caller has not written a byte of the current document.
+/// The beginning of the current document's output. The caller writes this beginning before the document ends. The front
+/// is empty if the caller has not written a byte of the current document.
 #[derive(Drop)]
 pub struct Front {
     text: Vec<u8>,
@@ -59,8 +60,9 @@ impl Front {
         self.text.clear();
     }
 
-    /// Reads a run of a long document's string without storing it. The caller must write what the front has gained, and
-    /// then the run. Returns the number of bytes in the run, or 0 if the parser must read the next bytes itself.
+    /// Reads a run of bytes in a string of a long document, without storing these bytes. The caller must write the
+    /// bytes that the call has added to the front, and then the run. Returns the number of bytes in the run, or 0 if
+    /// the parser must read the next bytes itself.
     pub fn pass(&mut self, reading: &mut Reading, bytes: &[u8]) -> Result<usize, AllocError>
         ensures within { IfOk result (λ count. count ≤ length bytes.now) }
         ensures none { IfOk result (λ count. count ≡ 0 → (state_of reading.new ≡ state_of reading.old)
@@ -83,7 +85,8 @@ impl Front {
         Ok(count)
     }
 
-    /// Whether a run of `count` bytes may follow the stored text. The call builds the front if the text has grown.
+    /// Whether a run of `count` bytes (string bytes that are passed on without being stored) may follow the stored
+    /// text. The call builds the front if the text has grown.
     fn may_pass(&mut self, reading: &mut Reading, count: usize) -> Result<bool, AllocError>
         ensures same { OnOk result (state_of reading.new ≡ state_of reading.old) }
         ensures none { IfOk result (λ ok. ok ≡ false → (front_of self.new ≡ front_of self.old)
@@ -119,7 +122,7 @@ impl Front {
 }
 
 impl Reading {
-    /// Whether the current value is a long document in which a run may be passed on.
+    /// Whether the current value is a long document in which string bytes may be passed on without being stored.
     fn is_long(&self, name: Name) -> bool
         ensures { result ≡ true → IsLong name (state_of self.now) }
     {
@@ -133,7 +136,8 @@ impl Reading {
         }
     }
 
-    /// Builds the beginning of the current document's output. Returns `false` if no run may follow the stored text.
+    /// Builds the beginning of the current document's output. Returns `false` if no run (string bytes that are passed
+    /// on without being stored) may follow the stored text.
     fn make_front(&mut self) -> Result<bool, AllocError>
         ensures same { OnOk result (state_of self.new ≡ state_of self.old) }
         ensures starts { IfOk result
@@ -147,8 +151,8 @@ impl Reading {
     }
 }
 
-/// Returns the number of bytes before the first quotation mark, backslash or control character, or 0 if one of these
-/// bytes is not printable ASCII.
+/// Returns the number of bytes before the first quotation mark, backslash or control character. Returns 0 if one of the
+/// bytes before that character is not printable ASCII.
 fn run_length(bytes: &[u8]) -> usize
     ensures within { result ≤ length bytes.now }
     ensures run { IsRun (take result bytes.now) }

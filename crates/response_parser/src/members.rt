@@ -179,7 +179,7 @@ impl Reading {
         wants_leaves(self.wanted) && self.depth == 1 && (self.first || self.diff)
     }
 
-    /// Reads a byte in front of a value that is a document's entry if it is an object.
+    /// Reads a byte before a member's value. If the value is an object, this object is the entry of a document.
     pub(crate) fn at_ahead(&mut self, name: Name, byte: u8) -> Result<(), AllocError>
         ensures { OnOk result (state_of self.new ≡ at_ahead name (state_of self.old) byte) }
     {

@@ -11,8 +11,8 @@ pub enum Wanted {
     Enveloped,
     /// Documents in CouchDB responses. The parser rejects objects without a document.
     Bodies,
-    /// Documents in CouchDB responses, which the parser unwraps from their envelopes. The parser rejects objects
-    /// without a document.
+    /// Documents in CouchDB responses. The parser unwraps these documents from their envelopes. The parser rejects
+    /// objects without a document.
     Unfolded,
     /// Document ids and revisions in a changes feed or a `_revs_diff` response.
     Leaves,

@@ -163,7 +163,7 @@ impl Reading {
         matches!(self.place, Place::Line(_))
     }
 
-    /// Whether the last byte completed an item or was rejected.
+    /// Returns true if the last byte completed an item, and also if the parser has rejected a byte.
     #[inline(always)]
     fn stops(&self) -> bool
         ensures { result ≡ stops (state_of self.now) }

@@ -129,7 +129,7 @@ impl Reading {
         self.judge(name, first)
     }
 
-    /// Reads the byte after a value that the parser has handled as its name requires.
+    /// Reads the byte after a member's value, which the parser has handled as the member's name requires.
     fn pass_value(&mut self, byte: u8)
         ensures { state_of self.new ≡ value_passed (state_of self.old) byte }
     {
@@ -220,7 +220,7 @@ fn found_of(name: Name, first: u8) -> Found
     }
 }
 
-/// Whether the value is one that a response has instead of a document.
+/// Whether a member's value is one that a response has instead of a document, for example an error.
 fn passes(name: Name, first: u8) -> bool
     ensures { result ≡ passes name first }
 {

@@ -15,12 +15,12 @@ use crate::origin::Origin;
 use rev_core::Rev;
 
 impl Nodes {
-    /// Whether the tree has a parent for each child in an ancestry. Returns an error with the first child whose parent
-    /// in the tree differs from its parent in the ancestry.
+    /// Whether the tree has all edges (from child to parent) of an ancestry. Returns an error with the first child
+    /// whose parent in the tree differs from its parent in the ancestry.
     ///
     /// If the tree has the complete ancestry, the call needs only one lookup, because each node stores the index of its
-    /// parent. If the tree has no parent for a child, the call looks up the child's parent in the ancestry, and first
-    /// tries the parent of the tree's last node.
+    /// parent. If the tree has no parent for a child, the call looks up the parent that the ancestry gives. The lookup
+    /// of the parent first tries the parent of the tree's last node.
     pub(crate) fn knows_edges(&self, revs: &[Rev]) -> Result<bool, Contradiction>
         requires some { 0 < length revs.now }
         ensures edges { IfOk result (λ b. b ≡ list_all (has_edge (tree_of self.now.items)) (edges_of revs.now)) }

@@ -22,7 +22,7 @@ use std::marker::Model;
 pub(crate) const MOST_WALKED: usize = 8;
 
 /// A merge counts the missing revisions only if the tree's nodes and the given revisions together are at most this
-/// number. A merge that counts the missing revisions reserves space only for them.
+/// number. A merge that counts the missing revisions reserves space only for these missing revisions.
 const MOST_COUNTED: usize = 4;
 
 /// The maximum number of nodes of a tree. The index of a parent, counted from 1, has 32 bits.
@@ -182,9 +182,9 @@ impl Nodes {
         }
     }
 
-    /// Returns the index of the winner's node, which the tournament among the leaves finds. Returns `None` if the tree
-    /// has few nodes or no index, or if the tournament has no result. If the result is `None`, the caller must scan the
-    /// nodes.
+    /// Finds the winner by the tournament among the leaves, and returns the index of the winner's node. Returns `None`
+    /// if the tree has few nodes or no index, or if the tournament has no result. If the result is `None`, the caller
+    /// must scan the nodes.
     pub(crate) fn tournament_winner(&mut self) -> Option<usize>
         ensures items { self.new.items ≡ self.old.items }
         ensures first { IfSome result (λ place. (r : RevId)

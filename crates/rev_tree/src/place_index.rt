@@ -133,7 +133,7 @@ impl Places {
         Ok(())
     }
 
-    /// Returns the index of the winner's node, which the tournament among the leaves finds.
+    /// Finds the winner by the tournament among the leaves, and returns the index of the winner's node.
     ///
     /// Returns `None` if the table takes no memory, or if the tournament has no result.
     pub(crate) fn first_leaf(&mut self, nodes: &[Node]) -> Option<usize>

@@ -237,7 +237,7 @@ impl Tree {
         self.nodes.all().len()
     }
 
-    /// Returns the leaves that are one of the given revisions or descend from one of them, winner first.
+    /// Returns the leaves that are given revisions or descend from a given revision, winner first.
     ///
     /// The call does not allocate if the tree's only leaf is one of the given revisions.
     pub fn leaves_above(&self, alloc: Global, revs: &[Rev]) -> Result<Revs, AllocError>

@@ -1,4 +1,4 @@
-//! Traversals from a node to its ancestors, by index.
+//! Functions that go from a node to the node's ancestors, by index.
 ghost use Rattle.std.specs.Prelude.{◌≡◌, ◌<◌, List, IfOk, true, filter, length, slice_get};
 ghost use Rattle.rev_core.specs.Rev.{RevId};
 ghost use Rattle.rev_core.specs.Ancestry.{is_among};

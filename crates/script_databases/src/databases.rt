@@ -225,8 +225,8 @@ impl Databases {
     ///
     /// # Errors
     ///
-    /// The call checks in this order for `NoDatabase` (the name is unknown), `BackupExists` (the database has a backup
-    /// of this name), and `IsTarget` (the database has been a replication target).
+    /// The errors are checked in this order: `NoDatabase` (the name is unknown), `BackupExists` (the database has a
+    /// backup of this name), and `IsTarget` (the database has been a replication target).
     pub fn back_up(&mut self, alloc: Global, db: &str, name: &str) -> Result<u64, Refusal>
         ensures answer { GivesOrMemory result (backed_told (backed_answer self.old db.now name.now)) }
         ensures ok { OnOk result (self.new ≡ backed_at self.old db.now name.now) }
@@ -254,9 +254,9 @@ impl Databases {
     ///
     /// # Errors
     ///
-    /// The call first checks for `NoDatabase` (the name is unknown), and then for `NoBackup` (the database has no backup
-    /// of this name). The next checks are for `IsTarget` (the database has been a replication target), and last for
-    /// `LifeFull` (no life is left).
+    /// The call first checks for `NoDatabase` (the name is unknown), and then for `NoBackup` (the database has no
+    /// backup of this name). The call then checks for `IsTarget` (the database has been a replication target), and last
+    /// for `LifeFull` (no life is left).
     pub fn put_back(&mut self, db: &str, name: &str) -> Result<PutBack, Refusal>
         ensures answer { GivesOrMemory result
             (put_back_answer (peer_at self.old db.now) (backup_at self.old db.now name.now)) }

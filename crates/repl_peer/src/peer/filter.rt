@@ -1,4 +1,4 @@
-//! Write filters: the documents that a peer refuses.
+//! Write filters, which decide which documents a peer refuses.
 ghost use Rattle.std.specs.Prelude.{◌≡◌, Bool, if◌then◌else◌};
 ghost use Rattle.doc_json.specs.Document.{Document};
 

@@ -107,7 +107,7 @@ impl Written {
         }
         let mut at = self.head.rev();
         for step in 0..place {
-            // The parent exists, because the database has all revisions of the write.
+            // The revision `at` has a parent, because the database has all revisions of the write.
             let Some(parent) = parent_in(db, &self.id, at) else {
                 unreachable!()
             };

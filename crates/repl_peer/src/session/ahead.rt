@@ -27,9 +27,9 @@ use repl_log::Counts;
 use rev_tree::{Origin, SessionId};
 use std::mem::replace;
 
-/// Settles the first documents of a parcel, which have prepared arrivals, until a document cannot be stored. Returns
-/// the number of settled documents. The caller then settles the next document individually, and so finds out why the
-/// document could not be stored in bulk.
+/// Settles the documents at the beginning of a parcel that have prepared arrivals, until a document cannot be stored.
+/// Returns the number of settled documents. The caller then settles the next document individually, and so finds out
+/// why the document could not be stored in bulk.
 ///
 /// The arrivals are added as one list, so that the peer does not add each arrival individually under its lock. If the
 /// allocation for the list of arrivals fails, no document is settled.

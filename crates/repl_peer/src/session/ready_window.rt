@@ -57,8 +57,8 @@ impl ReadyWindow {
         &self.window
     }
 
-    /// Takes the form of the window without leaves, and builds the form first if it was not prepared. Returns `None` if
-    /// the allocation fails.
+    /// Takes the form of the window without leaves. The call builds this form first if the form was not prepared.
+    /// Returns `None` if the allocation fails.
     pub(crate) fn take_done(&mut self, alloc: Global) -> Option<DoneWindow>
         ensures same { self.new ≡ self.old }
         ensures done { IfSome result (λ done. done ≡ self.old) }

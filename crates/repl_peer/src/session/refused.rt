@@ -16,8 +16,8 @@ pub struct Refused {
     reason: StoredReason,
 }
 
-/// The form in which a ledger row stores a reason. A contradiction has three revisions, so it is stored in a heap
-/// block.
+/// The form in which a ledger row stores a reason. A contradiction has three revisions, so a contradiction is stored in
+/// a heap block.
 #[derive(Drop)]
 enum StoredReason {
     Filtered,

@@ -1,4 +1,4 @@
-//! Finds the window that a parcel settles.
+//! Finds the stored window to which a parcel belongs.
 ghost use Rattle.std.specs.Prelude.{◌≡◌, ◌<◌, ◌≤◌, ◌+◌, ◌==◌, ◌&&◌, ℕ, Err, None, nat_le, IfOk, IfErr, IfSome, IfNone};
 ghost use Rattle.std.specs.List.{find};
 ghost use Rattle.std.specs.List.Sorted.{IsPartitionPoint};

@@ -33,8 +33,8 @@ pub enum SyncFault {
     Back(TargetFault),
 }
 
-/// Replicates in both directions, on one thread. The call first replicates `a` into `b`. If this replication succeeds,
-/// the call then replicates `b` into `a`. Each direction is a `replicate_alone` with a separate plan.
+/// Replicates in both directions, on one thread. The call first replicates `a` into `b`. If the replication of `a` into
+/// `b` succeeds, the call then replicates `b` into `a`. Each direction is a `replicate_alone` with a separate plan.
 ///
 /// If the peers are consistent in both directions (docs/PROFILE.md, "Tied peers") and the call succeeds, each side then
 /// has the other side's leaves of each shared document. A document is shared if both plans select the document and
