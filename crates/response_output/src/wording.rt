@@ -158,7 +158,7 @@ impl Wording {
         self.text.extend_from_slice(bytes)
     }
 
-    /// Formats the rest of a document, of which the caller has written the first `told` bytes.
+    /// Formats the rest of a document. The caller has already written the first `told` bytes of the document.
     pub fn put_rest(&mut self, document: &[u8], told: usize) -> Result<(), AllocError>
         requires { told ≤ length document.now }
         ensures text { OnOk result (made_of self.new ≡ rest_text (words_of_wording self.old) document.now told) }
