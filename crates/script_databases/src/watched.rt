@@ -11,7 +11,7 @@ use repl_pool::{PoolFault, Seats, board_with_seats};
 use repl_target::Report;
 use std::alloc::Global;
 
-/// A run that reached its goal, with the totals of its board after the end of the run.
+/// The result of a run that reached its goal, with the board's totals after the end of the run.
 #[derive(Clone, Copy, Debug, PartialEq, Eq)]
 pub struct Watched {
     /// The number of documents that all workers settled.
