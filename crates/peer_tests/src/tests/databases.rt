@@ -28,7 +28,7 @@ pub(crate) enum Call<'a> {
     Numbers(usize),
     /// Read the life.
     Life(usize),
-    /// Read the life of a window.
+    /// Read the life (of the source database) that a window has.
     WindowLife(usize),
     /// Read the tree of a document.
     Tree(usize, &'a str),
@@ -121,7 +121,7 @@ impl Bench {
     }
 }
 
-/// Reads the life of a window.
+/// Reads the life (of the source database) that a window has.
 fn window_life(alloc: Global, windows: &[Window], at: usize) -> Option<String> {
     match windows.get(at) {
         Some(window) => shown(alloc, &window.life()),
@@ -129,7 +129,7 @@ fn window_life(alloc: Global, windows: &[Window], at: usize) -> Option<String> {
     }
 }
 
-/// Returns the index of the database of a call.
+/// Returns the index of the database that a call uses.
 fn place_of(call: &Call) -> Option<usize> {
     match *call {
         Call::Put(at, _)
@@ -202,7 +202,7 @@ fn copy(
     made_text(alloc, databases.push(copy).ok())
 }
 
-/// Copies a database in a given life, or in the same life if no life is given.
+/// Copies a database. The copy has the given life, or the database's life if no life is given.
 fn copied(alloc: Global, db: &Database, life: Option<u64>) -> Option<Database> {
     match life {
         Some(life) if life <= LAST_LIFE => db.copy_in(alloc, life).ok(),
