@@ -454,8 +454,8 @@ pub fn run_answers<R: ScriptRead, W: ScriptWrite>(
     ensures ok { IfOk result (λ passed. Answered reading.old.wanted (words_of_wording wording.old)
         (R.left reader.old) (W.held writer.old) (W.held writer.new) passed) }
     ensures end { OnOk result (IsAtEnd (R.left reader.new)) }
-    // The clauses `ok` and `fault` describe the output by the bytes that the reads returned. If the call succeeds, the
-    // reads returned the complete input.
+    // The clause `took` says of the bytes that the reads returned what the clauses `ok` and `fault` say of the reader's
+    // remaining bytes. If the call succeeds, the reads returned the complete input.
     ensures took { (input : List ℕ) × Appends (R.taken reader.old) (R.taken reader.new) input
         × Converts result reading.old.wanted (words_of_wording wording.old) (Some input) (W.held writer.old)
         (W.held writer.new) }

@@ -142,7 +142,7 @@ impl Wording {
         Ok(())
     }
 
-    /// Formats a part of a document: the text of `front` after the first `told` bytes, and then `bytes`. The caller has
+    /// Formats a part of a document: the text `front` without its first `told` bytes, and then `bytes`. The caller has
     /// already written the first `told` bytes of `front`. If `told` is 0, the part begins with the text that the output
     /// format has before an item.
     pub fn put_part(&mut self, front: &[u8], told: usize, bytes: &[u8]) -> Result<(), AllocError>
