@@ -72,7 +72,7 @@ pub enum Refusal {
     Hole,
     /// The database has been a replication target.
     IsTarget,
-    /// The database has no unused life.
+    /// The database has no unused life (the number that changes when a database is restored).
     LifeFull,
     /// An allocation failed.
     Memory,

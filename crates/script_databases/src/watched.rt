@@ -1,4 +1,4 @@
-//! Pool runs that are watched on a progress board.
+//! Pool runs with a progress board.
 ghost use Rattle.std.specs.Prelude.{◌≡◌, ◌≤◌, true, IfErr, IfOk, vec_len};
 ghost use Rattle.std.specs.List.{All};
 ghost use Rattle.progress_board.specs.Seats.{CameWith, are_seats};
