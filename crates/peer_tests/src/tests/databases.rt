@@ -49,7 +49,7 @@ pub(crate) enum Call<'a> {
 /// The calls of a test, each with the expected result.
 pub(crate) type Rows = &'static [(Call<'static>, &'static str)];
 
-/// The windows, requests and parcels that were read and fetched.
+/// The windows, requests and parcels that the calls of a test returned.
 #[derive(Drop)]
 pub(crate) struct Held {
     pub(crate) windows: Vec<Window>,
@@ -226,7 +226,7 @@ fn page(
     }
 }
 
-/// Requests those leaves of a window that a database lacks.
+/// Computes a database's request for the leaves of a window that the database lacks, and stores the request.
 fn diff(alloc: Global, db: &Database, held: &mut Held, window: usize) -> Option<String> {
     let Some(window) = held.windows.get(window) else {
         return None;
@@ -239,7 +239,7 @@ fn missed(alloc: Global, db: &Database, window: &Window) -> Option<Asked> {
     db.revs_diff(alloc, window).ok()
 }
 
-/// Fetches the documents for a request.
+/// Fetches the documents for a request from a database, and stores the parcel.
 fn fetch(alloc: Global, db: &Database, held: &mut Held, asked: usize) -> Option<String> {
     let Some(asked) = held.asked.get(asked) else {
         return None;

@@ -236,7 +236,8 @@ impl Drawn {
         self.ran_out.store(true, Ordering::SeqCst);
     }
 
-    /// Returns the order in which workers left the places, and whether the gate released a worker early.
+    /// Returns the order in which workers left the places, and whether the gate released a worker early or a blocked
+    /// worker gave up.
     fn end(self) -> (u64, bool) {
         let turns = self.turns.into_inner();
         (turns.order, turns.ran_out || self.ran_out.into_inner())

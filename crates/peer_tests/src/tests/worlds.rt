@@ -55,7 +55,7 @@ pub(crate) enum Question<'a> {
     Log(u128),
     /// The tree of a document at a side.
     Tree(u128, &'a str),
-    /// The numbers of windows, requests, parcels, entries and logs in the message bag.
+    /// The numbers of windows, requests, parcels, entries and logs in the message bag (the messages in transit).
     Sizes,
     /// The life of the source's database.
     Life,
@@ -198,7 +198,7 @@ fn side(world: &World<Rules>, number: u128) -> &Peer<Rules> {
     }
 }
 
-/// Returns the numbers of windows, requests, parcels, entries and logs in the message bag.
+/// Returns the numbers of windows, requests, parcels, entries and logs in the message bag (the messages in transit).
 fn sizes_text(alloc: Global, sizes: (usize, usize, usize, usize, usize)) -> Option<String> {
     let (windows, asked, parcels, entries, logs) = sizes;
     format!(in alloc; "{windows} {asked} {parcels} {entries} {logs}").ok()
