@@ -1,4 +1,4 @@
--- The explanation of a failed line, as specified in docs/PROFILE.md, "Options".
+-- Defines the explanation of a failed line of a script, as specified in docs/PROFILE.md, "Options".
 use Rattle.std.specs.Prelude.{◌≡◌, ℕ, List, ◌++◌, codes, decimal, encode_utf8_all}
 use Rattle.visible_text.specs.Visible.{IsSeen}
 
@@ -6,12 +6,12 @@ use Rattle.visible_text.specs.Visible.{IsSeen}
 abbrev pub AddsSeen : List ℕ → List ℕ → Type 0
 AddsSeen old new = (more : List ℕ) × IsSeen more × (new ≡ old ++ encode_utf8_all more)
 
--- The beginning of an explanation: the number of the line, and the name of the error.
+-- The text with which the explanation of a failed line begins: the line's number, and the error's name.
 abbrev pub beginning : ℕ → List ℕ → List ℕ
 beginning number name = codes "line " ++ decimal number ++ codes ": " ++ name ++ codes ": "
 
--- The new text is the old text followed by one line, which has the given beginning, a reason without hidden characters,
--- and a line end.
+-- The new text is the old text followed by one line: the beginning for `number` and `name`, a reason without hidden
+-- characters, and a line end.
 abbrev pub IsTold : ℕ → List ℕ → List ℕ → List ℕ → Type 0
 IsTold number name old new =
     (reason : List ℕ) × IsSeen reason × (new ≡ old ++ beginning number name ++ encode_utf8_all reason ++ codes "\n")

@@ -19,7 +19,7 @@ use std::alloc::{AllocError, Global};
 ///
 /// # Errors
 ///
-/// Returns `AllocError` if an allocation fails. If the call returns an error, it may have appended a part of the
+/// Returns `AllocError` if an allocation fails. A call that returns an error may have appended a part of the
 /// explanation.
 pub fn explain(
     values: &mut ValueReader,

@@ -31,7 +31,7 @@ pub(crate) fn push_place(
     Ok(())
 }
 
-/// Appends a document, the document's member at fault if this member is known, and a colon.
+/// Appends the id of a document, the name of the document's member at fault (if this member is known), and a colon.
 fn push_document(
     text: &mut String,
     name: &str,
@@ -45,7 +45,7 @@ fn push_document(
     push_words(text, ": ")
 }
 
-/// Appends the document's member at fault, if this member is known.
+/// Appends the name of the document's member at fault, if this member is known.
 #[tactic(auto, using(crate::proofs::Seen::seen_none))]
 fn push_member(text: &mut String, name: &str, object: &LineValue<'_>) -> Result<(), AllocError>
     ensures { OnOk result (AddsSeen (string_bytes text.old) (string_bytes text.new)) }

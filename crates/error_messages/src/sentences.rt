@@ -2,8 +2,8 @@
 
 use json_values::is_same_text;
 
-/// A table of the error names of lines and of the names' meanings. The table omits the error names with which no line
-/// is expected to fail.
+/// A table of the error names with which lines fail, and of the meaning of each name. The table omits the error names
+/// with which no line is expected to fail.
 static SENTENCES: &[(&str, &str)] = &[
     (
         "Attachments",

@@ -1,11 +1,11 @@
--- The rule of the board's counters, and what a seat knows after each step, as specified in docs/PROFILE.md, "The
--- progress board".
+-- Defines the rule that the board's counters obey. Defines what a seat (access to the board) knows about the counters
+-- after each step, as specified in docs/PROFILE.md, "The progress board".
 use Rattle.std.specs.Prelude.{◌≡◌, ◌+◌, ◌<◌, ◌≤◌, ℕ, Bool, true, false, List, length, max, replicate, slice_index, slice_set}
 use mathlib.Core.Option.{some}
 use lib.ListN.{get_elem?}
 use Rattle.progress_board.specs.declared.rule.SeatView.{SeatView}
 
--- The maximum of each counter of the board.
+-- The greatest value that a counter of the board may have.
 abbrev pub most : ℕ
 most = 9007199254740991
 
@@ -39,16 +39,17 @@ abbrev pub added_settled : SeatView → ℕ → SeatView
 added_settled v n =
     seat_view v.deals v.works v.number v.reads (slice_set v.settles v.number (slice_index v.settles v.number + n))
 
--- A seat loaded n from worker i's read counter. The seat's lower bound of worker i's read counter rises to n, or was n
--- already. If the seat is worker i's own seat, the bound was n already.
+-- A seat with the view v loaded n from worker i's read counter, and then has the view w. The seat's lower bound of
+-- worker i's read counter increases to n, or was n already. If the seat is worker i's own seat, the lower bound was n
+-- already.
 abbrev pub SeesRead : SeatView → ℕ → ℕ → SeatView → Type 0
 SeesRead v i n w =
     (w ≡ seat_view v.deals v.works v.number (slice_set v.reads i n) v.settles)
     × (slice_index v.reads i ≤ n) × (n ≤ most) × (v.works ≡ true → v.number ≡ i → n ≡ slice_index v.reads i)
 
--- A seat loaded n from worker i's settled counter. The seat's lower bound of worker i's settled counter rises to n, or
--- was n already. After the load, the seat's lower bound of worker i's read counter is at least n. If the seat is worker
--- i's own seat, the bound of the settled counter was n already.
+-- A seat with the view v loaded n from worker i's settled counter, and then has the view w. The seat's lower bound of
+-- worker i's settled counter increases to n, or was n already. After the load, the seat's lower bound of worker i's
+-- read counter is at least n. If the seat is worker i's own seat, the lower bound of the settled counter was n already.
 abbrev pub SeesSettled : SeatView → ℕ → ℕ → SeatView → Type 0
 SeesSettled v i n w =
     (w ≡ seat_view v.deals v.works v.number (slice_set v.reads i (max (slice_index v.reads i) n))
@@ -72,8 +73,8 @@ pub record Fits (k : ℕ) (words : List ℕ) (v : SeatView) : Type 0 where
 abbrev pub InOrder : ℕ → List ℕ → Type 0
 InOrder k words = (j : ℕ) → j < k → (slice_index words (k + j) ≤ slice_index words j) × (slice_index words j ≤ most)
 
--- The invariant of a board: no settled counter exceeds the same worker's read counter, what each seat knows is true,
--- and the workers' numbers are distinct.
+-- The invariant of a board: no worker's settled counter exceeds the worker's read counter, what each seat knows about
+-- the counters is true, and the workers' numbers are distinct.
 pub record Kept (k : ℕ) (words : List ℕ) (views : List SeatView) : Type 0 where
   pub size : length words ≡ k + k
   pub order : InOrder k words

@@ -1,4 +1,4 @@
--- Properties of a board's seats in contracts, as specified in docs/PROFILE.md, "The progress board".
+-- Defines the properties of a board's seats that contracts use, as specified in docs/PROFILE.md, "The progress board".
 use Rattle.std.specs.Prelude.{◌≡◌, ◌+◌, ◌<◌, ◌≤◌, ℕ, Bool, true, not, ◌&&◌, List, Option, Some, None, if◌then◌else◌, length, nat_lt, nat_le, replicate, slice_index, slice_index_or, sum}
 use Rattle.atomic_table.specs.Seated.{TableId}
 use Rattle.progress_board.specs.declared.rule.SeatView.{SeatView}
@@ -20,7 +20,7 @@ seen_read s = sum s.place.me.0.reads
 abbrev pub seen_settled : BoardSeat → ℕ
 seen_settled s = sum s.place.me.0.settles
 
--- From a seat's view v to the seat's later view w, no lower bound of a counter has decreased.
+-- Each counter's lower bound in a seat's view v is at most the bound in the later view w.
 abbrev pub IsLater : SeatView → SeatView → Type 0
 IsLater v w =
     ((j : ℕ) → slice_index v.reads j ≤ slice_index w.reads j)
@@ -30,34 +30,37 @@ IsLater v w =
 abbrev pub SameSeat : BoardSeat → BoardSeat → Type 0
 SameSeat s t = (t.works ≡ s.works) × (t.number ≡ s.number) × (t.read ≡ s.read) × (t.settled ≡ s.settled)
 
--- If seat s belongs to a worker, the worker's own counters are at most the given totals.
+-- If seat s belongs to a worker, the worker's settled counter is at most `settled`, and the worker's read counter is at
+-- most `read`.
 abbrev pub SeesItself : BoardSeat → ℕ → ℕ → Type 0
 SeesItself s settled read = s.works ≡ true → (s.settled ≤ settled) × (s.read ≤ read)
 
 -- ---- errors
 
--- The error of adding n to the read counter of seat s, if there is one.
+-- The error that adding n to the read counter of seat s returns, or `None` if the addition succeeds.
 abbrev pub read_refusal : BoardSeat → ℕ → Option BoardFault
 read_refusal s n =
     if not s.works then Some faults.NotWorker else (if nat_lt most (s.read + n) then Some faults.BoardFull else None)
 
--- The error of adding n to the settled counter of seat s, if there is one.
+-- The error that adding n to the settled counter of seat s returns, or `None` if the addition succeeds.
 abbrev pub settled_refusal : BoardSeat → ℕ → Option BoardFault
 settled_refusal s n =
     if not s.works then Some faults.NotWorker
     else (if nat_lt s.read (s.settled + n) then Some faults.AheadOfRead else None)
 
--- Whether the numbers of workers and viewers are valid: 1 to 64 each.
+-- Whether the number of workers and the number of viewers are valid: each must be from 1 to 64.
 abbrev pub are_seats : ℕ → ℕ → Bool
 are_seats workers viewers = nat_le 1 workers && nat_le workers 64 && nat_le 1 viewers && nat_le viewers 64
 
--- The error of creating a board, which is `Memory` if the numbers of workers and viewers are valid, else `BadSeats`.
+-- The error that a failed creation of a board returns: `Memory` if the numbers of workers and viewers are valid, else
+-- `BadSeats`.
 abbrev pub new_fault : ℕ → ℕ → BoardFault
 new_fault workers viewers = if are_seats workers viewers then faults.Memory else faults.BadSeats
 
 -- ---- new seats
 
--- Seat number i of a new table with counters of k workers: the seat of worker i if i < n, else a viewer's seat.
+-- The seat s is seat number i of a new table that has the counters of k workers. Seat number i belongs to worker i if i
+-- < n, else to a viewer.
 abbrev pub IsSeat : TableId → ℕ → ℕ → ℕ → BoardSeat → Type 0
 IsSeat table k n i s =
     (s.place.table_id ≡ table) × (s.works ≡ nat_lt i n) × (i < n → s.number ≡ i) × (s.read ≡ 0) × (s.settled ≡ 0)
@@ -66,8 +69,8 @@ IsSeat table k n i s =
 abbrev pub SeatsAre : TableId → ℕ → ℕ → List BoardSeat → Type 0
 SeatsAre table k n seats = (i : ℕ) (d : BoardSeat) → i < length seats → IsSeat table k n i (slice_index_or seats i d)
 
--- Seat number i of a new board b. The seats of a new board are first the workers' seats, by the workers' numbers, and
--- then the viewers' seats. No seat of a new board has added documents or loaded a counter.
+-- The seat s is seat number i of a new board b. The first seats of a new board are the workers' seats, ordered by the
+-- workers' numbers, and the viewers' seats follow. No seat of a new board has added documents or loaded a counter.
 pub record IsNew (b : Board) (i : ℕ) (s : BoardSeat) : Type 0 where
   pub came : CameWith b s
   pub works : s.works ≡ nat_lt i b.workers

@@ -8,7 +8,7 @@ use thiserror::Error;
 /// Why a call failed.
 #[derive(Clone, Copy, Debug, PartialEq, Eq, Error)]
 pub enum BoardFault {
-    /// The number of workers or of viewers is not 1 to 64.
+    /// The number of workers or the number of viewers is not from 1 to 64.
     #[error("workers and viewers must each be 1 to 64")]
     BadSeats,
     /// The seat is a viewer's seat, not a worker's.

@@ -17,7 +17,7 @@ pub const MOST_WORKERS: u64 = 64;
 impl Board {
     /// Creates a board with all counters at 0, and with a seat for each worker and then a seat for each viewer.
     ///
-    /// Returns `BadSeats` if the number of workers or of viewers is not 1 to 64.
+    /// Returns `BadSeats` if the number of workers or the number of viewers is not from 1 to 64.
     pub fn new(
         alloc: Global,
         workers: usize,
@@ -40,7 +40,7 @@ impl Board {
     }
 }
 
-/// Creates a table of counters at 0, and the dealer (the seat that creates all other seats).
+/// Creates a table of counters with the value 0, and the dealer (the seat that creates all other seats).
 fn lay(alloc: Global, workers: usize) -> Result<(BoardTable, Place), AllocError>
     requires { (0 < workers) × (workers ≤ 64) }
     ensures { IfOk result
@@ -51,7 +51,7 @@ fn lay(alloc: Global, workers: usize) -> Result<(BoardTable, Place), AllocError>
     lay_words(alloc, words.as_slice(), workers)
 }
 
-/// Creates a table of given counters, and the dealer (the seat that creates all other seats).
+/// Creates a table of counters with the given values, and the dealer (the seat that creates all other seats).
 fn lay_words(
     alloc: Global,
     words: &[u64],

@@ -11,7 +11,7 @@ use std::alloc::Global;
 /// The counters of a board, two for each worker, with their rule.
 pub(crate) type BoardTable = Table<(), SeatView, u64, BoardRule, Global>;
 
-/// Access to the counters of a board, with a seat's facts about these counters.
+/// A seat's access to the counters of a board, with the facts that the seat has about the counters.
 pub(crate) type Place = Seat<(), SeatView>;
 
 /// Loads the read counter of worker `i`.

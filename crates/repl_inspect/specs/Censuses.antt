@@ -1,5 +1,5 @@
--- The counts of a database's documents, leaves and revisions, as specified in docs/PROFILE.md, "Revision trees" and
--- "Leaves and the winner".
+-- Defines the numbers of documents, leaves and revisions in a database, as specified in docs/PROFILE.md, "Revision
+-- trees" and "Leaves and the winner".
 use Rattle.std.specs.Prelude.{Bool, ◌==◌, List, map, length}
 use Rattle.std.specs.List.{sum_by, count_by}
 use Rattle.std.specs.FinMap.{len}
@@ -9,7 +9,7 @@ use Rattle.repl_inspect.specs.Conflicts.{live, in_conflict}
 use Rattle.repl_inspect.specs.Counting.{counted}
 use Rattle.repl_inspect.specs.declared.census.Census.{Census}
 
--- Whether a document is deleted: the document's tree has no live leaf.
+-- Whether a document is deleted, that is, whether the document's tree has no live leaf.
 abbrev pub is_gone : TreeValue → Bool
 is_gone tree = length (live tree) == 0
 

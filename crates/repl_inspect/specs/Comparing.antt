@@ -1,6 +1,6 @@
--- The comparison of a source's document with a target, as specified in docs/PROFILE.md, "Missing revisions" and
--- "Merging", and in CouchDB, "Replication Protocol", `_revs_diff`. A comparison of a document uses the document's trees
--- in both databases, not logs.
+-- Defines the comparison of a document at a source with the document at a target, as specified in docs/PROFILE.md,
+-- "Missing revisions" and "Merging", and in CouchDB, "Replication Protocol", `_revs_diff`. A comparison of a document
+-- uses the document's trees in both databases, but no replication log.
 use Rattle.std.specs.Prelude.{ℕ, Bool, false, not, ◌&&◌, List, [], ◌∷◌, filter, length, Option, None}
 use Rattle.std.proofs.Math.Bool.{beq}
 use Rattle.std.specs.Option.{option_map_or, option_or}
@@ -12,10 +12,10 @@ use Rattle.rev_tree.specs.Content.{ContentValue}
 use Rattle.rev_tree.specs.Tree.{TreeValue, leaves, ancestors, missing, first_contradiction}
 use Rattle.rev_tree.specs.declared.fault.Contradiction.{Contradiction}
 
--- The comparison of a source's document with the target's document. The fields are the number of the source's leaves,
--- the leaves that the target's tree lacks, an optional contradiction, and the leaves whose known contents differ. The
--- contents of a leaf are compared only if both trees have a content of the leaf. The contradiction is at the first
--- revision in the missing leaves' ancestries whose parents at source and target differ.
+-- The result of comparing a document at the source with the document at the target. The fields are the number of the
+-- source's leaves, the leaves that the target's tree lacks, an optional contradiction, and the leaves whose known
+-- contents differ. The contents of a leaf are compared only if both trees have a content of the leaf. The contradiction
+-- is at the first revision in the missing leaves' ancestries whose parents at source and target differ.
 pub record ComparisonValue : Type 0 where
   pub leaves : ℕ
   pub missing : List RevId

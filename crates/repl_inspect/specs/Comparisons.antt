@@ -1,14 +1,15 @@
--- The comparisons of documents in two databases, as specified in docs/PROFILE.md, "Missing revisions" and "Changes
--- feed".
+-- Defines the comparisons of documents that a source and a target have, as specified in docs/PROFILE.md, "Missing
+-- revisions" and "Changes feed".
 use Rattle.std.specs.Prelude.{List, map}
 use Rattle.couch_base.specs.Database.{Id, DatabaseValue, tree_of}
 use Rattle.couch_base.specs.Feed.{RowValue}
 use Rattle.repl_inspect.specs.Comparing.{ComparisonValue, compared}
 
--- The comparison of document `id` in two databases. In a comparison, a document that does not exist has an empty tree.
+-- The comparison of document `id` at the source with document `id` at the target. In a comparison, a document that does
+-- not exist has an empty tree.
 abbrev pub compared_at : DatabaseValue → DatabaseValue → Id → ComparisonValue
 compared_at source target id = compared (tree_of source.docs id) (tree_of target.docs id)
 
--- The comparisons of the documents in the given feed rows of the source.
+-- For each of the given rows of the source's feed, the comparison of the row's document.
 abbrev pub comparisons : DatabaseValue → DatabaseValue → List RowValue → List ComparisonValue
 comparisons source target rows = map (λ r. compared_at source target r.id) rows

@@ -1,4 +1,4 @@
--- Missing leaves and covered leaves, as specified in docs/PROFILE.md, "Covered leaves".
+-- Defines properties of missing leaves and of ledgers, as specified in docs/PROFILE.md, "Covered leaves".
 use Rattle.std.specs.Prelude.{◌≡◌, true, []}
 use Rattle.std.specs.List.{list_any}
 use Rattle.rev_core.specs.Rev.{RevId}
@@ -10,12 +10,12 @@ use Rattle.couch_base.specs.Feed.{RowValue, chosen_feed}
 use Rattle.repl_peer.specs.peer.Peer.{PeerValue, SessionValue}
 use Rattle.repl_peer.specs.peer.Covered.{in_ledger}
 
--- All ledgers of a peer are empty.
+-- The ledgers of all sessions at a peer are empty.
 abbrev pub HasNoLedger : PeerValue → Type 0
 HasNoLedger p = (s : SessionValue) → Among s p.sessions → s.ledger ≡ []
 
--- Each leaf of the source's selected feed that the target's trees lack is in the ancestry of a document that a session
--- of the target refused.
+-- If a leaf of the source's selected feed is not in the target's trees, a session of the target has refused a document
+-- whose ancestry contains the leaf.
 abbrev pub MissingIsRefused : PeerValue → PeerValue → Choice → Type 0
 MissingIsRefused source target chosen =
     (row : RowValue) → Among row (chosen_feed chosen source.db 0 source.db.update_seq) → (leaf : RevId)

@@ -1,4 +1,4 @@
--- Rows of a session's ledger, as specified in docs/PROFILE.md, "Settling".
+-- Defines the rows that describe a session's ledger, as specified in docs/PROFILE.md, "Settling".
 use Rattle.std.specs.Prelude.{◌≡◌}
 use Rattle.rev_core.specs.Ancestry.{head_of}
 use Rattle.std.specs.Prelude.{Some}
@@ -7,9 +7,9 @@ use Rattle.repl_peer.specs.declared.fault.Reason.TheVariants as reasons
 use Rattle.repl_inspect.specs.declared.ledger.LedgerRow.{LedgerRow}
 use Rattle.repl_inspect.specs.declared.ledger.LedgerRow.TheVariants as rows
 
--- The explanation of a ledger row. If the filter refused a document, the explanation is the document's newest revision.
--- If a document's ancestry contradicts the tree, the explanation is the newest revision with different parents in the
--- tree and in the ancestry, and both parents.
+-- The row that explains why a document is in a session's ledger. If the filter refused the document, the row has the
+-- document's newest revision. If the document's ancestry contradicts the tree, the row has the newest revision whose
+-- parents in the tree and in the ancestry differ, and both parents.
 abbrev pub Says : RefusedValue → LedgerRow → Type 0
 Says x (rows.Denied rev) = (x.reason ≡ reasons.Filtered) × (head_of x.doc.ancestry ≡ Some rev)
 Says x (rows.Contradicted rev known given) = x.reason ≡ reasons.Contradicting rev known given

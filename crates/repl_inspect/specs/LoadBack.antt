@@ -1,5 +1,5 @@
--- The effect of loading documents into an empty database, as specified in docs/PROFILE.md, "Local writes", "Fetching"
--- and "Merging".
+-- Defines what an empty database contains after documents are loaded into it, as specified in docs/PROFILE.md, "Local
+-- writes", "Fetching" and "Merging".
 use Rattle.std.specs.Prelude.{◌+◌, ◌≤◌, List, [], ◌∷◌, length}
 use Rattle.std.specs.List.{flat_map}
 use Rattle.std.specs.Result.{IsOk}
@@ -13,12 +13,12 @@ use Rattle.repl_peer.specs.peer.Writing.{after_load}
 use Rattle.repl_target.specs.replication.Replication.{IsEmpty, SameDocuments}
 use Rattle.repl_inspect.specs.Documents.{documents_at}
 
--- The leaves of all documents in a database's selected feed, each as a document. The documents are in the feed's order,
--- and the leaves of a document are in winning order.
+-- For each leaf of each document in a database's selected feed, a document with the leaf's ancestors and content. The
+-- list follows the feed's order, and the leaves of one document are in winning order (winner first).
 abbrev pub all_documents : Choice → DatabaseValue → List Document
 all_documents chosen db = flat_map (λ r. documents_at db r.id) (chosen_feed chosen db 0 db.update_seq)
 
--- The peer after loading the documents of a list in order.
+-- The state of peer p after the documents of a list were loaded in order.
 abbrev pub after_loads : PeerValue → List Document → PeerValue
 after_loads p [] = p
 after_loads p (d ∷ ds) = after_loads (after_load p d) ds

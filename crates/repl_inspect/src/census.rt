@@ -1,4 +1,4 @@
-//! Counts the content of a database.
+//! Counts the documents, leaves and revisions of a database.
 ghost use Rattle.std.specs.Prelude.{◌≡◌, ◌++◌, ◌∷◌, [], ◌≤◌, List, IfOk, OnOk, OnErr, map};
 ghost use Rattle.rev_tree.specs.Tree.{TreeValue};
 ghost use Rattle.couch_base.specs.Database.{tree_of};
@@ -59,7 +59,7 @@ impl Census {
     }
 }
 
-/// Counts the content of a database. The call reads the database's feed in pages.
+/// Counts the documents, leaves and revisions of a database. The call reads the database's feed in pages.
 pub fn census_of(alloc: Global, database: &Database) -> Result<Census, AllocError>
     ensures { IfOk result (λ c. c ≡ census_of (trees database.now)) }
 {
@@ -74,7 +74,7 @@ pub fn census_of(alloc: Global, database: &Database) -> Result<Census, AllocErro
     Ok(census)
 }
 
-/// Adds the documents of feed rows to the counts.
+/// Adds the documents of the given feed rows to the counts.
 fn add_rows(
     alloc: Global,
     database: &Database,

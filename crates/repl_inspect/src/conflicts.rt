@@ -19,7 +19,7 @@ pub fn conflicting(alloc: Global, tree: &Tree) -> Result<Vec<Rev>, AllocError>
     Ok(found)
 }
 
-/// Returns the live leaves, winner first.
+/// Returns the live leaves (leaves that are not deleted) of a tree, winner first.
 pub(crate) fn live(alloc: Global, tree: &Tree) -> Result<Vec<Rev>, AllocError>
     ensures { IfOk result (λ v. v.items ≡ live tree.now) }
 {
@@ -27,7 +27,7 @@ pub(crate) fn live(alloc: Global, tree: &Tree) -> Result<Vec<Rev>, AllocError>
     live_of(alloc, tree, leaves.as_slice())
 }
 
-/// Returns those of the given revisions that do not delete the document.
+/// Returns the given revisions, but without the revisions that delete the document.
 fn live_of(alloc: Global, tree: &Tree, revs: &[Rev]) -> Result<Vec<Rev>, AllocError>
     ensures { IfOk result (λ v. v.items ≡ filter (λ r. not (is_deleted tree.now r)) revs.now) }
 {

@@ -14,12 +14,12 @@ use doc_json::Chosen;
 use repl_target::{Peer, WriteFilter};
 use std::alloc::{AllocError, Global};
 
-/// Returns the total of the differences between a source's complete or selected feed and a target. The call ignores
-/// logs, and reads the source's feed in pages.
+/// Returns the total of the differences between a source's complete or selected feed (the compared feed) and a target.
+/// The call ignores logs, and reads the source's feed in pages.
 ///
-/// If no leaf is missing, the target covers the complete feed. If the target covers the complete feed, each missing
-/// leaf is in the ancestry of a document that a session of the target refused. If the target covers the complete feed
-/// and all ledgers are empty, no leaf is missing.
+/// If no leaf is missing, the target covers the compared feed. If the target covers the compared feed, each missing
+/// leaf is in the ancestry of a document that a session of the target refused. If the target covers the compared feed
+/// and all ledgers of the target are empty, no leaf is missing.
 pub fn compare_feed<F: WriteFilter, G: WriteFilter>(
     alloc: Global,
     source: &Peer<F>,

@@ -1,4 +1,4 @@
-//! Returns the leaves of a document, each as a document with its ancestry.
+//! Returns a document with an ancestry for each leaf of a stored document.
 ghost use Rattle.std.specs.Prelude.{◌≡◌, true, map, IfOk};
 ghost use Rattle.std.specs.List.{list_all};
 ghost use Rattle.rev_tree.specs.Tree.{is_leaf};
@@ -14,8 +14,8 @@ use rev_core::Rev;
 use rev_tree::Tree;
 use std::alloc::{AllocError, Global};
 
-/// Returns the leaves of a document, winner first, each as a document with its known ancestry and its content. The list
-/// is empty if the database does not have the document.
+/// Returns, for each leaf of a stored document, a document with the leaf's known ancestry and content, winner first.
+/// The list is empty if the database does not have the document.
 ///
 /// An empty peer with enough free sequences accepts every leaf of a selected feed, if the leaves of all documents in
 /// the feed are loaded in order. After the last load, each selected document is the same in the peer and in the
@@ -30,7 +30,7 @@ pub fn documents_of(alloc: Global, database: &Database, id: &DocId) -> Result<Ve
     documents_at(alloc, database, id, leaves.as_slice())
 }
 
-/// Returns the given leaves of a document, each as a document.
+/// Returns, for each of the given leaves of a stored document, a document with the leaf's ancestry and content.
 fn documents_at(
     alloc: Global,
     database: &Database,
@@ -48,7 +48,7 @@ fn documents_at(
     Ok(found)
 }
 
-/// Returns a leaf as a document with the leaf's ancestry and content. A leaf always has a content.
+/// Returns a document with the ancestry and the content of a leaf. A leaf always has a content.
 pub fn leaf_document(
     alloc: Global,
     database: &Database,

@@ -54,7 +54,7 @@ pub(crate) fn compare_databases(
     Ok(total)
 }
 
-/// Adds the comparisons of the documents of feed rows to a total.
+/// Compares the documents of the given feed rows, and adds the comparisons to a total.
 fn add_rows(
     alloc: Global,
     source: &Database,

@@ -1,4 +1,4 @@
-//! Rows of a session's ledger.
+//! Describes the rows of a session's ledger.
 ghost use Rattle.repl_inspect.specs.Ledgers.{Says};
 
 use repl_target::{Reason, Refused};

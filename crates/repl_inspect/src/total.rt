@@ -6,7 +6,7 @@ ghost use Rattle.repl_inspect.specs.Totals.{total_of};
 use crate::comparison::Comparison;
 use crate::counting::{plus, plus_if};
 
-/// The sums of the differences that comparisons of documents found. Each count is capped at 9,007,199,254,740,991.
+/// The totals of several comparisons of documents. Each count is capped at 9,007,199,254,740,991.
 #[derive(Clone, Copy, Debug, PartialEq, Eq)]
 pub struct Total {
     /// The number of compared documents.

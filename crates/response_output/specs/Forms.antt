@@ -1,10 +1,10 @@
--- The text around the items that the formatter writes, as specified in docs/PROFILE.md, "CouchDB's answers" and "Lines
--- of documents".
+-- Defines the texts that the formatter writes before, between and after items, as specified in docs/PROFILE.md,
+-- "CouchDB's answers" and "Lines of documents".
 use Rattle.std.specs.Prelude.{ℕ, List, [], Bool, true, false, codes}
 use Rattle.response_output.specs.declared.forms.Form.{Form}
 use Rattle.response_output.specs.declared.forms.Form.TheVariants.{Loads, Asked, Diffs, Docs, Bodies}
 
--- The text that opens a request body of the given form.
+-- The text with which a request body of the given form begins.
 abbrev pub opening : Form → List ℕ
 opening Loads = []
 opening Asked = codes "{\"docs\":["
@@ -28,7 +28,7 @@ ends Diffs = []
 ends Docs = codes "}\n"
 ends Bodies = []
 
--- The text that closes a request body of the given form.
+-- The text with which a request body of the given form ends.
 abbrev pub closing : Form → List ℕ
 closing Loads = []
 closing Asked = codes "]}\n"
@@ -52,8 +52,8 @@ before_rev Diffs = codes ":["
 before_rev Docs = codes ",\"rev\":"
 before_rev Bodies = codes ",\"rev\":"
 
--- Whether a request body has the revisions of a document as one list. A request body with lists of revisions is closed
--- before a document, not after a revision.
+-- Whether a request body of the given form has one list with all revisions of a document. A request body with lists of
+-- revisions is closed before a document, not after a revision.
 abbrev pub has_lists : Form → Bool
 has_lists Loads = false
 has_lists Asked = false

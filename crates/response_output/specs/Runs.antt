@@ -1,4 +1,5 @@
--- The output for responses, as specified in docs/PROFILE.md, "CouchDB's answers".
+-- Defines the output that a conversion of CouchDB's responses writes, as specified in docs/PROFILE.md, "CouchDB's
+-- answers".
 use Rattle.std.specs.Prelude.{◌≡◌, ◌⊎◌, ℕ, ◌==◌, nat_eq, length, List, [], ◌∷◌, ◌++◌, true, false, Option, Result, Ok, Err, ⊤}
 use Rattle.std.specs.List.{starts_with}
 use Rattle.std.specs.Io.KnownBytes.{Appends}
@@ -26,30 +27,31 @@ abbrev pub IsBegun : State → Words → List ℕ → Type 0
 IsBegun s w part = (part ≡ []) ⊎ ((written : List ℕ) × HasWritten s written × (part ≡ before w ++ written))
 
 -- The given bytes were read, the items in these bytes were written, and then the beginning `part` of the next item was
--- written. The last two arguments of `Fed` are the bytes that the writer had accepted before and after the given bytes
--- were processed.
+-- written. The writer had accepted the bytes `held` before the given bytes were processed, and the bytes `held'` after.
 pub record Fed (s : State) (w : Words) (bytes : List ℕ) (s' : State) (w' : Words) (part : List ℕ) (held held' : Option (List ℕ)) : Type 0 where
   pub state : s' ≡ after s bytes
   pub words : w' ≡ words_behind w (pieces s bytes)
   pub written : Appends held held' (texts w (pieces s bytes) ++ part)
 
--- Only a failed write leaves an incomplete item. The program's output is not produced in pieces, so `Cut` does not
--- occur.
+-- If the error is `Read` or `Memory`, the text `missing`, which was not written, is empty: only a failed write leaves
+-- an item incomplete. The error `Cut` (of output in pieces) does not occur, because the output of a conversion is not
+-- produced in pieces.
 abbrev pub IsWhole : ScriptFault → List ℕ → Type 0
 IsWhole Read missing = missing ≡ []
 IsWhole Write missing = ⊤
 IsWhole Memory missing = missing ≡ []
 IsWhole Cut missing = ⊥
 
--- A text was not written completely: a write failed within the text, or an error occurred before the text's first byte.
+-- The text `made` was not written completely: a write failed within the text, or an error occurred before the first
+-- byte of `made` was written.
 pub data WritesInPart (fault : ScriptFault) (made : List ℕ) (held held' : Option (List ℕ)) : Type 0 where
   in_part : (text missing : List ℕ) → made ≡ text ++ missing → Appends held held' text → fault ≡ Write → WritesInPart fault made held held'
   nothing : Appends held held' [] → IsWhole fault [] → WritesInPart fault made held held'
 
--- An error occurred at the end of a document, after the text `front` was written for the document's beginning. The
--- error is `LateMember` if the document's text does not begin with `front`. If the document's text begins with `front`,
--- a device or an allocation failed, and the rest of the document was not written completely. The parser has the state s
--- at the document's end.
+-- An error occurred at the end of a document, after the text `front` had been written for the beginning of the
+-- document. The error is `LateMember` if the document's complete text does not begin with `front`. If the document's
+-- complete text begins with `front`, a device or an allocation failed, and the rest of this text was not written
+-- completely. The parser has the state s at the document's end.
 abbrev pub RestBreaks : AnswerFault → State → Words → List ℕ → Option (List ℕ) → Option (List ℕ) → Type 0
 RestBreaks (Refused why at) s w front held held' = ⊥
 RestBreaks (LateMember at) s w front held held' =
@@ -60,7 +62,7 @@ RestBreaks (Device fault) s w front held held' =
 -- A device or an allocation failed after `before`, a prefix of the given bytes. The output for `before` consists of the
 -- texts of the items in `before`, and the beginning `last` of the next item. The output for `before` consists of the
 -- texts `part`, `text` and `missing`. The text `part` was written before the given bytes were read, `text` was written
--- later, and `missing` was not written. The text `missing` is empty, unless a write failed.
+-- later, and `missing` was not written. If no write failed, the text `missing` is empty.
 pub record Begins (fault : ScriptFault) (s : State) (w : Words) (part bytes : List ℕ) (held held' : Option (List ℕ)) : Type 0 where
   pub before : List ℕ
   pub behind : List ℕ
@@ -73,10 +75,10 @@ pub record Begins (fault : ScriptFault) (s : State) (w : Words) (part bytes : Li
   pub written : Appends held held' text
   pub complete : IsWhole fault missing
 
--- The given bytes begin with `front` and the byte `last`, which ends a long document. The output `begun`, which was
--- written for the beginning of the long document, is not the beginning of the document's output (`IsLate`). The items
--- in `front` were written, and then the text `begun`. The text `part` was written before the given bytes were read. At
--- the end of the long document, the parser has read `at` bytes.
+-- The given bytes begin with `front` and the byte `last`, which ends a long document. The text `begun` was written for
+-- the beginning of the long document, but the document's complete text does not begin with `begun` (`IsLate`). The
+-- items in `front` were written, and the text `begun` was written after the items. The text `part` was written before
+-- the given bytes were read. At the end of the long document, the parser has read `at` bytes.
 pub record IsLateAt (at : ℕ) (s : State) (w : Words) (part bytes : List ℕ) (held held' : Option (List ℕ)) : Type 0 where
   pub front : List ℕ
   pub last : ℕ
@@ -89,7 +91,7 @@ pub record IsLateAt (at : ℕ) (s : State) (w : Words) (part bytes : List ℕ) (
   pub written : Appends held held' text
   pub at_is : at ≡ (after s (front ++ last ∷ [])).taken
 
--- The effect of an error while bytes of a response were read.
+-- What was written if an error occurred while the given bytes of a response were read.
 abbrev pub Breaks : AnswerFault → State → Words → List ℕ → List ℕ → Option (List ℕ) → Option (List ℕ) → Type 0
 Breaks (Refused why at) s w part bytes held held' = ⊥
 Breaks (LateMember at) s w part bytes held held' = IsLateAt at s w part bytes held held'
@@ -97,18 +99,19 @@ Breaks (Device fault) s w part bytes held held' = Begins fault s w part bytes he
 
 -- ---- the stored parser
 
--- The program's parser has the state r, and a parser that stores each byte would have the state s. The output has begun
--- the next item with the text `part`. If the current document is long, `front` is the output for the document's
--- beginning, without the bytes that the program's parser did not store. The program's parser had stored `at` bytes of
--- the document when `front` was built.
+-- The program's parser has the state r, and a parser that stores each byte would have the state s. The text `part`, the
+-- beginning of the next item, was written already. If the current document is long, `front` is the output for the
+-- document's beginning, but without the bytes that the program's parser did not store. The program's parser had stored
+-- `at` bytes of the document when `front` was built.
 pub data Tracks (s r : State) (front : List ℕ) (at : ℕ) (w : Words) (part : List ℕ) : Type 0 where
   tracks_whole : Like s r → front ≡ [] → part ≡ [] → Tracks s r front at w part
   tracks_long : (cut : LongCut) (name : Name) → Mirrors cut name s r → front ≡ cut.front → at ≡ length cut.stored → (length front == 0) ≡ false
       → part ≡ before w ++ cut.written → Tracks s r front at w part
   tracks_stuck : (cut : LongCut) → Rejected cut s r → part ≡ before w ++ cut.written → Tracks s r front at w part
 
--- The parser read the given bytes, and the items in these bytes were written. The texts `part` and `part'` are the
--- beginnings of the next item that were written before and after these bytes were read.
+-- The parser read the given bytes, and the items in these bytes were written. Of the item that was unfinished before
+-- these bytes, the text `part` had been written. Of the item that is unfinished after these bytes, the text `part'` has
+-- been written.
 pub record Feeds (s : State) (w : Words) (part bytes : List ℕ) (r' : State) (front' : List ℕ) (at' : ℕ) (w' : Words) (held held' : Option (List ℕ)) : Type 0 where
   pub part' : List ℕ
   pub tracks : Tracks (after s bytes) r' front' at' w' part'
@@ -123,7 +126,7 @@ pub record Feeds (s : State) (w : Words) (part bytes : List ℕ) (r' : State) (f
 abbrev pub all_text : Words → List Piece → List ℕ
 all_text w all = texts w all ++ last_text (words_behind w all)
 
--- A write failed within the text that ends the output, so only a prefix of this text was written.
+-- A write failed within the text `whole`, so only a prefix of `whole` was written.
 pub record EndsInPart (fault : ScriptFault) (whole : List ℕ) (held held' : Option (List ℕ)) : Type 0 where
   pub text : List ℕ
   pub missing : List ℕ
@@ -140,8 +143,9 @@ EndsAnswers s w held held' (Err (Refused why at)) =
 EndsAnswers s w held held' (Err (LateMember at)) = ⊥
 EndsAnswers s w held held' (Err (Device fault)) = EndsInPart fault (last_text w) held held' × (end_of s.place ≡ Ok tt)
 
--- The effect of the end of the input on a conversion. If the last line of a script's output has no line end, the
--- conversion first adds a line end. The text `part`, the beginning of an item, was written before the input's end.
+-- What a conversion does at the end of the input. If the last line of a script's output has no line end, the conversion
+-- first adds a line end. The text `part`, the beginning of an item, was written before the conversion reached the
+-- input's end.
 abbrev pub Finishes : State → Words → List ℕ → Option (List ℕ) → Option (List ℕ) → Result ℕ AnswerFault → Type 0
 Finishes s w part held held' (Ok passed) =
     (text : List ℕ) × Appends held held' text × (part ++ text ≡ all_text w (pieces s (last_end s)))
@@ -174,16 +178,16 @@ IsFront wanted left read =
     (rest : List ℕ) × Gives left (read ++ rest) × (is_refused (after (start wanted) read).place ≡ true)
 
 -- The input consists of complete responses, `passed` documents were skipped, and the items in the input are written.
--- The arguments `left`, `held` and `held'` are the reader's remaining bytes, and the bytes that the writer had accepted
--- before and after the conversion.
+-- The reader's remaining bytes are `left`. The writer had accepted the bytes `held` before the conversion, and the
+-- bytes `held'` after.
 abbrev pub Answered : Wanted → Words → Option (List ℕ) → Option (List ℕ) → Option (List ℕ) → ℕ → Type 0
 Answered wanted w left held held' passed =
     (read : List ℕ) × IsAll wanted left read × Appends held held' (all_text w (pieces (start wanted) read))
     × (end_of (after (start wanted) read).place ≡ Ok tt) × (passed ≡ (after (start wanted) read).passed)
 
--- The effect of a run that failed. If the input of a run is invalid at its last byte, the items before this byte are
--- written. If a device or an allocation failed, the written text is a prefix of the output for the complete input. If
--- the run failed in a long document, the beginning of the document's output may also be written. After the error
+-- What a failed conversion wrote. If the input is invalid at its last byte, the items before this byte are written. If
+-- a device or an allocation failed, the written text is a prefix of the output for the complete input. If the
+-- conversion failed in a long document, the beginning of the document's output may also be written. After the error
 -- `LateMember`, the text written for a long document is not the beginning of the document's complete output.
 abbrev pub Stopped : Wanted → Words → Option (List ℕ) → Option (List ℕ) → Option (List ℕ) → AnswerFault → Type 0
 Stopped wanted w left held held' (Refused why at) =
@@ -197,14 +201,14 @@ Stopped wanted w left held held' (Device fault) =
     (read : List ℕ) × IsLeft wanted left read
     × (Begins fault (start wanted) w [] read held held' ⊎ EndsInPart fault (all_text w (pieces (start wanted) read)) held held')
 
--- The guarantees of a conversion for any input, by the conversion's result.
+-- What a conversion of any input guarantees, for each result of the conversion.
 abbrev pub Converts : Result ℕ AnswerFault → Wanted → Words → Option (List ℕ) → Option (List ℕ) → Option (List ℕ) → Type 0
 Converts (Ok passed) wanted w left held held' = Answered wanted w left held held' passed
 Converts (Err fault) wanted w left held held' = Stopped wanted w left held held' fault
 
--- The effect of a run on responses with the given items: the items are written, and the input is not rejected. After
--- the error `LateMember`, the first items are written, and then the text `begun`, which belongs to a part of the next
--- item.
+-- What a conversion of responses with the given items guarantees: the input is not rejected, and if the conversion
+-- succeeds, the items are written. After the error `LateMember`, the first items are written, and then the text
+-- `begun`, which belongs to a part of the next item.
 abbrev pub ReadsAnswers : Words → List Piece → Option (List ℕ) → Option (List ℕ) → Result ℕ AnswerFault → Type 0
 ReadsAnswers w all held held' (Ok passed) = Appends held held' (all_text w all)
 ReadsAnswers w all held held' (Err (Refused why at)) = ⊥
@@ -222,15 +226,15 @@ CountsOf (Refused why at) reads reads' reader reader' writer writer' = (reader' 
 CountsOf (LateMember at) reads reads' reader reader' writer writer' = (reader' ≡ reader) × (writer' ≡ writer)
 CountsOf (Device fault) reads reads' reader reader' writer writer' = IsFaultOf fault reads reads' reader reader' writer writer'
 
--- The writer failed exactly if the error names the writer. The arguments of `CountsOfWriter` are the writer's failure
--- counts before and after the call.
+-- The writer failed if and only if the conversion returned the error of a failed write. The numbers of the writer's
+-- failures before and after the call are `writer` and `writer'`.
 abbrev pub CountsOfWriter : Result ℕ AnswerFault → ℕ → ℕ → Type 0
 CountsOfWriter (Ok passed) writer writer' = writer' ≡ writer
 CountsOfWriter (Err (Refused why at)) writer writer' = writer' ≡ writer
 CountsOfWriter (Err (LateMember at)) writer writer' = writer' ≡ writer
 CountsOfWriter (Err (Device fault)) writer writer' = IsOfWriter fault writer writer'
 
--- The result of a conversion at the end of the input.
+-- The result that a conversion returns at the end of the input.
 abbrev pub judged_by : ℕ → ℕ → Result (Unit {0}) Refusal → Result ℕ AnswerFault
 judged_by passed taken (Ok u) = Ok passed
 judged_by passed taken (Err why) = Err (Refused why taken)

@@ -1,4 +1,4 @@
--- The values by which contracts describe a stored formatter.
+-- Defines the values by which contracts describe a stored formatter.
 use Rattle.std.specs.Prelude.{ℕ, List}
 use Rattle.response_output.specs.Words.{Words}
 use Rattle.response_output.specs.declared.wording.Wording.{Wording}

@@ -1,5 +1,5 @@
--- The output for the items that the parser found, as specified in docs/PROFILE.md, "CouchDB's answers" and "Lines of
--- documents".
+-- Defines the text that the formatter writes for the items that the parser found, as specified in docs/PROFILE.md,
+-- "CouchDB's answers" and "Lines of documents".
 use Rattle.std.specs.Prelude.{ℕ, ◌&&◌, ◌==◌, nat_lt, drop, List, [], ◌∷◌, ◌++◌, Bool, true, false, not, cond, codes}
 use Rattle.doc_envelope.specs.Names.{id_of}
 use Rattle.response_parser.specs.State.{more}
@@ -15,7 +15,7 @@ pub record Words : Type 0 where
   pub form : Form
   -- The text that the formatter writes before each item.
   pub begins : List ℕ
-  -- The formatter's last document id, and whether it has written a revision of this document.
+  -- The id of the formatter's last document, and whether the formatter has written a revision of this document.
   pub id : List ℕ
   pub listed : Bool
   -- The number of items in the formatter's open request body.
@@ -30,7 +30,7 @@ pub record Words : Type 0 where
 abbrev pub before : Words → List ℕ
 before w = cond (w.count == 0) (opening w.form) (separator w.form) ++ w.begins
 
--- Whether one more item fills the formatter's request body, so that the formatter closes the body.
+-- Whether the formatter's request body is full after one more item, so that the formatter closes the body.
 abbrev pub is_full : Words → Bool
 is_full w = not (has_lists w.form) && more w.count == w.size
 
@@ -47,23 +47,26 @@ id_kept w id = record w { id = id; listed = false }
 abbrev pub document_text : Words → List ℕ → List ℕ
 document_text w text = before w ++ (text ++ behind w)
 
--- The output for a part of a document. The part consists of the text `front` without the first `told` bytes, and of the
--- given bytes. If `told` is 0, the output begins with the text that the formatter writes before a document.
+-- The text that is written for a part of a document: the text `front` without its first `told` bytes, which were
+-- written earlier, and then the given bytes. If `told` is 0, the part's text begins with the text that the formatter
+-- writes before a document.
 abbrev pub part_text : Words → List ℕ → ℕ → List ℕ → List ℕ
 part_text w front told bytes = cond (told == 0) (before w) [] ++ (drop told front ++ bytes)
 
--- The output for the rest of a document whose first `told` bytes were written.
+-- The text that is written for the rest of a document, if the first `told` bytes of the document's text were written
+-- earlier.
 abbrev pub rest_text : Words → List ℕ → ℕ → List ℕ
 rest_text w text told = drop told text ++ behind w
 
 abbrev pub with_document : Words → List ℕ → Words
 with_document w text = counted_up (id_kept w (id_of text))
 
--- Whether the formatter's request body has lists of revisions, and is full.
+-- Whether the formatter's request body is full and of a form with lists of revisions.
 abbrev pub is_over : Words → Bool
 is_over w = has_lists w.form && (nat_lt 0 w.count && w.count == w.size)
 
--- The text that closes a full request body with lists of revisions before the next document, or the empty text.
+-- The text that closes the request body before the next document. The text is empty unless the body is full and of a
+-- form with lists of revisions.
 abbrev pub over_text : Words → List ℕ
 over_text w = cond (is_over w) (closing w.form) []
 
@@ -78,7 +81,7 @@ first_rev_text w text =
 abbrev pub with_first_rev : Words → Words
 with_first_rev w = record (counted_up (over w)) { listed = true }
 
--- Whether the next revision is added to a document's list of revisions, and is not the first revision of this list.
+-- Whether the next revision is added to a document's list of revisions that has a revision already.
 abbrev pub is_further : Words → Bool
 is_further w = has_lists w.form && w.listed
 

@@ -134,8 +134,8 @@ fn tell_rest<W: ScriptWrite>(
     }
 }
 
-/// Writes the text of the front after the first `told` bytes, which were written before, and then a run of bytes that
-/// the parser did not store.
+/// Writes the front (the output for the beginning of a long document) without its first `told` bytes, which were
+/// written before. The call then writes a run of bytes that the parser did not store.
 fn tell_run<W: ScriptWrite>(
     front: &Front,
     told: usize,
@@ -221,8 +221,8 @@ fn feed_part<W: ScriptWrite>(
     }
 }
 
-/// Writes a run of bytes that the parser does not store. If the given bytes begin with no run that may be passed on
-/// without being stored, the call lets the parser read bytes. Returns the number of bytes that were read.
+/// Writes a run of bytes in a string of a long document, which the parser does not store. If the given bytes begin with
+/// no such run, the call lets the parser read some of the given bytes. Returns the number of bytes that were read.
 fn feed_some<W: ScriptWrite>(
     reading: &mut Reading,
     front: &mut Front,
@@ -285,7 +285,7 @@ fn feed<W: ScriptWrite>(
     Ok(())
 }
 
-/// Returns the result of a run after the end of the input.
+/// Returns the result of a conversion after the end of the input.
 fn ended(reading: &Reading) -> Result<u64, AnswerFault>
     ensures { result ≡ ended_of (state_of reading.now) }
 {
@@ -454,8 +454,8 @@ pub fn run_answers<R: ScriptRead, W: ScriptWrite>(
     ensures ok { IfOk result (λ passed. Answered reading.old.wanted (words_of_wording wording.old)
         (R.left reader.old) (W.held writer.old) (W.held writer.new) passed) }
     ensures end { OnOk result (IsAtEnd (R.left reader.new)) }
-    // The clauses `ok` and `fault` describe the output by the bytes that the reads returned. If the call succeeds, the
-    // reads returned the complete input.
+    // The clause `took` says of the bytes that the reads returned what the clauses `ok` and `fault` say of the reader's
+    // remaining bytes. If the call succeeds, the reads returned the complete input.
     ensures took { (input : List ℕ) × Appends (R.taken reader.old) (R.taken reader.new) input
         × Converts result reading.old.wanted (words_of_wording wording.old) (Some input) (W.held writer.old)
         (W.held writer.new) }

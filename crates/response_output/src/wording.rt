@@ -142,7 +142,7 @@ impl Wording {
         Ok(())
     }
 
-    /// Formats a part of a document: the text of `front` after the first `told` bytes, and then `bytes`. The caller has
+    /// Formats a part of a document: the text `front` without its first `told` bytes, and then `bytes`. The caller has
     /// already written the first `told` bytes of `front`. If `told` is 0, the part begins with the text that the output
     /// format has before an item.
     pub fn put_part(&mut self, front: &[u8], told: usize, bytes: &[u8]) -> Result<(), AllocError>
@@ -158,7 +158,7 @@ impl Wording {
         self.text.extend_from_slice(bytes)
     }
 
-    /// Formats the rest of a document, of which the caller has written the first `told` bytes.
+    /// Formats the rest of a document. The caller has already written the first `told` bytes of the document.
     pub fn put_rest(&mut self, document: &[u8], told: usize) -> Result<(), AllocError>
         requires { told ≤ length document.now }
         ensures text { OnOk result (made_of self.new ≡ rest_text (words_of_wording self.old) document.now told) }

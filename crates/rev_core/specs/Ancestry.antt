@@ -1,5 +1,5 @@
--- This file defines ancestries, as specified in docs/PROFILE.md, "Ancestries", and in CouchDB, "Replication Protocol",
--- the member `_revisions`.
+-- Defines ancestries, as specified in docs/PROFILE.md, "Ancestries", and in CouchDB, "Replication Protocol", the member
+-- `_revisions`.
 use Rattle.std.specs.Prelude.{◌≡◌, ℕ, ◌+◌, ◌-◌, ◌<◌, Bool, List, [], ◌∷◌, length, Option, Some, None, Result, Ok, Err, if◌then◌else◌, nat_lt, ◌==◌}
 use Rattle.std.specs.List.{AllByRecursion, list_any}
 use Rattle.std.specs.Ordering.{eq_by_cmp}
@@ -13,7 +13,7 @@ FallsByOne [] = Unit {0}
 FallsByOne (r ∷ []) = Unit {0}
 FallsByOne (r ∷ (s ∷ rest)) = (r.generation ≡ s.generation + 1) × FallsByOne (s ∷ rest)
 
--- An ancestry: a nonempty list of revisions whose generations fall by one.
+-- An ancestry: a nonempty list of revisions, in which each generation is one above the next revision's generation.
 pub record IsAncestry (revs : List RevId) : Type 0 where
   pub nonempty : 0 < length revs
   pub each : AllByRecursion IsRev revs
@@ -24,7 +24,7 @@ abbrev pub head_of : List RevId → Option RevId
 head_of [] = None
 head_of (r ∷ rest) = Some r
 
--- The edges of an ancestry: each child with its parent, newest child first.
+-- The edges of an ancestry: pairs of a child and the child's parent, with the newest child first.
 abbrev pub edges_of : List RevId → List (RevId × RevId)
 edges_of [] = []
 edges_of (r ∷ []) = []
@@ -43,7 +43,7 @@ abbrev pub numbered : ℕ → List (List ℕ) → List RevId
 numbered start [] = []
 numbered start (sig ∷ sigs) = record { generation = start; sig = sig } ∷ numbered (start - 1) sigs
 
--- The ancestry with a given newest generation and given signatures, or the error of building this ancestry.
+-- The ancestry with a given newest generation and given signatures, or the error that prevents building the ancestry.
 abbrev pub ancestry_read : ℕ → List (List ℕ) → Result (List RevId) RevFault
 ancestry_read start sigs =
     if length sigs == 0 then Err faults.NoIds

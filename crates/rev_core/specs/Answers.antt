@@ -1,4 +1,4 @@
--- The result of a call that may run out of memory.
+-- Defines the results of a call that may run out of memory.
 use Rattle.std.specs.Prelude.{◌≡◌, Result, Err, IsOk}
 use Rattle.rev_core.specs.declared.fault.RevFault.{RevFault}
 use Rattle.rev_core.specs.declared.fault.RevFault.TheVariants as faults

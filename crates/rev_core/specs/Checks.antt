@@ -1,4 +1,4 @@
--- A sequence of checks, in which each check passes a value on to the next, or gives an error.
+-- Defines sequences of checks. Each check passes a value on to the next check, or gives an error.
 use Rattle.std.specs.Prelude.{Bool, true, false, ⊤, Option, Some, None, Result, Ok, Err}
 
 -- The result of applying the check f to the previous check's value, or the error of the previous check.
@@ -17,7 +17,7 @@ abbrev pub or_refused : {A E : Type 0} → E → Option A → Result A E
 or_refused e None = Err e
 or_refused e (Some x) = Ok x
 
--- A result in which every error is replaced by the error e.
+-- The given result, but with the error e in place of any error.
 abbrev pub named : {A E F : Type 0} → F → Result A E → Result A F
 named e (Ok x) = Ok x
 named e (Err why) = Err e

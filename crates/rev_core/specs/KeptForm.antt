@@ -1,4 +1,5 @@
--- The stored form of a compact revision. No public contract uses the definitions of this file.
+-- Defines the revision id that the stored form of a compact revision represents. No public contract uses the
+-- definitions of this file.
 use Rattle.rev_core.specs.Rev.{RevId}
 use Rattle.rev_core.specs.ShortSig.{text_in}
 use Rattle.rev_core.specs.declared.kept_rev.Form.{Form}

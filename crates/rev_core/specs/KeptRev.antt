@@ -1,4 +1,4 @@
--- Compact revisions.
+-- Defines which revision ids are stored as compact revisions without a heap block.
 use Rattle.std.specs.Prelude.{Option, Some, None, if◌then◌else◌}
 use Rattle.rev_core.specs.Rev.{RevId}
 use Rattle.rev_core.specs.ShortSig.{is_short}

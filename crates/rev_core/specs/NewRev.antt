@@ -1,5 +1,5 @@
--- Revision ids of local edits, as specified in docs/PROFILE.md, "Ids of local edits". The hash MD5 is specified in RFC
--- 1321.
+-- Defines the revision id that a local edit creates, as specified in docs/PROFILE.md, "Ids of local edits". The hash
+-- MD5 is specified in RFC 1321.
 use Rattle.std.specs.Prelude.{ℕ, ◌+◌, ◌^◌, Bool, true, false, List, [], ◌∷◌, ◌++◌, Option, Some, None, Result, Ok, Err, if◌then◌else◌, nat_lt, codes}
 use Rattle.md5.specs.Md5.{md5}
 use Rattle.hex.specs.Hex.{encode_lower}
@@ -18,7 +18,7 @@ abbrev pub parent_text : Option RevId → List ℕ
 parent_text None = []
 parent_text (Some parent) = rev_text parent
 
--- The string `deleted` or `live`, according to the deleted flag.
+-- The string `deleted` if the deleted flag is set, else the string `live`.
 abbrev pub kind_text : Bool → List ℕ
 kind_text true = codes "deleted"
 kind_text false = codes "live"

@@ -1,4 +1,5 @@
--- Revision ids, as specified in docs/PROFILE.md, "Revision ids", and in CouchDB, "Replication and conflict model".
+-- Defines revision ids and their order, as specified in docs/PROFILE.md, "Revision ids", and in CouchDB, "Replication
+-- and conflict model".
 use Rattle.std.specs.Prelude.{◌≡◌, ℕ, ◌≤◌, ◌<◌, ◌^◌, true, List}
 use Rattle.std.specs.declared.cmp.Ordering.{Ordering}
 use Rattle.std.specs.Ordering.{nat_cmp, ordering_then}

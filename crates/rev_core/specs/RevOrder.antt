@@ -1,4 +1,4 @@
--- The order of revisions is total, and only equal revisions compare as equal.
+-- Lemmas: the order of revisions is total, and only equal revisions compare as equal.
 use Rattle.std.specs.Prelude.{◌≡◌, ℕ, Bool, true, false, ◌&&◌, List, [], ◌∷◌, ◌++◌, nat_eq, refl}
 use Rattle.std.proofs.Common.{ap, sym, ◌∙◌, subst, T}
 use Rattle.std.specs.declared.cmp.Ordering.{Ordering}

@@ -1,4 +1,4 @@
--- Signatures packed into two integers.
+-- Defines how a short signature is stored in two 64-bit integers.
 use Rattle.std.specs.Prelude.{ℕ, ◌+◌, ◌/◌, ◌%◌, Bool, ◌&&◌, ◌||◌, List, ◌++◌, length, take, map, ◌==◌, nat_le, nat_lt, if◌then◌else◌}
 use Rattle.std.specs.List.{list_all}
 use Rattle.std.specs.Int.{to_le_bytes, w64}
@@ -11,7 +11,7 @@ is_hex_digit b = nat_le 48 b && nat_le b 57 || nat_le 97 b && nat_le b 102
 abbrev pub digit_of : ℕ → ℕ
 digit_of value = if nat_lt value 10 then value + 48 else value + 87
 
--- The hexadecimal digits of bytes: the high digits of all bytes, then the low digits.
+-- The hexadecimal digits of a list of bytes: first the high digit of each byte, and then the low digit of each byte.
 abbrev pub digits_of : List ℕ → List ℕ
 digits_of bytes = map (λ b. digit_of (b / 16)) bytes ++ map (λ b. digit_of (b % 16)) bytes
 
@@ -19,7 +19,8 @@ digits_of bytes = map (λ b. digit_of (b / 16)) bytes ++ map (λ b. digit_of (b 
 abbrev pub is_short : List ℕ → Bool
 is_short text = if length text == 32 then list_all is_hex_digit text else nat_le (length text) 16
 
--- The sixteen bytes of two 64-bit integers, in order.
+-- The sixteen bytes of two 64-bit integers: the bytes of `front`, then the bytes of `back`. The bytes of an integer
+-- begin with the least significant byte.
 unfoldable pub bytes_in : ℕ → ℕ → List ℕ
 bytes_in front back = to_le_bytes w64 front ++ to_le_bytes w64 back
 

@@ -1,4 +1,4 @@
--- The syntax of signatures, as specified in docs/PROFILE.md, "Revision id text".
+-- Defines the syntax of signatures, as specified in docs/PROFILE.md, "Revision id text".
 use Rattle.std.specs.Prelude.{◌≡◌, ℕ, ◌-◌, ◌≤◌, Bool, true, ◌&&◌, ◌||◌, List, ◌++◌, length, take, replicate, ◌==◌, nat_le, Result, Ok, Err, if◌then◌else◌}
 use Rattle.std.specs.List.{list_all}
 use Rattle.rev_core.specs.declared.fault.RevFault.{RevFault}
@@ -14,11 +14,12 @@ is_sig_byte b =
 abbrev pub is_sig : List ℕ → Bool
 is_sig text = nat_le 1 (length text) && nat_le (length text) 64 && list_all is_sig_byte text
 
--- The result of parsing a signature.
+-- The result of parsing a string as a signature: the string itself, or the error `BadSig` if the string is not a
+-- signature.
 abbrev pub sig_read : List ℕ → Result (List ℕ) RevFault
 sig_read text = if is_sig text then Ok text else Err faults.BadSig
 
--- A string, to which zeros are appended up to a length of 64 bytes.
+-- The string with zero bytes appended up to a length of 64 bytes.
 abbrev pub padded : List ℕ → List ℕ
 padded text = text ++ replicate (64 - length text) 0
 

@@ -1,4 +1,4 @@
--- The string of a stored signature determines the stored array and the stored length.
+-- Lemma: the array and the length that store a signature are determined by the signature's string.
 use Rattle.std.specs.Prelude.{◌≡◌, take, length}
 use Rattle.std.proofs.Common.{arith, sym}
 use Rattle.std.proofs.lemmas.List.{length-take-le}

@@ -1,4 +1,4 @@
--- The syntax of revision ids, as specified in docs/PROFILE.md, "Revision id text".
+-- Defines the syntax of revision ids, as specified in docs/PROFILE.md, "Revision id text".
 use Rattle.std.specs.Prelude.{ℕ, ◌+◌, ◌-◌, ◌*◌, ◌^◌, Bool, ◌&&◌, List, ◌∷◌, ◌++◌, ◌==◌, nat_le, nat_lt, slice_index, take, drop, fold, Option, Some, None, Result, Ok, Err, if◌then◌else◌}
 use Rattle.std.specs.List.{list_all, position}
 use Rattle.std.specs.Fmt.{decimal}
@@ -10,7 +10,7 @@ use Rattle.rev_core.specs.declared.fault.RevFault.TheVariants as faults
 abbrev pub is_digit : ℕ → Bool
 is_digit c = nat_le 48 c && nat_le c 57
 
--- The number n with the decimal digit c appended.
+-- The number that results from appending the decimal digit c to the number n.
 abbrev pub with_digit : ℕ → ℕ → ℕ
 with_digit n c = n * 10 + (c - 48)
 
@@ -29,17 +29,18 @@ generation_read text = if is_generation text then Some (value_of text) else None
 abbrev pub is_dash : ℕ → Bool
 is_dash c = c == 45
 
--- The revision id with the parsed generation and the string after the `-`, or the error of the first invalid part.
+-- The revision id with the parsed generation and with the string after the `-` as its signature, or the error of the
+-- first invalid part.
 abbrev pub with_sig : Option ℕ → List ℕ → Result RevId RevFault
 with_sig None text = Err faults.BadGeneration
 with_sig (Some n) text = if is_sig text then Ok (record { generation = n; sig = text }) else Err faults.BadSig
 
--- The result of parsing a revision id that is split at index i.
+-- The result of parsing a string as a revision id, if the string is split at index i.
 abbrev pub cut_at : List ℕ → Option ℕ → Result RevId RevFault
 cut_at text None = Err faults.BadGeneration
 cut_at text (Some i) = with_sig (generation_read (take i text)) (drop (i + 1) text)
 
--- The result of parsing a revision id, which is split at its first `-`.
+-- The result of parsing a string as a revision id. The string is split at its first `-`.
 abbrev pub rev_read : List ℕ → Result RevId RevFault
 rev_read text = cut_at text (position is_dash text)
 

@@ -1,4 +1,5 @@
--- Parsing and formatting of revision ids are inverse to each other.
+-- Lemmas: parsing the formatted string of a revision id gives the revision id, and formatting a parsed revision id
+-- gives the parsed string.
 use Rattle.std.specs.Prelude.{◌≡◌, ℕ, ◌+◌, ◌<◌, ◌≤◌, ◌^◌, Bool, true, false, ◌&&◌, not, cond, nat_le, nat_lt, List, [], ◌∷◌, ◌++◌, length, take, drop, fold, Some, None, Ok, Err, refl}
 use Rattle.std.proofs.Common.{arith, ap, sym, ◌∙◌, rules, get_or}
 use Rattle.std.proofs.Math.Seq.{take-append_seam, drop-append-add}
@@ -44,7 +45,7 @@ generation_written n low high =
     ∙ ap (λ b. cond b (Some (value_of (decimal n))) None) fits
     ∙ ap Some value
 
--- Parsing the string of a revision gives the revision.
+-- Parsing the formatted string of a revision gives the revision.
 pub rev_read-text : (r : RevId) → IsRev r → rev_read (rev_text r) ≡ Ok r
 rev_read-text r h =
     let ds = decimal r.generation in

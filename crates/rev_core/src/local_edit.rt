@@ -1,4 +1,4 @@
-//! Revision ids of local edits.
+//! Computes the revision ids of local edits.
 ghost use Rattle.std.specs.Prelude.{◌≡◌, IfOk};
 ghost use Rattle.hex.specs.Hex.{encode_lower};
 ghost use Rattle.rev_core.specs.Rev.{IsRev};

@@ -1,4 +1,4 @@
-//! Signatures packed into two integers.
+//! Packs short signatures into two integers.
 ghost use Rattle.std.specs.Prelude.{◌≡◌, ◌<◌, ◌≤◌, ◌++◌, true, length, IfSome, is_some, nat_le};
 ghost use Rattle.std.specs.List.{list_all};
 ghost use Rattle.rev_core.specs.Sig.{is_sig};

@@ -1,4 +1,5 @@
--- Databases that are tied to each other for every selection, as specified in docs/PROFILE.md, "Tied databases".
+-- Defines when the databases of a script are tied to each other (consistent as source and target) for every selection,
+-- as specified in docs/PROFILE.md, "Tied databases".
 use Rattle.std.specs.Prelude.{◌≡◌, ℕ, List, Some}
 use Rattle.doc_json.specs.Chosen.{Choice}
 use Rattle.couch_base.specs.Lists.{Among}
@@ -16,11 +17,12 @@ use Rattle.script_databases.specs.Databases.{State, NamedBackupValue, IsTaken, p
 abbrev pub IsOther : State → ℕ → ℕ → Type 0
 IsOther s own uuid = IsTaken s uuid × (uuid ≡ own → ⊥)
 
--- Each log of the database with UUID `own` belongs to a replication into another database of the script.
+-- Each of the given logs of the database with UUID `own` belongs to a replication into another database of the script.
 abbrev pub LeadToOthers : State → ℕ → List (RepId × List EntryValue) → Type 0
 LeadToOthers s own logs = (l : RepId × List EntryValue) → Among l logs → IsOther s own l.0.target
 
--- Each session of the database with UUID `own` belongs to a replication from another database of the script.
+-- Each of the given sessions at the database with UUID `own` belongs to a replication from another database of the
+-- script.
 abbrev pub ComeFromOthers : State → ℕ → List SessionValue → Type 0
 ComeFromOthers s own sessions = (x : SessionValue) → Among x sessions → IsOther s own x.rep.source
 
@@ -33,7 +35,7 @@ pub record IsCopyOfOne (s : State) (k : NamedBackupValue) : Type 0 where
   pub logs : LeadToOthers s peer.db.uuid k.backup.outgoing
 
 -- No two databases have the same UUID. Each backup is a backup of the database with the name under which the backup is
--- stored. Each log and session belongs to a replication with another database.
+-- stored. Each log and each session of a database belongs to a replication with another database of the script.
 pub record IsKnown (s : State) : Type 0 where
   pub apart : (n m : List ℕ) (p q : PeerValue) → peer_at s n ≡ Some p → peer_at s m ≡ Some q → p.db.uuid ≡ q.db.uuid
       → n ≡ m
@@ -43,7 +45,7 @@ pub record IsKnown (s : State) : Type 0 where
 
 -- ---- tied databases
 
--- The peers of the list `backups` are backups of the database with name n.
+-- Each element of the list `backups` is a backup of the database with name n.
 abbrev pub AreCopiesOf : State → List ℕ → List BackupValue → Type 0
 AreCopiesOf s n backups =
     (b : BackupValue) → Among b backups → (k : NamedBackupValue) × Among k s.backups × (k.db ≡ n) × (k.backup ≡ b)

@@ -1,4 +1,5 @@
--- The databases of a script, as specified in docs/PROFILE.md, "Command lines".
+-- Defines the state of a script, and how lines change the script's databases and backups, as specified in
+-- docs/PROFILE.md, "Command lines".
 use Rattle.std.specs.Prelude.{◌≡◌, ℕ, Bool, ◌&&◌, List, [], ◌∷◌, ◌++◌, Option, Some, None, option_map, Result, Ok, Err, refl}
 use Rattle.std.specs.List.{find}
 use Rattle.std.specs.Str.{bytes_eq}
@@ -25,7 +26,7 @@ use Rattle.script_databases.specs.declared.databases.PutBack.{PutBack}
 use Rattle.script_databases.specs.declared.refusal.Refusal.{Refusal}
 use Rattle.script_databases.specs.declared.refusal.Refusal.TheVariants as why
 
--- The order of strings, byte by byte.
+-- The order of strings, which compares the strings byte by byte.
 abbrev pub text_cmp : List ℕ → List ℕ → Ordering
 text_cmp = slice_cmp nat_cmp
 
@@ -83,26 +84,27 @@ coded_state = code_by (Option (List ℕ) × (ℕ × (ℕ × (ℕ × (ℕ × (Boo
 abbrev pub no_databases : Program → State
 no_databases program = record { program = program; drawn = 0; backups = []; peers = finmap.empty }
 
--- The next id that the script generates in state s.
+-- The id that the script generates next, if the script has the state s.
 abbrev pub next_made : State → ℕ
 next_made s = made_id s.program.seed s.drawn
 
 abbrev pub drawn_one : State → State
 drawn_one s = record s { drawn = next_place s.drawn }
 
--- The peer with the given name, if there is one.
+-- The peer with the given name in state s, or `None` if no peer has this name.
 abbrev pub peer_at : State → List ℕ → Option PeerValue
 peer_at s name = finmap.get s.peers name
 
--- The state after peer p is stored under a name.
+-- The state that results if peer p is stored under the given name in state s.
 abbrev pub with_peer : State → List ℕ → PeerValue → State
 with_peer s name p = record s { peers = finmap.insert s.peers name p }
 
--- A database of state s has the UUID `uuid`.
+-- The UUID `uuid` belongs to a database of state s.
 abbrev pub IsTaken : State → ℕ → Type 0
 IsTaken s uuid = (name : List ℕ) × (p : PeerValue) × (peer_at s name ≡ Some p) × (p.db.uuid ≡ uuid)
 
--- The state after function f is applied to the peer with a name, or the unchanged state if no peer has this name.
+-- The state that results if function f is applied to the peer with the given name, or the unchanged state if no peer
+-- has this name.
 abbrev pub with_changed : State → List ℕ → (PeerValue → PeerValue) → Option PeerValue → State
 with_changed s name f None = s
 with_changed s name f (Some p) = with_peer s name (f p)
@@ -139,19 +141,19 @@ edited_at s name id parent deleted body = changed_at s name (λ l. after_edit l 
 abbrev pub is_named : List ℕ → List ℕ → NamedBackupValue → Bool
 is_named db name k = bytes_eq k.db db && bytes_eq k.name name
 
--- The backup of database `db` with the given name, if there is one.
+-- The backup of database `db` with the given name, or `None` if no such backup exists.
 abbrev pub backup_among : List NamedBackupValue → List ℕ → List ℕ → Option BackupValue
 backup_among backups db name = option_map (λ k. k.backup) (find (is_named db name) backups)
 
 abbrev pub backup_at : State → List ℕ → List ℕ → Option BackupValue
 backup_at s db name = backup_among s.backups db name
 
--- The state with one more backup, at the end of the list.
+-- The state s with one more backup at the end of the list of backups.
 abbrev pub with_backup : State → List ℕ → List ℕ → BackupValue → State
 with_backup s db name b = record s { backups = s.backups ++ record { db = db; name = name; backup = b } ∷ [] }
 
--- The new backup of a database, or the error. To make a backup, the database must exist, and the backup's name must be
--- unused.
+-- The new backup of a database, or the error that prevents the backup. To make a backup, the database must exist, and
+-- the backup's name must be unused.
 abbrev pub backed_of : Option PeerValue → Option BackupValue → Result BackupValue Refusal
 backed_of None o = Err why.NoDatabase
 backed_of (Some p) (Some b) = Err why.BackupExists

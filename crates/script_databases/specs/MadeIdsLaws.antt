@@ -1,4 +1,4 @@
--- Generated ids come from one stream, in order.
+-- Lemmas: generated ids are taken in order from one random stream.
 use Rattle.std.proofs.Common.{◌≡◌, ℕ, ◌+◌, ◌*◌, ◌%◌, ◌^◌, ap, arith}
 use Rattle.rand_core.specs.Steps.{stream_of, word_bytes}
 use Rattle.rand_core.specs.Stream.{fill_bytes}

@@ -1,5 +1,5 @@
--- The errors with which a line of a script may fail, as specified in docs/PROFILE.md, "Order of checks", "Names of
--- refusals" and "Answers".
+-- Defines the errors with which a line of a script may fail, as specified in docs/PROFILE.md, "Order of checks", "Names
+-- of refusals" and "Answers".
 use Rattle.std.specs.Prelude.{◌≡◌, ◌⊎◌, ℕ, List, Result, Ok, Err, codes}
 use Rattle.rev_core.specs.declared.fault.RevFault.{RevFault}
 use Rattle.rev_core.specs.declared.fault.RevFault.TheVariants as rev
@@ -16,7 +16,7 @@ use Rattle.repl_peer.specs.declared.fault.TargetFault.TheVariants as target
 use Rattle.script_databases.specs.declared.refusal.Refusal.{Refusal}
 use Rattle.script_databases.specs.declared.refusal.Refusal.TheVariants as why
 
--- A result is the expected result, or the error `Memory`.
+-- The result of a call is the expected result, or the error `Memory`.
 abbrev pub GivesOrMemory : {A : Type 0} → Result A Refusal → Result A Refusal → Type 0
 GivesOrMemory (Ok x) expected = expected ≡ Ok x
 GivesOrMemory (Err e) expected = (expected ≡ Err e) ⊎ (e ≡ why.Memory)
@@ -64,7 +64,7 @@ log_refusal (log.Older stored) = why.Older
 log_refusal log.EmptyLog = why.EmptyLog
 log_refusal log.Memory = why.Memory
 
--- The error of a line whose call of a peer failed.
+-- The error with which a line fails if a call on a peer returned the given error.
 abbrev pub target_refusal : TargetFault → Refusal
 target_refusal target.SessionExists = why.SessionExists
 target_refusal target.NoSuchBase = why.NoSuchBase
@@ -88,13 +88,14 @@ target_refusal target.BadBatch = why.BadBatch
 target_refusal target.SamePeer = why.SamePeer
 target_refusal target.Memory = why.Memory
 
--- The low water of a replication's error `Unfinished`, or, for every other error of a replication, the error of the
--- line.
+-- The low water of the error `Unfinished`, if a replication returned this error. For every other error of a
+-- replication, the error with which the line fails.
 abbrev pub stop_of : TargetFault → Result ℕ Refusal
 stop_of (target.Unfinished low_water) = Ok low_water
 stop_of fault = Err (target_refusal fault)
 
--- The low water of a pool run's error `Unfinished`, or, for every other error of a pool run, the error of the line.
+-- The low water of the error `Unfinished`, if a pool run returned this error. For every other error of a pool run, the
+-- error with which the line fails.
 abbrev pub run_stop_of : PoolFault → Result ℕ Refusal
 run_stop_of pool.NoWorkers = Err why.NoWorkers
 run_stop_of pool.TooManyWorkers = Err why.TooManyWorkers
@@ -107,7 +108,7 @@ run_stop_of pool.CountFull = Err why.CountFull
 run_stop_of pool.BoardFull = Err why.BoardFull
 run_stop_of pool.Memory = Err why.Memory
 
--- A result in which function `name` has converted an error, if there is one, to the error of a line.
+-- The given result, but if the result is an error, function `name` has converted the error to an error of a line.
 abbrev pub told_as : {A E : Type 0} → (E → Refusal) → Result A E → Result A Refusal
 told_as name (Ok x) = Ok x
 told_as name (Err fault) = Err (name fault)

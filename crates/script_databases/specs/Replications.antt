@@ -1,4 +1,5 @@
--- Replications between two databases of a script, as specified in docs/PROFILE.md, "Command lines".
+-- Defines what replications between two databases of a script guarantee, as specified in docs/PROFILE.md, "Command
+-- lines".
 use Rattle.std.specs.Prelude.{◌≡◌, ◌⊎◌, ℕ, Bool, false, nat_eq, List, Option, Some, Result, Ok, Err, IfOk, IfErr, OnOk, ◌≤◌}
 use Rattle.std.specs.List.{starts_with}
 use Rattle.std.specs.Option.{option_map_or}
@@ -26,20 +27,20 @@ use Rattle.script_databases.specs.declared.watched.Watched.{Watched}
 abbrev pub deny_refuses : Option (List ℕ) → Document → Bool
 deny_refuses deny d = option_map_or (λ prefix. starts_with nat_eq d.id prefix) deny false
 
--- The state after a source and a target are stored under their names.
+-- The state that results if peer s is stored under the source's name and peer t under the target's name.
 abbrev pub with_both : State → List ℕ → List ℕ → PeerValue → PeerValue → State
 with_both old source target s t = with_peer (with_peer old source s) target t
 
 -- ---- by one thread
 
--- The guarantees of a replication by one thread, as specified in docs/PROFILE.md, "Replication by one thread" and "Tied
+-- What a replication by one thread guarantees, as specified in docs/PROFILE.md, "Replication by one thread" and "Tied
 -- peers".
 --
--- At the source, a replication by one thread changes only the log. At the target, the state after the replication is
--- later than the state before (`IsLaterPeer`). For every selection and all backups of the source, peers that were tied
--- before a replication are tied after the replication. If a replication succeeded, the report is the report of its
--- session. If a replication succeeded and the two peers were tied before, the target covers the source's selected feed.
--- If a replication between tied peers failed, the error is one that `IsExpected` lists.
+-- At the source, a replication by one thread changes only the source's logs. At the target, the state after the
+-- replication is later than the state before (`IsLaterPeer`). For every selection and all backups of the source, peers
+-- that were tied before a replication are tied after the replication. If a replication succeeded, the report is the
+-- report of its session. If a replication succeeded and the two peers were tied before, the target covers the source's
+-- selected feed. If a replication between tied peers failed, the error is one that `IsExpected` lists.
 pub record KeepsTied (s t : PeerValue) (plan : Plan) (result : Result Report TargetFault) (s' t' : PeerValue) : Type 0
   where
     pub log : s' ≡ record s { outgoing = s'.outgoing }
@@ -50,8 +51,8 @@ pub record KeepsTied (s t : PeerValue) (plan : Plan) (result : Result Report Tar
     pub whole : OnOk result (IsTiedPair s t plan.chosen → CoversFeed s t' plan.chosen s.db.update_seq)
     pub expected : IfErr result (λ why. IsTiedPair s t plan.chosen → IsExpected s t plan why)
 
--- The results that a replication by one thread may have, including errors, and the state after the replication. If
--- source and target are the same database, every plan is rejected.
+-- The results that a replication by one thread may have, including errors, and the script's state after the
+-- replication. If source and target are the same database, every plan is rejected.
 abbrev pub ReplicatesAlone : State → List ℕ → List ℕ → PeerValue → PeerValue → Plan → Result Report TargetFault → State
     → Type 0
 ReplicatesAlone old source target s t plan result new =
@@ -60,11 +61,12 @@ ReplicatesAlone old source target s t plan result new =
 
 -- ---- by the pool
 
--- Whether the gate may stop a worker at a place of a run, which is false for every place.
+-- The gate may stop a worker at the given place (a point at which a worker calls the gate). This is false for every
+-- place.
 abbrev pub Nowhere : Place → Type 0
 Nowhere place = ⊥
 
--- The results that a pool run may have, including errors, and the state after the run.
+-- The results that a pool run may have, including errors, and the script's state after the run.
 abbrev pub ReplicatesByPool : State → List ℕ → List ℕ → PeerValue → PeerValue → Plan → Result Report PoolFault → State
     → Type 0
 ReplicatesByPool old source target s t plan result new =
@@ -75,13 +77,14 @@ ReplicatesByPool old source target s t plan result new =
 
 -- ---- with a progress board
 
--- The result of a run with a progress board, without the board's counts.
+-- The result of a pool run with a progress board, but without the board's counts.
 abbrev pub unwatched : Result Watched PoolFault → Result Report PoolFault
 unwatched (Ok watched) = Ok watched.report
 unwatched (Err why) = Err why
 
--- The results that a run with a progress board may have. The board's settled count is at most its read count. If the
--- board for a valid plan could not be allocated, the result is `Memory` and the state is unchanged.
+-- The results that a pool run with a progress board may have, and the script's state after the run. If the run
+-- succeeds, the settled count in the result is at most the read count. If the plan is valid but the board could not be
+-- allocated, the result is `Memory`, and the script's state is unchanged.
 abbrev pub ReplicatesWatched : State → List ℕ → List ℕ → PeerValue → PeerValue → Plan → Result Watched PoolFault
     → State → Type 0
 ReplicatesWatched old source target s t plan result new =

@@ -1,4 +1,4 @@
--- The values that contracts use for the stored databases of a script.
+-- Defines the values by which contracts describe the stored databases of a script.
 use Rattle.std.specs.Prelude.{◌≡◌, ℕ, true, List, map, nat_eq, Option, Some, option_map, String, string_bytes}
 use Rattle.std.specs.declared.alloc.Global.{Global}
 use Rattle.std.specs.FinMap as finmap
@@ -11,7 +11,7 @@ use Rattle.script_databases.specs.Databases.{Program, State, NamedBackupValue, I
 use Rattle.script_databases.specs.declared.backups.BackupName.{BackupName}
 use Rattle.script_databases.specs.declared.settings.Settings.{Settings}
 
--- The map from the name of each entry of a table, as bytes, to the value of the entry.
+-- The map from each entry's name, as bytes, to the value that `value` gives for the entry.
 abbrev pub by_text : {X V : Type 0} → (X → V) → List (String Global × X) → FinMap text_cmp V
 by_text value entries = finmap.from_entries (map (λ e. (string_bytes e.0, value e.1)) entries)
 
@@ -23,7 +23,7 @@ Entries = List (String Global × (Rules × PeerValue))
 abbrev pub peers_of : Entries → FinMap text_cmp PeerValue
 peers_of entries = by_text (λ p. p.1) entries
 
--- The part of a script's state other than the peers.
+-- All parts of a script's state except the peers.
 pub record Beside : Type 0 where
   pub program : Program
   pub drawn : ℕ
@@ -33,28 +33,28 @@ abbrev pub state_of : Beside → Entries → State
 state_of beside entries =
     record { program = beside.program; drawn = beside.drawn; backups = beside.backups; peers = peers_of entries }
 
--- The id prefix that a filter refuses, if the filter has a prefix.
+-- The id prefix that a filter refuses, or `None` if the filter has no prefix.
 abbrev pub deny_of : Rules → Option (List ℕ)
 deny_of rules = option_map string_bytes rules.deny
 
--- The map from the name of each peer of a table to the id prefix that the peer refuses, if any.
+-- The map from each peer's name to the id prefix that the peer refuses, or to `None` if there is no such prefix.
 abbrev pub denied_of : Entries → FinMap text_cmp (Option (List ℕ))
 denied_of entries = by_text (λ p. deny_of p.0) entries
 
--- All peers of a table refuse the same id prefix.
+-- All peers of a table refuse the id prefix `deny`, or no prefix if `deny` is `None`.
 abbrev pub AllDeny : Option (List ℕ) → Entries → Type 0
 AllDeny deny entries =
     (name : List ℕ) (denied : Option (List ℕ)) → finmap.get (denied_of entries) name ≡ Some denied → denied ≡ deny
 
--- The table `new` differs from the table `old` at most in the peers of the names `source` and `target`, and in their
--- filters.
+-- The table `new` differs from the table `old` at most in the peers with the names `source` and `target`, and in the
+-- filters of these peers.
 abbrev pub IsEmptied : Entries → List ℕ → List ℕ → Entries → Type 0
 IsEmptied old source target new =
     (p : Rules × PeerValue) × (q : Rules × PeerValue)
     × (peers_of new ≡ finmap.insert (finmap.insert (peers_of old) source p.1) target q.1)
     × (denied_of new ≡ finmap.insert (finmap.insert (denied_of old) source (deny_of p.0)) target (deny_of q.0))
 
--- The value that contracts use for the program's settings.
+-- The value by which contracts describe the program's settings.
 abbrev pub program_of : Settings → Program
 program_of s =
     record {

@@ -30,7 +30,7 @@ pub struct Edited {
     pub seq: u64,
 }
 
-/// The update sequence and the life of a restored database.
+/// The update sequence and the life (a number that changes with a restore) of a restored database.
 #[derive(Clone, Copy, Debug, PartialEq, Eq)]
 pub struct PutBack {
     pub seq: u64,

@@ -19,7 +19,7 @@ pub struct MadeIds {
 }
 
 impl MadeIds {
-    /// Starts the stream of random numbers of a seed.
+    /// Starts the stream of random numbers that a seed determines.
     pub fn new(seed: u64) -> MadeIds
         ensures { result ≡ record { seed = seed; drawn = 0 } }
     {
@@ -40,7 +40,7 @@ impl MadeIds {
     }
 }
 
-/// Returns the random generator of a seed at its start.
+/// Returns the random generator that a seed determines, at the beginning of its stream.
 fn rng_of(seed: u64) -> ChaCha8Rng
     ensures { result ≡ of_number seed }
 {

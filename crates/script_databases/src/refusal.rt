@@ -72,7 +72,7 @@ pub enum Refusal {
     Hole,
     /// The database has been a replication target.
     IsTarget,
-    /// The database has no unused life.
+    /// The database has no unused life (the number that changes when a database is restored).
     LifeFull,
     /// An allocation failed.
     Memory,
@@ -206,8 +206,8 @@ impl Refusal {
         }
     }
 
-    /// Returns `Ok` with the low water if a replication failed with `Unfinished`, otherwise `Err` with the error of the
-    /// line.
+    /// Returns `Ok` with the low water if a replication failed with `Unfinished`, otherwise `Err` with the error with
+    /// which the line fails.
     pub fn stop_of(fault: TargetFault) -> Result<u64, Refusal>
         ensures { result ≡ stop_of fault }
     {
@@ -217,8 +217,8 @@ impl Refusal {
         }
     }
 
-    /// Returns `Ok` with the low water if a pool run failed with `Unfinished`, otherwise `Err` with the error of the
-    /// line.
+    /// Returns `Ok` with the low water if a pool run failed with `Unfinished`, otherwise `Err` with the error with
+    /// which the line fails.
     pub fn run_stop_of(fault: PoolFault) -> Result<u64, Refusal>
         ensures { result ≡ run_stop_of fault }
     {
@@ -253,7 +253,7 @@ impl<T: Drop> From<AllocFailed<T>> for Refusal {
     }
 }
 
-/// Returns the error of a line whose document, body or id is invalid.
+/// Returns the error with which a line fails if the line's document, body or id is invalid.
 impl From<DocFault> for Refusal {
     ghost from_gives = { λ fault e. e ≡ doc_refusal fault };
 
@@ -275,7 +275,7 @@ impl From<DocFault> for Refusal {
     }
 }
 
-/// Returns the error of a line whose revision id is invalid.
+/// Returns the error with which a line fails if the line's revision id is invalid.
 ///
 /// The errors `NoIds` and `StartTooSmall` do not occur for the text of a revision id.
 impl From<RevFault> for Refusal {
@@ -293,7 +293,7 @@ impl From<RevFault> for Refusal {
     }
 }
 
-/// Returns the error of a line whose database call failed.
+/// Returns the error with which a line fails if a call on a database failed.
 impl From<BaseFault> for Refusal {
     ghost from_gives = { λ fault e. e ≡ base_refusal fault };
 
@@ -314,7 +314,7 @@ impl From<BaseFault> for Refusal {
     }
 }
 
-/// Returns the error of a line whose log or timestamp is invalid.
+/// Returns the error with which a line fails if a call on a log failed or a timestamp is invalid.
 impl From<LogFault> for Refusal {
     ghost from_gives = { λ fault e. e ≡ log_refusal fault };
 
@@ -328,7 +328,7 @@ impl From<LogFault> for Refusal {
     }
 }
 
-/// Returns the error of a line whose call of a peer failed.
+/// Returns the error with which a line fails if a call on a peer failed.
 impl From<TargetFault> for Refusal {
     ghost from_gives = { λ fault e. e ≡ target_refusal fault };
 

@@ -1,4 +1,4 @@
-//! Pool runs that are watched on a progress board.
+//! Pool runs with a progress board.
 ghost use Rattle.std.specs.Prelude.{◌≡◌, ◌≤◌, true, IfErr, IfOk, vec_len};
 ghost use Rattle.std.specs.List.{All};
 ghost use Rattle.progress_board.specs.Seats.{CameWith, are_seats};
@@ -11,7 +11,7 @@ use repl_pool::{PoolFault, Seats, board_with_seats};
 use repl_target::Report;
 use std::alloc::Global;
 
-/// A run that reached its goal, with the totals of its board after the end of the run.
+/// The result of a run that reached its goal, with the board's totals after the end of the run.
 #[derive(Clone, Copy, Debug, PartialEq, Eq)]
 pub struct Watched {
     /// The number of documents that all workers settled.

@@ -1,5 +1,6 @@
-//! Test rows for backups. In these tests, a source is restored from a backup, and calls get windows and log entries
-//! from other lives of the source. The expected results hold if no allocation fails.
+//! Test rows for backups. In these tests, a source is restored from a backup, which changes the source's life (a
+//! number). Calls then get windows and log entries from other lives of the source. The expected results hold if no
+//! allocation fails.
 use crate::tests::peers::{Call, Lists, Rep, Rows, expect};
 use rev_tree::SessionId;
 
@@ -83,8 +84,8 @@ const AHEAD: Rows = &[
     ),
 ];
 
-/// Calls that restore the source from the first backup. The source then has the documents, the local writes and the log
-/// of the backup. The new document e gets the sequence that the document d4 had before the restore.
+/// Calls that restore the source from the first backup. The restored source has the documents, the local writes and the
+/// log that the backup has. The new document e gets the sequence that the document d4 had before the restore.
 const PUT_BACK: Rows = &[
     (Call::Restore(SOURCE, FIRST), "restored"),
     (Call::Life(SOURCE), "1"),
@@ -109,12 +110,13 @@ fn other_life_refused(rt: HostRuntime) {
             Call::PutEntryOf(SOURCE, REP, TARGET, S2),
             "OtherLife { now: 1 }",
         ),
-        // The given entry is older than the stored entry, but `PutEntry` reports the other life first.
+        // The given entry is older than the stored entry, but `PutEntry` first reports that the entry is from another
+        // life.
         (Call::PutEntry(SOURCE, REP, S1, 1), "OtherLife { now: 1 }"),
         (Call::SourceLog(SOURCE, REP), "1 at 3;"),
         (Call::Page(SOURCE, 3, 4), "3 to 4: 4 e 1-a;"),
-        // The window begins below 6, the end of the second session's windows, but `Append` reports the other life
-        // first. The third session does not exist yet.
+        // The window begins below 6, the end of the second session's windows, but `Append` first reports that the
+        // window is from another life. The third session does not exist yet.
         (Call::Append(TARGET, S2, SECOND), "OtherLife { now: 0 }"),
         (Call::Append(TARGET, S3, SECOND), "NoSuchSession"),
         (
@@ -125,7 +127,8 @@ fn other_life_refused(rt: HostRuntime) {
         (Call::SourceLog(SOURCE, REP), "3 at 4;1 at 3;"),
         (Call::Audit(SOURCE, TARGET), "clean"),
         (Call::Tree(TARGET, "d4"), "1-a of 1"),
-        // The source accepts the third session's entry, because this session has the source's new life.
+        // The source accepts the third session's entry, because the life in the session's entry is the source's new
+        // life.
         (Call::PutEntryOf(SOURCE, REP, TARGET, S3), "put"),
     ];
     static LISTS: Lists = &[COPIED, AHEAD, PUT_BACK, ROWS];

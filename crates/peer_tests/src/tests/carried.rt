@@ -40,7 +40,7 @@ fn at(alloc: Global, db: &Database, id: &DocId, rev: Rev) -> Option<String> {
 }
 
 /// Returns the texts of those leaves of a document that are in a session's ledger, in the ledger's order, each with the
-/// reason.
+/// ledger's reason.
 pub(crate) fn refused(
     alloc: Global,
     peer: &Peer<Rules>,
@@ -64,7 +64,7 @@ fn refused_of(alloc: Global, rows: &[Refused], id: &str) -> Option<String> {
     all
 }
 
-/// Returns the text of a ledger row: the fetched document, and the reason.
+/// Returns the text of a ledger row: the fetched document, and the row's reason.
 fn refused_text(alloc: Global, row: &Refused) -> Option<String> {
     joined(doc_text(alloc, row.doc()), shown(alloc, &row.reason()))
 }

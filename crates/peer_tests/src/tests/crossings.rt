@@ -14,7 +14,7 @@ const DOCUMENT: &str = r#"{"_id":"d","_revisions":{"start":2,"ids":["b","a"]},"v
 
 const LATER: &str = r#"{"_id":"d","_revisions":{"start":3,"ids":["c","b","a"]},"v":2}"#;
 
-/// Returns the parcel that a database with one document returns for the request of an empty database.
+/// Returns a parcel (fetched documents): the reply of a database with one document to the request of an empty database.
 fn parcel(alloc: Global) -> Option<Parcel> {
     let mut source = Database::new(alloc, 1);
     let Some(document) = doc(alloc, DOCUMENT) else {

@@ -94,10 +94,11 @@ fn a_changed_document_moves_in_the_feed(rt: HostRuntime) {
 #[test]
 fn puts_as_given(rt: HostRuntime) {
     const GROWN: &str = r#"{"_id":"d","_revisions":{"start":3,"ids":["c","b"]}}"#;
-    // Storing `LONGER` adds a missing ancestor, and storing `ANCESTOR` adds the first content of 2-b. Both are changes.
+    // Storing the document `LONGER` adds a missing ancestor, and storing the document `ANCESTOR` adds the first content
+    // of 2-b. Both are changes.
     const LONGER: &str = r#"{"_id":"d","_revisions":{"start":3,"ids":["c","b","a"]}}"#;
     const ANCESTOR: &str = r#"{"_id":"d","_rev":"2-b","n":1}"#;
-    // Storing `AGAIN` changes nothing, because a revision keeps its first content.
+    // Storing the document `AGAIN` changes nothing, because a revision keeps its first content.
     const AGAIN: &str = r#"{"_id":"d","_rev":"2-b","n":2}"#;
     const OTHER: &str = r#"{"_id":"d","_revisions":{"start":4,"ids":["d","c","x"]}}"#;
     static ROWS: Rows = &[
@@ -343,8 +344,8 @@ fn pages_of_few_documents_with_high_sequences(rt: HostRuntime) {
 fn copies_of_a_database(rt: HostRuntime) {
     /// The greatest life.
     const LAST: u64 = 9_007_199_254_740_991;
-    // The indices of three copies: a copy of the first database in the same life, a copy in another life, and a copy of
-    // the second copy.
+    // The indices of three copies: a copy of the first database with the same life, a copy with another life, and a
+    // copy of the second copy. A life is a number that changes when a database is restored.
     const SAME: usize = 1;
     const OTHER: usize = 2;
     const LATEST: usize = 3;

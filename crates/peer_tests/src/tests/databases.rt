@@ -28,7 +28,7 @@ pub(crate) enum Call<'a> {
     Numbers(usize),
     /// Read the life.
     Life(usize),
-    /// Read the life of a window.
+    /// Read the life (of the source database) that a window has.
     WindowLife(usize),
     /// Read the tree of a document.
     Tree(usize, &'a str),
@@ -49,7 +49,7 @@ pub(crate) enum Call<'a> {
 /// The calls of a test, each with the expected result.
 pub(crate) type Rows = &'static [(Call<'static>, &'static str)];
 
-/// The windows, requests and parcels that were read and fetched.
+/// The windows, requests and parcels that the calls of a test returned.
 #[derive(Drop)]
 pub(crate) struct Held {
     pub(crate) windows: Vec<Window>,
@@ -121,7 +121,7 @@ impl Bench {
     }
 }
 
-/// Reads the life of a window.
+/// Reads the life (of the source database) that a window has.
 fn window_life(alloc: Global, windows: &[Window], at: usize) -> Option<String> {
     match windows.get(at) {
         Some(window) => shown(alloc, &window.life()),
@@ -129,7 +129,7 @@ fn window_life(alloc: Global, windows: &[Window], at: usize) -> Option<String> {
     }
 }
 
-/// Returns the index of the database of a call.
+/// Returns the index of the database that a call uses.
 fn place_of(call: &Call) -> Option<usize> {
     match *call {
         Call::Put(at, _)
@@ -202,7 +202,7 @@ fn copy(
     made_text(alloc, databases.push(copy).ok())
 }
 
-/// Copies a database in a given life, or in the same life if no life is given.
+/// Copies a database. The copy has the given life, or the database's life if no life is given.
 fn copied(alloc: Global, db: &Database, life: Option<u64>) -> Option<Database> {
     match life {
         Some(life) if life <= LAST_LIFE => db.copy_in(alloc, life).ok(),
@@ -226,7 +226,7 @@ fn page(
     }
 }
 
-/// Requests those leaves of a window that a database lacks.
+/// Computes a database's request for the leaves of a window that the database lacks, and stores the request.
 fn diff(alloc: Global, db: &Database, held: &mut Held, window: usize) -> Option<String> {
     let Some(window) = held.windows.get(window) else {
         return None;
@@ -239,7 +239,7 @@ fn missed(alloc: Global, db: &Database, window: &Window) -> Option<Asked> {
     db.revs_diff(alloc, window).ok()
 }
 
-/// Fetches the documents for a request.
+/// Fetches the documents for a request from a database, and stores the parcel.
 fn fetch(alloc: Global, db: &Database, held: &mut Held, asked: usize) -> Option<String> {
     let Some(asked) = held.asked.get(asked) else {
         return None;

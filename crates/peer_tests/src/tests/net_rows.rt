@@ -60,7 +60,7 @@ fn a_hub_spreads_what_anybody_writes(rt: HostRuntime) {
         (Call::Audit(0, 3), "clean"),
         (Call::Audit(3, 0), "clean"),
         (Call::Audit(1, 2), "clean"),
-        // A peer that is added after a replication gets the documents by a later hop.
+        // A peer that is added after a replication gets the documents by a later hop (a replication between two peers).
         (Call::Add(5, None), "4"),
         (Call::Along(&[(2, 4)]), "done"),
         (Call::Tree(4, "d"), "1-b,1-a of 2"),
@@ -76,7 +76,7 @@ fn a_broken_chain_brings_nothing_to_its_end(rt: HostRuntime) {
             Call::Load(0, r#"{"_id":"d","_rev":"1-a"}"#),
             "Changed { seq: 1 }",
         ),
-        // This list has both hops of the chain from peer 0 to peer 2 in reverse order.
+        // This list has both hops (replications) of the chain from peer 0 to peer 2, but in reverse order.
         (Call::Along(&[(1, 2), (0, 1), (3, 2)]), "done"),
         (Call::Tree(1, "d"), "1-a of 1"),
         (Call::Tree(2, "d"), "no document"),
@@ -205,7 +205,8 @@ fn hops_that_are_refused(rt: HostRuntime) {
             Call::Load(0, r#"{"_id":"d","_rev":"1-a"}"#),
             "Changed { seq: 1 }",
         ),
-        // The hops before the failed hop keep their effects, and the hops after the failed hop are not made.
+        // The changes that the hops before the failed hop made are kept, and the hops after the failed hop are not
+        // made.
         (Call::Along(&[(0, 1), (1, 1), (1, 2)]), "hop 1: SamePeer"),
         (Call::Tree(1, "d"), "1-a of 1"),
         (Call::Tree(2, "d"), "no document"),

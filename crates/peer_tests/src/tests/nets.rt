@@ -152,7 +152,7 @@ impl Bench {
         Some(plans)
     }
 
-    /// Replicates along hops.
+    /// Replicates along hops, which are given as pairs of a source and a target.
     fn along(&mut self, places: &[Places], stop_after: Option<u64>) -> Option<String> {
         let mut hops = Vec::new(self.alloc);
         for (from, to) in places {

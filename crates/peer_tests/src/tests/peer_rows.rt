@@ -322,8 +322,8 @@ fn a_session_from_beginning_to_end(rt: HostRuntime) {
             Call::Entry(TARGET, S1),
             "session 1 from 0 to 3 checked 3 found 3 read 3 written 1 failed 2, 10 to 20",
         ),
-        // The origin of an arrival is the session and the row's sequence. The origin of a local write is the number of
-        // the write.
+        // The origin of an arrival (a document that a session merged) consists of the session and of the sequence of
+        // the document's row. The origin of a local write is the number of the write.
         (
             Call::Node(TARGET, "x1", "1-a"),
             "no parent, Feed(SessionId(1), 1), live {}",
@@ -482,7 +482,7 @@ fn a_session_that_is_not_there_is_refused(rt: HostRuntime) {
         (Call::Record(TARGET, S1, 10), "NoSuchSession"),
         (Call::Conclude(TARGET, S1, 10), "NoSuchSession"),
         (Call::Entry(TARGET, S1), "NoSuchSession"),
-        // The goal of this session is below the end of the window.
+        // The session's goal (the sequence at which the session ends) is below the window's end.
         (
             Call::Begin(TARGET, S1, Beginning { goal: 0, ..TO_ONE }, 10),
             "begun",
@@ -502,7 +502,7 @@ fn a_foreign_document_is_refused(rt: HostRuntime) {
     const E: &str = r#"{"_id":"e","_rev":"1-a"}"#;
     const ROWS: Rows = &[
         // The session's window and the window of the peer `OTHER` have the same bounds, but the session's window has no
-        // row of the document e.
+        // row for the document e.
         (Call::Load(OTHER, E), "Changed { seq: 1 }"),
         (Call::Page(OTHER, 0, 1), "0 to 1: 1 e 1-a;"),
         (Call::Diff(TARGET, SECOND), "0 to 1: e 1-a;"),

@@ -375,7 +375,7 @@ fn page(
     }
 }
 
-/// Requests those leaves of a window that a peer lacks.
+/// Computes a peer's request for the leaves of a window that the peer lacks, and stores the request.
 fn diff(alloc: Global, peer: &Peer<Rules>, held: &mut Held, window: usize) -> Option<String> {
     let Some(window) = held.windows.get(window) else {
         return None;
@@ -388,7 +388,7 @@ fn missed(alloc: Global, peer: &Peer<Rules>, window: &Window) -> Option<Asked> {
     peer.revs_diff(alloc, window).ok()
 }
 
-/// Fetches the documents for a request.
+/// Fetches the documents for a request from a peer, and stores the parcel.
 fn fetch(alloc: Global, peer: &Peer<Rules>, held: &mut Held, asked: usize) -> Option<String> {
     let Some(asked) = held.asked.get(asked) else {
         return None;

@@ -1,4 +1,4 @@
-//! Calls, on the peers of a bench, for the steps that are common to all implementations of a replication.
+//! Calls on the peers of a bench. The calls perform the steps that all implementations of a replication have in common.
 use crate::tests::records::fault_text;
 use repl_log::Moment;
 use repl_target::{Peer, Plan, Rules, begin_plan, check_plan, record_at_source};

@@ -1,4 +1,4 @@
-//! Tests of pool runs in which a gate stops or blocks a worker.
+//! Tests of pool runs in which a gate, which the workers call at each stage of a window, stops or blocks a worker.
 use crate::tests::peers::Rep;
 use crate::tests::pool_rows::{CARRIED, DOCUMENTS, OPEN_PEERS};
 use crate::tests::pools::{Bench, Call, How, Rows};
@@ -62,8 +62,8 @@ fn hold(told: &AtomicBool, ran_out: &AtomicBool) {
     ran_out.store(true, Ordering::SeqCst);
 }
 
-/// A gate that blocks the first window's fetcher until the second window is recorded. The gate also stores both
-/// recorded sequences.
+/// A gate that blocks the first window's fetcher until the second window is recorded. The gate also stores the sequence
+/// that is recorded with the second window, and the sequence that is recorded with the first window.
 #[derive(Drop)]
 struct HoldsFetched {
     second: AtomicBool,
@@ -101,8 +101,8 @@ impl Gate for HoldsFetched {
     }
 }
 
-/// A gate that stops the run once, at a given stage of a given window. The stages of a window are took, asked, fetched,
-/// settled and recorded, numbered from 0.
+/// A gate that stops a run once, when a worker comes to a given stage of a given window. The stages of a window are
+/// took, asked, fetched, settled and recorded, numbered from 0.
 #[derive(Drop)]
 struct StopsOnce {
     kind: u64,
@@ -125,7 +125,7 @@ impl StopsOnce {
     }
 }
 
-/// Returns the number of the stage that a place names, and the window of the place.
+/// Returns the number of the stage and the number of the window at which a worker calls the gate (the place).
 pub(crate) fn kind_of(place: Place) -> (u64, u64) {
     match place {
         Place::Took(window) => (0, window),
@@ -155,7 +155,7 @@ impl Gate for StopsOnce {
 }
 
 /// A gate that counts how often the workers of a run record the session. The windows of the run must have one row each.
-/// The gate also notes whether a worker recorded a low water other than the end of the worker's window.
+/// The gate also stores whether a worker recorded a low water that was not the end of the worker's window.
 #[derive(Drop)]
 struct CountsRecordings {
     count: AtomicU64,
@@ -230,7 +230,7 @@ fn fetched_is_counted_where_a_run_stops(rt: HostRuntime) {
     }
 }
 
-/// The beginnings of the results of runs that stop at the stages 0 to 4, in this order.
+/// For each of the stages 0 to 4, in order, the text with which the result of a run that stops at this stage begins.
 static STOPPED: [&str; 5] = [
     "Halted(Took(",
     "Halted(Asked(",

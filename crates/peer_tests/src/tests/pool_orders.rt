@@ -26,8 +26,8 @@ const fn in_windows_of(batch: u64) -> How {
     }
 }
 
-/// A gate that counts, for each window, how often workers call the gate. The gate also counts the calls that are out of
-/// order.
+/// A gate that counts, for each window, how often workers call the gate. The gate also counts the calls that workers
+/// make out of order.
 #[derive(Drop)]
 struct Counts {
     places: Vec<AtomicU64>,
@@ -125,7 +125,8 @@ fn each_place_once_and_in_order(rt: HostRuntime) {
 /// A stage of a window: the number of the stage, from 0, and the number of the window.
 type Spot = (u64, u64);
 
-/// Pairs of stages of windows. A worker at the first stage of a pair waits until a worker has reached the second stage.
+/// Pairs of stages, each with the number of a window. A worker at the first stage of a pair waits until a worker has
+/// reached the second stage.
 type Holds = &'static [(Spot, Spot)];
 
 /// Returns the bit that represents a stage of one of the first twelve windows.
@@ -213,7 +214,7 @@ fn run_held<R: Abort + Threads + Wait + Sync>(rt: &R, alloc: Global, holds: Hold
     assert!(rt; !gate.ran_out.load(Ordering::SeqCst), "out of turns");
 }
 
-/// The numbers of the stages of a window.
+/// The numbers of the five stages through which workers take a window.
 const TOOK: u64 = 0;
 
 const ASKED: u64 = 1;

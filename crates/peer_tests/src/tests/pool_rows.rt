@@ -122,7 +122,7 @@ pub(crate) static CARRIED: Rows = &[
     (Call::Leaves(B, "x2"), LEAVES_X2),
 ];
 
-/// Calls that read the effect of the first session at a target that refuses two documents. The results are the same for
+/// Calls that read what the first session changed at a target that refuses two documents. The results are the same for
 /// every order in which the session's windows become done.
 pub(crate) static SIFTED: Rows = &[
     (

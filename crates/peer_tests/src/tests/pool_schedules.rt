@@ -1,4 +1,5 @@
-//! Tests of runs of the pool in random orders. The gate of a run blocks all workers, and releases one worker at a time.
+//! Tests of pool runs in which the workers run in a random order. The gate of a run blocks all workers, and releases
+//! one worker at a time.
 use crate::tests::peers::Rep;
 use crate::tests::pool_gates::{expect_stop, go_on, kind_of};
 use crate::tests::pool_orders::bit_of;
@@ -27,12 +28,12 @@ const TWO_ROWS: How = How {
     stop_after: None,
 };
 
-/// The number of windows of a run, and the number of fetchers, which is also the number of writers.
+/// The number of windows of a run, and the number of fetchers of a run. A run has the same number of writers.
 const WINDOWS: u64 = 3;
 
 const WORKERS: u64 = 2;
 
-/// The number of places at which a run calls the gate (five for each window).
+/// The number of places (points at which a worker calls the gate) in a run: five for each window.
 const PLACES: u64 = 15;
 
 /// Bit masks. `FETCHED` has a bit for the place `Fetched` of each window, and `RECORDED` has a bit for the place
@@ -89,8 +90,8 @@ struct Turns {
     naps: u32,
     /// The place at which the gate stops a worker, or 0 if the gate stops no worker.
     stop_at: u64,
-    /// The numbers of the places that workers have left, in the order of leaving. Each place's number, increased by 1,
-    /// takes four bits.
+    /// The numbers of the places that workers have left, in the order in which the workers left. Each place's number,
+    /// increased by 1, takes four bits.
     order: u64,
     ran_out: bool,
 }
@@ -120,8 +121,8 @@ impl Turns {
     }
 
     /// Chooses one of the blocked workers at random, and returns whether a worker was chosen. Before the first nap, the
-    /// function chooses a worker only if all workers are blocked that may call the gate. Before `SURE_NAPS` naps, the
-    /// function chooses a worker only if all workers are blocked that will certainly call the gate.
+    /// function chooses a worker only if all workers that may call the gate are blocked. Before `SURE_NAPS` naps, the
+    /// function chooses a worker only if all workers that will certainly call the gate are blocked.
     fn choose(&mut self) -> bool {
         let held = bits(self.held);
         if held == 0 {
@@ -143,7 +144,7 @@ impl Turns {
         true
     }
 
-    /// Returns whether the worker at a place may run now, and whether a worker was chosen.
+    /// Returns whether the worker at the place `here` may run now, and whether the call has chosen the next worker.
     fn look(&mut self, here: u64) -> (bool, bool) {
         let goes = self.chosen == here;
         if goes {
@@ -235,7 +236,8 @@ impl Drawn {
         self.ran_out.store(true, Ordering::SeqCst);
     }
 
-    /// Returns the order in which workers left the places, and whether the gate released a worker early.
+    /// Returns the order in which workers left the places, and whether the gate released a worker early or a blocked
+    /// worker gave up.
     fn end(self) -> (u64, bool) {
         let turns = self.turns.into_inner();
         (turns.order, turns.ran_out || self.ran_out.into_inner())

@@ -289,7 +289,7 @@ fn ran_on<G: Gate + Sync, R: Threads + Wait + Sync>(
     run_on(rt, alloc, source, target, plan, gate, progress)
 }
 
-/// Returns how a run ended, and the number of fetched documents.
+/// Returns how a run ended (the report or the error), and the number of fetched documents, as a string.
 fn ended_text(
     alloc: Global,
     outcome: Result<Report, PoolFault>,
@@ -315,7 +315,7 @@ fn sum_of(counts: &[u64]) -> u64 {
     sum
 }
 
-/// Returns how a run ended.
+/// Returns how a run ended (the report or the error), as a string.
 fn outcome_text(alloc: Global, outcome: Result<Report, PoolFault>) -> Option<String> {
     match outcome {
         Ok(report) => report_text(alloc, report),

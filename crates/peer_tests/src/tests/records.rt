@@ -105,7 +105,7 @@ fn stopped_text(alloc: Global, settled: u64, rest: &[Doc], cause: Cause) -> Opti
     format!(in alloc; "Stopped {settled}, rest{rest}, {cause:?}").ok()
 }
 
-/// Returns the ids of documents.
+/// Returns the ids of the given documents, with a space before each id.
 fn ids_text(alloc: Global, docs: &[Doc]) -> Option<String> {
     let mut all = String::new(alloc);
     for doc in docs {

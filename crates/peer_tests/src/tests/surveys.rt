@@ -37,7 +37,7 @@ pub(crate) enum Call<'a> {
     Total(Option<&'a str>),
     /// Read the leaves of a document of the source that are in conflict.
     Conflict(&'a str),
-    /// Count the content of the source.
+    /// Count the source's documents, leaves and revisions.
     Census,
     /// Read the ledger of the session.
     Ledger,
@@ -106,7 +106,7 @@ impl Bench {
         }
     }
 
-    /// Counts the content of the source.
+    /// Counts the source's documents, leaves and revisions.
     fn census(&self) -> Option<String> {
         match census_of(self.alloc, self.source.db()) {
             Ok(census) => shown(self.alloc, &census),
@@ -154,7 +154,7 @@ impl Bench {
         }
     }
 
-    /// Reads the documents of all leaves.
+    /// Reads, for each leaf of a document of the source, the ancestry and the content.
     fn documents(&self, id: &str) -> Option<String> {
         let Ok(id) = DocId::parse(self.alloc, id) else {
             return None;
@@ -238,7 +238,7 @@ fn row_text(alloc: Global, row: LedgerRow) -> Option<String> {
     }
 }
 
-/// Returns the texts of a ledger's rows, each with the id of the document and then the row.
+/// Returns, for each row of a ledger, the text of the document's id and then the text of the row.
 fn ledger(alloc: Global, rows: &[Refused]) -> Option<String> {
     let mut all = Some(String::new(alloc));
     for row in rows {

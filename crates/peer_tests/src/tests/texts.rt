@@ -172,7 +172,7 @@ fn parent_text(alloc: Global, tree: &Tree, rev: Rev) -> Option<String> {
     }
 }
 
-/// Returns the text of an origin, with a comma before and after the origin, or `None` without an origin.
+/// Returns the text of an origin, with a comma before and after the text, or `None` if no origin is given.
 fn origin_text(alloc: Global, origin: Option<Origin>) -> Option<String> {
     match origin {
         Some(origin) => format!(in alloc; ", {origin:?}, ").ok(),

@@ -1,4 +1,4 @@
-//! Performs named steps in a world, and reads the effects of these steps.
+//! Performs steps, which have names, in a world, and reads the state of the world after the steps.
 use crate::tests::databases::tree;
 use crate::tests::peers::{agreed, entry, source_log, target_log};
 use crate::tests::texts::{body, doc, expect_answer};
@@ -18,7 +18,7 @@ const REP: RepId = RepId {
     chosen: None,
 };
 
-/// A step of a world. The documents of the step are strings. All timestamps are 0.
+/// A step of a world, in which documents are given as strings. All timestamps are 0.
 #[derive(Clone, Copy)]
 pub(crate) enum Act<'a> {
     /// Edit a document at the source, given the document's id, the parent revision and the body.
@@ -28,7 +28,8 @@ pub(crate) enum Act<'a> {
     LoadSource(&'a str),
     ThirdParty(&'a str),
     ReadLog,
-    /// Begin a session from a log of the message bag, given the index of the log and the goal of the session.
+    /// Begin a session from a log in the message bag (the messages in transit), given the index of the log and the goal
+    /// of the session.
     Begin(SessionId, usize, u64),
     Page(u64, u64, u64),
     Append(SessionId, usize),
@@ -54,7 +55,7 @@ pub(crate) enum Question<'a> {
     Log(u128),
     /// The tree of a document at a side.
     Tree(u128, &'a str),
-    /// The numbers of windows, requests, parcels, entries and logs in the message bag.
+    /// The numbers of windows, requests, parcels, entries and logs in the message bag (the messages in transit).
     Sizes,
     /// The life of the source's database.
     Life,
@@ -197,7 +198,7 @@ fn side(world: &World<Rules>, number: u128) -> &Peer<Rules> {
     }
 }
 
-/// Returns the numbers of windows, requests, parcels, entries and logs in the message bag.
+/// Returns the numbers of windows, requests, parcels, entries and logs in the message bag (the messages in transit).
 fn sizes_text(alloc: Global, sizes: (usize, usize, usize, usize, usize)) -> Option<String> {
     let (windows, asked, parcels, entries, logs) = sizes;
     format!(in alloc; "{windows} {asked} {parcels} {entries} {logs}").ok()
