@@ -22,8 +22,9 @@ told_of (Err refusal) = Err (name_of refusal)
 abbrev pub Refuses : Refusal → State → Told → State → Type 0
 Refuses refusal old told new = (told ≡ Err (name_of refusal)) × (new ≡ old)
 
--- The results of a line. The relation `answers` defines the results for the parameters that the line gives. If the line
--- cannot be parsed, the line fails with the error of parsing, and leaves the state unchanged.
+-- The relation between a parsed line, the result of the line, and the script's state before and after the line. If the
+-- line can be parsed, the relation `answers` defines the results for the line's parameters. If the line cannot be
+-- parsed, the line fails with the error of parsing, and leaves the state unchanged.
 abbrev pub AnswersIn : {L : Type 0} → Answering State L → Answering State (Result L Refusal)
 AnswersIn answers old (Ok ask) told new = answers old ask told new
 AnswersIn answers old (Err refusal) told new = Refuses refusal old told new

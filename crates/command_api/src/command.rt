@@ -9,8 +9,8 @@ use std::alloc::Global;
 use std::sync::Wait;
 use std::thread::Threads;
 
-/// A command of scripts, which reads its parameters from a line, runs, and prints its output. The implementing type
-/// holds the parameters and borrows from the line.
+/// A command of scripts, which reads its parameters from a line, runs, and prints its output. The type that implements
+/// this trait holds the parameters and borrows from the line.
 pub trait Command<L>: Sized + Drop {
     ghost use Rattle.std.specs.Prelude.{Result};
     ghost use Rattle.std.specs.Thread.{IsSync};
@@ -39,9 +39,9 @@ pub trait Command<L>: Sized + Drop {
     fn read(line: L) -> Option<Self>
         ensures { needed (option_map asked result) ≡ asked_in (seen line) };
 
-    /// Runs the command, and writes its output into the buffer. The relation `answers` allows the result of the
-    /// command. Every command may also fail with `Memory`. A command that fails with `Memory` either has no effect, or
-    /// has the effect of a success whose output could not be stored.
+    /// Runs the command, and writes its output into the buffer. The result of the command is one that the relation
+    /// `answers` allows. Every command may also fail with `Memory`. A command that fails with `Memory` either has no
+    /// effect, or has the effect of a success whose output could not be stored.
     fn serve<H: Threads + Wait + Sync>(
         &self,
         rt: &H,
