@@ -11,7 +11,7 @@ use Rattle.write_commands.specs.Replicate.{IsCovered}
 use Rattle.write_commands.specs.Restore.{IsRestored}
 use Rattle.write_commands.specs.Sync.{IsMet}
 
--- The guarantees for the output of `audit`, `replicate`, `sync` and `restore` lines.
+-- The guarantees for the outputs of the commands `audit`, `replicate`, `sync` and `restore`.
 abbrev pub IsTrusted : Asked → Told → State → Type 0
 IsTrusted (audit ask) told new = IsClean told
 IsTrusted (replicate ask) told new = IsCovered new ask told
