@@ -1,4 +1,5 @@
--- Input bytes that the relay has read, but not yet used, as specified in docs/PROFILE.md, "Responses to the relay".
+-- Defines the input bytes that the relay has read, but not yet used, as specified in docs/PROFILE.md, "Responses to the
+-- relay".
 use Rattle.std.specs.Prelude.{◌≡◌, ◌+◌, ◌<◌, ◌≤◌, ℕ, false, List, ◌∷◌, ◌++◌, Option, length, take, drop, string_bytes, MatchOption}
 use Rattle.std.specs.Io.KnownBytes.{Appends}
 use Rattle.script_engine.specs.Lines.{has_line_end}
@@ -21,9 +22,9 @@ pub record IsInbox (inbox : Inbox) : Type 0 where
 abbrev pub Took : Option (List ℕ) → Option (List ℕ) → Type 0
 Took old new = (bytes : List ℕ) × Appends old new bytes
 
--- A call has read bytes, and has appended these bytes to the pending bytes. The arguments `old` and `new` are all bytes
--- that the reader had returned before and after the call. The arguments `before` and `after` are the pending bytes
--- before and after the call.
+-- A call has read bytes, and has appended these bytes to the pending bytes. The list `old` has all bytes that the
+-- reader had returned before the call. The list `new` has all bytes that the reader had returned when the call ended.
+-- The pending bytes are `before` when the call begins, and `after` when it returns.
 abbrev pub Filled : Option (List ℕ) → Option (List ℕ) → List ℕ → List ℕ → Type 0
 Filled old new before after = (bytes : List ℕ) × Appends old new bytes × (after ≡ before ++ bytes)
 
