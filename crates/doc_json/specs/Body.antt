@@ -9,7 +9,8 @@ use Rattle.doc_json.specs.Members.{has_special, plain_members}
 use Rattle.doc_json.specs.declared.fault.DocFault.{DocFault}
 use Rattle.doc_json.specs.declared.fault.DocFault.TheVariants as faults
 
--- The string is what `serde_json` writes for a value without rejected numbers, and has the guarantees of that writer.
+-- The string is what `serde_json` writes for the JSON value d, and satisfies the guarantees of the writer of
+-- `serde_json`.
 pub record IsWritten (text : List ℕ) (d : Data) : Type 0 where
   pub compact : text ≡ compact_text d
   pub order : IsInOrder text d

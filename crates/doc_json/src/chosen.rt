@@ -135,7 +135,7 @@ fn in_order(ids: Vec<DocId>) -> Vec<DocId>
     ids
 }
 
-/// The contract gives proofs the fact that each document id is a string of bytes.
+/// From this contract, proofs learn that each document id is a string of bytes.
 fn are_texts(ids: &[DocId])
     ensures { AllByRecursion IsText ids.now }
 {

@@ -13,7 +13,7 @@ use crate::json_value::JsonValue;
 use rev_core::{Ancestry, Rev, Sig};
 use std::alloc::{AllocError, Global};
 
-/// Reads the member `_rev` of a document, if the document has it.
+/// Reads the member `_rev` of a document, if the document has this member.
 pub(crate) fn read_rev<'v, V: JsonValue<'v>>(member: Option<&'v V>) -> Result<Option<Rev>, DocFault>
     ensures { result ≡ rev_member (option_map (λ v. V.seen v.now) member.entry) }
 {
