@@ -48,13 +48,13 @@ conflicts_line c = ended (codes "conflicts " ++ decimal c.conflicts ++ codes " o
 abbrev pub conflicts_text : DatabaseValue → List ℕ
 conflicts_text db = flat_map (conflict_line db) (feed db 0 db.update_seq) ++ conflicts_line (census_of (trees db))
 
--- The remaining output of `conflicts`, which ends with the counts of all documents.
+-- The output that `conflicts` has not yet printed, which ends with the counts of all documents.
 abbrev pub conflicts_left : State → ConflictsRest → List ℕ
 conflicts_left s r =
     left_in (peer_at s (string_bytes r.db)) (λ l. flat_map (conflict_line l.db) (rows_left l.db r.walk) ++ conflicts_line (census_of (trees l.db)))
 
--- The counts of `conflicts` are the counts of the feed rows that it has processed. The command `conflicts` has no
--- selection of documents.
+-- The counts that `conflicts` has made so far are those of the documents in the feed rows that have been processed. The
+-- command `conflicts` reads the feed of all documents.
 abbrev pub FitsConflicts : State → ConflictsRest → Type 0
 FitsConflicts s r =
     holds_in (peer_at s (string_bytes r.db)) (λ l. (earlier : List RowValue)

@@ -57,7 +57,7 @@ leaf_lines db r = flat_map doc_line (documents_at db r.id)
 abbrev pub docs_text : DatabaseValue → ℕ → Choice → List ℕ
 docs_text db since chosen = flat_map (leaf_lines db) (chosen_feed chosen db since db.update_seq) ++ last_line db.update_seq
 
--- The remaining output of `docs`: the lines for the remaining rows of the feed, and the update sequence.
+-- The output that `docs` has not yet printed: the lines for the remaining rows of the feed, and the update sequence.
 abbrev pub docs_left : State → DocsRest → List ℕ
 docs_left s r = left_in (peer_at s (string_bytes r.db)) (λ l. flat_map (leaf_lines l.db) (rows_left l.db r.walk) ++ last_line l.db.update_seq)
 
