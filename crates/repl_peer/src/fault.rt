@@ -64,8 +64,8 @@ pub enum TargetFault {
     /// The peer has no session with the given id.
     #[error("no such session")]
     NoSuchSession,
-    /// The life of a window is not the session's life, or the life of a log entry is not the database's life. The
-    /// expected life is `now`.
+    /// A window's life (a number that changes when a database is restored) is not the session's life, or a log entry's
+    /// life is not the database's life. The expected life is `now`.
     #[error("of another life than {now}")]
     OtherLife {
         now: u64,

@@ -129,10 +129,10 @@ impl<F: WriteFilter> Peer<F> {
 
     /// Returns the database.
     ///
-    /// The clauses of `db` state guarantees of every peer. Each leaf of a window row at or below a session's recorded
-    /// sequence is covered, that is, in the tree or rightly refused. Each revision in the database comes from a local
-    /// write or from a row of a window. The number of read documents is the number of written documents plus the number
-    /// of refused documents.
+    /// The clauses of `db` state guarantees of every peer. If a window's row has a sequence at or below the session's
+    /// recorded sequence, each leaf of the row is covered, that is, in the tree or rightly refused. Each revision in
+    /// the database comes from a local write or from a row of a window. The number of read documents is the number of
+    /// written documents plus the number of refused documents.
     pub fn db(&self) -> &Database
         ensures value { result.now ≡ self.now.1.db }
         ensures law { Lawful (F.refuses self.now.0) self.now.1 }
@@ -222,7 +222,7 @@ impl<F: WriteFilter> Peer<F> {
         self.db.page_due(alloc, since, goal, limit, chosen)
     }
 
-    /// Returns the leaves of another database's window that this peer's database lacks (`Database::revs_diff`).
+    /// Returns those leaves of a window from another database that this peer's database lacks (`Database::revs_diff`).
     pub fn revs_diff(&self, alloc: Global, window: &Window) -> Result<Asked, AllocError>
         ensures asked { IfOk result (λ a. a ≡ revs_diff self.now.1.db window.now) }
     {
@@ -328,8 +328,8 @@ impl<F: WriteFilter> Peer<F> {
         self.append_prepared(id, ReadyWindow::new(window))
     }
 
-    /// Does the same as `append` for a prepared window. A prepared window may already have the form without leaves,
-    /// which the session keeps once the window is done.
+    /// Does the same as `append` for a prepared window. A prepared window may already have its form without leaves, in
+    /// which the session stores the window once the window is done.
     pub fn append_prepared(&mut self, id: SessionId, ready: ReadyWindow) -> Result<(), TargetFault>
         ensures answer { GivesUnlessMemory result (append_answer self.old.1 id ready) }
         ensures filter { self.new.0 ≡ self.old.0 }
@@ -337,12 +337,13 @@ impl<F: WriteFilter> Peer<F> {
         ensures err { OnErr result (self.new.1 ≡ self.old.1) }
         ensures law { Lawful (F.refuses self.new.0) self.new.1 }
     {
-        // The result of `hi` is not used. The contract of `hi` states that the window satisfies its invariant.
+        // The code uses the contract of `hi`, not its result. The contract of `hi` states that the window satisfies its
+        // invariant.
         let _hi = ready.window().hi();
         self.sessions.append(id, ready)
     }
 
-    /// Settles a parcel of a session: applies its documents in order, then marks its window as done.
+    /// Settles a parcel of a session: applies the parcel's documents in order, then marks the parcel's window as done.
     ///
     /// A document that the tree already had counts as written. A document that is refused by the filter or as a
     /// contradiction goes into the session's ledger. Returns the number of stored documents and the number of documents
@@ -400,7 +401,7 @@ impl<F: WriteFilter> Peer<F> {
         self.sessions.record(id, at)
     }
 
-    /// Records a session that is done up to its goal, and returns its report.
+    /// Records a session whose windows are done up to the session's goal, and returns the session's report.
     ///
     /// # Errors
     ///

@@ -24,7 +24,7 @@ target_log p rep = log_of p.sessions rep
 abbrev pub source_log : PeerValue → RepId → List EntryValue
 source_log p rep = log_in p.outgoing rep
 
--- The error of a replication log, converted to an error of the peer.
+-- The peer's error that corresponds to an error of a replication log.
 abbrev pub refused_by_log : LogFault → TargetFault
 refused_by_log (log_faults.Older stored) = faults.Older stored
 refused_by_log log_faults.Memory = faults.Memory

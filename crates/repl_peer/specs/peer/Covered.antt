@@ -19,8 +19,8 @@ use Rattle.repl_peer.specs.declared.fault.Reason.TheVariants as reasons
 abbrev pub contradiction_of : DatabaseValue → Document → Option Contradiction
 contradiction_of db d = first_contradiction (tree_of db.docs d.id).parents (edges_of d.ancestry)
 
--- The reason why a peer refuses a document, or `None` if the peer accepts the document. A peer checks its filter for a
--- document before it checks the document's tree.
+-- The reason why a peer refuses a document, or `None` if the peer accepts the document. A peer applies its filter to a
+-- document before it compares the document with the document's tree.
 abbrev pub refusal_of : (Document → Bool) → DatabaseValue → Document → Option Reason
 refusal_of refuses db d =
     if refuses d then Some reasons.Filtered

@@ -44,13 +44,14 @@ pub record IsFed (p : PeerValue) (id : Id) (r : RevId) (session : SessionId) (se
   pub listed : IsListed by id seq
   pub arrived : IsArrival by id r
 
--- The given origin of revision r of document `id` is true. If the origin is a local write, peer p has the write
--- (`IsLocal`). If the origin is a session and a sequence, peer p has the session with a row and an arrival (`IsFed`).
+-- The origin that is given for revision r of document `id` is correct. If the origin is a local write, peer p has the
+-- write (`IsLocal`). If the origin is a session and a sequence, peer p has the session with a row and an arrival
+-- (`IsFed`).
 abbrev pub ComesFrom : PeerValue → Id → RevId → Origin → Type 0
 ComesFrom p id r (Local n) = IsLocal p id r n
 ComesFrom p id r (Feed session seq) = IsFed p id r session seq
 
--- Every revision of every tree of peer p has a stored origin, and this origin is true (`ComesFrom`).
+-- Every revision of every tree of peer p has a stored origin, and this origin is correct (`ComesFrom`).
 abbrev pub HasOrigins : PeerValue → Type 0
 HasOrigins p =
     (id : Id) (r : RevId) → has (tree_of p.db.docs id) r ≡ true

@@ -77,7 +77,7 @@ written_of d = record { id = d.id; ancestry = d.ancestry }
 abbrev pub is_of : SessionId → SessionValue → Bool
 is_of id s = s.id.0 == id.0
 
--- The session with the given id, if the peer has it.
+-- The session with the given id, or `None` if the peer has no such session.
 abbrev pub session_in : List SessionValue → SessionId → Option SessionValue
 session_in sessions id = find (is_of id) sessions
 

@@ -106,7 +106,8 @@ impl<F: WriteFilter> Peer<F> {
         ensures law { Lawful (F.refuses self.new.0) self.new.1 }
     {
         let life = self.next_life(backup)?;
-        // The result of `backup.db()` is not used. The contract of `db` states that the backup satisfies its invariant.
+        // The code uses the contract of `backup.db()`, not its result. The contract of `db` states that the backup
+        // satisfies its invariant.
         let _copy = backup.db();
         self.law();
         let alloc = *self.locals.allocator();

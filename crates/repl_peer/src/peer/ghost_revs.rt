@@ -1,4 +1,4 @@
-//! The revisions of a write, for contracts only.
+//! The revisions of a write, as a value that exists for contracts only.
 ghost use Rattle.std.specs.Prelude.{◌≡◌, List};
 ghost use Rattle.std.specs.Borrow.{ftrue};
 ghost use Rattle.std.specs.Coded.{coded_list};

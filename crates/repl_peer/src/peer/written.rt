@@ -96,8 +96,8 @@ impl Written {
         &self.id
     }
 
-    /// Returns the revision at an index, if there is one. The newest revision has index 0. All revisions but the newest
-    /// are read from the database that has the write.
+    /// Returns the write's revision at an index, or `None` if there is no such revision. The newest revision has index
+    /// 0. All revisions but the newest are read from the database that has the write.
     pub fn rev(&self, db: &Database, place: usize) -> Option<Rev>
         requires { StandsIn db.now self.now }
         ensures { result ≡ slice_get self.now.ancestry place }

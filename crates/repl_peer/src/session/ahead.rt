@@ -65,7 +65,7 @@ pub(crate) fn settle_prepared<F: WriteFilter>(
     if arrivals.is_empty() || session.earlier.reserve(2).is_err() {
         return 0;
     }
-    // Only a done window may be stored without the leaves of its rows, and this window is not done.
+    // Only a done window may be stored without the leaves of its rows, and the parcel's window is not done.
     let Some(rows) = session.windows[place].rows() else {
         unreachable!()
     };

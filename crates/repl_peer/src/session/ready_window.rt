@@ -33,7 +33,7 @@ impl Model for ReadyWindow {
 }
 
 impl ReadyWindow {
-    /// Creates a `ReadyWindow` of a window. The form without leaves is not built.
+    /// Creates a `ReadyWindow` of a window. The call does not build the form of the window without leaves.
     pub fn new(window: Window) -> ReadyWindow
         ensures { result ≡ window }
     {

@@ -91,7 +91,7 @@ impl Sessions {
         Some(session.id)
     }
 
-    /// Returns the session with an id.
+    /// Returns the session with the given id.
     pub(crate) fn find(&self, id: SessionId) -> Option<&Session>
         ensures { option_copied result ≡ session_in self.now id }
     {

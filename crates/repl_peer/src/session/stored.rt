@@ -23,8 +23,8 @@ pub(crate) struct Checked {
 }
 
 /// Checks that a parcel's window exists, has a row for each document and is not done, and that the counts do not
-/// overflow. Returns the index of the parcel's window and the numbers to count, or the error of the first check that
-/// fails.
+/// overflow. Returns the index of the parcel's window and the numbers to add to the counts, or the error of the first
+/// check that fails.
 pub(crate) fn check(session: &Session, parcel: &Parcel) -> Result<Checked, TargetFault>
     ensures ok { IfOk result
         (λ found. Passes session.now parcel.now found.place found.leaves found.asked) }
@@ -44,7 +44,7 @@ pub(crate) fn check(session: &Session, parcel: &Parcel) -> Result<Checked, Targe
     if session.front.is_done(lo, hi) {
         return Err(TargetFault::AlreadyDone);
     }
-    // Only a done window may be stored without the leaves of its rows, and this window is not done.
+    // Only a done window may be stored without the leaves of its rows, and the parcel's window is not done.
     let Some(rows) = window.rows() else {
         unreachable!()
     };
