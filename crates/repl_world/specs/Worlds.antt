@@ -1,4 +1,5 @@
--- Two peers and a bag of messages, and the effect of each step, as specified in docs/PROFILE.md, "Worlds".
+-- Defines worlds, which have two peers and a bag of messages, and the effect of each step on a world, as specified in
+-- docs/PROFILE.md, "Worlds".
 --
 -- A replication exchanges messages: pages of the source's feed, requests for what the target lacks, parcels of
 -- documents, and log entries. Messages between two databases may be late, repeated, reordered or lost. A world has two
@@ -91,7 +92,7 @@ abbrev pub stops : (Document → Bool) → WorldValue → SessionId → ℕ → 
 stops refuses w session n None = w
 stops refuses w session n (Some p) = record w { target = after_some refuses w.target session p.1 n }
 
--- The current log entry of a session of the target.
+-- The log entry that describes the current state of a session of the target.
 abbrev pub entry_in : PeerValue → SessionId → Result EntryValue TargetFault
 entry_in p session = session_answer p session (λ (s : SessionValue). Ok (entry_of s))
 
@@ -172,7 +173,7 @@ run refuses w (step ∷ steps) = run refuses (happens refuses w step) steps
 
 -- ---- failed allocations
 
--- The effect of a step that ran out of memory. A step that runs out of memory changes nothing, except that a step that
+-- The world after a step ran out of memory. A step that runs out of memory changes nothing, except that a step that
 -- settles a parcel may have settled documents of the parcel.
 abbrev pub IsStopped : (Document → Bool) → WorldValue → SessionId → Option (ℕ × ParcelValue) → WorldValue → Type 0
 IsStopped refuses w session parcel now =
@@ -184,8 +185,8 @@ abbrev pub CutShort : (Document → Bool) → WorldValue → Step → WorldValue
 CutShort refuses w (Settle session parcel) now = IsStopped refuses w session (slice_get w.bag.parcels parcel) now
 CutShort refuses w step now = now ≡ w
 
--- The effect of a run that ran out of memory in one of its steps. The steps before the failed step have their complete
--- effects, and the failed step has an effect that `CutShort` allows.
+-- The world after a list of steps in which one step ran out of memory. The steps before the failed step have their
+-- complete effects, and the failed step has an effect that `CutShort` allows.
 abbrev pub StoppedIn : (Document → Bool) → WorldValue → List Step → WorldValue → Type 0
 StoppedIn refuses w steps now =
     (k : ℕ) × (step : Step) × (slice_get steps k ≡ Some step) × CutShort refuses (run refuses w (take k steps)) step now
