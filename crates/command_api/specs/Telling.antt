@@ -1,5 +1,5 @@
--- The result of a command, and the state after the command, as specified in docs/PROFILE.md, "Order of checks" and
--- "Answers".
+-- Defines the result of a command, and the state after the command, as specified in docs/PROFILE.md, "Order of checks"
+-- and "Answers".
 use Rattle.std.specs.Prelude.{◌≡◌, ℕ, Bool, List, [], if◌then◌else◌, Result, Ok, Err}
 use Rattle.repl_peer.specs.peer.Peer.{PeerValue}
 use Rattle.script_engine.specs.Serving.{Told, Answering}
