@@ -1,4 +1,4 @@
--- The output of a program that runs a script, as specified in docs/PROFILE.md, "Answers".
+-- Defines the output of a program that runs a script, as specified in docs/PROFILE.md, "Answers".
 use Rattle.std.specs.Prelude.{◌≡◌, ℕ, List, Bool, Result, Ok, Err}
 use Rattle.script_engine.specs.Script.{AnswersEnded, IsAnswered}
 use Rattle.script_engine.specs.Faults.{IsToldUntil}

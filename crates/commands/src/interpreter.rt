@@ -87,8 +87,8 @@ impl<'a, H: Threads + Wait + Sync, L: ObserveAnswers> Serve for Interpreter<'a, 
     }
 }
 
-/// Runs a line that is not blank, and writes the line's output into the buffer. If the call writes only the output's
-/// first piece, it returns the rest of the output.
+/// Runs a line that is not blank, and writes the line's output into the buffer. If the call writes only the first piece
+/// of the output, the call returns the rest of the output.
 fn answer_line<H: Threads + Wait + Sync>(
     rt: &H,
     alloc: Global,
