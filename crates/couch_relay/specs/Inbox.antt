@@ -22,9 +22,9 @@ pub record IsInbox (inbox : Inbox) : Type 0 where
 abbrev pub Took : Option (List ℕ) → Option (List ℕ) → Type 0
 Took old new = (bytes : List ℕ) × Appends old new bytes
 
--- A call has read bytes, and has appended these bytes to the pending bytes. The list `old` has all bytes that the
--- reader had returned before the call. The list `new` has all bytes that the reader had returned when the call ended.
--- The pending bytes are `before` when the call begins, and `after` when it returns.
+-- A call has read bytes from a reader, and has appended these bytes to the inbox's pending bytes. The list `old` has
+-- all bytes that the reader had returned before the call. The list `new` has all bytes that the reader had returned
+-- when the call ended. The pending bytes are `before` when the call begins, and `after` when it returns.
 abbrev pub Filled : Option (List ℕ) → Option (List ℕ) → List ℕ → List ℕ → Type 0
 Filled old new before after = (bytes : List ℕ) × Appends old new bytes × (after ≡ before ++ bytes)
 
@@ -40,9 +40,9 @@ head_view head = record { status = head.status; size = head.size; who = head.who
 abbrev pub BeginsWithHead : List ℕ → HeadView → List ℕ → Type 0
 BeginsWithHead bytes head rest = (line : List ℕ) × IsLine bytes line rest × IsHead line head
 
--- The result of reading the head of a response. The call appends the bytes that it reads to the pending bytes. If the
--- call returns a head, the pending bytes began with this head, and the bytes after the head's line remain pending. If
--- the call returns no head, the pending bytes did not begin with a complete response.
+-- The result of reading the head of a response. The call appends the bytes that it reads to the inbox's pending bytes,
+-- which are not yet used. If the call returns a head, the pending bytes began with this head, and the bytes after the
+-- head's line remain pending. If the call returns no head, the pending bytes did not begin with a complete response.
 abbrev pub ReadsHead : Option (List ℕ) → Option (List ℕ) → Type 0 → List ℕ → List ℕ → Option Head → Type 0
 ReadsHead old new ended before after head =
     (bytes : List ℕ) × Appends old new bytes

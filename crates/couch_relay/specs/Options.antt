@@ -1,4 +1,4 @@
--- The options of the command line, and the values of the options, as specified in docs/PROFILE.md, "Options of
+-- Defines the options of the command line, and the values of the options, as specified in docs/PROFILE.md, "Options of
 -- `couch_relay`".
 use Rattle.std.specs.Prelude.{◌≡◌, ℕ, List, [], Option, Some, None, codes, unwrap_or, true}
 use Rattle.clap.specs.Words.{App, HasKind, Rule, fault_of, first_of, one_of, matches_of, new_rule, with_rule}
