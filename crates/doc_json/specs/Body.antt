@@ -1,4 +1,4 @@
--- Bodies of documents, as specified in docs/PROFILE.md, "Documents".
+-- Defines bodies of documents, as specified in docs/PROFILE.md, "Documents".
 use Rattle.std.specs.Prelude.{◌≡◌, ◌≤◌, ℕ, false, List, Result, Ok, Some}
 use Rattle.serde_json.specs.Data.{Data, object, Members, depth}
 use Rattle.serde_json.specs.Find.{as_object}

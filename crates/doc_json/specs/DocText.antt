@@ -1,4 +1,4 @@
--- The serialized form of a document, as specified in docs/PROFILE.md, "What `write_doc` writes".
+-- Defines the serialized form of a document, as specified in docs/PROFILE.md, "What `write_doc` writes".
 use Rattle.std.specs.Prelude.{ℕ, Bool, List, [], ◌∷◌, ◌++◌, map, drop, codes, decimal, if◌then◌else◌}
 use Rattle.std.specs.List.{join_with_byte}
 use Rattle.std.specs.Str.{bytes_eq}

@@ -1,5 +1,5 @@
--- The members `_rev` and `_revisions`, as specified in docs/PROFILE.md, "What `read_doc` accepts" and "Ancestries", and
--- in CouchDB, "Replication Protocol".
+-- Defines how the members `_rev` and `_revisions` are read, as specified in docs/PROFILE.md, "What `read_doc` accepts"
+-- and "Ancestries", and in CouchDB, "Replication Protocol".
 use Rattle.std.specs.Prelude.{ℕ, ◌^◌, Bool, true, false, List, [], ◌∷◌, nat_lt, codes, Option, Some, None, option_and_then, option_map, Result, Ok, Err, if◌then◌else◌}
 use Rattle.std.specs.Ordering.{eq_by_cmp}
 use Rattle.serde_json.specs.Data.{Data, Items, no_items, item}
@@ -55,7 +55,7 @@ abbrev pub is_head : RevId → List RevId → Bool
 is_head r [] = false
 is_head r (s ∷ rest) = eq_by_cmp rev_cmp r s
 
--- Whether a document's member `_rev` is missing or is the newest revision of its member `_revisions`.
+-- Whether the member `_rev` of a document is missing or is the newest revision of the document's member `_revisions`.
 abbrev pub agrees : Option RevId → List RevId → Bool
 agrees None revs = true
 agrees (Some r) revs = is_head r revs

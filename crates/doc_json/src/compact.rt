@@ -104,7 +104,7 @@ fn push_plain<'v, V: JsonValue<'v>>(
     Ok(())
 }
 
-/// Serializes a member, unless its name begins with `_`. Returns whether a comma must precede the next member.
+/// Serializes a member, unless the member's name begins with `_`. Returns whether a comma must precede the next member.
 fn push_unless_special<'v, V: JsonValue<'v>>(
     name: &str,
     member: &'v V,

@@ -106,8 +106,8 @@ pub(crate) fn matched(
     Ok(Ok(ancestry))
 }
 
-/// Reads an ancestry from the generation `start` of its newest revision and a list of signatures. Returns `None` if the
-/// generation `start` and the list of signatures do not form an ancestry.
+/// Reads an ancestry from a list of signatures and the generation `start` of the ancestry's newest revision. Returns
+/// `None` if the generation `start` and the list of signatures do not form an ancestry.
 fn numbered_from<'v, V: JsonValue<'v>>(
     alloc: Global,
     start: u64,
@@ -128,7 +128,8 @@ fn numbered_from<'v, V: JsonValue<'v>>(
     }
 }
 
-/// Reads a list of signatures as revisions whose generations fall by one, from a given generation on.
+/// Reads a list of signatures as revisions. The first revision has the given generation, and the generations fall by
+/// one.
 fn numbered<'v, V: JsonValue<'v>>(
     alloc: Global,
     start: u32,
