@@ -1,4 +1,4 @@
--- The command `compare`, as specified in docs/PROFILE.md, "Command lines" and "Answers".
+-- Defines the command `compare`, as specified in docs/PROFILE.md, "Command lines" and "Answers".
 use Rattle.std.specs.Prelude.{◌≡◌, ℕ, List, [], ◌∷◌, ◌++◌, codes, decimal, Option, Some, None, Result, Ok, option_map, string_bytes}
 use Rattle.std.specs.List.{flat_map}
 use Rattle.serde_json.specs.Data.{Data}
@@ -50,13 +50,13 @@ compare_in d = do
 
 -- ---- its output
 
--- The line of `compare` for a revision whose parent differs at the target, or the empty text if there is no such
--- revision.
+-- The line that `compare` prints for a revision whose parent differs at the target, or the empty text if there is no
+-- such revision.
 abbrev pub contradicts_line : List ℕ → Option Contradiction → List ℕ
 contradicts_line id None = []
 contradicts_line id (Some c) = revs_line (codes "contradicts") id (c.child ∷ [])
 
--- The lines of `compare` for a document.
+-- The lines that `compare` prints for a document.
 abbrev pub comparison_lines : List ℕ → ComparisonValue → List ℕ
 comparison_lines id c =
     revs_line (codes "missing") id c.missing ++ contradicts_line id c.contradiction ++ revs_line (codes "differs") id c.differing

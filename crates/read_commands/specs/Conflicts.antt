@@ -1,4 +1,4 @@
--- The command `conflicts`, as specified in docs/PROFILE.md, "Command lines" and "Answers".
+-- Defines the command `conflicts`, as specified in docs/PROFILE.md, "Command lines" and "Answers".
 use Rattle.std.specs.Prelude.{◌≡◌, ℕ, List, map, [], ◌∷◌, ◌++◌, codes, decimal, None, Result, Ok, string_bytes}
 use Rattle.std.specs.List.{flat_map}
 use Rattle.std.specs.Option.{option_map_or}
@@ -36,8 +36,8 @@ conflicts_in d = do
 
 -- ---- its output
 
--- The line of `conflicts` for the document of a feed row. The line has the document's live leaves, and is empty if the
--- document has fewer than two live leaves.
+-- The line that `conflicts` prints for the document of a feed row. The line has the document's live leaves, and is
+-- empty if the document has fewer than two live leaves.
 abbrev pub conflict_line : DatabaseValue → RowValue → List ℕ
 conflict_line db r = option_map_or (λ tree. revs_line (codes "conflict") r.id (conflicting tree)) (tree_in db.docs r.id) []
 

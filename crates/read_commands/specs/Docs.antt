@@ -1,4 +1,4 @@
--- The command `docs`, as specified in docs/PROFILE.md, "Command lines" and "Answers".
+-- Defines the command `docs`, as specified in docs/PROFILE.md, "Command lines" and "Answers".
 use Rattle.std.specs.Prelude.{ℕ, List, [], ◌∷◌, ◌++◌, codes, unwrap_or, Option, Result, Ok, option_map, string_bytes}
 use Rattle.std.specs.List.{flat_map}
 use Rattle.serde_json.specs.Data.{Data}
@@ -50,7 +50,7 @@ docs_in d = do
 abbrev pub doc_line : Document → List ℕ
 doc_line d = ended (doc_text d)
 
--- The lines of `docs` for the document of a feed row, one for each leaf, the winner first.
+-- The lines that `docs` prints for the document of a feed row: one line for each leaf, the winner first.
 abbrev pub leaf_lines : DatabaseValue → RowValue → List ℕ
 leaf_lines db r = flat_map doc_line (documents_at db r.id)
 
