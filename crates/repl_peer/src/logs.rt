@@ -52,7 +52,7 @@ pub fn checkpoint<F: WriteFilter, G: WriteFilter>(
 impl<F: WriteFilter> Peer<F> {
     ghost use Rattle.repl_peer.specs.logs.Logs.{target_log, source_log, put_entry_answer, after_put_entry};
 
-    /// Returns the log of a replication into this peer: the entries of its sessions, newest first.
+    /// Returns the log of a replication into this peer: the entries of the replication's sessions, newest first.
     pub fn target_log(&self, alloc: Global, rep: &RepId) -> Result<Log, AllocError>
         ensures log { IfOk result (λ l. l ≡ target_log self.now.1 rep.now) }
     {

@@ -142,7 +142,7 @@ impl<F: WriteFilter> Peer<F> {
         &self.db
     }
 
-    /// Has no effect at run time, but gives proofs the invariants of the peer and of its database.
+    /// Has no effect at run time, but gives proofs the invariants of the peer and of the peer's database.
     pub fn law(&self)
         ensures peer { Lawful (F.refuses self.now.0) self.now.1 }
         ensures database { LawfulDatabase self.now.1.db }
@@ -250,16 +250,16 @@ impl<F: WriteFilter> Peer<F> {
         self.db.count_asked(alloc, asked)
     }
 
-    /// Whether a revision is covered: it is in its document's tree, or in the ancestry of a document that a session
-    /// refused.
+    /// Whether a revision is covered: the revision is in its document's tree, or in the ancestry of a document that a
+    /// session refused.
     pub fn covered(&self, id: &DocId, rev: Rev) -> bool
         ensures { result ≡ covers self.now.1 id.now rev }
     {
         has_in(self.db.tree(id), rev) || self.sessions.has_refused(id, rev)
     }
 
-    /// Returns the first leaf of a changed document that is not covered. The hint `near` makes lookups faster if the
-    /// caller passes documents in order.
+    /// Among the leaves of a changed document, returns the first leaf that is not covered. The hint `near` makes
+    /// lookups faster if the caller passes documents in order.
     pub fn uncovered_in(
         &self,
         alloc: Global,
@@ -337,8 +337,8 @@ impl<F: WriteFilter> Peer<F> {
         ensures err { OnErr result (self.new.1 ≡ self.old.1) }
         ensures law { Lawful (F.refuses self.new.0) self.new.1 }
     {
-        // The code uses the contract of `hi`, not its result. The contract of `hi` states that the window satisfies its
-        // invariant.
+        // The code uses the contract of `hi`, not its result. The contract of `hi` states that the window satisfies the
+        // invariant of windows.
         let _hi = ready.window().hi();
         self.sessions.append(id, ready)
     }
@@ -388,7 +388,7 @@ impl<F: WriteFilter> Peer<F> {
             .settle_session(&self.filter, &mut self.db, id, parcel, spent)
     }
 
-    /// Records the low water of a session, and returns this low water. The low water is the source's sequence up to
+    /// Records the low water of a session, and returns the low water. The low water is the source's sequence up to
     /// which every window is done.
     ///
     /// Returns `NoSuchSession` if the peer has no session with the given id. Does not allocate.

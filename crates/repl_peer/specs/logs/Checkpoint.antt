@@ -1,5 +1,5 @@
--- The replication between two peers, and its common checkpoint, as specified in docs/PROFILE.md, "Replication ids and
--- logs" and "Common checkpoint".
+-- Defines the replication between two peers, and the common checkpoint of the replication, as specified in
+-- docs/PROFILE.md, "Replication ids and logs" and "Common checkpoint".
 use Rattle.std.specs.Prelude.{ℕ, Option}
 use Rattle.rev_tree.specs.declared.origin.SessionId.{SessionId}
 use Rattle.doc_json.specs.Chosen.{Choice}

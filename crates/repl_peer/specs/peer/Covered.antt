@@ -1,4 +1,4 @@
--- Covered revisions, as specified in docs/PROFILE.md, "Covered leaves".
+-- Defines when a peer covers a revision, as specified in docs/PROFILE.md, "Covered leaves".
 use Rattle.std.specs.Prelude.{◌≡◌, ℕ, ◌≤◌, Bool, true, not, ◌&&◌, ◌||◌, List, [], ◌∷◌, Option, Some, None, is_some, if◌then◌else◌}
 use Rattle.std.specs.List.{find, list_any, list_all}
 use Rattle.std.specs.Option.{option_map, option_or}
@@ -26,8 +26,8 @@ refusal_of refuses db d =
     if refuses d then Some reasons.Filtered
     else option_map (λ c. reasons.Contradicting c.child c.known c.given) (contradiction_of db d)
 
--- Whether a document is rightly refused: the filter refuses it, or its ancestry contradicts the document's tree in the
--- database.
+-- Whether a document is rightly refused: the filter refuses the document, or the document's ancestry contradicts the
+-- document's tree in the database.
 abbrev pub rightly_refused : (Document → Bool) → DatabaseValue → Document → Bool
 rightly_refused refuses db d = refuses d || is_some (contradiction_of db d)
 

@@ -1,4 +1,4 @@
--- The list of a peer's local writes after a put or an edit.
+-- Defines the list of a peer's local writes after a put or an edit.
 use Rattle.std.specs.Prelude.{ℕ, Bool, List, [], ◌∷◌, ◌++◌, Option, Some, None, Result, Ok, Err, if◌then◌else◌}
 use Rattle.rev_core.specs.Rev.{RevId}
 use Rattle.rev_tree.specs.InOrder.{first_of}

@@ -1,4 +1,5 @@
--- Sessions, as specified in docs/PROFILE.md, "Sessions of a peer" and "Goal and windows".
+-- Defines the results and effects of calls on sessions, as specified in docs/PROFILE.md, "Sessions of a peer" and "Goal
+-- and windows".
 use Rattle.std.specs.Prelude.{◌≡◌, ℕ, ◌==◌, ◌&&◌, nat_lt, if◌then◌else◌, List, [], ◌∷◌, ◌++◌, Option, Some, None, Result, Ok, Err, IsOk}
 use Rattle.std.specs.List.{find}
 use Rattle.rev_tree.specs.declared.origin.SessionId.{SessionId}
@@ -60,7 +61,7 @@ on_base start None = Err faults.NoSuchBase
 on_base start (Some s) = start_answer start s.recorded
 
 -- The result of checking a session's base and start: the base must be a session of the given replication, with a
--- recorded sequence at or above the start. If a session has no base, its start must be 0.
+-- recorded sequence at or above the start. If a session has no base, the session's start must be 0.
 abbrev pub base_answer : List SessionValue → RepId → Option SessionId → ℕ → Result (Unit {0}) TargetFault
 base_answer sessions rep None start = start_answer start 0
 base_answer sessions rep (Some base) start = on_base start (base_in sessions rep base)
@@ -75,7 +76,8 @@ begin_answer p id b =
     if holds p.sessions id then Err faults.SessionExists
     else goal_answer b.start b.scope.goal (base_answer p.sessions b.scope.rep b.scope.base b.start)
 
--- A new session, begun at timestamp `at`. A new session has no windows, and its recorded sequence is its start.
+-- A new session, begun at timestamp `at`. A new session has no windows, and the recorded sequence of the session is the
+-- session's start.
 abbrev pub new_session : SessionId → Beginning → ℕ → SessionValue
 new_session id b at = record {
   id = id;

@@ -23,7 +23,7 @@ sessions_of es = newest_first (λ s. s) es
 abbrev pub Indexes : LedgerIndex → List SessionValue → Type 0
 Indexes ledgered sessions = (id : Id) (r : RevId) → is_ledgered ledgered id r ≡ in_ledgers sessions id r
 
--- No session id occurs twice in the table, each session is stored under its own id, and the ledger index has the
+-- No session id occurs twice in the table, each session is stored under the session's id, and the ledger index has the
 -- revisions of the sessions' ledgers.
 pub record IsTableOf (ledgered : LedgerIndex) (es : List (SessionId × SessionValue)) : Type 0 where
   pub once : IsDistinct at_session (keys_of es)

@@ -107,7 +107,7 @@ impl<F: WriteFilter> Peer<F> {
     {
         let life = self.next_life(backup)?;
         // The code uses the contract of `backup.db()`, not its result. The contract of `db` states that the backup
-        // satisfies its invariant.
+        // satisfies the invariant of backups.
         let _copy = backup.db();
         self.law();
         let alloc = *self.locals.allocator();

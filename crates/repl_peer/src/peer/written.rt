@@ -124,7 +124,7 @@ impl Written {
     }
 }
 
-/// Returns the parent of a document's revision, if it is known.
+/// Returns the parent of a document's revision, if the parent is known.
 fn parent_in(db: &Database, id: &DocId, rev: Rev) -> Option<Rev>
     ensures { result ≡ get (tree_of db.now.docs id.now).parents rev }
 {

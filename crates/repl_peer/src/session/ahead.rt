@@ -28,8 +28,8 @@ use rev_tree::{Origin, SessionId};
 use std::mem::replace;
 
 /// Settles the documents at the beginning of a parcel that have prepared arrivals, until a document cannot be stored.
-/// Returns the number of settled documents. The caller then settles the next document individually, and so finds out
-/// why the document could not be stored in bulk.
+/// Returns the number of settled documents. The caller then settles the next document individually to find out why the
+/// document could not be stored in bulk.
 ///
 /// The arrivals are added as one list, so that the peer does not add each arrival individually under its lock. If the
 /// allocation for the list of arrivals fails, no document is settled.
@@ -154,8 +154,8 @@ pub(crate) fn put_prepared_at(
     i < made.len() && db.put_prepared(&docs[i], &mut made[i], origin)
 }
 
-/// Adds the first `count` arrivals of a list to the session, and counts their documents. The caller has reserved the
-/// space for the arrivals.
+/// Adds the first `count` arrivals of a list to the session, and counts the arrivals' documents as read and as written.
+/// The caller has reserved the space for the arrivals.
 fn enter(
     earlier: &mut Vec<Vec<Written>>,
     arrivals: &mut Vec<Written>,

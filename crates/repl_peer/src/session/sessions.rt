@@ -258,7 +258,7 @@ impl Sessions {
         Ok(session.record(at))
     }
 
-    /// Concludes a session if every window up to its goal is done.
+    /// Concludes a session if every window up to the session's goal is done.
     pub(crate) fn conclude(&mut self, id: SessionId, at: Moment) -> Result<Report, TargetFault>
         ensures answer { result ≡ answer_in self.old id conclude_in }
         ensures sessions { self.new

@@ -13,8 +13,8 @@ use crate::session::rows::{asked_count, leaf_count};
 use crate::session::window::StoredWindow;
 use couch_base::{MOST_SEQUENCE, Parcel};
 
-/// The index of a parcel's window, the number of leaves in its rows, and the number of revisions that the parcel
-/// requested.
+/// The index of a parcel's window, the number of leaves in the window's rows, and the number of revisions that the
+/// parcel requested.
 #[derive(Clone, Copy)]
 pub(crate) struct Checked {
     pub(crate) place: usize,
@@ -81,7 +81,7 @@ fn place_from(windows: &[StoredWindow], lo: u64) -> usize
     windows.partition_point(|window| window.lo() < lo)
 }
 
-/// Whether the counts of a session stay at or below their maximum if the given numbers are added.
+/// Whether the counts of a session would stay at or below the maximum of a count if the given numbers were added.
 fn has_room(session: &Session, read: u64, checked: u64, found: u64) -> bool
     ensures { result
         ≡ (nat_le (session.now.counts.read + read) most
@@ -92,7 +92,7 @@ fn has_room(session: &Session, read: u64, checked: u64, found: u64) -> bool
         && fits(session.counts.found, found)
 }
 
-/// Whether a count stays at or below its maximum if a number is added.
+/// Whether a count would stay at or below the maximum of a count if a number were added.
 fn fits(count: u64, more: u64) -> bool
     ensures { result ≡ nat_le (count + more) most }
 {
