@@ -44,8 +44,7 @@ pub record OwnParcel (w : WorldValue) (place : ℕ) (p : ParcelValue) : Type 0 w
 pub record Tied (w : WorldValue) : Type 0 where
   -- The target of the world is consistent with the source and with each backup of the source.
   pub peers : IsTiedWith w.backups w.source w.target w.chosen
-  -- The life of each window or log in the bag (a number that changes when a database is restored) is at most the life
-  -- of the source's database.
+  -- The life (incarnation) of each window or log in the bag is at most the life of the source's database.
   pub window_lives : (x : WindowValue) → Among x w.bag.windows → x.life ≤ w.source.db.life
   pub log_lives : (g : ℕ × List EntryValue) → Among g w.bag.logs → g.0 ≤ w.source.db.life
   -- A window of the bag that has the source's current life is consistent with the source's database. If the window of a
@@ -67,8 +66,8 @@ pub record HoldNone (source target : PeerValue) (chosen : Choice) : Type 0 where
 
 -- ---- guarantees of tied worlds
 
--- Settling a parcel of the bag never returns `Uncovered` if the session has the parcel's window, and this window has
--- the source's current life.
+-- Settling a parcel of the bag never returns `Uncovered` if the session has the parcel's window, and the window has the
+-- source's current life.
 abbrev pub NeverUncovered : (Document → Bool) → WorldValue → Type 0
 NeverUncovered refuses w =
     (p : ℕ × ParcelValue) → Among p w.bag.parcels
@@ -78,8 +77,8 @@ NeverUncovered refuses w =
     → is_uncovered result ≡ false
 
 -- The guarantees of a consistent world. In a consistent world, the target covers the source's feed up to each sequence
--- that both logs claim, and up to the common checkpoint. An audit in a consistent world finds no leaf that is not
--- covered. The clause `covered` says when settling a parcel never returns `Uncovered`.
+-- that the logs of both sides claim, and up to the common checkpoint. An audit in a consistent world finds no leaf that
+-- is not covered. The clause `covered` says when settling a parcel never returns `Uncovered`.
 pub record IsTrustworthy (refuses : Document → Bool) (w : WorldValue) : Type 0 where
   pub tied : Tied w
   pub honest : LogsAreHonest w.source w.target w.chosen

@@ -86,8 +86,8 @@ abbrev pub settles : (Document → Bool) → WorldValue → SessionId → Option
 settles refuses w session None = w
 settles refuses w session (Some p) = record w { target = after_settle refuses w.target session p.1 }
 
--- The world after a step settled n documents of a parcel, and then ran out of memory. If a complete settling would
--- settle fewer than n documents, the step has settled all documents that a complete settling would settle.
+-- The world after a step settled documents of a parcel, and then ran out of memory. The step has settled the first n
+-- documents of the parcel, or fewer if settling without failed allocations settles fewer.
 abbrev pub stops : (Document → Bool) → WorldValue → SessionId → ℕ → Option (ℕ × ParcelValue) → WorldValue
 stops refuses w session n None = w
 stops refuses w session n (Some p) = record w { target = after_some refuses w.target session p.1 n }
@@ -115,7 +115,8 @@ puts w (Some e) = record w { source = after_put_entry w.source (rep_of w) e }
 abbrev pub crashed : WorldValue → WorldValue
 crashed w = record w { bag = empty_bag }
 
--- The source's current log of the replication, with the life in which it is read.
+-- The source's current log of the replication, with the life (incarnation) of the source's database when the log is
+-- read.
 abbrev pub log_of_source : WorldValue → ℕ × List EntryValue
 log_of_source w = (w.source.db.life, source_log w.source (rep_of w))
 
