@@ -33,8 +33,8 @@ AnswersIn answers old (Err refusal) told new = Refuses refusal old told new
 abbrev pub Reads : Result (List ℕ) Refusal → State → Told → State → Type 0
 Reads text old told new = (told ≡ told_of text) × (new ≡ old)
 
--- The given line of a script prints the given output and leads to the given state, or fails with the given error and
--- leaves the state unchanged.
+-- A line of a script either prints the given output and leads to the given state, or fails with the given error and
+-- leaves the script's state unchanged.
 abbrev pub Does : Result (List ℕ × State) Refusal → State → Told → State → Type 0
 Does (Ok done) old told new = (told ≡ Ok done.0) × (new ≡ done.1)
 Does (Err refusal) old told new = Refuses refusal old told new
