@@ -185,8 +185,8 @@ where
     ensures counted { OnOk result ((R.failures reader.new ≡ R.failures reader.old)
         × (W.failures writer.new ≡ W.failures writer.old)) }
     // If the call returns an error, the written text is a prefix of the lines' output, and the reader or writer that
-    // the error names has failed. The call returns `Memory` only before the first read or while it reads a line, and
-    // the output of all earlier lines is complete.
+    // the error names has failed. The call returns `Memory` only before the first read or while reading a line, and the
+    // output of all earlier lines is complete.
     ensures fault { IfErr result (λ fault. (input : List ℕ) × (text : List ℕ) × Gives (R.left reader.old) input
         × Appends (W.held writer.old) (W.held writer.new) text
         × IsToldUntil fault LinesAnswer (no_databases (program_of settings.now)) input text
