@@ -82,8 +82,8 @@ status_after (done None counts recorded) = Some (if counts.doc_write_failures ==
 status_after (done (Some fault) counts recorded) = Some 3
 
 -- The run of the relay has ended with the given status. If the last request was `done`, the status is the status of
--- `done`. If not, the status is 3, and the input bytes `left` do not begin with a complete response to the last
--- request.
+-- `done`. If the last request was not `done`, the status is 3, and the input bytes `left` do not begin with a complete
+-- response to the last request.
 abbrev pub EndsWith : Type 0 → RequestView → List ℕ → ℕ → Type 0
 EndsWith ended next left status =
     (status_after next ≡ Some status) ⊎ ((status_after next ≡ None) × NoFrame ended left × (status ≡ 3))
@@ -125,7 +125,7 @@ pub record AreOptions (options : Options) (choice : Text) (o : RequestOptions) :
   pub query : string_bytes o.query ≡ options.query.now
   pub choice_is : string_bytes o.choice ≡ choice
 
--- The byte that replaces byte b if a text is written on one line: a blank for a line feed or a carriage return,
+-- The byte that replaces byte b when a text is put on one line: a space if b is a line feed or a carriage return,
 -- otherwise b itself.
 abbrev pub on_line : ℕ → ℕ
 on_line b = if b == 10 || b == 13 then 32 else b
