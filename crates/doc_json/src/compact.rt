@@ -54,7 +54,7 @@ pub(crate) fn value_text<'v, V: JsonValue<'v>>(
     Ok(trimmed(out))
 }
 
-/// Shrinks a buffer that has at least 32 unused bytes, because the allocator cannot reuse a smaller number of bytes.
+/// Shrinks a buffer that has at least 32 unused bytes, because the allocator cannot reuse fewer than 32 bytes.
 fn trimmed(text: Vec<u8>) -> Vec<u8>
     ensures { result.items ≡ text.items }
 {
