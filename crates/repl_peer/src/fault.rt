@@ -133,7 +133,7 @@ pub enum TargetFault {
     Memory,
 }
 
-/// The result of a session: its log entry without timestamps.
+/// The result of a session: the session's log entry without timestamps.
 #[derive(Clone, Copy, Debug, PartialEq, Eq)]
 pub struct Report {
     /// The session.

@@ -43,7 +43,7 @@ pub struct Peer<F: WriteFilter> {
     pub(crate) outgoing: Logs,
 }
 
-// This type has no `#[derive(Drop)]`, because each crate that owns such a value would have to prove the derived code
+// The type `Peer` has no `#[derive(Drop)]`, because each crate that owns a `Peer` would have to prove the derived code
 // (docs/DECISIONS.md, "Letting values go").
 impl<F: WriteFilter + Drop> Drop for Peer<F> {
     fn drop(self) {
@@ -281,7 +281,7 @@ impl<F: WriteFilter> Peer<F> {
 
     // ---- sessions
 
-    /// Begins a session, which becomes the newest.
+    /// Begins a session, which becomes the peer's newest session.
     ///
     /// # Errors
     ///
@@ -345,8 +345,8 @@ impl<F: WriteFilter> Peer<F> {
 
     /// Settles a parcel of a session: applies the parcel's documents in order, then marks the parcel's window as done.
     ///
-    /// A document that the tree already had counts as written. A document that is refused by the filter or as a
-    /// contradiction goes into the session's ledger. Returns the number of stored documents and the number of documents
+    /// A document that the tree already had counts as written. A document that the filter refuses, or that contradicts
+    /// the tree, goes into the session's ledger. Returns the number of stored documents and the number of documents
     /// that went into the ledger.
     ///
     /// # Errors

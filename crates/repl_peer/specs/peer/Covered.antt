@@ -40,7 +40,7 @@ in_ledger ledger id r = list_any (λ x. bytes_eq x.doc.id id && is_among r x.doc
 abbrev pub covers : PeerValue → Id → RevId → Bool
 covers p id r = has (tree_of p.db.docs id) r || list_any (λ s. in_ledger s.ledger id r) p.sessions
 
--- Whether each leaf of a feed row satisfies the test `known`.
+-- Whether each leaf of a feed row satisfies the test `known` (a function of a document id and a revision).
 abbrev pub knows_row : (Id → RevId → Bool) → RowValue → Bool
 knows_row known row = list_all (known row.id) row.leaves
 
@@ -58,7 +58,7 @@ pub record Leaf : Type 0 where
   pub id : Id
   pub rev : RevId
 
--- The first leaf of a feed row that does not satisfy the test `known`.
+-- The first leaf of a feed row that does not satisfy the test `known` (a function of a document id and a revision).
 abbrev pub unknown_in : (Id → RevId → Bool) → RowValue → Option Leaf
 unknown_in known row =
     option_map (λ rev. record { seq = row.seq; id = row.id; rev = rev })
@@ -72,7 +72,7 @@ first_unknown known (row ∷ rows) = option_or (unknown_in known row) (first_unk
 abbrev pub first_uncovered : PeerValue → List RowValue → Option Leaf
 first_uncovered p rows = first_unknown (covers p) rows
 
--- In the windows of session s, peer p covers every leaf of every row whose sequence is at most n.
+-- In the windows of session s, peer p covers every leaf of every row whose sequence is at most the number n.
 abbrev pub Honest : PeerValue → SessionValue → ℕ → Type 0
 Honest p s n =
     (w : WindowValue) → Among w s.windows → (row : RowValue) → Among row w.rows → row.seq ≤ n → (leaf : RevId)

@@ -23,7 +23,7 @@ use Rattle.repl_log.specs.declared.counts.Counts.{Counts}
 use Rattle.repl_peer.specs.declared.fault.Reason.{Reason}
 use Rattle.repl_peer.specs.declared.session.beginning.Scope.{Scope}
 
--- The document id and the revisions of a local write or an arrival.
+-- The document id and the revisions of a local write or an arrival (a stored document).
 pub record WrittenValue : Type 0 where
   pub id : Id
   pub ancestry : List RevId

@@ -1,5 +1,5 @@
--- Defines a session's state after documents are settled in bulk. For bulk settling, the arrivals of the documents are
--- prepared in advance, and are added to the session as one list.
+-- Defines a session's state after documents are settled in bulk. For bulk settling, the arrivals (records of stored
+-- documents) are prepared in advance, and are added to the session as one list.
 use Rattle.std.specs.Prelude.{◌≡◌, ◌+◌, List, ◌++◌, map, length, take}
 use Rattle.doc_json.specs.Document.{Document}
 use Rattle.repl_peer.specs.peer.Peer.{WrittenValue, SessionValue, written_of}

@@ -69,8 +69,8 @@ IsIndexedWith d old new =
 abbrev pub settling_at : DatabaseValue → SessionValue → Settling
 settling_at db session = record { db = db; session = session }
 
--- Settling document d changes the database and session `before` into `after`, and does not stop at d. The new revisions
--- of d get origin o.
+-- Settling document d changes the database and the session from `before` to `after`, and does not stop at d. The new
+-- revisions of d get origin o.
 pub record Steps (refuses : Document → Bool) (o : Origin) (d : Document) (before after : Settling) : Type 0 where
   pub goes : stops_at refuses before d ≡ false
   pub step : (w : WindowValue) → o ≡ fed w before.session.id d → after ≡ settle_one refuses w before d
@@ -82,7 +82,7 @@ cause_at full = if full then causes.SeqFull else causes.Memory
 
 -- ---- documents of a parcel
 
--- The first n documents of a parcel are settled, and the remaining documents are `others`.
+-- The first n documents of a parcel are settled, and the list `others` has the remaining documents.
 pub record Reached (refuses : Document → Bool) (w : WindowValue) (before : Settling) (docs : List Document) (n : ℕ)
     (others : List Document) (after : Settling) : Type 0 where
   pub within : n ≤ settled_before refuses w before docs

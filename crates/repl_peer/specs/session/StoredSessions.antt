@@ -1,4 +1,5 @@
--- The stored form of a peer's sessions: the table by session id, the ledger index, and the index by replication.
+-- Defines the stored form of a peer's sessions: the table by session id, the ledger index, and the index by
+-- replication.
 use Rattle.std.specs.Prelude.{◌≡◌, List, map, reverse}
 use Rattle.std.specs.List.{IsDistinct}
 use Rattle.std.specs.Map.{keys_of}

@@ -1,4 +1,4 @@
-//! Calls that read the parts of a peer. None of them allocates.
+//! Calls that read the parts of a peer. None of these calls allocates.
 use crate::peer::Peer;
 use crate::peer::filter::WriteFilter;
 use crate::peer::written::Written;
@@ -59,8 +59,8 @@ impl<F: WriteFilter> Peer<F> {
         }
     }
 
-    /// Returns the arrivals of a session in order, if the peer has the session. The first part of the result is a list
-    /// of lists of arrivals. The second part of the result is the list of all later arrivals.
+    /// Returns the arrivals (stored documents) of a session in order, if the peer has the session. The first part of
+    /// the result is a list of lists of arrivals. The second part of the result is the list of all later arrivals.
     pub fn arrivals(&self, id: SessionId) -> Option<(&[Vec<Written>], &[Written])>
         ensures { option_map (λ lists. flat_map (λ list. list.items) lists.0.now ++ lists.1.now) result
             ≡ option_map (λ s. s.arrivals) (session_in self.now.1.sessions id) }

@@ -116,8 +116,9 @@ fn put_ahead<F: WriteFilter>(
     limit
 }
 
-/// Stores the document at an index, with its prepared tree if possible. Returns false if the document cannot be stored.
-/// If the call returns false, the database is unchanged, but the prepared tree may have been dropped.
+/// Stores the document at an index, from the document's prepared tree if possible. Returns false if the document cannot
+/// be stored. If the call returns false, the database is unchanged, but the prepared tree of the document may have been
+/// dropped.
 fn put_next(
     db: &mut Database,
     docs: &[Doc],
@@ -155,7 +156,7 @@ pub(crate) fn put_prepared_at(
 }
 
 /// Adds the first `count` arrivals of a list to the session, and counts the arrivals' documents as read and as written.
-/// The caller has reserved the space for the arrivals.
+/// The caller has already reserved the space for the arrivals.
 fn enter(
     earlier: &mut Vec<Vec<Written>>,
     arrivals: &mut Vec<Written>,

@@ -32,7 +32,7 @@ use std::marker::Model;
 /// The incoming sessions of a peer, newest first, with lookup tables of refused revisions and of sessions by
 /// replication.
 ///
-/// Sessions are stored oldest first, in a table by session id, so that a call about one session does not scan all
+/// Sessions are stored oldest first, in a table by session id, so that a call that names one session does not scan all
 /// sessions.
 #[derive(Drop)]
 pub(crate) struct Sessions {
