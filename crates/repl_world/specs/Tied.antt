@@ -20,8 +20,8 @@ use Rattle.repl_peer.specs.declared.fault.TargetFault.{TargetFault}
 use Rattle.repl_world.specs.Bags.{IsBag}
 use Rattle.repl_world.specs.Worlds.{WorldValue, rep_of}
 
--- The invariants of three parts of world w: the source's database, the target, and the bag. The types of these parts
--- guarantee the invariants.
+-- The invariants of three parts of world w: the source's database, the target, and the bag. The types of the three
+-- parts guarantee the invariants.
 pub record IsWorld (refuses : Document → Bool) (w : WorldValue) : Type 0 where
   pub source : LawfulDatabase w.source.db
   pub target : Lawful refuses w.target
@@ -59,7 +59,7 @@ pub record Tied (w : WorldValue) : Type 0 where
   pub entries : (e : EntryValue) → Among e w.bag.entries → IsSentEntry w.target e
 
 -- The target has no session of the replication from the source for the selection `chosen`, and the source has no log
--- entry of this replication. The two peers may have sessions and log entries of other selections.
+-- entry of this replication. The source and the target may have sessions and log entries of other selections.
 pub record HoldNone (source target : PeerValue) (chosen : Choice) : Type 0 where
   pub sessions : (s : SessionValue) → Among s target.sessions → s.rep ≡ rep_between source target chosen → ⊥
   pub log : source_log source (rep_between source target chosen) ≡ []

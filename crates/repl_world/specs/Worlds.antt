@@ -96,13 +96,14 @@ stops refuses w session n (Some p) = record w { target = after_some refuses w.ta
 abbrev pub entry_in : PeerValue → SessionId → Result EntryValue TargetFault
 entry_in p session = session_answer p session (λ (s : SessionValue). Ok (entry_of s))
 
--- The world after a session is recorded and the session's new entry is added to the bag.
+-- The world after a session of the target is recorded and the session's new entry is added to the bag.
 abbrev pub records : WorldValue → SessionId → ℕ → WorldValue
 records w session at =
     let now = after_record w.target session at in
     record w { target = now; bag = told w.bag (entry_in now session) }
 
--- The world after a session is concluded. If concluding a session succeeds, the session's entry is added to the bag.
+-- The world after a session of the target is concluded. If concluding a session succeeds, the session's entry is added
+-- to the bag.
 abbrev pub concludes : WorldValue → SessionId → ℕ → WorldValue
 concludes w session at =
     let now = after_conclude w.target session at in
@@ -123,7 +124,7 @@ log_of_source w = (w.source.db.life, source_log w.source (rep_of w))
 abbrev pub reads_log : WorldValue → WorldValue
 reads_log w = record w { bag = with_log w.bag (log_of_source w) }
 
--- The common checkpoint of a log in the bag and the target's log.
+-- The common checkpoint that a log in the bag and the target's log have, if there is one.
 abbrev pub agreed : WorldValue → List EntryValue → Option (SessionId × ℕ)
 agreed w log = common log (target_log w.target (rep_of w))
 
