@@ -39,9 +39,9 @@ pub trait Command<L>: Sized + Drop {
     fn read(line: L) -> Option<Self>
         ensures { needed (option_map asked result) ≡ asked_in (seen line) };
 
-    /// Runs the command, and writes its output into the buffer. The result of the command is one that the relation
-    /// `answers` allows. Every command may also fail with `Memory`. If a command fails with `Memory`, the new state is
-    /// either the old state, or the state after a success whose output could not be stored.
+    /// Runs the command, and writes its output into the buffer. The relation `answers` allows the result of the
+    /// command. Even if `answers` does not allow `Memory`, every command may fail with `Memory`. The command then has
+    /// no effect, or has the effect of a success whose output could not be stored.
     fn serve<H: Threads + Wait + Sync>(
         &self,
         rt: &H,

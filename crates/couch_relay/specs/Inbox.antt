@@ -18,13 +18,13 @@ pub record IsInbox (inbox : Inbox) : Type 0 where
   pub some : 0 < length inbox.buffer.items
 
 -- A call has read bytes from a reader. The list `old` has all bytes that the reader had returned before the call. The
--- list `new` has all bytes that the reader had returned when the call ended.
+-- list `new` has all bytes that the reader had returned by the end of the call.
 abbrev pub Took : Option (List ℕ) → Option (List ℕ) → Type 0
 Took old new = (bytes : List ℕ) × Appends old new bytes
 
 -- A call has read bytes from a reader, and has appended these bytes to the inbox's pending bytes. The list `old` has
--- all bytes that the reader had returned before the call. The list `new` has all bytes that the reader had returned
--- when the call ended. The pending bytes are `before` when the call begins, and `after` when it returns.
+-- all bytes that the reader had returned before the call. The list `new` has all bytes that the reader had returned by
+-- the end of the call. The pending bytes are `before` when the call begins, and `after` when it returns.
 abbrev pub Filled : Option (List ℕ) → Option (List ℕ) → List ℕ → List ℕ → Type 0
 Filled old new before after = (bytes : List ℕ) × Appends old new bytes × (after ≡ before ++ bytes)
 
