@@ -18,7 +18,7 @@ abbrev pub told_of : Result (List ℕ) Refusal → Told
 told_of (Ok text) = Ok text
 told_of (Err refusal) = Err (name_of refusal)
 
--- The given line of a script fails with the given error, and leaves the script's state unchanged.
+-- A line of a script fails with the given error, and leaves the script's state unchanged.
 abbrev pub Refuses : Refusal → State → Told → State → Type 0
 Refuses refusal old told new = (told ≡ Err (name_of refusal)) × (new ≡ old)
 
@@ -29,7 +29,7 @@ abbrev pub AnswersIn : {L : Type 0} → Answering State L → Answering State (R
 AnswersIn answers old (Ok ask) told new = answers old ask told new
 AnswersIn answers old (Err refusal) told new = Refuses refusal old told new
 
--- The given line of a script has the given result, and leaves the script's state unchanged.
+-- A line of a script has the given result, and leaves the script's state unchanged.
 abbrev pub Reads : Result (List ℕ) Refusal → State → Told → State → Type 0
 Reads text old told new = (told ≡ told_of text) × (new ≡ old)
 
