@@ -28,14 +28,14 @@ Took old new = (bytes : List ℕ) × Appends old new bytes
 abbrev pub Filled : Option (List ℕ) → Option (List ℕ) → List ℕ → List ℕ → Type 0
 Filled old new before after = (bytes : List ℕ) × Appends old new bytes × (after ≡ before ++ bytes)
 
--- The given bytes begin with a line of length `size`.
+-- The bytes `bytes` begin with a line of length `size`.
 abbrev pub HasLine : List ℕ → ℕ → Type 0
 HasLine bytes size = IsLine bytes (take size bytes) (drop (size + 1) bytes) × (size < length bytes)
 
 abbrev pub head_view : Head → HeadView
 head_view head = record { status = head.status; size = head.size; who = head.who; date = string_bytes head.date }
 
--- The given bytes begin with a line that is the head `head` of a response, and `rest` has the bytes after the line
+-- The bytes `bytes` begin with a line that is the head `head` of a response, and `rest` has the bytes after the line
 -- feed.
 abbrev pub BeginsWithHead : List ℕ → HeadView → List ℕ → Type 0
 BeginsWithHead bytes head rest = (line : List ℕ) × IsLine bytes line rest × IsHead line head

@@ -28,7 +28,7 @@ pub record IsResponse (q : RequestView) (bytes : List ℕ) (response : ResponseV
   pub response_is : response ≡ response_in q head.status head.who body
   pub date_is : date ≡ head.date
 
--- The given bytes begin with the response d to request q, and `rest` has the bytes after the response.
+-- The bytes `bytes` begin with the response d to request q, and `rest` has the bytes after the response.
 abbrev pub BeginsWithResponse : RequestView → List ℕ → List ℕ → Dated → Type 0
 BeginsWithResponse q bytes rest d =
     (frame : List ℕ) × (bytes ≡ frame ++ rest) × IsResponse q frame (response_view d.response) (string_bytes d.date)
