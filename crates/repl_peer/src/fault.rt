@@ -209,7 +209,7 @@ impl From<LogFault> for TargetFault {
     }
 }
 
-/// Converts the error of a session's front to an error of the peer.
+/// Converts the error of a session's front (which says which windows are done) to an error of the peer.
 impl From<FrontFault> for TargetFault {
     ghost from_gives = { λ refused fault. fault ≡ refused_by_front refused };
 

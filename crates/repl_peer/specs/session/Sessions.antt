@@ -21,7 +21,7 @@ abbrev pub GivesUnlessMemory : {A : Type 0} → Result A TargetFault → Result 
 GivesUnlessMemory (Err faults.Memory) expected = IsOk expected
 GivesUnlessMemory result expected = result ≡ expected
 
--- The peer's error that corresponds to an error of a session's front.
+-- The peer's error that corresponds to an error of a session's front (which says which windows are done).
 abbrev pub refused_by_front : FrontFault → TargetFault
 refused_by_front (front_faults.NotRising end) = faults.Gap end
 refused_by_front front_faults.NoSuchWindow = faults.ForeignParcel

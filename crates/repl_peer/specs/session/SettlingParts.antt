@@ -129,7 +129,7 @@ Marks known w s leaves asked n (Err (faults.Uncovered seq id rev)) t =
 Marks known w s leaves asked n (Err (faults.Stopped m rest causes.Memory)) t = (m ≡ n) × (rest.items ≡ []) × (t ≡ s)
 Marks known w s leaves asked n (Err fault) t = ⊥
 
--- The result and effect of settling a parcel after the parcel's checks have passed.
+-- The result of settling a parcel and the state after settling, if the parcel's checks have passed.
 abbrev pub PartsSettled : (Document → Bool) → (Id → RevId → Bool) → WindowValue → Settling → ParcelValue
     → Result Settled TargetFault → Settling → Type 0
 PartsSettled refuses known w before parcel (Ok settled) after = SettlesAndMarks refuses known w before parcel settled after
@@ -140,7 +140,7 @@ PartsSettled refuses known w before parcel (Err (faults.Stopped n rest cause)) a
     Reached refuses w before parcel.docs n rest.items after × Halts refuses w before parcel.docs n cause
 PartsSettled refuses known w before parcel (Err fault) after = ⊥
 
--- The result and effect of settling a parcel, given the outcome of the parcel's checks.
+-- The result of settling a parcel and the state after settling, given the outcome of the parcel's checks.
 abbrev pub PartsSettle : (Document → Bool) → (Id → RevId → Bool) → Settling → ParcelValue
     → Result (SessionValue × WindowValue) TargetFault → Result Settled TargetFault → Settling → Type 0
 PartsSettle refuses known before parcel (Ok at) result after =
