@@ -1,4 +1,4 @@
--- Definitions for checks that are made in order, as specified in docs/PROFILE.md, "Order of checks".
+-- Defines functions for checks that are made in order, as specified in docs/PROFILE.md, "Order of checks".
 use Rattle.std.specs.Prelude.{Option, Result, Ok, Err}
 use Rattle.rev_core.specs.Checks.{or_refused}
 use Rattle.script_databases.specs.declared.refusal.Refusal.{Refusal}
@@ -8,7 +8,7 @@ use Rattle.script_databases.specs.declared.refusal.Refusal.TheVariants as why
 abbrev pub needed : {A : Type 0} → Option A → Result A Refusal
 needed x = or_refused why.BadCommand x
 
--- The given result, with the function f applied to the value of `Ok`.
+-- An `Ok` result with function f applied to its value, or an unchanged `Err` result.
 abbrev pub seen_as : {A B : Type 0} → (A → B) → Result A Refusal → Result B Refusal
 seen_as f (Ok x) = Ok (f x)
 seen_as f (Err why) = Err why

@@ -1,5 +1,5 @@
--- The result of a command, and the state after the command, as specified in docs/PROFILE.md, "Order of checks" and
--- "Answers".
+-- Defines the result of a command, and the state after the command, as specified in docs/PROFILE.md, "Order of checks"
+-- and "Answers".
 use Rattle.std.specs.Prelude.{◌≡◌, ℕ, Bool, List, [], if◌then◌else◌, Result, Ok, Err}
 use Rattle.repl_peer.specs.peer.Peer.{PeerValue}
 use Rattle.script_engine.specs.Serving.{Told, Answering}
@@ -18,22 +18,23 @@ abbrev pub told_of : Result (List ℕ) Refusal → Told
 told_of (Ok text) = Ok text
 told_of (Err refusal) = Err (name_of refusal)
 
--- The given line of a script fails with the given error, and leaves the script's state unchanged.
+-- A line of a script fails with the given error, and leaves the script's state unchanged.
 abbrev pub Refuses : Refusal → State → Told → State → Type 0
 Refuses refusal old told new = (told ≡ Err (name_of refusal)) × (new ≡ old)
 
--- The results of a line. The relation `answers` defines the results for the parameters that the line gives. If the line
--- cannot be parsed, the line fails with the error of parsing, and leaves the state unchanged.
+-- The relation between a parsed line, the result of the line, and the script's state before and after the line. If the
+-- line can be parsed, the relation `answers` defines the results for the line's parameters. If the line cannot be
+-- parsed, the line fails with the error of parsing, and leaves the state unchanged.
 abbrev pub AnswersIn : {L : Type 0} → Answering State L → Answering State (Result L Refusal)
 AnswersIn answers old (Ok ask) told new = answers old ask told new
 AnswersIn answers old (Err refusal) told new = Refuses refusal old told new
 
--- The given line of a script has the given result, and leaves the script's state unchanged.
+-- A line of a script has the given result, and leaves the script's state unchanged.
 abbrev pub Reads : Result (List ℕ) Refusal → State → Told → State → Type 0
 Reads text old told new = (told ≡ told_of text) × (new ≡ old)
 
--- The given line of a script prints the given output and leads to the given state, or fails with the given error and
--- leaves the state unchanged.
+-- A line of a script either prints the given output and leads to the given state, or fails with the given error and
+-- leaves the script's state unchanged.
 abbrev pub Does : Result (List ℕ × State) Refusal → State → Told → State → Type 0
 Does (Ok done) old told new = (told ≡ Ok done.0) × (new ≡ done.1)
 Does (Err refusal) old told new = Refuses refusal old told new

@@ -1,4 +1,4 @@
--- Text that several commands print, as specified in docs/PROFILE.md, "Answers".
+-- Defines text that several commands print, as specified in docs/PROFILE.md, "Answers".
 use Rattle.std.specs.Prelude.{ℕ, ◌==◌, List, [], ◌∷◌, ◌++◌, length, codes, decimal, map, if◌then◌else◌, Option}
 use Rattle.std.specs.List.{join_with_byte}
 use Rattle.std.specs.Option.{option_map_or}
@@ -31,6 +31,6 @@ line_of_revs word id revs = ended (word ++ codes " " ++ quoted id ++ codes " " +
 abbrev pub revs_line : List ℕ → List ℕ → List RevId → List ℕ
 revs_line word id revs = if length revs == 0 then [] else line_of_revs word id revs
 
--- The output line of `changes` or `docs` with the last sequence of a feed.
+-- The output line in which `changes` or `docs` prints the last sequence of a feed.
 abbrev pub last_line : ℕ → List ℕ
 last_line last = ended (codes "last " ++ decimal last)

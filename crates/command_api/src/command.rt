@@ -9,8 +9,8 @@ use std::alloc::Global;
 use std::sync::Wait;
 use std::thread::Threads;
 
-/// A command of scripts, which reads its parameters from a line, runs, and prints its output. The implementing type
-/// holds the parameters and borrows from the line.
+/// A command of scripts, which reads its parameters from a line, runs, and prints its output. The type that implements
+/// this trait holds the parameters and borrows from the line.
 pub trait Command<L>: Sized + Drop {
     ghost use Rattle.std.specs.Prelude.{Result};
     ghost use Rattle.std.specs.Thread.{IsSync};

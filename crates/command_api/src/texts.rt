@@ -184,7 +184,7 @@ fn push_line_of_revs(
     Ok(())
 }
 
-/// Appends the output line of `changes` or `docs` with the last sequence of a feed.
+/// Appends the output line in which `changes` or `docs` prints the last sequence of a feed.
 pub fn push_last(text: &mut Vec<u8>, last: u64) -> Result<(), AllocError>
     ensures { OnOk result (text.new.items ≡ text.old.items ++ last_line last) }
 {

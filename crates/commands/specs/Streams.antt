@@ -1,4 +1,4 @@
--- The output of a program that runs a script, as specified in docs/PROFILE.md, "Answers".
+-- Defines the output of a program that runs a script, as specified in docs/PROFILE.md, "Answers".
 use Rattle.std.specs.Prelude.{◌≡◌, ℕ, List, Bool, Result, Ok, Err}
 use Rattle.script_engine.specs.Script.{AnswersEnded, IsAnswered}
 use Rattle.script_engine.specs.Faults.{IsToldUntil}
@@ -7,12 +7,13 @@ use Rattle.script_engine.specs.declared.fault.ScriptFault.TheVariants.{Read}
 use Rattle.script_databases.specs.Databases.{Program, State, no_databases}
 use Rattle.commands.specs.Trust.{TrustedLines}
 
--- The effect of a program that runs a script with the given settings. The second and third arguments of `Prints` are
--- the bytes that the program's reads returned, and whether the reads reached the input's end. The last two arguments of
--- `Prints` are the bytes that the program's writer accepted, and the result of the script. If a script succeeded, the
--- script's input has ended, and the program's writer has accepted the script's complete output. If a script failed, the
--- program's writer has accepted a prefix of the script's output. If a read failed, the writer has accepted the output
--- of all lines that end in the bytes read. The output of the program has the guarantees of `TrustedLines`.
+-- The input, the output and the result of a program that runs a script with the given settings. The bytes `input` are
+-- what the program's reads returned, and the statement `ended` says that the reads reached the input's end. The bytes
+-- `text` are what the program's writer accepted, and the last argument is the result of the script. If a script
+-- succeeded, the script's input has ended, and the program's writer has accepted the script's complete output. If a
+-- script failed, the program's writer has accepted a prefix of the script's output. If a read failed, the writer has
+-- accepted the output of all lines that end in the bytes read. The output of the program has the guarantees of
+-- `TrustedLines`.
 abbrev pub Prints : Program → List ℕ → Type 0 → List ℕ → Result Bool ScriptFault → Type 0
 Prints program input ended text (Ok clean) =
     ended × (state : State) × IsAnswered TrustedLines (no_databases program) input clean text state

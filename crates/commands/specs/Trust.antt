@@ -1,4 +1,4 @@
--- The guarantees for the output of every script, as specified in docs/PROFILE.md, "Tied databases".
+-- Defines the guarantees for the output of every script, as specified in docs/PROFILE.md, "Tied databases".
 use Rattle.std.specs.Prelude.{ℕ, List, Result, IfOk}
 use Rattle.script_engine.specs.Serving.{Told, Answering}
 use Rattle.script_databases.specs.AllTied.{AllTied}
@@ -11,7 +11,7 @@ use Rattle.write_commands.specs.Replicate.{IsCovered}
 use Rattle.write_commands.specs.Restore.{IsRestored}
 use Rattle.write_commands.specs.Sync.{IsMet}
 
--- The guarantees for the output of `audit`, `replicate`, `sync` and `restore` lines.
+-- The guarantees for the outputs of the commands `audit`, `replicate`, `sync` and `restore`.
 abbrev pub IsTrusted : Asked → Told → State → Type 0
 IsTrusted (audit ask) told new = IsClean told
 IsTrusted (replicate ask) told new = IsCovered new ask told
@@ -20,7 +20,7 @@ IsTrusted (restore ask) told new = IsRestored told
 IsTrusted ask told new = Unit {0}
 
 -- The results that a script's line may have, together with the guarantees that hold for every script. All databases of
--- a script are consistent with each other before and after a line, and the line's output satisfies `IsTrusted`.
+-- a script are consistent with each other before and after a line, and the output of the line satisfies `IsTrusted`.
 abbrev pub TrustedLines : Answering State (List ℕ)
 TrustedLines old line told new =
     (asked : Result Asked Refusal) × Asks line asked × AnswersAsked old asked told new × AllTied old × AllTied new

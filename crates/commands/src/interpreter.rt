@@ -87,8 +87,8 @@ impl<'a, H: Threads + Wait + Sync, L: ObserveAnswers> Serve for Interpreter<'a, 
     }
 }
 
-/// Runs a line that is not blank, and writes the line's output into the buffer. If the call writes only the output's
-/// first piece, it returns the rest of the output.
+/// Runs a line that is not blank, and writes the line's output into the buffer. If the call writes only the first piece
+/// of the output, the call returns the rest of the output.
 fn answer_line<H: Threads + Wait + Sync>(
     rt: &H,
     alloc: Global,
@@ -184,9 +184,9 @@ where
     ensures ended { OnOk result (R.ended reader.new) }
     ensures counted { OnOk result ((R.failures reader.new ≡ R.failures reader.old)
         × (W.failures writer.new ≡ W.failures writer.old)) }
-    // If the call returns an error, the written text is a prefix of the lines' output, and the device that the error
-    // names has failed. The call returns `Memory` only before the first read or while it reads a line, and the output
-    // of all earlier lines is complete.
+    // If the call returns an error, the written text is a prefix of the lines' output, and the reader or writer that
+    // the error names has failed. The call returns `Memory` only before the first read or while reading a line, and the
+    // output of all earlier lines is complete.
     ensures fault { IfErr result (λ fault. (input : List ℕ) × (text : List ℕ) × Gives (R.left reader.old) input
         × Appends (W.held writer.old) (W.held writer.new) text
         × IsToldUntil fault LinesAnswer (no_databases (program_of settings.now)) input text

@@ -64,8 +64,9 @@ fn command_name_of(value: &LineValue<'_>) -> Option<CommandName>
     }
 }
 
-/// Runs the command of an object, and writes the command's output into the buffer. If the call writes only the output's
-/// first piece, it returns the rest of the output. The call may block if the command is `replicate` or `sync`.
+/// Runs the command of an object, and writes the command's output into the buffer. If the call writes only the first
+/// piece of the output, the call returns the rest of the output. The call may block if the command is `replicate` or
+/// `sync`.
 pub fn serve<H: Threads + Wait + Sync>(
     rt: &H,
     alloc: Global,

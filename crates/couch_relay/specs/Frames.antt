@@ -1,5 +1,5 @@
--- The bytes of a response: a head, a line feed, and the body, as specified in docs/PROFILE.md, "Responses to the
--- relay".
+-- Defines the bytes of a response: a head, a line feed, and the body, as specified in docs/PROFILE.md, "Responses to
+-- the relay".
 use Rattle.std.specs.Prelude.{◌≡◌, ◌==◌, ◌<◌, ◌^◌, ℕ, Bool, false, if◌then◌else◌, List, [], ◌∷◌, ◌++◌, Option, None, Some, codes, length, bytes_eq}
 use Rattle.std.specs.List.{before_first, after_first}
 use Rattle.std.specs.Str.{IsUtf8, trim}
@@ -56,14 +56,14 @@ pub record IsLine (bytes line rest : List ℕ) : Type 0 where
   pub is : bytes ≡ line ++ 10 ∷ rest
   pub one : has_line_end line ≡ false
 
--- The given bytes are a response with the given head and body.
+-- The bytes `bytes` are a response with the head `head` and the body `body`.
 pub record IsFrame (bytes : List ℕ) (head : HeadView) (body : List ℕ) : Type 0 where
   pub line : Text
   pub parts : IsLine bytes line body
   pub head_is : IsHead line head
   pub size_is : length body ≡ head.size
 
--- The given bytes do not begin with a complete response. Either the input ended within a head or a body, or the first
+-- The bytes `bytes` do not begin with a complete response. Either the input ended within a head or a body, or the first
 -- line is not a head.
 pub data NoFrame (ended : Type 0) (bytes : List ℕ) : Type 0 where
   cut_head : ended → has_line_end bytes ≡ false → NoFrame ended bytes

@@ -1,4 +1,5 @@
--- Input bytes that the relay has read, but not yet used, as specified in docs/PROFILE.md, "Responses to the relay".
+-- Defines the input bytes that the relay has read, but not yet used, as specified in docs/PROFILE.md, "Responses to the
+-- relay".
 use Rattle.std.specs.Prelude.{◌≡◌, ◌+◌, ◌<◌, ◌≤◌, ℕ, false, List, ◌∷◌, ◌++◌, Option, length, take, drop, string_bytes, MatchOption}
 use Rattle.std.specs.Io.KnownBytes.{Appends}
 use Rattle.script_engine.specs.Lines.{has_line_end}
@@ -21,27 +22,27 @@ pub record IsInbox (inbox : Inbox) : Type 0 where
 abbrev pub Took : Option (List ℕ) → Option (List ℕ) → Type 0
 Took old new = (bytes : List ℕ) × Appends old new bytes
 
--- A call has read bytes, and has appended these bytes to the pending bytes. The arguments `old` and `new` are all bytes
--- that the reader had returned before and after the call. The arguments `before` and `after` are the pending bytes
--- before and after the call.
+-- A call has read bytes from a reader, and has appended these bytes to the inbox's pending bytes. The list `old` has
+-- all bytes that the reader had returned before the call. The list `new` has all bytes that the reader had returned by
+-- the end of the call. The pending bytes are `before` when the call begins, and `after` when it returns.
 abbrev pub Filled : Option (List ℕ) → Option (List ℕ) → List ℕ → List ℕ → Type 0
 Filled old new before after = (bytes : List ℕ) × Appends old new bytes × (after ≡ before ++ bytes)
 
--- The given bytes begin with a line of length `size`.
+-- The bytes `bytes` begin with a line of length `size`.
 abbrev pub HasLine : List ℕ → ℕ → Type 0
 HasLine bytes size = IsLine bytes (take size bytes) (drop (size + 1) bytes) × (size < length bytes)
 
 abbrev pub head_view : Head → HeadView
 head_view head = record { status = head.status; size = head.size; who = head.who; date = string_bytes head.date }
 
--- The given bytes begin with a line that is the head `head` of a response, and `rest` has the bytes after the line
+-- The bytes `bytes` begin with a line that is the head `head` of a response, and `rest` has the bytes after the line
 -- feed.
 abbrev pub BeginsWithHead : List ℕ → HeadView → List ℕ → Type 0
 BeginsWithHead bytes head rest = (line : List ℕ) × IsLine bytes line rest × IsHead line head
 
--- The result of reading the head of a response. The call appends the bytes that it reads to the pending bytes. If the
--- call returns a head, the pending bytes began with this head, and the bytes after the head's line remain pending. If
--- the call returns no head, the pending bytes did not begin with a complete response.
+-- The result of reading the head of a response. The call appends the bytes that it reads to the inbox's pending bytes,
+-- which are not yet used. If the call returns a head, the pending bytes began with this head, and the bytes after the
+-- head's line remain pending. If the call returns no head, the pending bytes did not begin with a complete response.
 abbrev pub ReadsHead : Option (List ℕ) → Option (List ℕ) → Type 0 → List ℕ → List ℕ → Option Head → Type 0
 ReadsHead old new ended before after head =
     (bytes : List ℕ) × Appends old new bytes

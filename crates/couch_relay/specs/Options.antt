@@ -1,4 +1,4 @@
--- The options of the command line, and the values of the options, as specified in docs/PROFILE.md, "Options of
+-- Defines the options of the command line, and the values of the options, as specified in docs/PROFILE.md, "Options of
 -- `couch_relay`".
 use Rattle.std.specs.Prelude.{◌≡◌, ℕ, List, [], Option, Some, None, codes, unwrap_or, true}
 use Rattle.clap.specs.Words.{App, HasKind, Rule, fault_of, first_of, one_of, matches_of, new_rule, with_rule}
@@ -55,8 +55,8 @@ abbrev pub IsValue : Option Text → ℕ → ℕ → Type 0
 IsValue None default n = n ≡ default
 IsValue (Some text) default n = IsNumber 64 text n
 
--- Each field of the options o has the value that the text of one argument or option gives. The functions `text` and
--- `number` return the text of an option, given the option's name.
+-- Each field of the options o has the value that the text of one argument or option represents. The functions `text`
+-- and `number` return the text of an option, given the option's name.
 pub record AreGiven (text number : Text → Option Text) (o : Options) : Type 0 where
   pub source : o.source.now ≡ unwrap_or (text (codes "SOURCE")) []
   pub target : o.target.now ≡ unwrap_or (text (codes "TARGET")) []
@@ -75,8 +75,8 @@ pub record AreGiven (text number : Text → Option Text) (o : Options) : Type 0 
 abbrev pub Says : List Text → Options → Type 0
 Says words o = AreGiven (λ id. first_of id (matches_of command_line words)) (λ id. one_of id (matches_of command_line words)) o
 
--- The reason why the arguments give no options. The reason is one of three: an error of `clap`, arguments whose values
--- no options have, or a failed allocation.
+-- The reason why no options can be made from the command line's arguments. The reason is one of three: `clap` reports
+-- an error, no value of `Options` has the values in the arguments, or an allocation failed.
 abbrev pub Refuses : List Text → NoOptions → Type 0
 Refuses words (Words error) = HasKind (fault_of command_line words) error
 Refuses words NoNumber = (o : Options) → Says words o → ⊥

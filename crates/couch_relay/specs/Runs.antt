@@ -1,4 +1,4 @@
--- A run of the program `couch_relay`: the bytes that the program reads and writes, and the exit status.
+-- Defines a run of the program `couch_relay`: the bytes that the program reads and writes, and the exit status.
 use Rattle.std.specs.Prelude.{◌≡◌, ◌==◌, ◌||◌, ◌⊎◌, ℕ, true, false, if◌then◌else◌, List, [], ◌∷◌, ◌++◌, Option, None, Some, map, string_bytes, Result, Ok, Err, MatchOption}
 use Rattle.std.specs.Io.KnownBytes.{Appends}
 use Rattle.std.specs.Str.{IsUtf8, trim}
@@ -19,8 +19,8 @@ use Rattle.couch_relay.specs.Options.{Says, Refuses}
 
 -- ---- an exchange
 
--- The given bytes are the head and the body of a response to request q, and the response has the given meaning and
--- date.
+-- The bytes `bytes` are the head and the body of a response to request q. The response has the meaning `response` and
+-- the date `date`.
 pub record IsResponse (q : RequestView) (bytes : List ℕ) (response : ResponseView) (date : Text) : Type 0 where
   pub head : HeadView
   pub body : List ℕ
@@ -28,14 +28,15 @@ pub record IsResponse (q : RequestView) (bytes : List ℕ) (response : ResponseV
   pub response_is : response ≡ response_in q head.status head.who body
   pub date_is : date ≡ head.date
 
--- The given bytes begin with the response d to request q, and `rest` has the bytes after the response.
+-- The bytes `bytes` begin with the response d to request q, and `rest` has the bytes after the response.
 abbrev pub BeginsWithResponse : RequestView → List ℕ → List ℕ → Dated → Type 0
 BeginsWithResponse q bytes rest d =
     (frame : List ℕ) × (bytes ≡ frame ++ rest) × IsResponse q frame (response_view d.response) (string_bytes d.date)
 
--- The result of receiving the response to request q. The call appends the bytes that it reads to the pending bytes. If
--- the call returns a response, the pending bytes began with this response, and the bytes after the response remain
--- pending. If the call returns no response, the pending bytes did not begin with a complete response.
+-- The result of receiving the response to request q. The call appends the bytes that it reads to the inbox's pending
+-- bytes, which are not yet used. If the call returns a response, the pending bytes began with this response, and the
+-- bytes after the response remain pending. If the call returns no response, the pending bytes did not begin with a
+-- complete response.
 abbrev pub Receives : RequestView → Option (List ℕ) → Option (List ℕ) → Type 0 → List ℕ → List ℕ → Option Dated → Type 0
 Receives q old new ended before after dated =
     (bytes : List ℕ) × Appends old new bytes
@@ -53,8 +54,8 @@ pub record IsNext (o : RequestOptions) (e : Exchange) (earlier : List ℕ → Li
   pub read_is : read ≡ read_before ++ frame
   pub written_is : written ≡ written_before ++ request_text o e.request
 
--- In a list of exchanges, the bytes `read` are the responses, and the bytes `written` are the requests. The list has
--- the last exchange first.
+-- In a list of exchanges, the bytes `read` are the responses, and the bytes `written` are the requests. The list begins
+-- with the last exchange.
 abbrev pub Exchanged : RequestOptions → List Exchange → List ℕ → List ℕ → Type 0
 Exchanged o [] read written = (read ≡ []) × (written ≡ [])
 Exchanged o (e ∷ h) read written = IsNext o e (Exchanged o h) read written
@@ -81,8 +82,8 @@ status_after (done None counts recorded) = Some (if counts.doc_write_failures ==
 status_after (done (Some fault) counts recorded) = Some 3
 
 -- The run of the relay has ended with the given status. If the last request was `done`, the status is the status of
--- `done`. If not, the status is 3, and the input bytes `left` do not begin with a complete response to the last
--- request.
+-- `done`. If the last request was not `done`, the status is 3, and the input bytes `left` do not begin with a complete
+-- response to the last request.
 abbrev pub EndsWith : Type 0 → RequestView → List ℕ → ℕ → Type 0
 EndsWith ended next left status =
     (status_after next ≡ Some status) ⊎ ((status_after next ≡ None) × NoFrame ended left × (status ≡ 3))
@@ -124,7 +125,7 @@ pub record AreOptions (options : Options) (choice : Text) (o : RequestOptions) :
   pub query : string_bytes o.query ≡ options.query.now
   pub choice_is : string_bytes o.choice ≡ choice
 
--- The byte that replaces byte b if a text is written on one line: a blank for a line feed or a carriage return,
+-- The byte that replaces byte b when a text is put on one line: a space if b is a line feed or a carriage return,
 -- otherwise b itself.
 abbrev pub on_line : ℕ → ℕ
 on_line b = if b == 10 || b == 13 then 32 else b
@@ -133,7 +134,7 @@ on_line b = if b == 10 || b == 13 then 32 else b
 abbrev pub on_one_line : Text → Text
 on_one_line text = map on_line (trim text)
 
--- The given input is a response with a selection of documents, and then further bytes `rest`.
+-- The bytes `input` are a response with the selection `choice` of documents, followed by the bytes `rest`.
 pub record IsChoice (input : List ℕ) (choice : Text) (rest : List ℕ) : Type 0 where
   pub frame : List ℕ
   pub head : HeadView
@@ -150,9 +151,10 @@ NoChoice ended input =
     NoFrame ended input
     ⊎ ((frame body rest : List ℕ) × (head : HeadView) × (input ≡ frame ++ rest) × IsFrame frame head body × ¬ IsUtf8 body)
 
--- The result of reading a selection of documents. The call appends the bytes that it reads to the pending bytes. If the
--- call returns a selection, the pending bytes began with this selection, and the bytes after the selection remain
--- pending. If the call returns no selection, the pending bytes did not begin with a selection.
+-- The result of reading a selection of documents. The call appends the bytes that it reads to the inbox's pending
+-- bytes, which are not yet used. If the call returns a selection, the pending bytes began with this selection, and the
+-- bytes after the selection remain pending. If the call returns no selection, the pending bytes did not begin with a
+-- selection.
 abbrev pub ReadsChoice : Option (List ℕ) → Option (List ℕ) → Type 0 → List ℕ → List ℕ → Option Text → Type 0
 ReadsChoice old new ended before after choice =
     (bytes : List ℕ) × Appends old new bytes
@@ -165,9 +167,9 @@ TakesChoice options input choice rest =
     (options.choice ≡ true → IsChoice input choice rest) × (options.choice ≡ false → (choice ≡ []) × (rest ≡ input))
 
 -- The result of reading the selection that the options may require. The call appends the bytes that it reads to the
--- pending bytes. A returned text is the selection at the beginning of the pending bytes, or the empty text if the
--- options require no selection. If the call returns no text, the options require a selection, and the
--- pending bytes did not begin with a selection.
+-- inbox's pending bytes, which are not yet used. A returned text is the selection at the beginning of the pending
+-- bytes, or the empty text if the options require no selection. If the call returns no text, the options require a
+-- selection, and the pending bytes did not begin with a selection.
 abbrev pub FindsChoice : Options → Option (List ℕ) → Option (List ℕ) → Type 0 → List ℕ → List ℕ → Option Text → Type 0
 FindsChoice options old new ended before after choice =
     (bytes : List ℕ) × Appends old new bytes

@@ -1,4 +1,4 @@
--- The exit status of the program, as specified in docs/PROFILE.md, "Options of `couch_relay`".
+-- Defines the exit status of the program, as specified in docs/PROFILE.md, "Options of `couch_relay`".
 use Rattle.std.specs.Prelude.{◌==◌, ℕ, if◌then◌else◌, Result, Ok, Err}
 use Rattle.clap.specs.Words.{kind_of}
 use Rattle.cli_common.specs.Status.{kind_status}

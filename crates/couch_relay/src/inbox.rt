@@ -40,7 +40,7 @@ fn side_of(name: &str) -> Option<Side>
     None
 }
 
-/// Returns the part of a text before its first space, and the part after this space.
+/// Returns the part of a text before the text's first space, and the part after the first space.
 fn split_word(text: &str) -> (&str, &str)
     ensures word { result.0.now ≡ word_in text.now }
     ensures rest { result.1.now ≡ rest_in text.now }

@@ -1,4 +1,4 @@
--- Bodies of documents, as specified in docs/PROFILE.md, "Documents".
+-- Defines bodies of documents, as specified in docs/PROFILE.md, "Documents".
 use Rattle.std.specs.Prelude.{◌≡◌, ◌≤◌, ℕ, false, List, Result, Ok, Some}
 use Rattle.serde_json.specs.Data.{Data, object, Members, depth}
 use Rattle.serde_json.specs.Find.{as_object}
@@ -9,7 +9,8 @@ use Rattle.doc_json.specs.Members.{has_special, plain_members}
 use Rattle.doc_json.specs.declared.fault.DocFault.{DocFault}
 use Rattle.doc_json.specs.declared.fault.DocFault.TheVariants as faults
 
--- The string is what `serde_json` writes for a value without rejected numbers, and has the guarantees of that writer.
+-- The string is what `serde_json` writes for the JSON value d, and satisfies the guarantees of the writer of
+-- `serde_json`.
 pub record IsWritten (text : List ℕ) (d : Data) : Type 0 where
   pub compact : text ≡ compact_text d
   pub order : IsInOrder text d

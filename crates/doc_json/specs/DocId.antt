@@ -1,4 +1,4 @@
--- Ids of documents, as specified in docs/PROFILE.md, "Document ids".
+-- Defines document ids, as specified in docs/PROFILE.md, "Document ids".
 use Rattle.std.specs.Prelude.{ℕ, Bool, false, ◌&&◌, not, List, [], ◌∷◌, length, ◌==◌, nat_lt, nat_eq, codes, Result, Ok, Err, if◌then◌else◌}
 use Rattle.std.specs.List.{starts_with}
 use Rattle.doc_json.specs.declared.fault.DocFault.{DocFault}

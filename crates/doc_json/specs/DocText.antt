@@ -1,4 +1,4 @@
--- The serialized form of a document, as specified in docs/PROFILE.md, "What `write_doc` writes".
+-- Defines the serialized form of a document, as specified in docs/PROFILE.md, "What `write_doc` writes".
 use Rattle.std.specs.Prelude.{ℕ, Bool, List, [], ◌∷◌, ◌++◌, map, drop, codes, decimal, if◌then◌else◌}
 use Rattle.std.specs.List.{join_with_byte}
 use Rattle.std.specs.Str.{bytes_eq}
@@ -8,12 +8,12 @@ use Rattle.rev_core.specs.Rev.{RevId}
 use Rattle.rev_core.specs.Text.{rev_text}
 use Rattle.doc_json.specs.Document.{Document}
 
--- The string of an ancestry's newest revision.
+-- The text of the newest revision of an ancestry.
 abbrev pub head_text : List RevId → List ℕ
 head_text [] = []
 head_text (r ∷ rest) = rev_text r
 
--- The generation of an ancestry's newest revision in decimal.
+-- The generation of the newest revision of an ancestry, as a decimal number.
 abbrev pub start_text : List RevId → List ℕ
 start_text [] = []
 start_text (r ∷ rest) = decimal r.generation
@@ -29,7 +29,7 @@ sig_texts revs = join_with_byte 44 (map sig_text revs)
 abbrev pub deleted_text : Bool → List ℕ
 deleted_text deleted = if deleted then codes ",\"_deleted\":true" else []
 
--- The members of a body, and the closing brace of the document.
+-- The text of a body's members, each after a comma, and the closing brace of the document.
 abbrev pub rest_text : List ℕ → List ℕ
 rest_text body = if bytes_eq body (codes "{}") then codes "}" else 44 ∷ drop 1 body
 

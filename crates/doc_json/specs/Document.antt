@@ -1,4 +1,4 @@
--- Documents, as specified in docs/PROFILE.md, "Documents".
+-- Defines documents, as specified in docs/PROFILE.md, "Documents".
 use Rattle.std.specs.Prelude.{◌≡◌, ℕ, Bool, List, Ok, refl}
 use Rattle.std.specs.Coded.{Coded, code_by, coded×, coded_ℕ, coded_bool, coded_list}
 use Rattle.rev_core.specs.Rev.{RevId}
@@ -21,7 +21,7 @@ coded_doc =
     (λ d. (d.id, (d.ancestry, (d.deleted, d.body))))
     (λ p. record { id = p.0; ancestry = p.1.0; deleted = p.1.1.0; body = p.1.1.1 }) (λ _. refl)
 
--- The invariant of a document: its id, its ancestry and its body are valid.
+-- The invariant of a document: the document's id, ancestry and body are valid.
 pub record IsDocument (d : Document) : Type 0 where
   pub id : doc_id_read d.id ≡ Ok d.id
   pub ancestry : IsAncestry d.ancestry

@@ -1,4 +1,4 @@
--- The string of an id, which is stored inline or on the heap.
+-- Defines the text of a document id, which is stored inline or on the heap.
 use Rattle.std.specs.Prelude.{ℕ, List, string_bytes}
 use Rattle.doc_json.specs.declared.doc_id.IdText.{IdText}
 use Rattle.doc_json.specs.declared.doc_id.IdText.TheVariants.{Inline, Allocated}

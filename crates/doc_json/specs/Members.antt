@@ -1,5 +1,5 @@
--- Members of an object whose names begin, or do not begin, with `_`, as specified in docs/PROFILE.md, "Documents" and
--- "What `read_doc` accepts".
+-- Defines members of an object whose names begin, or do not begin, with `_`, as specified in docs/PROFILE.md,
+-- "Documents" and "What `read_doc` accepts".
 use Rattle.std.specs.Prelude.{ℕ, Bool, false, ◌&&◌, ◌||◌, not, List, [], ◌∷◌, codes, if◌then◌else◌}
 use Rattle.std.specs.Str.{bytes_eq}
 use Rattle.std.specs.List.{list_any}

@@ -1,4 +1,4 @@
--- This file defines JSON values in which reading the text of each number gives the same number.
+-- Defines the JSON values whose numbers are unchanged if each number is written as text and read again.
 use Rattle.std.specs.Prelude.{◌≡◌, Some, ⊤}
 use Rattle.json.specs.Print.{IsNumber}
 use Rattle.serde_json.specs.Data.{Num, Data, null, boolean, number, string, array, object, Items, no_items, item, Members, no_members, member}

@@ -1,5 +1,5 @@
--- The members `_rev` and `_revisions`, as specified in docs/PROFILE.md, "What `read_doc` accepts" and "Ancestries", and
--- in CouchDB, "Replication Protocol".
+-- Defines how the members `_rev` and `_revisions` are read, as specified in docs/PROFILE.md, "What `read_doc` accepts"
+-- and "Ancestries", and in CouchDB, "Replication Protocol".
 use Rattle.std.specs.Prelude.{ℕ, ◌^◌, Bool, true, false, List, [], ◌∷◌, nat_lt, codes, Option, Some, None, option_and_then, option_map, Result, Ok, Err, if◌then◌else◌}
 use Rattle.std.specs.Ordering.{eq_by_cmp}
 use Rattle.serde_json.specs.Data.{Data, Items, no_items, item}
@@ -32,8 +32,8 @@ abbrev pub sigs_of : Items → Option (List (List ℕ))
 sigs_of no_items = Some []
 sigs_of (item d ds) = option_and_then (λ sig. option_map (λ sigs. sig ∷ sigs) (sigs_of ds)) (sig_of (as_str d))
 
--- The ancestry that has the generation `start` and the given signatures. The result is `BadRevisions` unless `start` is
--- a generation and there are 1 to `start` signatures.
+-- The ancestry whose newest revision has the generation `start`, and whose revisions have the given signatures. The
+-- result is `BadRevisions` unless `start` is a generation and there are 1 to `start` signatures.
 abbrev pub numbered_from : Option ℕ → Option (List (List ℕ)) → Result (List RevId) DocFault
 numbered_from None sigs = Err faults.BadRevisions
 numbered_from (Some start) None = Err faults.BadRevisions
@@ -55,7 +55,7 @@ abbrev pub is_head : RevId → List RevId → Bool
 is_head r [] = false
 is_head r (s ∷ rest) = eq_by_cmp rev_cmp r s
 
--- Whether a document's member `_rev` is missing or is the newest revision of its member `_revisions`.
+-- Whether the member `_rev` of a document is missing or is the newest revision of the document's member `_revisions`.
 abbrev pub agrees : Option RevId → List RevId → Bool
 agrees None revs = true
 agrees (Some r) revs = is_head r revs
@@ -68,7 +68,8 @@ abbrev pub alone : Option RevId → Result (List RevId) DocFault
 alone None = Err faults.NoRev
 alone (Some r) = Ok (r ∷ [])
 
--- The ancestry that has the generation `start` and the given signatures, checked against the value of `_rev`.
+-- The ancestry whose newest revision has the generation `start`, and whose revisions have the given signatures, checked
+-- against the value of `_rev`.
 abbrev pub numbered_beside : Option RevId → Option ℕ → Option (List (List ℕ)) → Result (List RevId) DocFault
 numbered_beside rev start sigs = numbered_from start sigs >>= matched rev
 
@@ -76,7 +77,7 @@ numbered_beside rev start sigs = numbered_from start sigs >>= matched rev
 abbrev pub revisions_beside : Option RevId → Data → Result (List RevId) DocFault
 revisions_beside rev d = revisions_read d >>= matched rev
 
--- The ancestry of a document, given the value of `_rev` and an optional member `_revisions`.
+-- The ancestry of a document, computed from the value of `_rev` and an optional member `_revisions`.
 abbrev pub with_revisions : Option Data → Option RevId → Result (List RevId) DocFault
 with_revisions None rev = alone rev
 with_revisions (Some d) rev = revisions_beside rev d

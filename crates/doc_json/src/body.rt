@@ -28,7 +28,7 @@ pub struct Body {
     text: ArcSlice<u8>,
 }
 
-// `Drop` is implemented by hand because its derived code would be proved again in each crate that owns such a value
+// `Drop` is implemented by hand because the derived code would be proved again in each crate that owns a `Body`
 // (docs/DECISIONS.md, "Letting values go").
 impl Drop for Body {
     fn drop(self) {

@@ -33,7 +33,7 @@ pub struct Chosen {
     marks: ArcSlice<bool>,
 }
 
-// `Drop` is implemented by hand because its derived code would be proved again in each crate that owns such a value
+// `Drop` is implemented by hand because the derived code would be proved again in each crate that owns a `Chosen`
 // (docs/DECISIONS.md, "Letting values go").
 impl Drop for Chosen {
     fn drop(self) {
@@ -135,7 +135,7 @@ fn in_order(ids: Vec<DocId>) -> Vec<DocId>
     ids
 }
 
-/// The contract gives proofs the fact that each document id is a string of bytes.
+/// From this contract, proofs learn that each document id is a string of bytes.
 fn are_texts(ids: &[DocId])
     ensures { AllByRecursion IsText ids.now }
 {

@@ -54,7 +54,7 @@ pub(crate) fn value_text<'v, V: JsonValue<'v>>(
     Ok(trimmed(out))
 }
 
-/// Shrinks a buffer that has at least 32 unused bytes, because the allocator cannot reuse a smaller number of bytes.
+/// Shrinks a buffer that has at least 32 unused bytes, because the allocator cannot reuse fewer than 32 bytes.
 fn trimmed(text: Vec<u8>) -> Vec<u8>
     ensures { result.items ≡ text.items }
 {
@@ -104,7 +104,7 @@ fn push_plain<'v, V: JsonValue<'v>>(
     Ok(())
 }
 
-/// Serializes a member, unless its name begins with `_`. Returns whether a comma must precede the next member.
+/// Serializes a member, unless the member's name begins with `_`. Returns whether a comma must precede the next member.
 fn push_unless_special<'v, V: JsonValue<'v>>(
     name: &str,
     member: &'v V,

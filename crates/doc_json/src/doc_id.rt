@@ -65,7 +65,7 @@ pub struct DocId {
     text: IdText,
 }
 
-// `Drop` is implemented by hand because its derived code would be proved again in each crate that owns such a value
+// `Drop` is implemented by hand because the derived code would be proved again in each crate that owns a `DocId`
 // (docs/DECISIONS.md, "Letting values go").
 impl Drop for DocId {
     fn drop(self) {

@@ -14,9 +14,9 @@ use std::alloc::AllocError;
 
 /// A JSON value from which a document is read. The value is a `serde_json` value or a value inside a line.
 ///
-/// Contract clauses describe a JSON value by its data (`seen`). The ghost value `in_order` says whether an object's
-/// members are in byte order of their names. Some types guarantee the order of members. For other types the caller must
-/// guarantee the order.
+/// Contract clauses describe a JSON value by its data (`seen`). The ghost value `in_order` says whether the members of
+/// an object are in the byte order of the members' names. Some types guarantee the order of members. For other types
+/// the caller must guarantee the order.
 pub(crate) trait JsonValue<'v>: Sized + 'v {
     /// An iterator over the members of a JSON object.
     type Object;

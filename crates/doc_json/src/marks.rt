@@ -26,7 +26,7 @@ fn ending(bytes: &[u8]) -> &[u8]
     &bytes[bytes.len().saturating_sub(8)..]
 }
 
-/// Returns the table index of an id, computed from its last bytes.
+/// Returns the table index of an id, computed from the id's last bytes.
 fn place_of(id: &DocId, places: usize) -> usize
     requires { 0 < places }
     ensures within { result < places }

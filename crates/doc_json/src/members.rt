@@ -25,8 +25,8 @@ pub(crate) fn has_special<'v, V: JsonValue<'v>>(members: &'v V::Object) -> bool
     false
 }
 
-/// The members of a document that begin with `_`, and whether one of these members is unknown. The value also says
-/// whether a member without a leading `_` is or contains a number that is neither an i64 nor a u64.
+/// The members of a document that begin with `_`, and whether one of these members is unknown. A `FoundMembers` value
+/// also says whether a member without a leading `_` is or contains a number that is neither an i64 nor a u64.
 #[derive_where(Clone, Copy)]
 pub(crate) struct FoundMembers<'v, V> {
     pub(crate) id: Option<&'v V>,

@@ -13,7 +13,7 @@ use crate::json_value::JsonValue;
 use rev_core::{Ancestry, Rev, Sig};
 use std::alloc::{AllocError, Global};
 
-/// Reads the member `_rev` of a document, if the document has it.
+/// Reads the member `_rev` of a document, if the document has this member.
 pub(crate) fn read_rev<'v, V: JsonValue<'v>>(member: Option<&'v V>) -> Result<Option<Rev>, DocFault>
     ensures { result ≡ rev_member (option_map (λ v. V.seen v.now) member.entry) }
 {
@@ -106,8 +106,8 @@ pub(crate) fn matched(
     Ok(Ok(ancestry))
 }
 
-/// Reads an ancestry from the generation `start` of its newest revision and a list of signatures. Returns `None` if the
-/// generation `start` and the list of signatures do not form an ancestry.
+/// Reads an ancestry from a list of signatures and the generation `start` of the ancestry's newest revision. Returns
+/// `None` if the generation `start` and the list of signatures do not form an ancestry.
 fn numbered_from<'v, V: JsonValue<'v>>(
     alloc: Global,
     start: u64,
@@ -128,7 +128,8 @@ fn numbered_from<'v, V: JsonValue<'v>>(
     }
 }
 
-/// Reads a list of signatures as revisions whose generations fall by one, from a given generation on.
+/// Reads a list of signatures as revisions. The first revision has the given generation, and the generations fall by
+/// one.
 fn numbered<'v, V: JsonValue<'v>>(
     alloc: Global,
     start: u32,

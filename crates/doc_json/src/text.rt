@@ -86,8 +86,8 @@ fn push_standing(out: &mut Vec<u8>, text: &str) -> Result<(), AllocError>
     Ok(())
 }
 
-/// Appends a string in quotation marks. The call copies runs of bytes that need no escapes, and escapes all other
-/// bytes.
+/// Appends a string in quotation marks. The call copies uninterrupted sequences of bytes that need no escapes, and
+/// escapes all other bytes.
 #[inline(never)]
 fn push_escaped(out: &mut Vec<u8>, text: &str) -> Result<(), AllocError>
     ensures text { OnOk result (out.new.items ≡ out.old.items ++ quoted text.now) }
@@ -118,7 +118,7 @@ fn push_escape(out: &mut Vec<u8>, byte: u8) -> Result<(), AllocError>
     out.extend_from_slice(&escape[..len])
 }
 
-/// Returns the escape of a byte, and its length.
+/// Returns the escape of a byte, and the length of the escape.
 fn escape_of(byte: u8) -> ([u8; 6], usize)
     ensures value { take result.1 result.0 ≡ escape_byte byte }
     ensures bound { result.1 ≤ 6 }

@@ -1,4 +1,4 @@
--- The command `audit`, as specified in docs/PROFILE.md, "Command lines" and "Answers".
+-- Defines the command `audit`, as specified in docs/PROFILE.md, "Command lines" and "Answers".
 use Rattle.std.specs.Prelude.{◌≡◌, ℕ, List, [], ◌∷◌, ◌++◌, codes, decimal, Option, Some, None, Result, Ok, Err, option_map}
 use Rattle.serde_json.specs.Data.{Data}
 use Rattle.json_values.specs.LineView.{line_items}
@@ -45,7 +45,7 @@ audit_in d = do
 
 -- ---- its output
 
--- The line of `audit` for a leaf that is not covered, with the leaf's sequence.
+-- The line that `audit` prints for a leaf that is not covered, with the leaf's sequence.
 abbrev pub hole_line : Leaf → List ℕ
 hole_line leaf =
     ended (codes "hole " ++ decimal leaf.seq ++ codes " " ++ quoted leaf.id ++ codes " " ++ rev_text leaf.rev)

@@ -1,4 +1,4 @@
--- The command `changes`, as specified in docs/PROFILE.md, "Command lines" and "Answers".
+-- Defines the command `changes`, as specified in docs/PROFILE.md, "Command lines" and "Answers".
 use Rattle.std.specs.Prelude.{ℕ, List, [], ◌∷◌, ◌++◌, codes, decimal, unwrap_or, Result, Ok}
 use Rattle.std.specs.List.{flat_map}
 use Rattle.serde_json.specs.Data.{Data}
@@ -31,7 +31,8 @@ changes_in d = do
 
 -- ---- its output
 
--- The line of `changes` for a document: the sequence of the document's latest change, and the document's leaves.
+-- The line that `changes` prints for a document: the sequence of the document's latest change, and the document's
+-- leaves.
 abbrev pub row_line : RowValue → List ℕ
 row_line r = ended (codes "change " ++ decimal r.seq ++ codes " " ++ quoted r.id ++ codes " " ++ texts_of_revs r.leaves)
 

@@ -1,4 +1,4 @@
--- The command `compare`, as specified in docs/PROFILE.md, "Command lines" and "Answers".
+-- Defines the command `compare`, as specified in docs/PROFILE.md, "Command lines" and "Answers".
 use Rattle.std.specs.Prelude.{◌≡◌, ℕ, List, [], ◌∷◌, ◌++◌, codes, decimal, Option, Some, None, Result, Ok, option_map, string_bytes}
 use Rattle.std.specs.List.{flat_map}
 use Rattle.serde_json.specs.Data.{Data}
@@ -50,13 +50,13 @@ compare_in d = do
 
 -- ---- its output
 
--- The line of `compare` for a revision whose parent differs at the target, or the empty text if there is no such
--- revision.
+-- The line that `compare` prints for a revision whose parent differs at the target, or the empty text if there is no
+-- such revision.
 abbrev pub contradicts_line : List ℕ → Option Contradiction → List ℕ
 contradicts_line id None = []
 contradicts_line id (Some c) = revs_line (codes "contradicts") id (c.child ∷ [])
 
--- The lines of `compare` for a document.
+-- The lines that `compare` prints for a document.
 abbrev pub comparison_lines : List ℕ → ComparisonValue → List ℕ
 comparison_lines id c =
     revs_line (codes "missing") id c.missing ++ contradicts_line id c.contradiction ++ revs_line (codes "differs") id c.differing
@@ -64,11 +64,11 @@ comparison_lines id c =
 abbrev pub compared_lines : DatabaseValue → DatabaseValue → RowValue → List ℕ
 compared_lines source target r = comparison_lines r.id (compared_at source target r.id)
 
--- The part of the output of `compare` with the numbers of compared documents and leaves.
+-- The part of the last line of `compare` that gives the numbers of compared documents and leaves.
 abbrev pub compared_part : Total → List ℕ
 compared_part t = codes "compared " ++ decimal t.documents ++ codes " documents " ++ decimal t.leaves ++ codes " leaves"
 
--- The part of the output of `compare` with the numbers of differences.
+-- The part of the last line of `compare` that gives the numbers of differences.
 abbrev pub found_part : Total → List ℕ
 found_part t =
     codes " missing " ++ decimal t.missing ++ codes " contradicting " ++ decimal t.contradicting ++ codes " differing "
@@ -83,14 +83,14 @@ compare_text source target chosen =
     flat_map (compared_lines source target) (chosen_feed chosen source 0 source.update_seq)
     ++ compared_line (total_of (comparisons source target (chosen_feed chosen source 0 source.update_seq)))
 
--- The remaining output of `compare`, which ends with the totals of all rows.
+-- The output that `compare` has not yet printed, which ends with the totals of all rows.
 abbrev pub compare_left : State → CompareRest → List ℕ
 compare_left s r =
     left_in (peer_at s (string_bytes r.source)) (λ source. left_in (peer_at s (string_bytes r.target)) (λ target.
     flat_map (compared_lines source.db target.db) (rows_left source.db r.walk)
     ++ compared_line (total_of (comparisons source.db target.db (rows_walked source.db r.walk)))))
 
--- The totals that `compare` has counted are the totals of the feed rows that it has printed.
+-- The totals that `compare` has counted so far are the totals of the feed rows whose lines have been printed.
 abbrev pub FitsCompare : State → CompareRest → Type 0
 FitsCompare s r =
     holds_in (peer_at s (string_bytes r.source)) (λ source. holds_in (peer_at s (string_bytes r.target)) (λ target.

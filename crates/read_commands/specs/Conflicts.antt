@@ -1,4 +1,4 @@
--- The command `conflicts`, as specified in docs/PROFILE.md, "Command lines" and "Answers".
+-- Defines the command `conflicts`, as specified in docs/PROFILE.md, "Command lines" and "Answers".
 use Rattle.std.specs.Prelude.{◌≡◌, ℕ, List, map, [], ◌∷◌, ◌++◌, codes, decimal, None, Result, Ok, string_bytes}
 use Rattle.std.specs.List.{flat_map}
 use Rattle.std.specs.Option.{option_map_or}
@@ -36,8 +36,8 @@ conflicts_in d = do
 
 -- ---- its output
 
--- The line of `conflicts` for the document of a feed row. The line has the document's live leaves, and is empty if the
--- document has fewer than two live leaves.
+-- The line that `conflicts` prints for the document of a feed row. The line has the document's live leaves, and is
+-- empty if the document has fewer than two live leaves.
 abbrev pub conflict_line : DatabaseValue → RowValue → List ℕ
 conflict_line db r = option_map_or (λ tree. revs_line (codes "conflict") r.id (conflicting tree)) (tree_in db.docs r.id) []
 
@@ -48,13 +48,13 @@ conflicts_line c = ended (codes "conflicts " ++ decimal c.conflicts ++ codes " o
 abbrev pub conflicts_text : DatabaseValue → List ℕ
 conflicts_text db = flat_map (conflict_line db) (feed db 0 db.update_seq) ++ conflicts_line (census_of (trees db))
 
--- The remaining output of `conflicts`, which ends with the counts of all documents.
+-- The output that `conflicts` has not yet printed, which ends with the counts of all documents.
 abbrev pub conflicts_left : State → ConflictsRest → List ℕ
 conflicts_left s r =
     left_in (peer_at s (string_bytes r.db)) (λ l. flat_map (conflict_line l.db) (rows_left l.db r.walk) ++ conflicts_line (census_of (trees l.db)))
 
--- The counts of `conflicts` are the counts of the feed rows that it has processed. The command `conflicts` has no
--- selection of documents.
+-- The counts that `conflicts` has made so far are those of the documents in the feed rows that have been processed. The
+-- command `conflicts` reads the feed of all documents.
 abbrev pub FitsConflicts : State → ConflictsRest → Type 0
 FitsConflicts s r =
     holds_in (peer_at s (string_bytes r.db)) (λ l. (earlier : List RowValue)

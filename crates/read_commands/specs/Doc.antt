@@ -1,4 +1,4 @@
--- The command `doc`, as specified in docs/PROFILE.md, "Command lines" and "Answers".
+-- Defines the command `doc`, as specified in docs/PROFILE.md, "Command lines" and "Answers".
 use Rattle.std.specs.Prelude.{ℕ, List, [], ◌∷◌, codes, Option, Some, None, Result, Ok}
 use Rattle.std.specs.Option.{option_copied}
 use Rattle.serde_json.specs.Data.{Data}

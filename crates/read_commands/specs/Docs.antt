@@ -1,4 +1,4 @@
--- The command `docs`, as specified in docs/PROFILE.md, "Command lines" and "Answers".
+-- Defines the command `docs`, as specified in docs/PROFILE.md, "Command lines" and "Answers".
 use Rattle.std.specs.Prelude.{ℕ, List, [], ◌∷◌, ◌++◌, codes, unwrap_or, Option, Result, Ok, option_map, string_bytes}
 use Rattle.std.specs.List.{flat_map}
 use Rattle.serde_json.specs.Data.{Data}
@@ -50,14 +50,14 @@ docs_in d = do
 abbrev pub doc_line : Document → List ℕ
 doc_line d = ended (doc_text d)
 
--- The lines of `docs` for the document of a feed row, one for each leaf, the winner first.
+-- The lines that `docs` prints for the document of a feed row: one line for each leaf, the winner first.
 abbrev pub leaf_lines : DatabaseValue → RowValue → List ℕ
 leaf_lines db r = flat_map doc_line (documents_at db r.id)
 
 abbrev pub docs_text : DatabaseValue → ℕ → Choice → List ℕ
 docs_text db since chosen = flat_map (leaf_lines db) (chosen_feed chosen db since db.update_seq) ++ last_line db.update_seq
 
--- The remaining output of `docs`: the lines for the remaining rows of the feed, and the update sequence.
+-- The output that `docs` has not yet printed: the lines for the remaining rows of the feed, and the update sequence.
 abbrev pub docs_left : State → DocsRest → List ℕ
 docs_left s r = left_in (peer_at s (string_bytes r.db)) (λ l. flat_map (leaf_lines l.db) (rows_left l.db r.walk) ++ last_line l.db.update_seq)
 

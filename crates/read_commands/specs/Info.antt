@@ -1,4 +1,4 @@
--- The command `info`, as specified in docs/PROFILE.md, "Command lines" and "Answers".
+-- Defines the command `info`, as specified in docs/PROFILE.md, "Command lines" and "Answers".
 use Rattle.std.specs.Prelude.{ℕ, List, [], ◌∷◌, ◌++◌, codes, decimal, length, Result, Ok}
 use Rattle.serde_json.specs.Data.{Data}
 use Rattle.couch_base.specs.Database.{DatabaseValue}
@@ -32,7 +32,7 @@ info_in d = do
 
 -- ---- its output
 
--- The part of the output of `info` with the name, UUID, update sequence and life of a database.
+-- The part of the output of `info` that gives the name, UUID, update sequence and life of a database.
 abbrev pub identity_part : List ℕ → DatabaseValue → List ℕ
 identity_part name db =
     codes "info " ++ name ++ codes " uuid " ++ id_digits db.uuid ++ codes " seq " ++ decimal db.update_seq ++ codes " life " ++ decimal db.life

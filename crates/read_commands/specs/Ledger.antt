@@ -1,4 +1,4 @@
--- The command `ledger`, as specified in docs/PROFILE.md, "Command lines" and "Answers".
+-- Defines the command `ledger`, as specified in docs/PROFILE.md, "Command lines" and "Answers".
 use Rattle.std.specs.Prelude.{ℕ, List, [], ◌∷◌, ◌++◌, codes, decimal, length, Option, Result, Ok, option_map}
 use Rattle.std.specs.List.{flat_map}
 use Rattle.serde_json.specs.Data.{Data}
@@ -48,11 +48,11 @@ rev_part word id rev = word ++ codes " " ++ quoted id ++ codes " " ++ rev
 abbrev pub parents_part : List ℕ → List ℕ → List ℕ
 parents_part known given = codes " known " ++ known ++ codes " given " ++ given
 
--- The line of `ledger` for a document that the write filter refused, with the document's newest revision.
+-- The line that `ledger` prints for a document that the write filter refused, with the document's newest revision.
 abbrev pub denied_line : List ℕ → List ℕ → List ℕ
 denied_line id rev = ended (rev_part (codes "denied") id rev)
 
--- The line of `ledger` for a document in which a revision has another parent than in the target's tree.
+-- The line that `ledger` prints for a document in which a revision has another parent than in the target's tree.
 abbrev pub contradicted_line : List ℕ → List ℕ → List ℕ → List ℕ → List ℕ
 contradicted_line id rev known given =
     ended (rev_part (codes "contradicted") id rev ++ parents_part known given)

@@ -1,4 +1,4 @@
--- The command `log`, as specified in docs/PROFILE.md, "Command lines" and "Answers".
+-- Defines the command `log`, as specified in docs/PROFILE.md, "Command lines" and "Answers".
 use Rattle.std.specs.Prelude.{ℕ, List, [], ◌∷◌, codes, if◌then◌else◌, Option, Some, None, Result, Ok, option_and_then, option_map}
 use Rattle.std.specs.Str.{bytes_eq}
 use Rattle.serde_json.specs.Data.{Data}

@@ -1,4 +1,4 @@
--- The remaining part of an output that is produced in pieces, as specified in docs/PROFILE.md, "Answers".
+-- Defines the part of a command's output that is not yet printed, as specified in docs/PROFILE.md, "Answers".
 use Rattle.std.specs.Prelude.{ℕ, List, Option, Result, Ok, Err}
 use Rattle.script_engine.specs.Serving.{Told, text_with}
 use Rattle.script_databases.specs.Databases.{State}
@@ -10,14 +10,14 @@ use Rattle.read_commands.specs.Docs.{docs_left}
 use Rattle.read_commands.specs.declared.rest.Rest.{Rest}
 use Rattle.read_commands.specs.declared.rest.Rest.TheVariants.{Compare, Conflicts, Docs}
 
--- The text of a command's remaining output, computed from state s.
+-- The text that a command has not yet printed, computed from state s.
 abbrev pub rest_left : State → Rest → List ℕ
 rest_left s (Compare r) = compare_left s r.value
 rest_left s (Conflicts r) = conflicts_left s r.value
 rest_left s (Docs r) = docs_left s r.value
 
--- A command's totals so far are the totals of the feed rows of state s that the command has processed. The command
--- `docs` counts nothing.
+-- The totals that a command has counted so far are the totals of those feed rows of state s that have been processed.
+-- The command `docs` counts nothing.
 abbrev pub FitsRest : State → Rest → Type 0
 FitsRest s (Compare r) = FitsCompare s r.value
 FitsRest s (Conflicts r) = FitsConflicts s r.value

@@ -1,4 +1,4 @@
--- The command `show`, as specified in docs/PROFILE.md, "Command lines" and "Answers".
+-- Defines the command `show`, as specified in docs/PROFILE.md, "Command lines" and "Answers".
 use Rattle.std.specs.Prelude.{ℕ, Bool, List, [], ◌∷◌, ◌++◌, length, if◌then◌else◌, codes, decimal, Result, Ok}
 use Rattle.std.specs.List.{flat_map}
 use Rattle.std.specs.FinMap as finmap
@@ -43,7 +43,7 @@ head_line id tree =
     ended (codes "doc " ++ quoted id ++ codes " winner " ++ text_of_any (first_of (leaves tree)) ++ codes " leaves "
     ++ decimal (length (leaves tree)) ++ codes " revs " ++ decimal (finmap.len tree.origins))
 
--- The line of `show` for a leaf. The line says whether the leaf is deleted, and has the leaf's known ancestry.
+-- The line that `show` prints for a leaf. The line says whether the leaf is deleted, and has the leaf's known ancestry.
 abbrev pub leaf_text : RevId → Bool → List RevId → List ℕ
 leaf_text leaf deleted ancestry =
     ended (codes "leaf " ++ rev_text leaf ++ (if deleted then codes " deleted " else codes " live ") ++ texts_of_revs ancestry)

@@ -1,4 +1,4 @@
--- Positions in a changes feed, as specified in docs/PROFILE.md, "Changes feed".
+-- Defines positions in a changes feed, as specified in docs/PROFILE.md, "Changes feed".
 use Rattle.std.specs.Prelude.{ℕ, List, [], Option, Some, None}
 use Rattle.couch_base.specs.Database.{DatabaseValue}
 use Rattle.couch_base.specs.Feed.{RowValue, chosen_feed}
@@ -14,7 +14,7 @@ rows_left db w = chosen_feed w.chosen db w.since db.update_seq
 abbrev pub rows_walked : DatabaseValue → Walk → List RowValue
 rows_walked db w = chosen_feed w.chosen db 0 db.update_seq
 
--- The value of function `text` for a database, or the empty text if the database does not exist.
+-- The text that function `text` returns for a database, or the empty text if the database does not exist.
 abbrev pub left_in : Option PeerValue → (PeerValue → List ℕ) → List ℕ
 left_in None text = []
 left_in (Some l) text = text l

@@ -155,7 +155,7 @@ fn push_found(answer: &mut Vec<u8>, total: &Total) -> Result<(), AllocError>
     push_number(answer, total.differing)
 }
 
-/// Prints and counts the differences between each row's document and the target's document.
+/// Prints and counts the differences between each row's document and the target's document with the same id.
 #[derive(Drop)]
 struct ComparedRows<'a> {
     source: &'a Database,

@@ -15,7 +15,7 @@ const PIECE: usize = 65_536;
 /// A position in a changes feed.
 #[derive(Drop)]
 pub struct Walk {
-    /// The sequence after which the rows of the feed are still to be printed.
+    /// The rows of the feed after this sequence are still to be printed.
     pub since: u64,
     /// The selected documents. If there is no selection, the feed has all documents.
     pub chosen: Option<Chosen>,

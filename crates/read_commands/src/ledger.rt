@@ -89,7 +89,7 @@ fn push_rows(answer: &mut Vec<u8>, rows: &[Refused]) -> Result<(), AllocError>
     Ok(())
 }
 
-/// Prints a refused document, and the reason why the target refused it.
+/// Prints a refused document, and the reason why the target refused the document.
 fn push_refused(answer: &mut Vec<u8>, refused: &Refused) -> Result<(), AllocError>
     ensures { OnOk result (answer.new.items ≡ answer.old.items ++ refused_line refused.now) }
 {

@@ -1,4 +1,4 @@
-//! `log`: prints the replication log on one side.
+//! `log`: prints the log of a replication at its source or its target.
 ghost use Rattle.std.specs.Prelude.{◌≡◌, ◌++◌, OnOk, IfOk};
 ghost use Rattle.json_values.specs.LineView.{line_view};
 ghost use Rattle.repl_peer.specs.logs.Checkpoint.{rep_between};
@@ -26,7 +26,7 @@ pub struct Log<'v, 'a> {
     pub doc_ids: Option<&'v [LineValue<'a>]>,
 }
 
-/// The side of a replication, which is its source or its target.
+/// The side of a replication: the source or the target.
 #[derive(Clone, Copy, Debug, PartialEq, Eq)]
 pub enum Side {
     Source,

@@ -1,4 +1,4 @@
-//! `show`: prints the leaves of a document, the winner first, with their known ancestries.
+//! `show`: prints the leaves of a document with their known ancestries, the winner first.
 ghost use Rattle.std.specs.Prelude.{◌≡◌, ◌++◌, true, false, OnOk};
 ghost use Rattle.std.specs.List.{flat_map, list_all};
 ghost use Rattle.std.specs.Option.{option_copied, option_map_or};
@@ -144,7 +144,7 @@ fn is_deletion(content: Option<&Content>) -> bool
     }
 }
 
-/// Prints a leaf, whether it is deleted, and its ancestry.
+/// Prints a leaf, whether the leaf is deleted, and the leaf's ancestry.
 fn push_leaf_text(
     answer: &mut Vec<u8>,
     leaf: &Rev,

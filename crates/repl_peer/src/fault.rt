@@ -20,9 +20,9 @@ use thiserror::Error;
 pub enum Reason {
     /// The write filter refuses the document.
     Filtered,
-    /// The ancestry of the document contradicts the tree, because a revision has another parent in the tree. The
-    /// variant has the newest revision with two different parents (`child`), the revision's parent in the tree
-    /// (`known`), and the revision's parent in the ancestry (`given`).
+    /// The ancestry of the document contradicts the tree, because a revision of the ancestry has another parent in the
+    /// tree. The variant has the newest revision with two different parents (`child`), the revision's parent in the
+    /// tree (`known`), and the revision's parent in the ancestry (`given`).
     Contradicting { child: Rev, known: Rev, given: Rev },
 }
 
@@ -38,7 +38,7 @@ pub enum Cause {
 /// The number of a parcel's documents that were written, and the number that were refused.
 #[derive(Clone, Copy, Debug, PartialEq, Eq)]
 pub struct Settled {
-    /// The number of documents stored, including those that already existed.
+    /// The number of documents stored, including documents that already existed.
     pub written: u64,
     /// The number of documents added to the ledger.
     pub failures: u64,
@@ -64,8 +64,8 @@ pub enum TargetFault {
     /// The peer has no session with the given id.
     #[error("no such session")]
     NoSuchSession,
-    /// The life of a window is not the session's life, or the life of a log entry is not the database's life. The
-    /// expected life is `now`.
+    /// A window's life (a number that changes when a database is restored) is not the session's life, or a log entry's
+    /// life is not the database's life. The expected life is `now`.
     #[error("of another life than {now}")]
     OtherLife {
         now: u64,
@@ -95,8 +95,8 @@ pub enum TargetFault {
         rest: Vec<Doc>,
         cause: Cause,
     },
-    /// The parcel's documents are settled, but the window is not done because a leaf of its rows is not covered. The
-    /// variant names the first leaf that is not covered.
+    /// The parcel's documents are settled, but the window is not done because a leaf of the window's rows is not
+    /// covered. The variant names the first leaf that is not covered.
     #[error("a leaf of the window is not covered")]
     Uncovered {
         seq: u64,
@@ -133,7 +133,7 @@ pub enum TargetFault {
     Memory,
 }
 
-/// The result of a session: its log entry without timestamps.
+/// The result of a session: the session's log entry without timestamps.
 #[derive(Clone, Copy, Debug, PartialEq, Eq)]
 pub struct Report {
     /// The session.
@@ -209,7 +209,7 @@ impl From<LogFault> for TargetFault {
     }
 }
 
-/// Converts the error of a session's front to an error of the peer.
+/// Converts the error of a session's front (which says which windows are done) to an error of the peer.
 impl From<FrontFault> for TargetFault {
     ghost from_gives = { λ refused fault. fault ≡ refused_by_front refused };
 

@@ -1,4 +1,4 @@
-//! A replication peer: a database with its incoming sessions, local writes and logs. A lock usually protects the peer.
+//! A replication peer: a database with incoming sessions, local writes and logs. A lock usually protects the peer.
 //!
 //! The rules are in docs/PROFILE.md, "Sessions of a peer", "Settling" and "Replication ids and logs".
 #![tactic(auto)]

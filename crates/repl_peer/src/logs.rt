@@ -16,8 +16,8 @@ use rev_tree::SessionId;
 use std::alloc::{AllocError, Global};
 
 /// Returns the id of the replication from one peer into another. The id contains the UUIDs of both databases. The id
-/// and the argument `chosen` share one selection in memory. The contract also states that both peers satisfy their
-/// invariants.
+/// and the argument `chosen` share one selection in memory. The contract also states that the source and the target
+/// satisfy the invariant of peers.
 pub fn rep_between<F: WriteFilter, G: WriteFilter>(
     source: &Peer<F>,
     target: &Peer<G>,
@@ -31,8 +31,9 @@ pub fn rep_between<F: WriteFilter, G: WriteFilter>(
 }
 
 /// Returns the common checkpoint of a replication (docs/PROFILE.md, "Common checkpoint"). The common checkpoint has the
-/// newest session of the target's log that is also in the source's log. The checkpoint's sequence is the lesser of the
-/// recorded sequences that the two logs have for this session. Returns `None` if the logs share no session.
+/// newest session of the target's log that is also in the source's log. The sequence of the common checkpoint is the
+/// lesser of the recorded sequences that the two logs have for this session. Returns `None` if the logs share no
+/// session.
 ///
 /// The call scans the target's sessions of the replication, newest first, until it finds the common session. Does not
 /// allocate.
@@ -52,7 +53,7 @@ pub fn checkpoint<F: WriteFilter, G: WriteFilter>(
 impl<F: WriteFilter> Peer<F> {
     ghost use Rattle.repl_peer.specs.logs.Logs.{target_log, source_log, put_entry_answer, after_put_entry};
 
-    /// Returns the log of a replication into this peer: the entries of its sessions, newest first.
+    /// Returns the log of a replication into this peer: the entries of the replication's sessions, newest first.
     pub fn target_log(&self, alloc: Global, rep: &RepId) -> Result<Log, AllocError>
         ensures log { IfOk result (λ l. l ≡ target_log self.now.1 rep.now) }
     {

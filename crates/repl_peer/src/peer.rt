@@ -43,7 +43,7 @@ pub struct Peer<F: WriteFilter> {
     pub(crate) outgoing: Logs,
 }
 
-// This type has no `#[derive(Drop)]`, because each crate that owns such a value would have to prove the derived code
+// The type `Peer` has no `#[derive(Drop)]`, because each crate that owns a `Peer` would have to prove the derived code
 // (docs/DECISIONS.md, "Letting values go").
 impl<F: WriteFilter + Drop> Drop for Peer<F> {
     fn drop(self) {
@@ -129,10 +129,10 @@ impl<F: WriteFilter> Peer<F> {
 
     /// Returns the database.
     ///
-    /// The clauses of `db` state guarantees of every peer. Each leaf of a window row at or below a session's recorded
-    /// sequence is covered, that is, in the tree or rightly refused. Each revision in the database comes from a local
-    /// write or from a row of a window. The number of read documents is the number of written documents plus the number
-    /// of refused documents.
+    /// The clauses of `db` state guarantees of every peer. If a window's row has a sequence at or below the session's
+    /// recorded sequence, each leaf of the row is covered, that is, in the tree or rightly refused. Each revision in
+    /// the database comes from a local write or from a row of a window. The number of read documents is the number of
+    /// written documents plus the number of refused documents.
     pub fn db(&self) -> &Database
         ensures value { result.now ≡ self.now.1.db }
         ensures law { Lawful (F.refuses self.now.0) self.now.1 }
@@ -142,7 +142,7 @@ impl<F: WriteFilter> Peer<F> {
         &self.db
     }
 
-    /// Has no effect at run time, but gives proofs the invariants of the peer and of its database.
+    /// Has no effect at run time, but gives proofs the invariants of the peer and of the peer's database.
     pub fn law(&self)
         ensures peer { Lawful (F.refuses self.now.0) self.now.1 }
         ensures database { LawfulDatabase self.now.1.db }
@@ -222,7 +222,7 @@ impl<F: WriteFilter> Peer<F> {
         self.db.page_due(alloc, since, goal, limit, chosen)
     }
 
-    /// Returns the leaves of another database's window that this peer's database lacks (`Database::revs_diff`).
+    /// Returns those leaves of a window from another database that this peer's database lacks (`Database::revs_diff`).
     pub fn revs_diff(&self, alloc: Global, window: &Window) -> Result<Asked, AllocError>
         ensures asked { IfOk result (λ a. a ≡ revs_diff self.now.1.db window.now) }
     {
@@ -250,16 +250,16 @@ impl<F: WriteFilter> Peer<F> {
         self.db.count_asked(alloc, asked)
     }
 
-    /// Whether a revision is covered: it is in its document's tree, or in the ancestry of a document that a session
-    /// refused.
+    /// Whether a revision is covered: the revision is in its document's tree, or in the ancestry of a document that a
+    /// session refused.
     pub fn covered(&self, id: &DocId, rev: Rev) -> bool
         ensures { result ≡ covers self.now.1 id.now rev }
     {
         has_in(self.db.tree(id), rev) || self.sessions.has_refused(id, rev)
     }
 
-    /// Returns the first leaf of a changed document that is not covered. The hint `near` makes lookups faster if the
-    /// caller passes documents in order.
+    /// Among the leaves of a changed document, returns the first leaf that is not covered. The hint `near` makes
+    /// lookups faster if the caller passes documents in order.
     pub fn uncovered_in(
         &self,
         alloc: Global,
@@ -281,7 +281,7 @@ impl<F: WriteFilter> Peer<F> {
 
     // ---- sessions
 
-    /// Begins a session, which becomes the newest.
+    /// Begins a session, which becomes the peer's newest session.
     ///
     /// # Errors
     ///
@@ -328,8 +328,8 @@ impl<F: WriteFilter> Peer<F> {
         self.append_prepared(id, ReadyWindow::new(window))
     }
 
-    /// Does the same as `append` for a prepared window. A prepared window may already have the form without leaves,
-    /// which the session keeps once the window is done.
+    /// Does the same as `append` for a prepared window. A prepared window may already have its form without leaves, in
+    /// which the session stores the window once the window is done.
     pub fn append_prepared(&mut self, id: SessionId, ready: ReadyWindow) -> Result<(), TargetFault>
         ensures answer { GivesUnlessMemory result (append_answer self.old.1 id ready) }
         ensures filter { self.new.0 ≡ self.old.0 }
@@ -337,15 +337,16 @@ impl<F: WriteFilter> Peer<F> {
         ensures err { OnErr result (self.new.1 ≡ self.old.1) }
         ensures law { Lawful (F.refuses self.new.0) self.new.1 }
     {
-        // The result of `hi` is not used. The contract of `hi` states that the window satisfies its invariant.
+        // The code uses the contract of `hi`, not its result. The contract of `hi` states that the window satisfies the
+        // invariant of windows.
         let _hi = ready.window().hi();
         self.sessions.append(id, ready)
     }
 
-    /// Settles a parcel of a session: applies its documents in order, then marks its window as done.
+    /// Settles a parcel of a session: applies the parcel's documents in order, then marks the parcel's window as done.
     ///
-    /// A document that the tree already had counts as written. A document that is refused by the filter or as a
-    /// contradiction goes into the session's ledger. Returns the number of stored documents and the number of documents
+    /// A document that the tree already had counts as written. A document that the filter refuses, or that contradicts
+    /// the tree, goes into the session's ledger. Returns the number of stored documents and the number of documents
     /// that went into the ledger.
     ///
     /// # Errors
@@ -387,7 +388,7 @@ impl<F: WriteFilter> Peer<F> {
             .settle_session(&self.filter, &mut self.db, id, parcel, spent)
     }
 
-    /// Records the low water of a session, and returns this low water. The low water is the source's sequence up to
+    /// Records the low water of a session, and returns the low water. The low water is the source's sequence up to
     /// which every window is done.
     ///
     /// Returns `NoSuchSession` if the peer has no session with the given id. Does not allocate.
@@ -400,7 +401,7 @@ impl<F: WriteFilter> Peer<F> {
         self.sessions.record(id, at)
     }
 
-    /// Records a session that is done up to its goal, and returns its report.
+    /// Records a session whose windows are done up to the session's goal, and returns the session's report.
     ///
     /// # Errors
     ///

@@ -123,7 +123,7 @@ impl Session {
         Ok(())
     }
 
-    /// Records the low water of the session, and returns it.
+    /// Records the low water of the session, and returns the low water.
     pub(crate) fn record(&mut self, at: Moment) -> u64
         ensures mark { result ≡ low_water self.old.front }
         ensures session { self.new ≡ recorded_at at self.old }

@@ -1,5 +1,5 @@
--- Worlds whose messages and stored windows come from the source, as specified in docs/PROFILE.md, "Worlds" and "Tied
--- windows and messages".
+-- Defines consistent worlds, in which messages and stored windows come from the source, as specified in
+-- docs/PROFILE.md, "Worlds" and "Tied windows and messages".
 use Rattle.std.specs.Prelude.{◌≡◌, ℕ, ◌≤◌, List, [], Bool, false, Some, None, Result, slice_get}
 use Rattle.doc_json.specs.Document.{Document}
 use Rattle.doc_json.specs.Chosen.{Choice}
@@ -20,7 +20,8 @@ use Rattle.repl_peer.specs.declared.fault.TargetFault.{TargetFault}
 use Rattle.repl_world.specs.Bags.{IsBag}
 use Rattle.repl_world.specs.Worlds.{WorldValue, rep_of}
 
--- The invariants of the source's database, the target and the bag of world w, which the types of these parts guarantee.
+-- The invariants of three parts of world w: the source's database, the target, and the bag. The types of the three
+-- parts guarantee the invariants.
 pub record IsWorld (refuses : Document → Bool) (w : WorldValue) : Type 0 where
   pub source : LawfulDatabase w.source.db
   pub target : Lawful refuses w.target
@@ -28,8 +29,8 @@ pub record IsWorld (refuses : Document → Bool) (w : WorldValue) : Type 0 where
 
 -- ---- tied worlds
 
--- The bag has a window at index `place`. If the window at `place` has the source's current life, this window is
--- consistent with the request `a` in `OwnAsked`, and with the parcel `p` in `OwnParcel`.
+-- The bag of messages has a window at index `place`. If the window at `place` has the source's current life, this
+-- window is consistent with the request `a` in `OwnAsked`, and with the parcel `p` in `OwnParcel`.
 pub record OwnAsked (w : WorldValue) (place : ℕ) (a : AskedValue) : Type 0 where
   pub window : WindowValue
   pub own : slice_get w.bag.windows place ≡ Some window
@@ -43,7 +44,7 @@ pub record OwnParcel (w : WorldValue) (place : ℕ) (p : ParcelValue) : Type 0 w
 pub record Tied (w : WorldValue) : Type 0 where
   -- The target of the world is consistent with the source and with each backup of the source.
   pub peers : IsTiedWith w.backups w.source w.target w.chosen
-  -- The life of each window or log in the bag is at most the life of the source's database.
+  -- The life (incarnation) of each window or log in the bag is at most the life of the source's database.
   pub window_lives : (x : WindowValue) → Among x w.bag.windows → x.life ≤ w.source.db.life
   pub log_lives : (g : ℕ × List EntryValue) → Among g w.bag.logs → g.0 ≤ w.source.db.life
   -- A window of the bag that has the source's current life is consistent with the source's database. If the window of a
@@ -58,15 +59,15 @@ pub record Tied (w : WorldValue) : Type 0 where
   pub entries : (e : EntryValue) → Among e w.bag.entries → IsSentEntry w.target e
 
 -- The target has no session of the replication from the source for the selection `chosen`, and the source has no log
--- entry of this replication. The two peers may have sessions and log entries of other selections.
+-- entry of this replication. The source and the target may have sessions and log entries of other selections.
 pub record HoldNone (source target : PeerValue) (chosen : Choice) : Type 0 where
   pub sessions : (s : SessionValue) → Among s target.sessions → s.rep ≡ rep_between source target chosen → ⊥
   pub log : source_log source (rep_between source target chosen) ≡ []
 
 -- ---- guarantees of tied worlds
 
--- Settling a parcel of the bag never returns `Uncovered` if the session has the parcel's window, and this window has
--- the source's current life.
+-- Settling a parcel of the bag never returns `Uncovered` if the session has the parcel's window, and the window has the
+-- source's current life.
 abbrev pub NeverUncovered : (Document → Bool) → WorldValue → Type 0
 NeverUncovered refuses w =
     (p : ℕ × ParcelValue) → Among p w.bag.parcels
@@ -76,8 +77,8 @@ NeverUncovered refuses w =
     → is_uncovered result ≡ false
 
 -- The guarantees of a consistent world. In a consistent world, the target covers the source's feed up to each sequence
--- that both logs claim, and up to the common checkpoint. An audit in a consistent world finds no leaf that is not
--- covered. The clause `covered` says when settling a parcel never returns `Uncovered`.
+-- that the logs of both sides claim, and up to the common checkpoint. An audit in a consistent world finds no leaf that
+-- is not covered. The clause `covered` says when settling a parcel never returns `Uncovered`.
 pub record IsTrustworthy (refuses : Document → Bool) (w : WorldValue) : Type 0 where
   pub tied : Tied w
   pub honest : LogsAreHonest w.source w.target w.chosen

@@ -1,4 +1,4 @@
--- An encoding of worlds and their messages as data.
+-- Defines an encoding of worlds and their messages as data.
 use Rattle.std.specs.Prelude.{ℕ, List, refl}
 use Rattle.std.specs.Coded.{Coded, code_by, coded×, coded_ℕ, coded_list}
 use Rattle.doc_json.specs.Chosen.{Choice}

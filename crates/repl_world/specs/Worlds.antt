@@ -1,4 +1,5 @@
--- Two peers and a bag of messages, and the effect of each step, as specified in docs/PROFILE.md, "Worlds".
+-- Defines worlds, which have two peers and a bag of messages, and the effect of each step on a world, as specified in
+-- docs/PROFILE.md, "Worlds".
 --
 -- A replication exchanges messages: pages of the source's feed, requests for what the target lacks, parcels of
 -- documents, and log entries. Messages between two databases may be late, repeated, reordered or lost. A world has two
@@ -85,23 +86,24 @@ abbrev pub settles : (Document → Bool) → WorldValue → SessionId → Option
 settles refuses w session None = w
 settles refuses w session (Some p) = record w { target = after_settle refuses w.target session p.1 }
 
--- The world after a step settled n documents of a parcel, and then ran out of memory. If a complete settling would
--- settle fewer than n documents, the step has settled all documents that a complete settling would settle.
+-- The world after a step settled documents of a parcel, and then ran out of memory. The step has settled the first n
+-- documents of the parcel, or fewer if settling without failed allocations settles fewer.
 abbrev pub stops : (Document → Bool) → WorldValue → SessionId → ℕ → Option (ℕ × ParcelValue) → WorldValue
 stops refuses w session n None = w
 stops refuses w session n (Some p) = record w { target = after_some refuses w.target session p.1 n }
 
--- The current log entry of a session of the target.
+-- The log entry that describes the current state of a session of the target.
 abbrev pub entry_in : PeerValue → SessionId → Result EntryValue TargetFault
 entry_in p session = session_answer p session (λ (s : SessionValue). Ok (entry_of s))
 
--- The world after a session is recorded and the session's new entry is added to the bag.
+-- The world after a session of the target is recorded and the session's new entry is added to the bag.
 abbrev pub records : WorldValue → SessionId → ℕ → WorldValue
 records w session at =
     let now = after_record w.target session at in
     record w { target = now; bag = told w.bag (entry_in now session) }
 
--- The world after a session is concluded. If concluding a session succeeds, the session's entry is added to the bag.
+-- The world after a session of the target is concluded. If concluding a session succeeds, the session's entry is added
+-- to the bag.
 abbrev pub concludes : WorldValue → SessionId → ℕ → WorldValue
 concludes w session at =
     let now = after_conclude w.target session at in
@@ -114,14 +116,15 @@ puts w (Some e) = record w { source = after_put_entry w.source (rep_of w) e }
 abbrev pub crashed : WorldValue → WorldValue
 crashed w = record w { bag = empty_bag }
 
--- The source's current log of the replication, with the life in which it is read.
+-- The source's current log of the replication, with the life (incarnation) of the source's database when the log is
+-- read.
 abbrev pub log_of_source : WorldValue → ℕ × List EntryValue
 log_of_source w = (w.source.db.life, source_log w.source (rep_of w))
 
 abbrev pub reads_log : WorldValue → WorldValue
 reads_log w = record w { bag = with_log w.bag (log_of_source w) }
 
--- The common checkpoint of a log in the bag and the target's log.
+-- The common checkpoint that a log in the bag and the target's log have, if there is one.
 abbrev pub agreed : WorldValue → List EntryValue → Option (SessionId × ℕ)
 agreed w log = common log (target_log w.target (rep_of w))
 
@@ -172,7 +175,7 @@ run refuses w (step ∷ steps) = run refuses (happens refuses w step) steps
 
 -- ---- failed allocations
 
--- The effect of a step that ran out of memory. A step that runs out of memory changes nothing, except that a step that
+-- The world after a step ran out of memory. A step that runs out of memory changes nothing, except that a step that
 -- settles a parcel may have settled documents of the parcel.
 abbrev pub IsStopped : (Document → Bool) → WorldValue → SessionId → Option (ℕ × ParcelValue) → WorldValue → Type 0
 IsStopped refuses w session parcel now =
@@ -184,8 +187,8 @@ abbrev pub CutShort : (Document → Bool) → WorldValue → Step → WorldValue
 CutShort refuses w (Settle session parcel) now = IsStopped refuses w session (slice_get w.bag.parcels parcel) now
 CutShort refuses w step now = now ≡ w
 
--- The effect of a run that ran out of memory in one of its steps. The steps before the failed step have their complete
--- effects, and the failed step has an effect that `CutShort` allows.
+-- The world after a list of steps in which one step ran out of memory. The steps before the failed step have their
+-- complete effects, and the failed step has an effect that `CutShort` allows.
 abbrev pub StoppedIn : (Document → Bool) → WorldValue → List Step → WorldValue → Type 0
 StoppedIn refuses w steps now =
     (k : ℕ) × (step : Step) × (slice_get steps k ≡ Some step) × CutShort refuses (run refuses w (take k steps)) step now

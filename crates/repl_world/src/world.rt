@@ -137,7 +137,7 @@ impl<F: WriteFilter> World<F> {
     /// that a step that settles a parcel may have settled documents of the parcel (`Stopped`).
     ///
     /// A consistent world stays consistent. The target of a consistent world covers the source's current feed up to
-    /// each sequence that both logs claim.
+    /// each sequence that the logs of both sides claim.
     pub fn run(&mut self, alloc: Global, steps: &[Step]) -> Result<(), AllocError>
         ensures filters { self.new.0 ≡ self.old.0 }
         ensures ok { OnOk result (self.new.1 ≡ run (F.refuses self.old.0.1) self.old.1 steps.now) }

@@ -1,12 +1,13 @@
--- Characters that a reader does not see, and their escapes, as specified in docs/PROFILE.md, "Pictures".
+-- Defines the characters that a reader does not see, and the escapes of these characters, as specified in
+-- docs/PROFILE.md, "Pictures".
 use Rattle.std.specs.Prelude.{◌≡◌, ℕ, ◌+◌, ◌-◌, ◌/◌, ◌%◌, ◌==◌, ◌||◌, nat_lt, List, [], ◌∷◌, ◌++◌, Bool, true, false, if◌then◌else◌}
 use Rattle.std.specs.Int.{is_in_range}
 use Rattle.std.specs.Char.{digit_char, is_control}
 use Rattle.std.specs.List.{flat_map, list_any}
 
--- The ranges of hidden characters above U+009F. The hidden characters are format characters, marks of direction,
--- separators of lines and paragraphs, and characters that Unicode 15 calls default-ignorable. The ranges also include
--- U+FFFE and U+FFFF, which XML forbids.
+-- The ranges of hidden characters above U+009F. The hidden characters are format characters, direction marks, line and
+-- paragraph separators, and characters that Unicode 15 calls default-ignorable. The ranges also include U+FFFE and
+-- U+FFFF, which XML forbids.
 abbrev pub hidden_ranges : List (ℕ × ℕ)
 hidden_ranges =
     (0xAD, 0xAD) ∷ (0x34F, 0x34F) ∷ (0x600, 0x605) ∷ (0x61C, 0x61C) ∷ (0x6DD, 0x6DD) ∷ (0x70F, 0x70F) ∷ (0x890, 0x891)
@@ -38,7 +39,7 @@ escape_of c =
 abbrev pub visible_char : ℕ → List ℕ
 visible_char c = if is_hidden c then escape_of c else c ∷ []
 
--- A text with each hidden character replaced by its escape.
+-- A text after each hidden character was replaced by the character's escape.
 abbrev pub visible : List ℕ → List ℕ
 visible cs = flat_map visible_char cs
 

@@ -1,4 +1,4 @@
--- The logs of a peer, as specified in docs/PROFILE.md, "Replication ids and logs".
+-- Defines the logs of a peer, as specified in docs/PROFILE.md, "Replication ids and logs".
 use Rattle.std.specs.Prelude.{◌==◌, List, map, filter, Result, Ok, Err, if◌then◌else◌}
 use Rattle.repl_log.specs.declared.replication.RepId.{RepId}
 use Rattle.repl_log.specs.declared.fault.LogFault.{LogFault}
@@ -24,7 +24,7 @@ target_log p rep = log_of p.sessions rep
 abbrev pub source_log : PeerValue → RepId → List EntryValue
 source_log p rep = log_in p.outgoing rep
 
--- The error of a replication log, converted to an error of the peer.
+-- The peer's error that corresponds to an error of a replication log.
 abbrev pub refused_by_log : LogFault → TargetFault
 refused_by_log (log_faults.Older stored) = faults.Older stored
 refused_by_log log_faults.Memory = faults.Memory
@@ -34,8 +34,9 @@ abbrev pub as_log_answers : Result (Unit {0}) LogFault → Result (Unit {0}) Tar
 as_log_answers (Ok done) = Ok done
 as_log_answers (Err fault) = Err (refused_by_log fault)
 
--- The result of storing an entry in the source's log, if no allocation fails. The entry's life must be the current life
--- of the source's database. The entry must not lower the recorded sequence of its session.
+-- The result of storing an entry in the source's log, if no allocation fails. The entry's life (a number that changes
+-- when a database is restored) must be the current life of the source's database. The entry must not lower the recorded
+-- sequence of the entry's session.
 abbrev pub put_entry_answer : PeerValue → RepId → EntryValue → Result (Unit {0}) TargetFault
 put_entry_answer p rep e =
     if e.life == p.db.life then as_log_answers (put_answer_in p.outgoing rep e) else Err (faults.OtherLife p.db.life)

@@ -1,5 +1,5 @@
--- This file defines backups of peers, and the effect of restoring a backup, as specified in docs/PROFILE.md, "Backup
--- and restore".
+-- This file defines backups of peers, and the state of a peer after a backup is restored, as specified in
+-- docs/PROFILE.md, "Backup and restore".
 use Rattle.std.specs.Prelude.{ℕ, ◌+◌, ◌==◌, max, Bool, true, false, nat_lt, List, [], ◌∷◌, Result, Ok, Err, if◌then◌else◌}
 use Rattle.couch_base.specs.Lists.{Among}
 use Rattle.couch_base.specs.Database.{DatabaseValue, in_life, most}
@@ -21,9 +21,9 @@ pub record BackupValue : Type 0 where
 abbrev pub peer_of : BackupValue → PeerValue
 peer_of b = record { db = b.db; locals = b.locals; sessions = []; outgoing = b.outgoing }
 
--- The invariant of a backup. Each revision of a backup comes from a local write. If a local write's generations
--- decrease by one from each revision to the next, each revision's parent in the document's tree is the next revision of
--- the write (`StandsIn`).
+-- The invariant of a backup. Each revision of a backup comes from a local write. In a local write whose generations
+-- decrease by one per revision, each revision except the last has the next revision as its parent in the document's
+-- tree (`StandsIn`).
 pub record IsBackup (b : BackupValue) : Type 0 where
   pub origins : HasOrigins (peer_of b)
   pub locals : (a : WrittenValue) → Among a b.locals → StandsIn b.db a
@@ -55,8 +55,9 @@ restore_answer p b =
     then (if nat_lt (greater_life p b) most then Ok tt else Err faults.LifeFull)
     else Err faults.ForeignBackup)
 
--- Peer p after restoring backup b. The restored peer has the database, local writes and outgoing logs of b, and a life
--- above the lives of p and b.
+-- Peer p after restoring backup b. The restored peer has the database, local writes and outgoing logs of b. The life of
+-- the restored database (a number that changes when a database is restored) is above the lives of p's and b's
+-- databases.
 abbrev pub restored : PeerValue → BackupValue → PeerValue
 restored p b =
     record p { db = in_life b.db (greater_life p b + 1); locals = b.locals; outgoing = b.outgoing }

@@ -1,4 +1,4 @@
--- The revisions that a write adds, and how the peer stores these revisions.
+-- Defines the revisions that a write adds, computed from the form in which the peer stores these revisions.
 use Rattle.std.specs.Prelude.{◌≡◌, ℕ, List, ◌∷◌, length, Some}
 use Rattle.std.specs.Option.{option_to_list}
 use Rattle.rev_core.specs.Rev.{RevId}
@@ -6,8 +6,8 @@ use Rattle.rev_core.specs.Ancestry.{FallsByOne, head_of}
 use Rattle.repl_peer.specs.declared.peer.ghost_revs.Came.{Came}
 use Rattle.repl_peer.specs.declared.peer.ghost_revs.Came.TheVariants as came
 
--- The revisions of a write: a document's complete ancestry, an edit's new revision and its parent (if any), or the
--- revisions of a copied write.
+-- The revisions of a write: a document's complete ancestry, the new revision of an edit and the new revision's parent
+-- (if any), or the revisions of a copied write.
 abbrev pub came_revs : Came → List RevId
 came_revs (came.Whole revs) = revs.now
 came_revs (came.Edit rev parent) = rev ∷ option_to_list parent

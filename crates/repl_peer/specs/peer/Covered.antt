@@ -1,4 +1,4 @@
--- Covered revisions, as specified in docs/PROFILE.md, "Covered leaves".
+-- Defines when a peer covers a revision, as specified in docs/PROFILE.md, "Covered leaves".
 use Rattle.std.specs.Prelude.{◌≡◌, ℕ, ◌≤◌, Bool, true, not, ◌&&◌, ◌||◌, List, [], ◌∷◌, Option, Some, None, is_some, if◌then◌else◌}
 use Rattle.std.specs.List.{find, list_any, list_all}
 use Rattle.std.specs.Option.{option_map, option_or}
@@ -19,15 +19,15 @@ use Rattle.repl_peer.specs.declared.fault.Reason.TheVariants as reasons
 abbrev pub contradiction_of : DatabaseValue → Document → Option Contradiction
 contradiction_of db d = first_contradiction (tree_of db.docs d.id).parents (edges_of d.ancestry)
 
--- The reason why a peer refuses a document, or `None` if the peer accepts the document. A peer checks its filter for a
--- document before it checks the document's tree.
+-- The reason why a peer refuses a document, or `None` if the peer accepts the document. A peer applies its filter to a
+-- document before it compares the document with the document's tree.
 abbrev pub refusal_of : (Document → Bool) → DatabaseValue → Document → Option Reason
 refusal_of refuses db d =
     if refuses d then Some reasons.Filtered
     else option_map (λ c. reasons.Contradicting c.child c.known c.given) (contradiction_of db d)
 
--- Whether a document is rightly refused: the filter refuses it, or its ancestry contradicts the document's tree in the
--- database.
+-- Whether a document is rightly refused: the filter refuses the document, or the document's ancestry contradicts the
+-- document's tree in the database.
 abbrev pub rightly_refused : (Document → Bool) → DatabaseValue → Document → Bool
 rightly_refused refuses db d = refuses d || is_some (contradiction_of db d)
 
@@ -40,7 +40,7 @@ in_ledger ledger id r = list_any (λ x. bytes_eq x.doc.id id && is_among r x.doc
 abbrev pub covers : PeerValue → Id → RevId → Bool
 covers p id r = has (tree_of p.db.docs id) r || list_any (λ s. in_ledger s.ledger id r) p.sessions
 
--- Whether each leaf of a feed row satisfies the test `known`.
+-- Whether each leaf of a feed row satisfies the test `known` (a function of a document id and a revision).
 abbrev pub knows_row : (Id → RevId → Bool) → RowValue → Bool
 knows_row known row = list_all (known row.id) row.leaves
 
@@ -58,7 +58,7 @@ pub record Leaf : Type 0 where
   pub id : Id
   pub rev : RevId
 
--- The first leaf of a feed row that does not satisfy the test `known`.
+-- The first leaf of a feed row that does not satisfy the test `known` (a function of a document id and a revision).
 abbrev pub unknown_in : (Id → RevId → Bool) → RowValue → Option Leaf
 unknown_in known row =
     option_map (λ rev. record { seq = row.seq; id = row.id; rev = rev })
@@ -72,7 +72,7 @@ first_unknown known (row ∷ rows) = option_or (unknown_in known row) (first_unk
 abbrev pub first_uncovered : PeerValue → List RowValue → Option Leaf
 first_uncovered p rows = first_unknown (covers p) rows
 
--- In the windows of session s, peer p covers every leaf of every row whose sequence is at most n.
+-- In the windows of session s, peer p covers every leaf of every row whose sequence is at most the number n.
 abbrev pub Honest : PeerValue → SessionValue → ℕ → Type 0
 Honest p s n =
     (w : WindowValue) → Among w s.windows → (row : RowValue) → Among row w.rows → row.seq ≤ n → (leaf : RevId)

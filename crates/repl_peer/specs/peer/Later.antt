@@ -1,5 +1,5 @@
--- The relation between an earlier and a later state of a peer that was not restored in between. A revision that the
--- peer covers stays covered.
+-- Defines when one state of a peer is later than another state, with no restore of the peer in between. A revision that
+-- the peer covers stays covered.
 use Rattle.std.specs.Prelude.{◌≡◌, ℕ, ◌≤◌, Some, slice_get}
 use Rattle.couch_base.specs.Lists.{Among}
 use Rattle.couch_base.specs.WriteLaws.{IsLater}

@@ -1,4 +1,4 @@
--- The invariant of a peer, as specified in docs/PROFILE.md, "The peer's law".
+-- Defines the invariant of a peer, as specified in docs/PROFILE.md, "The peer's law".
 use Rattle.std.specs.Prelude.{◌≡◌, ◌⊎◌, ℕ, ◌≤◌, Bool, true, List, [], ◌∷◌, map, length, Some, None, nat_eq}
 use Rattle.std.specs.List.{IsDistinct, AllByRecursion}
 use Rattle.rev_core.specs.Rev.{RevId}
@@ -19,19 +19,21 @@ use Rattle.repl_peer.specs.peer.Origins.{HasOrigins}
 abbrev pub window_bounds : List WindowValue → List (ℕ × ℕ)
 window_bounds ws = map (λ w. (w.lo, w.hi)) ws
 
--- The invariant of a session's stored windows `ws`, front f, recorded sequence n and goal.
+-- The invariant of a session's stored windows `ws`, front f (which says which windows are done), recorded sequence n
+-- and goal.
 pub record LawfulStore (f : FrontValue) (ws : List WindowValue) (n goal : ℕ) : Type 0 where
-  -- A session's windows are consecutive from its start, end at or below the goal, and have rows with rising sequences.
-  -- The front of a session has the bounds of the session's windows.
+  -- A session's windows are consecutive from the session's start, end at or below the goal, and have rows with rising
+  -- sequences. The front of a session (which says which windows are done) has the bounds of the session's windows.
   pub front : IsFront f
   pub bounds : window_bounds ws ≡ bounds f
   pub within : end_of f ≤ goal
   pub windows : AllByRecursion IsWindow ws
-  -- A session's recorded sequence is at least its start and at most its low water.
+  -- A session's recorded sequence is at least the session's start, and at most the session's low water (the sequence up
+  -- to which all its windows are done).
   pub start : f.start ≤ n
   pub recorded : n ≤ low_water f
 
--- The counts of a session agree with its arrivals and its ledger.
+-- The counts of a session agree with the session's arrivals and the session's ledger.
 pub record LawfulCounts (arrivals : List WrittenValue) (ledger : List RefusedValue) (counts : Counts) : Type 0 where
   pub written : counts.written ≡ length arrivals
   pub failures : counts.failures ≡ length ledger
@@ -40,7 +42,7 @@ pub record LawfulCounts (arrivals : List WrittenValue) (ledger : List RefusedVal
 pub record LawfulSession (refuses : Document → Bool) (p : PeerValue) (s : SessionValue) : Type 0 where
   pub store : LawfulStore s.front s.windows s.recorded s.goal
   pub open store use *
-  -- Each leaf in the rows of a done window is covered.
+  -- The peer covers each leaf in the rows of a window that is done.
   pub done : (w : WindowValue) → Among w s.windows → is_done s.front w.lo w.hi ≡ true → CoversWindow p w
   -- Each document in the session's ledger is rightly refused.
   pub ledger : (x : RefusedValue) → Among x s.ledger → rightly_refused refuses p.db x.doc ≡ true
@@ -52,7 +54,7 @@ pub record LawfulSession (refuses : Document → Bool) (p : PeerValue) (s : Sess
   pub open counts use *
 
 -- A session without a base starts at 0. The base of a session is an earlier session of the same replication, and the
--- session starts at or below the recorded sequence of its base.
+-- session starts at or below the base's recorded sequence.
 abbrev pub IsBased : List SessionValue → SessionValue → Type 0
 IsBased earlier s =
     (s.base ≡ None) × (s.front.start ≡ 0)
@@ -71,9 +73,9 @@ pub record LawfulSessions (refuses : Document → Bool) (p : PeerValue) : Type 0
   pub based : AllBased p.sessions
   pub distinct : IsDistinct nat_eq (session_numbers p.sessions)
 
--- The invariant of peer p. The sessions of p satisfy their invariant, and each revision of p has an origin. If a local
--- write's generations decrease by one from each revision to the next, each revision's parent in the document's tree is
--- the next revision of the write (`StandsIn`).
+-- The invariant of peer p. The sessions of p satisfy the invariant of sessions, and each revision of p has an origin.
+-- In a local write whose generations decrease by one per revision, each revision except the last has the next revision
+-- as its parent in the document's tree (`StandsIn`).
 pub record Lawful (refuses : Document → Bool) (p : PeerValue) : Type 0 where
   pub sessions : LawfulSessions refuses p
   pub origins : HasOrigins p

@@ -1,4 +1,4 @@
--- The list of a peer's local writes after a put or an edit.
+-- Defines the list of a peer's local writes after a put or an edit.
 use Rattle.std.specs.Prelude.{ℕ, Bool, List, [], ◌∷◌, ◌++◌, Option, Some, None, Result, Ok, Err, if◌then◌else◌}
 use Rattle.rev_core.specs.Rev.{RevId}
 use Rattle.rev_tree.specs.InOrder.{first_of}
@@ -10,7 +10,7 @@ use Rattle.couch_base.specs.Edit.{edited, edit_document}
 use Rattle.couch_base.specs.declared.fault.BaseFault.{BaseFault}
 use Rattle.repl_peer.specs.peer.Peer.{WrittenValue, written_of}
 
--- The list of local writes after a put of document d, which adds a local write if the put changes the database.
+-- The list of local writes after a put of document d. A local write is added if the put changes the database.
 abbrev pub with_load : DatabaseValue → List WrittenValue → Document → List WrittenValue
 with_load db locals d = if is_changed (put_answer db d) then locals ++ written_of d ∷ [] else locals
 
@@ -19,7 +19,7 @@ abbrev pub with_edited : DatabaseValue → List WrittenValue → Id → Bool →
 with_edited db locals id deleted body (Ok e) = with_load db locals (edit_document id e deleted body)
 with_edited db locals id deleted body (Err fault) = locals
 
--- The list of local writes after an edit, which adds a local write if the edit changes the database.
+-- The list of local writes after an edit. A local write is added if the edit changes the database.
 abbrev pub with_edit : DatabaseValue → List WrittenValue → Id → Option RevId → Bool → List ℕ → List WrittenValue
 with_edit db locals id parent deleted body = with_edited db locals id deleted body (edited db id parent deleted body)
 

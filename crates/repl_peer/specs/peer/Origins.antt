@@ -1,4 +1,4 @@
--- Origins of the revisions of a peer, as specified in docs/PROFILE.md, "Revision trees" and "The peer's law".
+-- Defines the origins of a peer's revisions, as specified in docs/PROFILE.md, "Revision trees" and "The peer's law".
 use Rattle.std.specs.Prelude.{◌≡◌, ℕ, true, Some, slice_get}
 use Rattle.std.specs.FinMap.{get}
 use Rattle.rev_core.specs.Rev.{RevId}
@@ -28,7 +28,7 @@ pub record IsListed (s : SessionValue) (id : Id) (seq : ℕ) : Type 0 where
   pub at : row.seq ≡ seq
   pub of : row.id ≡ id
 
--- Session s has an arrival (a stored document) with the id `id` and with revision r in its ancestry.
+-- Session s has an arrival (a stored document) with the id `id`, and revision r is in the arrival's ancestry.
 pub record IsArrival (s : SessionValue) (id : Id) (r : RevId) : Type 0 where
   pub arrival : WrittenValue
   pub stored : Among arrival s.arrivals
@@ -44,13 +44,14 @@ pub record IsFed (p : PeerValue) (id : Id) (r : RevId) (session : SessionId) (se
   pub listed : IsListed by id seq
   pub arrived : IsArrival by id r
 
--- The given origin of revision r of document `id` is true. If the origin is a local write, peer p has the write
--- (`IsLocal`). If the origin is a session and a sequence, peer p has the session with a row and an arrival (`IsFed`).
+-- The origin that is given for revision r of document `id` is correct. If the origin is a local write, peer p has the
+-- write (`IsLocal`). If the origin is a session and a sequence, peer p has the session with a row at this sequence and
+-- an arrival that has the revision (`IsFed`).
 abbrev pub ComesFrom : PeerValue → Id → RevId → Origin → Type 0
 ComesFrom p id r (Local n) = IsLocal p id r n
 ComesFrom p id r (Feed session seq) = IsFed p id r session seq
 
--- Every revision of every tree of peer p has a stored origin, and this origin is true (`ComesFrom`).
+-- Every revision of every tree of peer p has a stored origin, and this origin is correct (`ComesFrom`).
 abbrev pub HasOrigins : PeerValue → Type 0
 HasOrigins p =
     (id : Id) (r : RevId) → has (tree_of p.db.docs id) r ≡ true

@@ -1,11 +1,12 @@
--- Peers and their sessions, as specified in docs/PROFILE.md, "Sessions of a peer".
+-- Defines peers and sessions, as specified in docs/PROFILE.md, "Sessions of a peer".
 --
--- A peer is a database with the state that replication needs. A target has a session for each replication into it. A
--- session stores the windows of the source's changes feed, and which of these windows are done. For each document that
--- it receives, a session records whether the target stored it (an arrival) or refused it (a ledger row). The claims of
--- a session can therefore be compared with the revisions in the target's trees. A source has a log for each replication
--- from it, with the sequence that the target recorded in each session. The common checkpoint of the next replication is
--- read from the logs of both sides. A peer also stores its local writes, so that each revision of a tree has an origin.
+-- A peer is a database with the state that replication needs. A target has a session for each replication into the
+-- target. A session stores the windows of the source's changes feed, and which of these windows are done. For each
+-- received document, a session records whether the target stored the document (an arrival) or refused the document (a
+-- ledger row). The claims of a session can therefore be compared with the revisions in the target's trees. A source has
+-- a log for each replication from the source, with the sequence that the target recorded in each session. The common
+-- checkpoint of the next replication is read from the logs of both sides. A peer also stores its local writes, so that
+-- each revision of a tree has an origin.
 use Rattle.std.specs.Prelude.{ℕ, ◌==◌, Bool, nat_le, if◌then◌else◌, List, [], map, Option, Result, Ok, Err}
 use Rattle.std.specs.List.{find, list_any}
 use Rattle.rev_core.specs.Rev.{RevId}
@@ -22,7 +23,7 @@ use Rattle.repl_log.specs.declared.counts.Counts.{Counts}
 use Rattle.repl_peer.specs.declared.fault.Reason.{Reason}
 use Rattle.repl_peer.specs.declared.session.beginning.Scope.{Scope}
 
--- The document id and the revisions of a local write or an arrival.
+-- The document id and the revisions of a local write or an arrival (a stored document).
 pub record WrittenValue : Type 0 where
   pub id : Id
   pub ancestry : List RevId
@@ -77,7 +78,7 @@ written_of d = record { id = d.id; ancestry = d.ancestry }
 abbrev pub is_of : SessionId → SessionValue → Bool
 is_of id s = s.id.0 == id.0
 
--- The session with the given id, if the peer has it.
+-- The session with the given id, or `None` if the peer has no such session.
 abbrev pub session_in : List SessionValue → SessionId → Option SessionValue
 session_in sessions id = find (is_of id) sessions
 
@@ -88,7 +89,7 @@ holds sessions id = list_any (is_of id) sessions
 abbrev pub with_session : List SessionValue → SessionValue → List SessionValue
 with_session sessions t = map (λ s. if is_of t.id s then t else s) sessions
 
--- The log entry of session s.
+-- The log entry that describes session s.
 abbrev pub entry_of : SessionValue → EntryValue
 entry_of s = record {
   session = s.id;

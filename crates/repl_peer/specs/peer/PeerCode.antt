@@ -1,4 +1,4 @@
--- An encoding of peers as data, by which proofs decide whether two peers are equal.
+-- Defines an encoding of peers as data, by which proofs decide whether two peers are equal.
 use Rattle.std.specs.Prelude.{◌≡◌, ◌⊎◌, ℕ, List, Option, refl}
 use Rattle.std.specs.Coded.{Coded, code_by, coded×, coded⊎, coded_ℕ, coded_list, coded_option}
 use mathlib.Core.Logic.{inl, inr}
@@ -29,8 +29,8 @@ coded_written =
     code_by (Id × List RevId) (coded× coded_id (coded_list coded_rev)) (λ w. (w.id, w.ancestry))
     (λ p. record { id = p.0; ancestry = p.1 }) (λ _. refl)
 
--- The reason why a document was refused, encoded as data: the three revisions of a contradiction, or a value that means
--- the filter.
+-- The reason why a document was refused, encoded as data: the three revisions of a contradiction, or a value that
+-- represents the write filter.
 abbrev reason_parts : Reason → Unit {0} ⊎ (RevId × (RevId × RevId))
 reason_parts Filtered = inl tt
 reason_parts (Contradicting child known given) = inr (child, (known, given))

@@ -1,4 +1,4 @@
--- The program's write filter, as specified in docs/PROFILE.md, "Write filters".
+-- Defines the program's write filter, as specified in docs/PROFILE.md, "Write filters".
 use Rattle.std.specs.Prelude.{Bool, false, nat_eq, string_bytes}
 use Rattle.std.specs.List.{starts_with}
 use Rattle.std.specs.Option.{option_map_or}

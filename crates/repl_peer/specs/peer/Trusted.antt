@@ -1,4 +1,4 @@
--- The guarantees of every peer, as specified in docs/PROFILE.md, "The peer's law".
+-- Defines the guarantees of every peer, as specified in docs/PROFILE.md, "The peer's law".
 use Rattle.std.specs.Prelude.{◌≡◌, ◌⊎◌, ◌≤◌, Bool, true}
 use Rattle.rev_core.specs.Rev.{RevId}
 use Rattle.rev_core.specs.Ancestry.{is_among}
@@ -26,9 +26,10 @@ pub record IsRightlyRefused (refuses : Document → Bool) (p : PeerValue) (id : 
 abbrev pub IsAccounted : (Document → Bool) → PeerValue → Id → RevId → Type 0
 IsAccounted refuses p id r = (has (tree_of p.db.docs id) r ≡ true) ⊎ IsRightlyRefused refuses p id r
 
--- The guarantees of peer p. Every leaf of a session's rows at or below the recorded sequence is in its document's tree,
--- or was rightly refused. Every revision of a peer comes from a window row or a local write. A session's number of
--- documents read is its number of documents written plus its number of documents refused.
+-- The guarantees of peer p. If the sequence of a session's row is at most the session's recorded sequence, each leaf of
+-- the row is in its document's tree, or was rightly refused. Every revision of a peer comes from a row of a window or
+-- from a local write. In each session, the number of documents read is the number of documents written plus the number
+-- of documents refused.
 pub record IsTrusted (refuses : Document → Bool) (p : PeerValue) : Type 0 where
   pub recorded : (s : SessionValue) → Among s p.sessions → (w : WindowValue) → Among w s.windows → (row : RowValue)
       → Among row w.rows → row.seq ≤ s.recorded → (leaf : RevId) → Among leaf row.leaves

@@ -1,4 +1,4 @@
--- Local writes of a peer, as specified in docs/PROFILE.md, "Local writes".
+-- Defines local writes of a peer, as specified in docs/PROFILE.md, "Local writes".
 use Rattle.std.specs.Prelude.{ℕ, Bool, List, [], ◌∷◌, ◌++◌, length, Option, Result, Ok, Err, if◌then◌else◌}
 use Rattle.rev_core.specs.Rev.{RevId}
 use Rattle.rev_tree.specs.declared.origin.Origin.{Origin}
@@ -10,7 +10,7 @@ use Rattle.couch_base.specs.Edit.{edited, edit_document}
 use Rattle.couch_base.specs.declared.fault.BaseFault.{BaseFault}
 use Rattle.repl_peer.specs.peer.Peer.{PeerValue, written_of}
 
--- The origin of the revisions of peer p's next local write.
+-- The origin that the revisions of peer p's next local write will have.
 abbrev pub next_local : PeerValue → Origin
 next_local p = Local (length p.locals)
 

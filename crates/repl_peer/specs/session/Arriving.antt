@@ -1,5 +1,5 @@
--- Documents that are settled in bulk. For bulk settling, the arrivals of the documents are prepared in advance, and are
--- added to the session as one list.
+-- Defines a session's state after documents are settled in bulk. For bulk settling, the arrivals (records of stored
+-- documents) are prepared in advance, and are added to the session as one list.
 use Rattle.std.specs.Prelude.{◌≡◌, ◌+◌, List, ◌++◌, map, length, take}
 use Rattle.doc_json.specs.Document.{Document}
 use Rattle.repl_peer.specs.peer.Peer.{WrittenValue, SessionValue, written_of}
@@ -8,7 +8,7 @@ use Rattle.repl_peer.specs.peer.Peer.{WrittenValue, SessionValue, written_of}
 abbrev pub AreArrivalsOf : List Document → List WrittenValue → Type 0
 AreArrivalsOf docs all = all ≡ map written_of (take (length all) docs)
 
--- Session s after documents were added as arrivals and counted as read and as written.
+-- Session s after the documents `docs` were added as arrivals and counted as read and as written.
 abbrev pub with_arrivals : List Document → SessionValue → SessionValue
 with_arrivals docs s =
     record s {

@@ -1,4 +1,4 @@
--- The form in which a ledger row stores its reason.
+-- Defines the form in which a ledger row stores the reason.
 use Rattle.repl_peer.specs.declared.fault.Reason.{Reason}
 use Rattle.repl_peer.specs.declared.fault.Reason.TheVariants as reasons
 use Rattle.repl_peer.specs.declared.session.refused.StoredReason.{StoredReason}

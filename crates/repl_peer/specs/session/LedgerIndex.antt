@@ -1,4 +1,4 @@
--- The index of revisions in the ancestries of refused documents.
+-- Defines lookups in the index of revisions in the ancestries of refused documents.
 use Rattle.std.specs.Prelude.{Bool, false, ◌||◌}
 use Rattle.std.specs.Arc.{arc_value}
 use Rattle.std.specs.Map.{lookup}

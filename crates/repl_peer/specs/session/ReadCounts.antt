@@ -1,5 +1,5 @@
--- A session's count of documents read, and the increase of this count by settling, as specified in docs/PROFILE.md,
--- "Settling".
+-- Defines a session's count of documents read, and by how much settling increases this count, as specified in
+-- docs/PROFILE.md, "Settling".
 use Rattle.std.specs.Prelude.{ℕ, List, Option, Some, None, Result, Ok, Err}
 use Rattle.rev_tree.specs.declared.origin.SessionId.{SessionId}
 use Rattle.repl_peer.specs.peer.Peer.{SessionValue, session_in}

@@ -1,4 +1,4 @@
--- The index that finds a peer's sessions by their replication.
+-- Defines lookups in the index that finds a peer's sessions by replication.
 use Rattle.std.specs.Prelude.{List, []}
 use Rattle.std.specs.Map.{lookup}
 use Rattle.std.specs.Option.{option_map_or}

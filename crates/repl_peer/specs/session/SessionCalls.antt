@@ -1,4 +1,4 @@
--- The results and effects of those calls of a peer that use only the peer's sessions.
+-- Defines the results and effects of those calls of a peer that use only the peer's sessions.
 use Rattle.std.specs.Prelude.{Bool, ℕ, List, Option, Some, None, Result, Ok, Err, if◌then◌else◌}
 use Rattle.std.specs.List.{list_any}
 use Rattle.rev_core.specs.Rev.{RevId}

@@ -1,4 +1,5 @@
--- Sessions, as specified in docs/PROFILE.md, "Sessions of a peer" and "Goal and windows".
+-- Defines the results and effects of calls on sessions, as specified in docs/PROFILE.md, "Sessions of a peer" and "Goal
+-- and windows".
 use Rattle.std.specs.Prelude.{◌≡◌, ℕ, ◌==◌, ◌&&◌, nat_lt, if◌then◌else◌, List, [], ◌∷◌, ◌++◌, Option, Some, None, Result, Ok, Err, IsOk}
 use Rattle.std.specs.List.{find}
 use Rattle.rev_tree.specs.declared.origin.SessionId.{SessionId}
@@ -20,7 +21,7 @@ abbrev pub GivesUnlessMemory : {A : Type 0} → Result A TargetFault → Result 
 GivesUnlessMemory (Err faults.Memory) expected = IsOk expected
 GivesUnlessMemory result expected = result ≡ expected
 
--- The error of a session's front, converted to an error of the peer.
+-- The peer's error that corresponds to an error of a session's front (which says which windows are done).
 abbrev pub refused_by_front : FrontFault → TargetFault
 refused_by_front (front_faults.NotRising end) = faults.Gap end
 refused_by_front front_faults.NoSuchWindow = faults.ForeignParcel
@@ -47,7 +48,7 @@ session_answer p id answer = found_answer answer (session_in p.sessions id)
 
 -- ---- beginning
 
--- The check of a session's start, which must be at or below the recorded sequence of the session's base.
+-- The result of checking that a session's start is at or below the recorded sequence of the session's base.
 abbrev pub start_answer : ℕ → ℕ → Result (Unit {0}) TargetFault
 start_answer start recorded = if nat_lt recorded start then Err (faults.StartAboveBase recorded) else Ok tt
 
@@ -59,8 +60,8 @@ abbrev pub on_base : ℕ → Option SessionValue → Result (Unit {0}) TargetFau
 on_base start None = Err faults.NoSuchBase
 on_base start (Some s) = start_answer start s.recorded
 
--- The check of a session's base and start: the base must be a session of the given replication, and its recorded
--- sequence must be at or above the start. If a session has no base, its start must be 0.
+-- The result of checking a session's base and start: the base must be a session of the given replication, with a
+-- recorded sequence at or above the start. If a session has no base, the session's start must be 0.
 abbrev pub base_answer : List SessionValue → RepId → Option SessionId → ℕ → Result (Unit {0}) TargetFault
 base_answer sessions rep None start = start_answer start 0
 base_answer sessions rep (Some base) start = on_base start (base_in sessions rep base)
@@ -75,7 +76,8 @@ begin_answer p id b =
     if holds p.sessions id then Err faults.SessionExists
     else goal_answer b.start b.scope.goal (base_answer p.sessions b.scope.rep b.scope.base b.start)
 
--- A new session, begun at timestamp `at`. A new session has no windows, and its recorded sequence is its start.
+-- A new session, begun at timestamp `at`. A new session has no windows, and the recorded sequence of the session is the
+-- session's start.
 abbrev pub new_session : SessionId → Beginning → ℕ → SessionValue
 new_session id b at = record {
   id = id;
@@ -100,8 +102,8 @@ after_begin p id b at = begun p (new_session id b at) (begin_answer p id b)
 
 -- ---- appending
 
--- The check of a window's bounds: the window must begin at the end of the session's stored windows, and end at or below
--- the goal.
+-- The result of checking a window's bounds: the window must begin at the end of the session's stored windows, and end
+-- at or below the goal.
 abbrev pub next_in : WindowValue → SessionValue → Result (Unit {0}) TargetFault
 next_in w s =
     if w.lo == end_of s.front then (if nat_lt s.goal w.hi then Err faults.PastGoal else Ok tt)
@@ -125,7 +127,7 @@ after_append p id w = on_session p id (λ s. with_window w s (append_in w s))
 
 -- ---- recording
 
--- Session s after recording its low water at timestamp `at`.
+-- Session s after its low water (the sequence up to which all its windows are done) is recorded at timestamp `at`.
 abbrev pub recorded_at : ℕ → SessionValue → SessionValue
 recorded_at at s = record s { recorded = low_water s.front; end_time = at }
 
@@ -144,7 +146,7 @@ report_of s = record {
   counts = s.counts;
 }
 
--- The result of concluding session s: a report if the low water of s is its goal, otherwise `Unfinished`.
+-- The result of concluding session s: a report if the low water of s equals the goal of s, otherwise `Unfinished`.
 abbrev pub conclude_in : SessionValue → Result Report TargetFault
 conclude_in s =
     if low_water s.front == s.goal then Ok (report_of (record s { recorded = low_water s.front }))

@@ -1,4 +1,4 @@
--- Settling, stated for the parts of a peer: a database, one session, and the index of refused revisions.
+-- Defines settling for the parts of a peer: a database, one session, and the index of refused revisions.
 use Rattle.std.specs.Prelude.{◌≡◌, ℕ, ◌<◌, ◌≤◌, ◌==◌, Bool, true, false, ◌&&◌, ◌||◌, if◌then◌else◌, List, [], ◌∷◌, length, take, drop, slice_get, Some, None, Result, Ok, Err}
 use Rattle.std.specs.List.{find}
 use Rattle.std.specs.Str.{bytes_eq}
@@ -26,13 +26,13 @@ use Rattle.repl_peer.specs.declared.session.ledger_index.LedgerIndex.{LedgerInde
 abbrev pub known_of : DatabaseValue → LedgerIndex → Id → RevId → Bool
 known_of db index id r = has (tree_of db.docs id) r || is_ledgered index id r
 
--- The new ledger index has exactly the revisions of the old ledger index and of the documents in a ledger.
+-- The new ledger index has exactly the revisions of the old ledger index and of the documents in the list `ledger`.
 abbrev pub IndexesMore : LedgerIndex → List RefusedValue → LedgerIndex → Type 0
 IndexesMore old ledger new =
     (id : Id) (r : RevId) → is_ledgered new id r ≡ (is_ledgered old id r || in_ledger ledger id r)
 
--- A session keeps its id and its replication, and its ledger only grows. The ledger index gains exactly the revisions
--- that the session's ledger gains.
+-- The id and the replication of a session stay the same, and the session's ledger only grows. The ledger index gains
+-- exactly the revisions that the session's ledger gains.
 pub record KeepsIndexed (old : SessionValue) (index : LedgerIndex) (new : SessionValue) (index' : LedgerIndex) : Type 0
   where
     pub id : new.id ≡ old.id
@@ -69,8 +69,8 @@ IsIndexedWith d old new =
 abbrev pub settling_at : DatabaseValue → SessionValue → Settling
 settling_at db session = record { db = db; session = session }
 
--- Settling document d changes the database and session `before` into `after`, and does not stop at d. The new revisions
--- of d get origin o.
+-- Settling document d changes the database and the session from `before` to `after`, and does not stop at d. The new
+-- revisions of d get origin o.
 pub record Steps (refuses : Document → Bool) (o : Origin) (d : Document) (before after : Settling) : Type 0 where
   pub goes : stops_at refuses before d ≡ false
   pub step : (w : WindowValue) → o ≡ fed w before.session.id d → after ≡ settle_one refuses w before d
@@ -82,7 +82,7 @@ cause_at full = if full then causes.SeqFull else causes.Memory
 
 -- ---- documents of a parcel
 
--- The first n documents of a parcel are settled, and the remaining documents are `others`.
+-- The first n documents of a parcel are settled, and the list `others` has the remaining documents.
 pub record Reached (refuses : Document → Bool) (w : WindowValue) (before : Settling) (docs : List Document) (n : ℕ)
     (others : List Document) (after : Settling) : Type 0 where
   pub within : n ≤ settled_before refuses w before docs
@@ -108,8 +108,8 @@ pub record SettlesAndMarks (refuses : Document → Bool) (known : Id → RevId �
 
 -- ---- the parcel
 
--- The result of checking a parcel: the index of its window, the number of the window's leaves, and the number of
--- requested revisions.
+-- The result of checking a parcel: the index of the parcel's window, the number of the window's leaves, and the number
+-- of requested revisions.
 pub record Passes (s : SessionValue) (parcel : ParcelValue) (place leaves asked : ℕ) : Type 0 where
   pub window : WindowValue
   pub at : slice_get s.windows place ≡ Some window
@@ -118,7 +118,7 @@ pub record Passes (s : SessionValue) (parcel : ParcelValue) (place leaves asked 
   pub asked_count : asked ≡ asked_count parcel.asked
 
 -- The result of an attempt to mark window w as done, and the session t after the attempt. A window is marked as done
--- only if each leaf of its rows is known.
+-- only if each leaf of the window's rows satisfies the test `known`.
 abbrev pub Marks : (Id → RevId → Bool) → WindowValue → SessionValue → ℕ → ℕ → ℕ → Result (Unit {0}) TargetFault
     → SessionValue → Type 0
 Marks known w s leaves asked n (Ok done) t =
@@ -129,7 +129,7 @@ Marks known w s leaves asked n (Err (faults.Uncovered seq id rev)) t =
 Marks known w s leaves asked n (Err (faults.Stopped m rest causes.Memory)) t = (m ≡ n) × (rest.items ≡ []) × (t ≡ s)
 Marks known w s leaves asked n (Err fault) t = ⊥
 
--- The result and effect of settling a parcel after the parcel's checks have passed.
+-- The result of settling a parcel and the state after settling, if the parcel's checks have passed.
 abbrev pub PartsSettled : (Document → Bool) → (Id → RevId → Bool) → WindowValue → Settling → ParcelValue
     → Result Settled TargetFault → Settling → Type 0
 PartsSettled refuses known w before parcel (Ok settled) after = SettlesAndMarks refuses known w before parcel settled after
@@ -140,7 +140,7 @@ PartsSettled refuses known w before parcel (Err (faults.Stopped n rest cause)) a
     Reached refuses w before parcel.docs n rest.items after × Halts refuses w before parcel.docs n cause
 PartsSettled refuses known w before parcel (Err fault) after = ⊥
 
--- The result and effect of settling a parcel, given the outcome of the parcel's checks.
+-- The result of settling a parcel and the state after settling, given the outcome of the parcel's checks.
 abbrev pub PartsSettle : (Document → Bool) → (Id → RevId → Bool) → Settling → ParcelValue
     → Result (SessionValue × WindowValue) TargetFault → Result Settled TargetFault → Settling → Type 0
 PartsSettle refuses known before parcel (Ok at) result after =

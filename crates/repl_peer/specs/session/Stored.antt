@@ -1,4 +1,4 @@
--- The stored form of a session, and its invariant.
+-- Defines the stored form of a session, and the invariant of a stored session.
 use Rattle.std.specs.Prelude.{◌≡◌, ◌≤◌, ◌++◌}
 use Rattle.std.specs.List.{flat_map}
 use Rattle.range_front.specs.Front.{IsFront, bounds}

@@ -1,4 +1,5 @@
--- The stored form of a peer's sessions: the table by session id, the ledger index, and the index by replication.
+-- Defines the stored form of a peer's sessions: the table by session id, the ledger index, and the index by
+-- replication.
 use Rattle.std.specs.Prelude.{◌≡◌, List, map, reverse}
 use Rattle.std.specs.List.{IsDistinct}
 use Rattle.std.specs.Map.{keys_of}
@@ -23,7 +24,7 @@ sessions_of es = newest_first (λ s. s) es
 abbrev pub Indexes : LedgerIndex → List SessionValue → Type 0
 Indexes ledgered sessions = (id : Id) (r : RevId) → is_ledgered ledgered id r ≡ in_ledgers sessions id r
 
--- No session id occurs twice in the table, each session is stored under its own id, and the ledger index has the
+-- No session id occurs twice in the table, each session is stored under the session's id, and the ledger index has the
 -- revisions of the sessions' ledgers.
 pub record IsTableOf (ledgered : LedgerIndex) (es : List (SessionId × SessionValue)) : Type 0 where
   pub once : IsDistinct at_session (keys_of es)

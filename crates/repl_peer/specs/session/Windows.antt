@@ -1,4 +1,4 @@
--- The two stored forms of a window: complete, or without the leaves of its rows.
+-- Defines the two stored forms of a window: complete, or without the leaves of the window's rows.
 use Rattle.std.specs.Prelude.{◌≡◌, ◌⊎◌, ℕ, Bool, true, false, List, map, slice_get, Some}
 use Rattle.couch_base.specs.Lists.{Among}
 use Rattle.couch_base.specs.Feed.{WindowValue}

@@ -21,8 +21,8 @@ pub struct Backup {
     pub(crate) outgoing: Logs,
 }
 
-// This type has no `#[derive(Drop)]`, because each crate that owns such a value would have to prove the derived code
-// (docs/DECISIONS.md, "Letting values go").
+// The type `Backup` has no `#[derive(Drop)]`, because each crate that owns a `Backup` would have to prove the derived
+// code (docs/DECISIONS.md, "Letting values go").
 impl Drop for Backup {
     fn drop(self) {
         let Backup {
@@ -87,8 +87,9 @@ impl<F: WriteFilter> Peer<F> {
         })
     }
 
-    /// Replaces the database, the local writes and the outgoing logs of a peer by the values in a backup. The new life
-    /// of the database is 1 plus the greater of its life and the backup's life.
+    /// Replaces the database, the local writes and the outgoing logs of a peer by the values in a backup. After the
+    /// restore, the database's life (a number) is 1 plus the greater of the database's earlier life and the backup's
+    /// life.
     ///
     /// # Errors
     ///
@@ -106,7 +107,8 @@ impl<F: WriteFilter> Peer<F> {
         ensures law { Lawful (F.refuses self.new.0) self.new.1 }
     {
         let life = self.next_life(backup)?;
-        // The result of `backup.db()` is not used. The contract of `db` states that the backup satisfies its invariant.
+        // The code uses the contract of `backup.db()`, not its result. The contract of `db` states that the backup
+        // satisfies the invariant of backups.
         let _copy = backup.db();
         self.law();
         let alloc = *self.locals.allocator();

@@ -1,4 +1,4 @@
-//! The revisions of a write, for contracts only.
+//! The revisions of a write, as a value that exists for contracts only.
 ghost use Rattle.std.specs.Prelude.{◌≡◌, List};
 ghost use Rattle.std.specs.Borrow.{ftrue};
 ghost use Rattle.std.specs.Coded.{coded_list};
@@ -29,7 +29,7 @@ unsafe impl Sync for GhostRevs {}
 pub(crate) enum Came<'a> {
     /// The revisions of a document's complete ancestry.
     Whole(&'a [Rev]),
-    /// The revisions of an edit: the new revision and its parent.
+    /// The revisions of an edit: the new revision and the new revision's parent.
     Edit(Rev, Option<Rev>),
     /// The revisions of a write that is copied from another write.
     Again(&'a GhostRevs),

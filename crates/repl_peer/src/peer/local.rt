@@ -16,7 +16,7 @@ use rev_core::Rev;
 use rev_tree::Origin;
 use std::alloc::AllocError;
 
-/// Stores a user's document in the database, together with the local write that records it.
+/// Stores a user's document in the database, together with the local write that records the put.
 ///
 /// The call builds the local write before it changes the database, so that an error changes nothing. After a failed
 /// allocation for the local write, the call returns `Memory` if the put would change the database, and otherwise the

@@ -1,4 +1,4 @@
-//! Calls that read the parts of a peer. None of them allocates.
+//! Calls that read the parts of a peer. None of these calls allocates.
 use crate::peer::Peer;
 use crate::peer::filter::WriteFilter;
 use crate::peer::written::Written;
@@ -14,14 +14,14 @@ impl<F: WriteFilter> Peer<F> {
     ghost use Rattle.repl_peer.specs.peer.Peer.{session_in};
     ghost use Rattle.repl_peer.specs.session.Windows.{windows_of};
 
-    /// Returns the local writes in order, so that a write's index is its number.
+    /// Returns the local writes in order. The index of a local write in the result is the write's number.
     pub fn locals(&self) -> &[Written]
         ensures { result.now ≡ self.now.1.locals }
     {
         &self.locals
     }
 
-    /// Returns the number of incoming sessions. The times and counts of sessions are in their log entries.
+    /// Returns the number of incoming sessions. The times and counts of sessions are in the sessions' log entries.
     pub fn session_count(&self) -> usize
         ensures { result ≡ length self.now.1.sessions }
     {
@@ -59,8 +59,8 @@ impl<F: WriteFilter> Peer<F> {
         }
     }
 
-    /// Returns the arrivals of a session in order, if the peer has the session. The first part of the result is a list
-    /// of lists of arrivals. The second part is the list of all later arrivals.
+    /// Returns the arrivals (stored documents) of a session in order, if the peer has the session. The first part of
+    /// the result is a list of lists of arrivals. The second part of the result is the list of all later arrivals.
     pub fn arrivals(&self, id: SessionId) -> Option<(&[Vec<Written>], &[Written])>
         ensures { option_map (λ lists. flat_map (λ list. list.items) lists.0.now ++ lists.1.now) result
             ≡ option_map (λ s. s.arrivals) (session_in self.now.1.sessions id) }

@@ -13,10 +13,12 @@ use rev_core::{KeptRev, Rev};
 use std::alloc::{AllocError, Global};
 use std::marker::Model;
 
-/// A local write or an arrival: a document's id and the revisions that were written, newest first.
+/// A local write or an arrival (a stored document): the document's id and the revisions that were written, newest
+/// first.
 ///
 /// A write stores only its newest revision and its number of revisions, because a peer may have millions of writes. All
-/// other revisions of the write are read from the document's tree, whose edges never change.
+/// revisions of the write except the newest are read from the document's tree, whose edges (links to parents) never
+/// change.
 #[derive(Drop)]
 pub struct Written {
     id: DocId,
@@ -40,7 +42,7 @@ impl Written {
     ghost use Rattle.repl_peer.specs.peer.Peer.{WrittenValue, written_of};
     ghost use Rattle.repl_peer.specs.peer.Stands.{StandsIn};
 
-    /// Creates the write of a document with its complete ancestry.
+    /// Creates the write of a document, with the document's complete ancestry.
     pub(crate) fn of(alloc: Global, doc: &Doc) -> Result<Written, AllocError>
         ensures { IfOk result (λ w. w ≡ written_of doc.now) }
     {
@@ -55,7 +57,7 @@ impl Written {
         })
     }
 
-    /// Creates the write of an edit, whose revisions are the new revision and its parent.
+    /// Creates the write of an edit, whose revisions are the new revision and the new revision's parent.
     pub(crate) fn edit(id: DocId, rev: Rev, parent: Option<Rev>) -> Written
         requires { (is_short rev.sig ≡ true) × FallsByOne (rev ∷ option_to_list parent) }
         ensures { result ≡ record { id = id; ancestry = rev ∷ option_to_list parent } }
@@ -96,8 +98,8 @@ impl Written {
         &self.id
     }
 
-    /// Returns the revision at an index, if there is one. The newest revision has index 0. All revisions but the newest
-    /// are read from the database that has the write.
+    /// Returns the write's revision at an index, or `None` if there is no such revision. The newest revision has index
+    /// 0. All revisions but the newest are read from the database that has the write.
     pub fn rev(&self, db: &Database, place: usize) -> Option<Rev>
         requires { StandsIn db.now self.now }
         ensures { result ≡ slice_get self.now.ancestry place }
@@ -116,7 +118,7 @@ impl Written {
         Some(at)
     }
 
-    /// Returns the number of revisions of the write.
+    /// Returns the number of the write's revisions.
     pub fn len(&self) -> usize
         ensures { result ≡ length self.now.ancestry }
     {
@@ -124,7 +126,7 @@ impl Written {
     }
 }
 
-/// Returns the parent of a document's revision, if it is known.
+/// Returns the parent of a document's revision, if the parent is known.
 fn parent_in(db: &Database, id: &DocId, rev: Rev) -> Option<Rev>
     ensures { result ≡ get (tree_of db.now.docs id.now).parents rev }
 {

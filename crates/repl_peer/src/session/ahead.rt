@@ -28,8 +28,8 @@ use rev_tree::{Origin, SessionId};
 use std::mem::replace;
 
 /// Settles the documents at the beginning of a parcel that have prepared arrivals, until a document cannot be stored.
-/// Returns the number of settled documents. The caller then settles the next document individually, and so finds out
-/// why the document could not be stored in bulk.
+/// Returns the number of settled documents. The caller then settles the next document individually to find out why the
+/// document could not be stored in bulk.
 ///
 /// The arrivals are added as one list, so that the peer does not add each arrival individually under its lock. If the
 /// allocation for the list of arrivals fails, no document is settled.
@@ -65,7 +65,7 @@ pub(crate) fn settle_prepared<F: WriteFilter>(
     if arrivals.is_empty() || session.earlier.reserve(2).is_err() {
         return 0;
     }
-    // Only a done window may be stored without the leaves of its rows, and this window is not done.
+    // Only a done window may be stored without the leaves of its rows, and the parcel's window is not done.
     let Some(rows) = session.windows[place].rows() else {
         unreachable!()
     };
@@ -116,8 +116,9 @@ fn put_ahead<F: WriteFilter>(
     limit
 }
 
-/// Stores the document at an index, with its prepared tree if possible. Returns false if the document cannot be stored.
-/// If the call returns false, the database is unchanged, but the prepared tree may have been dropped.
+/// Stores the document at an index, from the document's prepared tree if possible. Returns false if the document cannot
+/// be stored. If the call returns false, the database is unchanged, but the prepared tree of the document may have been
+/// dropped.
 fn put_next(
     db: &mut Database,
     docs: &[Doc],
@@ -154,8 +155,8 @@ pub(crate) fn put_prepared_at(
     i < made.len() && db.put_prepared(&docs[i], &mut made[i], origin)
 }
 
-/// Adds the first `count` arrivals of a list to the session, and counts their documents. The caller has reserved the
-/// space for the arrivals.
+/// Adds the first `count` arrivals of a list to the session, and counts the arrivals' documents as read and as written.
+/// The caller has already reserved the space for the arrivals.
 fn enter(
     earlier: &mut Vec<Vec<Written>>,
     arrivals: &mut Vec<Written>,

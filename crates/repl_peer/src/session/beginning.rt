@@ -8,7 +8,8 @@ use rev_tree::SessionId;
 pub struct Scope {
     /// The replication.
     pub rep: RepId,
-    /// The life that the source's database had when the source's log was read to compute the start.
+    /// The life (a number that changes when a database is restored) that the source's database had when the source's
+    /// log was read to compute the start.
     pub life: u64,
     /// The earlier session from whose recorded sequence the session starts, if such a session exists.
     pub base: Option<SessionId>,

@@ -26,7 +26,7 @@ impl DeferredDrops {
         }
     }
 
-    /// Stores the parts of a parcel, and drops the parts of the parcel that was stored before.
+    /// Stores the parts of a parcel, and drops the parts that were stored before.
     pub(crate) fn keep(
         &mut self,
         asked: Asked,

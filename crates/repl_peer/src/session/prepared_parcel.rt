@@ -19,8 +19,8 @@ pub struct PreparedParcel {
     arrivals: Vec<Written>,
 }
 
-// This type has no `#[derive(Drop)]`, because each crate that owns such a value would have to prove the derived code
-// (docs/DECISIONS.md, "Letting values go").
+// The type `PreparedParcel` has no `#[derive(Drop)]`, because each crate that owns a `PreparedParcel` would have to
+// prove the derived code (docs/DECISIONS.md, "Letting values go").
 impl Drop for PreparedParcel {
     fn drop(self) {
         let PreparedParcel {
@@ -77,7 +77,7 @@ impl PreparedParcel {
         &self.parcel
     }
 
-    /// Splits the prepared parcel into its request, documents, gone revisions, prepared trees and prepared arrivals.
+    /// Splits the prepared parcel into request, documents, gone revisions, prepared trees and prepared arrivals.
     pub(crate) fn into_parts(
         self,
     ) -> (

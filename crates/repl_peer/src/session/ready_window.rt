@@ -13,8 +13,8 @@ pub struct ReadyWindow {
     done: Option<DoneWindow>,
 }
 
-// This type has no `#[derive(Drop)]`, because each crate that owns such a value would have to prove the derived code
-// (docs/DECISIONS.md, "Letting values go").
+// The type `ReadyWindow` has no `#[derive(Drop)]`, because each crate that owns a `ReadyWindow` would have to prove the
+// derived code (docs/DECISIONS.md, "Letting values go").
 impl Drop for ReadyWindow {
     fn drop(self) {
         let ReadyWindow { window: _, done: _ } = self;
@@ -33,7 +33,7 @@ impl Model for ReadyWindow {
 }
 
 impl ReadyWindow {
-    /// Creates a `ReadyWindow` of a window. The form without leaves is not built.
+    /// Creates a `ReadyWindow` of a window. The call does not build the form of the window without leaves.
     pub fn new(window: Window) -> ReadyWindow
         ensures { result ≡ window }
     {

@@ -7,7 +7,7 @@ use std::alloc::{AllocError, Global};
 use std::marker::Model;
 use std::sync::Arc;
 
-/// A document in a ledger, and the reason why it was refused.
+/// A document in a ledger, and the reason why the document was refused.
 ///
 /// The index of the ledgers shares the document.
 #[derive(Drop)]

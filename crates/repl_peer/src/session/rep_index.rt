@@ -36,7 +36,7 @@ impl RepIndex {
         }
     }
 
-    /// Adds a session, which is the newest of its replication. An error changes nothing.
+    /// Adds a session, which becomes the newest session of its replication. An error changes nothing.
     pub(crate) fn add(&mut self, rep: &RepId, id: SessionId) -> Result<(), AllocError>
         ensures ok { OnOk result ((asked : RepId) → listed self.new asked
             ≡ (if same_rep rep.now asked then listed self.old asked ++ id ∷ [] else listed self.old asked)) }

@@ -16,7 +16,7 @@ use doc_json::{Doc, DocId};
 use rev_core::Rev;
 use rev_tree::Tree;
 
-/// Returns the index of the first row with an id.
+/// Returns the index of the first row that has the given document id.
 fn row_in(rows: &[Row], id: &DocId) -> Option<usize>
     ensures some { IfSome result (IsRowOf rows.now id.now) }
     ensures none { IfNone result (list_any (λ row. bytes_eq row.id id.now) rows.now ≡ false) }
@@ -29,8 +29,8 @@ fn row_in(rows: &[Row], id: &DocId) -> Option<usize>
     None
 }
 
-/// Returns the index of a row with an id. The call tries the row after index `from` first, then all rows from `from`
-/// on, and then the rows before `from`.
+/// Returns the index of a row that has the given document id. The call tries the row after index `from` first, then all
+/// rows from `from` on, and then the rows before `from`.
 ///
 /// For consecutive documents of a parcel, the rows are usually consecutive rows of the window, or the same row.
 pub(crate) fn row_from(rows: &[Row], id: &DocId, from: usize) -> Option<usize>
@@ -50,8 +50,8 @@ pub(crate) fn row_from(rows: &[Row], id: &DocId, from: usize) -> Option<usize>
     }
 }
 
-/// Returns the index and the sequence of the row with an id. The caller guarantees that the row exists. Searches the
-/// rows from an index on, and then the rows before that index.
+/// Returns the index and the sequence of the row that has the given document id. The caller guarantees that the row
+/// exists. Searches the rows from an index on, and then the rows before that index.
 pub(crate) fn seq_from(rows: &[Row], id: &DocId, from: usize) -> (usize, u64)
     requires within { from ≤ length rows.now }
     requires there { list_any (λ row. bytes_eq row.id id.now) rows.now ≡ true }
@@ -117,7 +117,7 @@ fn is_known(tree: Option<&Tree>, ledgered: &LedgerIndex, id: &DocId, rev: Rev) -
     has_in(tree, rev) || ledgered.has(id, rev)
 }
 
-/// Returns the first leaf of a row that is neither in its document's tree nor refused.
+/// Returns the first leaf of a row that is neither in its document's tree nor in the index of refused revisions.
 fn unknown_in(
     db: &Database,
     ledgered: &LedgerIndex,
@@ -135,7 +135,8 @@ fn unknown_in(
     None
 }
 
-/// Returns the first leaf of the rows that is neither in its document's tree nor refused, with its row.
+/// Returns the first leaf of the rows that is neither in its document's tree nor in the index of refused revisions,
+/// with the leaf's row.
 pub(crate) fn first_unknown<'a>(
     db: &Database,
     ledgered: &LedgerIndex,

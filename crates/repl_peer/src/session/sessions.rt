@@ -32,7 +32,7 @@ use std::marker::Model;
 /// The incoming sessions of a peer, newest first, with lookup tables of refused revisions and of sessions by
 /// replication.
 ///
-/// Sessions are stored oldest first, in a table by session id, so that a call about one session does not scan all
+/// Sessions are stored oldest first, in a table by session id, so that a call that names one session does not scan all
 /// sessions.
 #[derive(Drop)]
 pub(crate) struct Sessions {
@@ -91,7 +91,7 @@ impl Sessions {
         Some(session.id)
     }
 
-    /// Returns the session with an id.
+    /// Returns the session with the given id.
     pub(crate) fn find(&self, id: SessionId) -> Option<&Session>
         ensures { option_copied result ≡ session_in self.now id }
     {
@@ -258,7 +258,7 @@ impl Sessions {
         Ok(session.record(at))
     }
 
-    /// Concludes a session if every window up to its goal is done.
+    /// Concludes a session if every window up to the session's goal is done.
     pub(crate) fn conclude(&mut self, id: SessionId, at: Moment) -> Result<Report, TargetFault>
         ensures answer { result ≡ answer_in self.old id conclude_in }
         ensures sessions { self.new

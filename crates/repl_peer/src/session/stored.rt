@@ -13,8 +13,8 @@ use crate::session::rows::{asked_count, leaf_count};
 use crate::session::window::StoredWindow;
 use couch_base::{MOST_SEQUENCE, Parcel};
 
-/// The index of a parcel's window, the number of leaves in its rows, and the number of revisions that the parcel
-/// requested.
+/// The index of a parcel's window, the number of leaves in the window's rows, and the number of revisions that the
+/// parcel requested.
 #[derive(Clone, Copy)]
 pub(crate) struct Checked {
     pub(crate) place: usize,
@@ -23,8 +23,8 @@ pub(crate) struct Checked {
 }
 
 /// Checks that a parcel's window exists, has a row for each document and is not done, and that the counts do not
-/// overflow. Returns the index of the parcel's window and the numbers to count, or the error of the first check that
-/// fails.
+/// overflow. Returns the index of the parcel's window and the numbers to add to the counts, or the error of the first
+/// check that fails.
 pub(crate) fn check(session: &Session, parcel: &Parcel) -> Result<Checked, TargetFault>
     ensures ok { IfOk result
         (λ found. Passes session.now parcel.now found.place found.leaves found.asked) }
@@ -44,7 +44,7 @@ pub(crate) fn check(session: &Session, parcel: &Parcel) -> Result<Checked, Targe
     if session.front.is_done(lo, hi) {
         return Err(TargetFault::AlreadyDone);
     }
-    // Only a done window may be stored without the leaves of its rows, and this window is not done.
+    // Only a done window may be stored without the leaves of its rows, and the parcel's window is not done.
     let Some(rows) = window.rows() else {
         unreachable!()
     };
@@ -81,7 +81,7 @@ fn place_from(windows: &[StoredWindow], lo: u64) -> usize
     windows.partition_point(|window| window.lo() < lo)
 }
 
-/// Whether the counts of a session stay at or below their maximum if the given numbers are added.
+/// Whether the counts of a session would stay at or below the maximum of a count if the given numbers were added.
 fn has_room(session: &Session, read: u64, checked: u64, found: u64) -> bool
     ensures { result
         ≡ (nat_le (session.now.counts.read + read) most
@@ -92,7 +92,7 @@ fn has_room(session: &Session, read: u64, checked: u64, found: u64) -> bool
         && fits(session.counts.found, found)
 }
 
-/// Whether a count stays at or below its maximum if a number is added.
+/// Whether a count would stay at or below the maximum of a count if a number were added.
 fn fits(count: u64, more: u64) -> bool
     ensures { result ≡ nat_le (count + more) most }
 {

@@ -162,7 +162,8 @@ impl StoredWindow {
         }
     }
 
-    /// Returns the life of the database that the rows are from.
+    /// Returns the window's life: the life of the database that produced the window (a number that changes when the
+    /// database is restored).
     pub fn life(&self) -> u64
         ensures { result ≡ self.now.window.life }
     {
