@@ -30,8 +30,8 @@ with_options app = with_rule (with_rule (with_rule (with_rule (with_rule (with_r
 abbrev pub command_line : App
 command_line = with_options (with_arguments (program_app (codes "couch_journal")))
 
--- Each field of the options o has the value that the text of one argument or option gives. The functions `text` and
--- `flag` give the text of an argument or option by its name.
+-- Each field of the options o has the value of one argument or option of the command line. The functions `text` and
+-- `flag` return the optional text of the argument or option with a given name.
 pub record AreGiven (text flag : List ℕ → Option (List ℕ)) (o : Options) : Type 0 where
   pub task : o.task.now ≡ unwrap_or (text (codes "task")) []
   pub first : option_map (λ s. s.now) o.first ≡ text (codes "first")
@@ -48,7 +48,7 @@ pub record AreGiven (text flag : List ℕ → Option (List ℕ)) (o : Options) :
 abbrev pub Says : List (List ℕ) → Options → Type 0
 Says words o = AreGiven (λ id. first_of id (matches_of command_line words)) (λ id. one_of id (matches_of command_line words)) o
 
--- The reason why `clap` reads no values from the arguments, which is an error of `clap` or a failed allocation.
+-- Why `clap` reads no values from the arguments: `clap` returns an error, or an allocation fails.
 abbrev pub Refuses : List (List ℕ) → NoTask → Type 0
 Refuses words (Words error) = HasKind (fault_of command_line words) error
 Refuses words Unknown = ⊥

@@ -138,7 +138,7 @@ fn write_shown<W: ScriptWrite>(
     }
 }
 
-/// Reads a response, and writes its contents as lines.
+/// Reads a response, and writes the contents of the response as lines.
 fn run_response<R: ScriptRead, W: ScriptWrite>(
     alloc: Global,
     response: Response,
@@ -242,7 +242,7 @@ fn run_states<R: ScriptRead, W: ScriptWrite>(
     Ok(wrong_or(task.wrong(), Outcome::Done))
 }
 
-/// Returns the filter that the options of the task `select` give.
+/// Returns the filter that the options of the task `select` describe.
 fn filter_of(alloc: Global, options: &Options<'_>) -> Result<Filter, AllocError> {
     let id = match options.doc {
         Some(id) => Some(String::from_str(alloc, id)?),
@@ -278,8 +278,8 @@ fn run_select<R: ScriptRead, W: ScriptWrite>(
     Ok(wrong_or(task.wrong(), missing_or_done(task.lacks())))
 }
 
-/// Reads requested leaves and received documents. Prints the requested documents and which leaves were received, or
-/// only the leaves that were not received if `only_lacks` is true.
+/// Reads the requested leaves and the received documents. Prints the requested documents and says which leaves were
+/// received. If `only_lacks` is true, prints only the leaves that were not received.
 fn run_received<R: ScriptRead, W: ScriptWrite>(
     alloc: Global,
     only_lacks: bool,
@@ -312,7 +312,7 @@ fn run_ask<R: ScriptRead, W: ScriptWrite>(
     }
 }
 
-/// Reads a list and the response of `_revs_diff`, and prints the missing leaves.
+/// Reads a list of leaves and the response of `_revs_diff`, and prints the missing leaves.
 fn run_lacking<R: ScriptRead, W: ScriptWrite>(
     alloc: Global,
     reader: &mut R,
