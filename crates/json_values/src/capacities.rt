@@ -1,4 +1,4 @@
-//! Initial capacities of arrays and objects.
+//! Chooses the initial capacities of arrays and objects.
 ghost use Rattle.std.specs.Prelude.{◌<◌};
 
 use std::cell::Cell;
@@ -20,7 +20,7 @@ const MOST: usize = 16;
 /// than it needs. No contract depends on a capacity.
 #[derive(Drop)]
 pub(crate) struct Capacities {
-    /// Eight lengths of one byte each.
+    /// The eight lengths of the table, each stored in one byte.
     last: Cell<u64>,
 }
 
