@@ -3,7 +3,7 @@
 /// The settings of a replication run.
 #[derive(Drop)]
 pub struct Settings {
-    /// The id of this replication session, which no other session has.
+    /// The id of this replication session. No other session has this id.
     pub session_id: String,
     /// The largest number of documents in one transfer.
     pub carry: u64,
