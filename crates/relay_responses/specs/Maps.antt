@@ -9,7 +9,7 @@ use Rattle.json.specs.declared.value.Value.{Value}
 use Rattle.indexmap.specs.IndexSet.{IndexSet}
 use Rattle.relay_core.specs.Messages.{Text, DocView}
 
--- The strings that the references in a list refer to.
+-- The strings to which a list of references refers.
 abbrev pub texts_in : List (Bor Text) → List Text
 texts_in keys = map (λ k. k.now) keys
 

@@ -32,8 +32,8 @@ rows_in j = option_and_then (each_item row_in) (items_at (codes "results") j)
 
 -- ---- rows of one document
 
--- The list `revs` of a document's known leaves, followed by the new leaves of a second list. Each new leaf is added
--- once, in the order of the second list.
+-- A document's known leaves `revs`, followed by those leaves of a second list that are not in `revs`. Each new leaf is
+-- added once, in the order of the second list.
 abbrev pub add_revs : List Text → List Text → List Text
 add_revs revs [] = revs
 add_revs revs (r ∷ rs) = add_revs (if list_any (bytes_eq r) revs then revs else revs ++ r ∷ []) rs

@@ -1,5 +1,5 @@
--- The contents of a JSON response. If a JSON object has several members with the same name, the last of these members
--- counts.
+-- The contents of a JSON response. If a JSON object has several members with the same name, the functions of this file
+-- use the last of these members.
 use Rattle.std.specs.Prelude.{if◌then◌else◌, List, [], ◌∷◌, ◌++◌, Option, None, Some, option_and_then}
 use Rattle.std.specs.Option.{option_map_or}
 use Rattle.std.specs.List.{list_all}

@@ -16,7 +16,8 @@ use std::alloc::{AllocError, Global};
 /// The values of an object's members, by member name.
 type Members<'v, 'a> = IndexMap<&'a str, &'v Value<'a>>;
 
-/// Returns the members of an object by name. If several members have the same name, the last of these members counts.
+/// Returns the members of an object by name. If several members have the same name, the result has the last of these
+/// members.
 fn last_members<'v, 'a>(
     alloc: Global,
     members: &'v Vec<(&'a str, Value<'a>)>,
