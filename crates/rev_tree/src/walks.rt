@@ -1,4 +1,4 @@
-//! Functions that go from a node to the node's ancestors, by index.
+//! Functions that go from a node to the node's ancestors, by the indexes of the nodes.
 ghost use Rattle.std.specs.Prelude.{◌≡◌, ◌<◌, List, IfOk, true, filter, length, slice_get};
 ghost use Rattle.rev_core.specs.Rev.{RevId};
 ghost use Rattle.rev_core.specs.Ancestry.{is_among};
@@ -17,8 +17,8 @@ impl Nodes {
         requires tree { IsTree (tree_of self.now.items) }
         ensures { IfOk result (λ v. v.items ≡ ancestors_at self.now.items start) }
     {
-        // The list has a revision and its ancestors. The length of the list is at most the number of nodes, and at most
-        // the revision's generation.
+        // The resulting list has a revision and its ancestors. The length of the list is at most the number of nodes,
+        // and at most the revision's generation.
         let most = self
             .all()
             .len()
@@ -50,10 +50,11 @@ impl Nodes {
         Some(*self.node_at(at).rev())
     }
 
-    /// Returns the leaves that are one of the given revisions or descend from one of them. The result keeps the order
-    /// of the given leaves.
+    /// Returns the given leaves that are equal to, or descend from, one of the revisions `revs`. The result keeps the
+    /// order of the given leaves.
     ///
-    /// The call stores a result for each visited node, and uses the result again for other leaves.
+    /// The call stores a result for each visited node, and uses this result for other leaves that descend from the
+    /// node.
     pub(crate) fn those_above(
         &self,
         alloc: Global,
@@ -79,8 +80,8 @@ impl Nodes {
         Ok(above)
     }
 
-    /// Creates a table with an optional result for each node. The nodes of the given revisions have the result true,
-    /// and all other nodes have no result.
+    /// Creates a table with an optional result for each node: true for the nodes of the given revisions, and no result
+    /// for all other nodes.
     fn asked(&self, alloc: Global, revs: &[Rev]) -> Result<Vec<Option<bool>>, AllocError>
         ensures { IfOk result (λ v. IsTold self.now.items revs.now v.items) }
     {
