@@ -1,4 +1,4 @@
--- The command line of the program `couch_journal`.
+-- Defines the command line of the program `couch_journal`, and what `clap` reads from it.
 use Rattle.std.specs.Prelude.{◌≡◌, ℕ, List, [], Option, Some, option_map, codes, unwrap_or, true}
 use Rattle.clap.specs.Words.{App, HasKind, Rule, fault_of, first_of, one_of, matches_of, new_rule, with_rule}
 use Rattle.clap.specs.declared.builder.action.ArgAction.TheVariants.{Set}

@@ -1,4 +1,4 @@
--- The outcome of a task, and the exit status of the program `couch_journal`.
+-- Defines the outcome of a task, and the exit status of the program `couch_journal`.
 use Rattle.std.specs.Prelude.{ℕ, Bool, true, false, Option, None, Some, Result, Ok, Err}
 use Rattle.clap.specs.Words.{kind_of}
 use Rattle.cli_common.specs.Status.{kind_status}

@@ -1,4 +1,4 @@
--- The task that a command line of `couch_journal` names.
+-- Defines which task a command line of `couch_journal` names.
 use Rattle.std.specs.Prelude.{◌≡◌, ◌^◌, ◌<◌, ◌⊎◌, ℕ, ◌&&◌, ◌||◌, not, List, Bool, true, false, if◌then◌else◌, Option, Some, None, option_map, is_some, codes}
 use Rattle.std.specs.Borrow.{Bor}
 use Rattle.std.specs.Str.Parse.{without_leading_plus, IsNumeral, digits_value}

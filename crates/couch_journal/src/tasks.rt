@@ -40,8 +40,8 @@ pub(crate) enum Task<'a> {
     Conflicts,
     /// Prints a line for each leaf. Each line begins with the given word.
     Name(&'a str),
-    /// Prints the leaves of a list that another list lacks. If the Boolean is true, the task prints only the leaves of
-    /// documents that the other list lacks.
+    /// Prints the leaves of one list that another list lacks. If the Boolean is true, the task prints only the leaves
+    /// of documents that the other list lacks.
     Compare(bool),
     /// Prints the identity of a server or of a database.
     Info,
