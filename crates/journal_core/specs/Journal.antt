@@ -1,4 +1,4 @@
--- Journals and their checksums, as specified in docs/PROFILE.md, "Journals".
+-- Defines journals and their checksums, as specified in docs/PROFILE.md, "Journals".
 use Rattle.std.specs.Prelude.{◌≡◌, ◌≤◌, ℕ, List, [], ◌∷◌, ◌++◌, Bool, false, nat_eq, All, codes, decimal, length}
 use Rattle.std.specs.List.{starts_with}
 use Rattle.sha2.specs.Sha256.{sha256}
