@@ -21,7 +21,7 @@ IsRising es = IsStrictlySortedBy (slice_cmp nat_cmp) (names_of es)
 abbrev pub put_entry : {T : Type 0} → Bor (List ℕ) → T → List (Entry T) → List (Entry T)
 put_entry k v es = insert_entry (λ a b. slice_cmp nat_cmp a.now b.now) es k v
 
--- Index i is the position of the member named k in a list of members.
+-- Index i is the position of the member named k in the list of members, if the list has an element at i.
 abbrev pub IsPlaceOf : {T : Type 0} → List ℕ → List (Entry T) → ℕ → Type 0
 IsPlaceOf {T} k es i = (name : Bor (List ℕ)) → name.now ≡ k → (v : T) → (e : Entry T) → slice_get es i ≡ Some e → put_entry name v es ≡ slice_set es i (e.0, v)
 
@@ -33,6 +33,6 @@ IsGapFor {T} k es i = (name : Bor (List ℕ)) → name.now ≡ k → (v : T) →
 abbrev pub ComesLast : {T : Type 0} → List ℕ → List (Entry T) → Type 0
 ComesLast {T} k es = (name : Bor (List ℕ)) → name.now ≡ k → (v : T) → put_entry name v es ≡ es ++ (name, v) ∷ []
 
--- The last member of the list `old` has been moved to index i.
+-- The list `new` is the list `old` after moving its last member to index i.
 abbrev pub MovesLast : {T : Type 0} → List (Entry T) → ℕ → List (Entry T) → Type 0
 MovesLast {T} old i new = (es : List (Entry T)) (last : Entry T) → old ≡ es ++ last ∷ [] → new ≡ take i es ++ last ∷ drop i es

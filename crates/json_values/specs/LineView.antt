@@ -1,4 +1,4 @@
--- The JSON data that the value of a line represents.
+-- Defines the JSON data that the value of a line represents.
 use Rattle.std.specs.Prelude.{ℕ, List, [], ◌∷◌, map}
 use Rattle.std.specs.Borrow.{Bor}
 use Rattle.serde_json.specs.Data.{Data, null, boolean, number, string, array, object, Items, Members, no_members, member}

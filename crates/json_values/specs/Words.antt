@@ -1,4 +1,4 @@
--- Numbers and literals in JSON, and their ends.
+-- Defines the numbers and literals in a JSON text, and the indexes at which they end.
 use Rattle.std.specs.Prelude.{◌≡◌, ℕ, ◌-◌, ◌<◌, ◌≤◌, List, ◌++◌, length, take, drop, true, Some, MatchOption, Option}
 use Rattle.json.specs.Token.{bad}
 use Rattle.json.specs.Token as spec
