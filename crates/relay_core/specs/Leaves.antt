@@ -1,4 +1,4 @@
--- Tests of whether a list of documents or of error rows names a leaf of a document.
+-- Defines whether a list of documents, or a list of error rows, names a leaf of a document.
 use Rattle.std.specs.Prelude.{ℕ, ◌+◌, Bool, true, false, ◌&&◌, ◌||◌, not, List, [], ◌∷◌, ◌++◌, Option, None, Some, codes, filter, map, length, bytes_eq}
 use Rattle.std.specs.List.{list_any, list_all}
 use Rattle.relay_core.specs.Messages.{Text, DocView, RowErrorView}

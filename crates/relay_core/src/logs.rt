@@ -14,7 +14,7 @@ use crate::phase::{Phase, Recorded, Run, Stage, Start, failed, quiet, seq_of};
 use crate::settings::Settings;
 use std::alloc::{AllocError, Global};
 
-/// The maximum number of restarts of a run before the run has recorded the end of the feed.
+/// The maximum number of times that a run may restart before it has recorded the end of the feed.
 const RESTARTS: u64 = 5;
 
 /// Returns the fault that a response reports, or the given fault if the response reports no fault.
@@ -106,8 +106,8 @@ fn start_of(
     }
 }
 
-/// Begins a window at the newest pair of a session id and a sequence that both logs have. If the logs have no common
-/// pair, the window begins at sequence 0, and both logs record sequence 0 first.
+/// Begins a window (a range of the source's changes) at the newest pair of a session id and a sequence that both logs
+/// have. If the logs have no common pair, the window begins at sequence 0, and both logs record sequence 0 first.
 fn begin_window(
     alloc: Global,
     run: Run,

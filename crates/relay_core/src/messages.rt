@@ -111,8 +111,8 @@ pub enum Response {
     Missing(Vec<DocLeaves>),
     /// The rows of a `_bulk_docs` response that report errors.
     RowErrors(Vec<RowError>),
-    /// A server rejected a transfer of documents with the given status, a 4xx other than 401, 403, 404, 408 and 429.
-    /// The variant has a string with the error and the reason of the server's response.
+    /// A server rejected a transfer of documents with the given status, which is a 4xx status other than 401, 403, 404,
+    /// 408 and 429. The variant has a string with the error and the reason of the server's response.
     CarryRejected(Side, u16, String),
     /// A server stored its replication log.
     Stored,

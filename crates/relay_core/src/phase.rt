@@ -34,7 +34,8 @@ pub struct Run {
     pub begin: Option<Recorded>,
     /// The sequence up to which the target has, or has refused, each leaf.
     pub since: String,
-    /// Whether the current window is open. An open window is a window that the run must record in both logs.
+    /// Whether the current window (the source's changes since `begin`) is open. The run must record an open window in
+    /// both logs.
     pub is_open: bool,
     /// The number of pages with rows in the current window.
     pub pages: u64,
@@ -107,7 +108,7 @@ pub enum Stage {
     Done(Option<Fault>),
 }
 
-/// The state of a run, with its next request.
+/// The state of a run between two requests, which determines the run's next request.
 #[derive(Drop)]
 pub struct Phase {
     pub run: Run,

@@ -207,7 +207,9 @@ fn error_of(
     Ok(None)
 }
 
-/// Returns the number of missing leaves that no refusing row concerns, and the first of these leaves.
+/// Returns the number of the given leaves that no error row in the list `refused` concerns, and the first of these
+/// leaves. The result also has the error and the reason of the first error row of the leaf's document in the list
+/// `others`, if such a row exists.
 pub(crate) fn unaccounted(
     alloc: Global,
     refused: &[RowError],
