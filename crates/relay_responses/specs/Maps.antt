@@ -1,5 +1,4 @@
--- Contracts describe the maps in the code by the lists that this file defines. The keys of the maps are references to
--- strings.
+-- Defines the lists by which contracts describe the maps in the code. The keys of the maps are references to strings.
 use Rattle.std.specs.Prelude.{List, [], Option, None, Some, map}
 use Rattle.std.specs.Borrow.{Bor}
 use Rattle.std.specs.Global.{Global}
