@@ -314,7 +314,7 @@ fn run_with<F: WriteFilter + Send + Sync, G: Gate + Sync, R: Threads + Wait + Sy
 ///   `check_run`, both peers are unchanged.
 /// - `Refused`: a step of the run failed. The error is `Refused(Unfinished)` if no worker failed or stopped, but the
 ///   last window ended below the source's update sequence because of the plan's `stop_after`.
-/// - `Halted`: the gate returned `Stop` at the place that the error names.
+/// - `Halted`: the gate returned `Stop` at the place (stage of a window) that the error names.
 /// - `CountFull`: a fetcher's count of documents would exceed 9,007,199,254,740,991.
 /// - `Memory`: an allocation failed, or a thread cannot be created.
 ///
