@@ -1,5 +1,5 @@
--- Two trees are the same if they agree, have complete histories and have each other's leaves. Further theorems of
--- `AgreementLaws` say how trees come to have each other's leaves.
+-- Proves that two trees are the same if they agree, have complete histories and have each other's leaves. Further
+-- theorems say how two trees come to have each other's leaves by growing in both directions.
 use Rattle.std.proofs.Common.{◌≡◌, ◌⊎◌, ℕ, zero, suc, true, false, not, ◌&&◌, ◌||◌, List, [], ◌∷◌, filter, Option, Some, None, is_some, refl, sym, ap, ◌∙◌, inl, inr, arith}
 use Rattle.std.specs.List.{list_any}
 use Rattle.std.specs.Option.{option_map_or}

@@ -1,4 +1,5 @@
--- The stored form of a tree: nodes that name their parents by index, and an index from revisions to positions.
+-- Defines the stored form of a tree: a list of nodes, which have the positions of their parents, and an index that maps
+-- revisions to positions.
 use Rattle.std.specs.Prelude.{◌≡◌, ℕ, ◌+◌, ◌^◌, ◌<◌, ◌≤◌, Bool, true, false, cond, List, [], ◌∷◌, ◌++◌, map, length, Option, Some, None, slice_get, IfSome}
 use Rattle.std.specs.FinMap as finmap
 use Rattle.std.specs.Option.{option_map_or}
@@ -44,7 +45,7 @@ rev_at revs (Some i) = slice_get revs i
 abbrev pub parent_in : List RevId → NodeValue → Option RevId
 parent_in revs n = rev_at revs n.parent
 
--- A list with one map entry of key r and value x, or the empty list if there is no value.
+-- A list with one map entry of key r and value x, or the empty list if no value is given.
 abbrev pub entry_of : {X : Type 0} → RevId → Option X → List (RevId × X)
 entry_of r None = []
 entry_of r (Some x) = (r, x) ∷ []

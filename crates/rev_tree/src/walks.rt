@@ -11,7 +11,7 @@ use rev_core::Rev;
 use std::alloc::{AllocError, Global};
 
 impl Nodes {
-    /// Returns the revision at an index and its known ancestors.
+    /// Returns the revision of the node at index `start`, and the known ancestors of that revision.
     pub(crate) fn walk(&self, alloc: Global, start: usize) -> Result<Vec<Rev>, AllocError>
         requires within { start < length self.now.items }
         requires tree { IsTree (tree_of self.now.items) }
@@ -37,7 +37,7 @@ impl Nodes {
         Ok(revs)
     }
 
-    /// Returns the known ancestor that is `steps` generations before the revision at index `start`.
+    /// Returns the known ancestor that is `steps` generations before the revision of the node at index `start`.
     pub(crate) fn ancestor_at(&self, start: usize, steps: usize) -> Option<Rev>
         requires within { start < length self.now.items }
         requires tree { IsTree (tree_of self.now.items) }
@@ -94,8 +94,8 @@ impl Nodes {
         Ok(told)
     }
 
-    /// Whether the revision at an index or one of its ancestors is one of the given revisions. The call stores the
-    /// result for all visited nodes.
+    /// Whether the revision of the node at index `start`, or an ancestor of that revision, is one of the given
+    /// revisions. The call stores the result for all visited nodes.
     fn is_above(&self, told: &mut Vec<Option<bool>>, start: usize) -> bool
         requires within { start < length self.now.items }
         requires len { length told.old.items ≡ length self.now.items }
