@@ -15,12 +15,12 @@ task_word = record (new_rule (codes "task")) { action = Some Set; value_names = 
 abbrev pub text_option : List ℕ → Rule
 text_option name = record (new_rule name) { long = Some name; action = Some Set; value_names = 1 }
 
--- A command line with the positional arguments.
+-- The given command line after adding the positional arguments.
 abbrev pub with_arguments : App → App
 with_arguments app =
     with_rule (with_rule (with_rule app task_word) (hidden_option (codes "first"))) (hidden_option (codes "second"))
 
--- A command line with the options.
+-- The given command line after adding the options.
 abbrev pub with_options : App → App
 with_options app = with_rule (with_rule (with_rule (with_rule (with_rule (with_rule
     app (text_option (codes "at"))) (text_option (codes "doc"))) (flag_option (codes "several")))

@@ -29,7 +29,7 @@ enum Response {
     Info,
 }
 
-/// Appends the output for a page of changes to `text`.
+/// Appends to `text` the output for a page of changes.
 fn show_page(
     alloc: Global,
     several: bool,
@@ -47,7 +47,7 @@ fn show_page(
     }
 }
 
-/// Appends the output for a response of `_bulk_docs` to `text`. Returns whether a document was rejected.
+/// Appends to `text` the output for a response of `_bulk_docs`. Returns whether a document was rejected.
 fn show_refused(alloc: Global, value: &Value<'_>, text: &mut Vec<u8>) -> Result<bool, Said>
     ensures ok { IfOk result (λ refused. (shown : List ℕ) × (text.new.items ≡ text.old.items ++ shown)
         × Shows Response.Refused (value_view value.now) shown refused) }
@@ -60,7 +60,7 @@ fn show_refused(alloc: Global, value: &Value<'_>, text: &mut Vec<u8>) -> Result<
     }
 }
 
-/// Appends the output for a description of a server or a database to `text`.
+/// Appends to `text` the output for a description of a server or a database.
 fn show_info(alloc: Global, value: &Value<'_>, text: &mut Vec<u8>) -> Result<bool, Said>
     ensures ok { IfOk result (λ refused. (shown : List ℕ) × (text.new.items ≡ text.old.items ++ shown)
         × Shows Response.Info (value_view value.now) shown refused) }
@@ -73,7 +73,7 @@ fn show_info(alloc: Global, value: &Value<'_>, text: &mut Vec<u8>) -> Result<boo
     }
 }
 
-/// Appends the output for a JSON value to `text`. Returns whether the value says that a document was rejected.
+/// Appends to `text` the output for a JSON value. Returns whether the value says that a document was rejected.
 ///
 /// # Errors
 ///
@@ -97,7 +97,7 @@ fn show(
     }
 }
 
-/// Appends the output for a response to `text`. Returns whether the response says that a document was rejected.
+/// Appends to `text` the output for a response. Returns whether the response says that a document was rejected.
 ///
 /// # Errors
 ///
@@ -345,7 +345,7 @@ fn run_diff<R: ScriptRead, W: ScriptWrite>(
     Ok(wrong_or(task.wrong(), Outcome::Done))
 }
 
-/// Cuts lines into parts.
+/// Splits the input's lines into parts.
 fn run_parts<R: ScriptRead, W: ScriptWrite>(
     alloc: Global,
     bytes: u64,
