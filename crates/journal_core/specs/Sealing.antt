@@ -27,8 +27,8 @@ pub record IsSealing (chain seq : List ℕ) (lines : List (List ℕ)) (seal : Se
 abbrev pub Seals : Seal → List ℕ → List ℕ → Seal → Type 0
 Seals old line text new = (text ≡ []) × ((chain seq : List ℕ) (lines : List (List ℕ)) → IsSealing chain seq lines old → IsSealing chain seq (lines ++ line ∷ []) new)
 
--- The input has no bytes after its last line end, and no line of the input is a sum line. The line that ends the block
--- is written.
+-- The input has no bytes after its last line end, and no line of the input is a line that ends a block. The line that
+-- ends the block is written.
 abbrev pub EndsRight : Seal → List ℕ → List ℕ → Type 0
 EndsRight old rest text = (rest ≡ []) × ((chain seq : List ℕ) (lines : List (List ℕ)) → IsSealing chain seq lines old
     → All (λ line. is_sum line ≡ false) lines × (text ≡ sum_line (length lines) (block_hash chain seq (joined lines)) seq ++ codes "\n"))
