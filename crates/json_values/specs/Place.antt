@@ -56,7 +56,7 @@ ends_object (Token.boolean b ∷ ts) = false
 ends_object (Token.null ∷ ts) = false
 ends_object (Token.bad ∷ ts) = false
 
--- Whether reading a JSON string may give the given token.
+-- Whether a token can be the result of reading a JSON string.
 abbrev pub of_string : Token → Bool
 of_string Token.begin_object = false
 of_string Token.end_object = false
@@ -69,7 +69,7 @@ of_string (Token.boolean b) = false
 of_string Token.null = false
 of_string Token.bad = true
 
--- The next tokens of a JSON text do not begin a value, at any nesting depth.
+-- For every nesting depth, the remaining tokens of a JSON text do not begin a value.
 abbrev pub BeginsNoValue : List Token → Type 0
 BeginsNoValue ts = (depth : ℕ) → value depth ts ≡ None
 

@@ -209,8 +209,8 @@ fn comes_last<T>(entries: &[(&str, T)], name: &str) -> bool
     }
 }
 
-/// Returns the index of the member with a name as `Ok`, or the index at which to insert it as `Err`. The call searches
-/// from the end of the list, because the names usually come nearly in order.
+/// Returns `Ok` with the index of the member that has the given name, or `Err` with the index at which to insert a
+/// member with this name. The call searches from the end of the list, because the names usually come nearly in order.
 #[inline(always)]
 fn place_of<T>(entries: &[(&str, T)], name: &str) -> Result<usize, usize>
     requires { IsRising entries.now }

@@ -161,7 +161,7 @@ fn refuse<'a>(place: Place) -> (Option<Token<'a>>, Place)
     }
 }
 
-/// Reads the next token, and returns it with the grammar position after it.
+/// Reads the next token, and returns the token with the grammar position after the token.
 #[inline(always)]
 fn read<'a>(lexer: &mut Lexer<'a>, place: Place) -> (Option<Token<'a>>, Place)
     requires { NotBeforeComma place lexer.old.text }

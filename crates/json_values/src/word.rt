@@ -161,7 +161,8 @@ pub(crate) fn word<'a>(text: &'a str, from: usize) -> Option<(Token<'a>, usize)>
     }
 }
 
-/// Returns the value and the number of the digits at the start of a text, unless there are too many digits.
+/// Returns the value of the digits at the start of a text, and the number of these digits. Returns `None` if the text
+/// begins with no digit or with too many digits.
 #[inline(always)]
 fn digits_sum(rest: &[u8]) -> Option<(u64, usize)>
     ensures bounds { IfSome result (λ r. (0 < r.1) × (r.1 ≤ length rest.now) × (r.0 < 2 ^ 63)) }
