@@ -82,7 +82,7 @@ pub data ResponseView : Type 0 where
   noted_response : ResponseView
   fault_response : FaultView → ResponseView
 
--- An exchange: a request, and the response to it.
+-- An exchange: a request, and the response to the request.
 pub record Exchange : Type 0 where
   pub request : RequestView
   pub response : ResponseView

@@ -43,7 +43,7 @@ pub struct Run {
     pub has_ended: bool,
     /// Whether the run requests the next page by longpoll.
     pub waits: bool,
-    /// The largest number of documents that the next transfer may have.
+    /// The largest number of documents that the next part of a transfer may have.
     pub carry: usize,
     /// The number of times that the run has repeated the request for the current page.
     pub tries: u64,
