@@ -84,8 +84,8 @@ impl Nodes {
     }
 
     /// Inserts the revisions of an ancestry, its edges and the content of its head, and returns the index of the
-    /// winner's node. `best` is the index of the winner's node before the call. The caller has reserved space for the
-    /// missing revisions.
+    /// winner's node. The argument `best` is the index of the winner's node before the call. The caller has reserved
+    /// space for the missing revisions.
     pub(crate) fn put(
         &mut self,
         best: usize,

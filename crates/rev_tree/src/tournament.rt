@@ -14,7 +14,7 @@ use std::alloc::Global;
 /// tournament and is a leaf, it is the player at index `winners.len() + n` of the tree of matches.
 ///
 /// The winner of a match is stored as its node's index, counted from 1, or as 0 if the match has no player. If the
-/// winner of a match is no longer a leaf, its index stays stored until its matches are played again.
+/// stored winner of a match is no longer a leaf, the index of its node stays stored until its matches are played again.
 #[derive(Drop)]
 pub(crate) struct Tournament {
     winners: Vec<u32>,
