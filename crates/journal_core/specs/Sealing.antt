@@ -70,7 +70,7 @@ abbrev pub SealsOn : List ℕ → List ℕ → (List ℕ → Type 0) → Option 
 SealsOn chain seq given held held' None = IsSealedOn chain seq given held held'
 SealsOn chain seq given held held' (Some count) = IsUnsealedOn count given held held'
 
--- The result of sealing a block from the bytes `left`, which the reader had not returned before the call.
+-- The result of sealing a block from the bytes `left`, which the reader had not yet returned before the call.
 abbrev pub SealsBlock : List ℕ → List ℕ → Option (List ℕ) → Option (List ℕ) → Option (List ℕ) → Option ℕ → Type 0
 SealsBlock chain seq left held held' wrong = SealsOn chain seq (Gives left) held held' wrong
 
