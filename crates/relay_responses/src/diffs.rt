@@ -1,4 +1,4 @@
-//! The missing leaves that a response to `_revs_diff` names.
+//! Finds the missing leaves that a response to `_revs_diff` names.
 ghost use Rattle.std.specs.Prelude.{◌≡◌, [], IfOk, option_map};
 ghost use Rattle.json.specs.Find.{as_str};
 ghost use Rattle.json.specs.Value.{value_view, items_view, members_view};
