@@ -57,8 +57,8 @@ pub data IsRecorded (plan : Plan) (fault : Option PoolFault) (complete : Bool) (
       → after ≡ closed before plan → IsRecorded plan fault complete before after (faults.Refused why)
 
 -- The first argument of `UnlessMemory` is the outcome of a run before it stores the session's entry at the source, and
--- the second is the outcome after that. A run that was successful so far may return `Memory` instead. If a run had
--- failed already, its error does not change.
+-- the second argument is the run's outcome afterwards. If the first outcome is a success, the second outcome is the
+-- same success or `Memory`. If the first outcome is an error, the second outcome is the same error.
 abbrev pub UnlessMemory : Result Report PoolFault → Result Report PoolFault → Type 0
 UnlessMemory (Ok report) result = (result ≡ Ok report) ⊎ (result ≡ Err faults.Memory)
 UnlessMemory (Err why) result = result ≡ Err why
