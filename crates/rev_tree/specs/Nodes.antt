@@ -83,7 +83,7 @@ abbrev pub goes_before : NodeValue → Option NodeValue → Bool
 goes_before n None = true
 goes_before n (Some best) = is_lt (ordering_then (bool_cmp (deletes n) (deletes best)) (rev_cmp best.rev n.rev))
 
--- The number 1 if revision r is not in the list `known`, else 0.
+-- The number 1 if revision r is not in the list `known`, and otherwise 0.
 abbrev pub unless_among : List RevId → RevId → ℕ
 unless_among known r = cond (is_among r known) 0 1
 

@@ -1,6 +1,6 @@
 -- Defines the tournament that finds the winner of a revision tree: a binary tree of matches between the leaves, which
--- are the players. A player is stored as the index of its node, counted from 1. The number 0 means that a match has no
--- player at an index.
+-- are the players. A player is stored as the index of its node, counted from 1. The number 0 is stored if an index has
+-- no player.
 use Rattle.std.specs.Prelude.{◌≡◌, ℕ, zero, suc, ◌-◌, ◌/◌, ◌<◌, ◌≤◌, ◌^◌, ◌⊎◌, Bool, true, false, cond, List, length, get_or, Option, Some, None, is_some, option_map, nat_lt, slice_get}
 use Rattle.std.specs.declared.cmp.Ordering.{Ordering}
 use Rattle.std.specs.Ordering.{is_lt, bool_cmp, ordering_then}
