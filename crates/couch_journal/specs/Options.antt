@@ -1,4 +1,4 @@
--- The command line of the program `couch_journal`.
+-- Defines the command line of the program `couch_journal`, and what `clap` reads from it.
 use Rattle.std.specs.Prelude.{◌≡◌, ℕ, List, [], Option, Some, option_map, codes, unwrap_or, true}
 use Rattle.clap.specs.Words.{App, HasKind, Rule, fault_of, first_of, one_of, matches_of, new_rule, with_rule}
 use Rattle.clap.specs.declared.builder.action.ArgAction.TheVariants.{Set}
@@ -15,12 +15,12 @@ task_word = record (new_rule (codes "task")) { action = Some Set; value_names = 
 abbrev pub text_option : List ℕ → Rule
 text_option name = record (new_rule name) { long = Some name; action = Some Set; value_names = 1 }
 
--- A command line with the positional arguments.
+-- The given command line after adding the positional arguments.
 abbrev pub with_arguments : App → App
 with_arguments app =
     with_rule (with_rule (with_rule app task_word) (hidden_option (codes "first"))) (hidden_option (codes "second"))
 
--- A command line with the options.
+-- The given command line after adding the options.
 abbrev pub with_options : App → App
 with_options app = with_rule (with_rule (with_rule (with_rule (with_rule (with_rule
     app (text_option (codes "at"))) (text_option (codes "doc"))) (flag_option (codes "several")))
@@ -30,8 +30,8 @@ with_options app = with_rule (with_rule (with_rule (with_rule (with_rule (with_r
 abbrev pub command_line : App
 command_line = with_options (with_arguments (program_app (codes "couch_journal")))
 
--- Each field of the options o has the value that the text of one argument or option gives. The functions `text` and
--- `flag` give the text of an argument or option by its name.
+-- Each field of the options o has the value of one argument or option of the command line. The functions `text` and
+-- `flag` return the optional text of the argument or option with a given name.
 pub record AreGiven (text flag : List ℕ → Option (List ℕ)) (o : Options) : Type 0 where
   pub task : o.task.now ≡ unwrap_or (text (codes "task")) []
   pub first : option_map (λ s. s.now) o.first ≡ text (codes "first")
@@ -48,7 +48,7 @@ pub record AreGiven (text flag : List ℕ → Option (List ℕ)) (o : Options) :
 abbrev pub Says : List (List ℕ) → Options → Type 0
 Says words o = AreGiven (λ id. first_of id (matches_of command_line words)) (λ id. one_of id (matches_of command_line words)) o
 
--- The reason why `clap` reads no values from the arguments, which is an error of `clap` or a failed allocation.
+-- Why `clap` reads no values from the arguments: `clap` returns an error, or an allocation fails.
 abbrev pub Refuses : List (List ℕ) → NoTask → Type 0
 Refuses words (Words error) = HasKind (fault_of command_line words) error
 Refuses words Unknown = ⊥

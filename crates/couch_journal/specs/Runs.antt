@@ -34,7 +34,7 @@ use Rattle.couch_journal.specs.declared.options.NoTask.TheVariants.{Words, Unkno
 
 -- ---- the tasks on responses
 
--- The JSON value j is the response that a task reads. The task prints `text`, and `refused` is true exactly if the
+-- The JSON value j is the response that the task reads. The task prints `text`, and `refused` is true exactly if the
 -- response says that a document was rejected.
 abbrev pub Shows : Response → Json → List ℕ → Bool → Type 0
 Shows (Page several) j text refused = (page_in several j ≡ Some text) × (refused ≡ false)
@@ -42,13 +42,13 @@ Shows Refused j text refused =
     (entries : Items) × (as_array j ≡ Some entries) × (text ≡ refused_text entries) × (refused ≡ any_refused entries)
 Shows Info j text refused = (is_info j ≡ true) × (text ≡ info_text j) × (refused ≡ false)
 
--- The JSON value j is not the response that a task reads.
+-- The JSON value j does not have the form of the response that the task reads.
 abbrev pub ShowsNothing : Response → Json → Type 0
 ShowsNothing (Page several) j = page_in several j ≡ None
 ShowsNothing Refused j = as_array j ≡ None
 ShowsNothing Info j = is_info j ≡ false
 
--- The input is the response that a task reads. The task prints `text`, and `refused` is true exactly if the response
+-- The input is the response that the task reads. The task prints `text`, and `refused` is true exactly if the response
 -- says that a document was rejected.
 abbrev pub IsShown : Response → List ℕ → List ℕ → Bool → Type 0
 IsShown response input text refused = (j : Json) × (response_in input ≡ Some j) × Shows response j text refused
@@ -59,7 +59,7 @@ IsNotShown response input said =
     IsUnread (response_in input) said
     ⊎ ((j : Json) × (response_in input ≡ Some j) × IsSaid j said × (IsOther said → ShowsNothing response j))
 
--- The output and the outcome of a task for a response that is read completely.
+-- The output and the outcome of a task after the task has read the complete response.
 abbrev pub Prints : Response → List ℕ → List ℕ → Outcome → Type 0
 Prints response input text outcomes.Done = IsShown response input text false
 Prints response input text outcomes.Missing = IsShown response input text true
@@ -78,9 +78,9 @@ RunsResponse response ended input text (Err fault) =
 
 -- ---- `seal`
 
--- The outcome of the task `seal`. If a block can contain every line of the input, the block is sealed. If a block
--- cannot contain a line of the input, the outcome has the number, from 1, of the first such line, and the output is
--- empty.
+-- The output and the outcome of the task `seal`. If a block can contain every line of the input, the block is sealed.
+-- If a block cannot contain a line of the input, the outcome has the number, from 1, of the first such line, and the
+-- output is empty.
 abbrev pub Seals : List ℕ → List ℕ → List ℕ → List ℕ → Outcome → Type 0
 Seals chain seq input text outcomes.Done = IsSeal chain seq input text
 Seals chain seq input text (outcomes.Wrong line) =
@@ -88,18 +88,18 @@ Seals chain seq input text (outcomes.Wrong line) =
     × (option_map suc (wrong_at is_sum lines rest) ≡ Some line))
 Seals chain seq input text other = ⊥
 
--- The input, the output and the result of the task `seal`. After an error, the output is empty, or it is a prefix of the
--- output for the complete input.
+-- How the output and the result of the task `seal` depend on the task's input. After an error, the output is empty, or
+-- it is a prefix of the output for the complete input.
 abbrev pub RunsSeal : List ℕ → List ℕ → Type 0 → List ℕ → List ℕ → Result Outcome ScriptFault → Type 0
 RunsSeal chain seq ended input text (Ok outcome) = ended × Seals chain seq input text outcome
 RunsSeal chain seq ended input text (Err fault) = (text ≡ []) ⊎ (ended × IsSealedPart chain seq input text)
 
 -- ---- the tasks on lines
 
--- The effect of running a task on lines. The functions `prints`, `output` and `outcome` give the text that is printed
--- before the end of the input, the complete output, and the outcome. After an error, the output is a prefix of the text
--- for the first lines of the input. If the input was read to its end, the output can be a prefix of the complete
--- output.
+-- The effect of running a task that reads its input line by line. The function `prints` gives the text that the task
+-- prints before the end of the input. The function `output` gives the complete output, and `outcome` gives the outcome.
+-- After an error, the output is a prefix of the text for the first lines of the input. If the input was read to its
+-- end, the output can be a prefix of the complete output.
 abbrev pub RunsLines : (List (List ℕ) → List ℕ) → (List (List ℕ) → List ℕ → List ℕ) → (List (List ℕ) → List ℕ → Outcome)
     → Type 0 → List ℕ → List ℕ → Result Outcome ScriptFault → Type 0
 RunsLines prints output outcome ended input text (Ok result) =
@@ -110,7 +110,7 @@ RunsLines prints output outcome ended input text (Err fault) =
     × All (λ line. has_line_end line ≡ false) lines × (text ++ back ≡ prints lines))
     ⊎ (ended × ((lines : List (List ℕ)) × (rest back : List ℕ) × AreLines input lines rest × (text ++ back ≡ output lines rest)))
 
--- The effect of running the task `ask`: the output is the request for the leaves of the input's list.
+-- The effect of running the task `ask`: its output is the request for the leaves that the input lists.
 abbrev pub RunsAsk : Type 0 → List ℕ → List ℕ → Result Outcome ScriptFault → Type 0
 RunsAsk ended input text result =
     RunsLines (λ lines. asked_items false (leaves_in lines)) (λ lines rest. ask_body (leaves_in lines))
@@ -126,8 +126,8 @@ RunsReceived only ended input text result =
 
 -- ---- the tasks
 
--- The input, the output and the result of a task. For the tasks of the last case, every output and every result is
--- allowed.
+-- How the output and the result of a task depend on the task's input. For the tasks that the definition does not name,
+-- every output and every result is allowed.
 abbrev pub RunsTask : Task → Options → Type 0 → List ℕ → List ℕ → Result Outcome ScriptFault → Type 0
 RunsTask (tasks.Page several) o ended input text result = RunsResponse (Page several) ended input text result
 RunsTask tasks.Refused o ended input text result = RunsResponse Refused ended input text result
@@ -145,15 +145,15 @@ NamesNoTask words (Words error) = Refuses words (Words error)
 NamesNoTask words Unknown = (o : Options) × Says words o × IsTaskless o
 NamesNoTask words Memory = Unit {0}
 
--- The input and the output of the program for its arguments, of which the first is the program's name. If the arguments
+-- What the program reads and writes for a command line, whose first argument is the program's name. If the arguments
 -- name no task, the program reads and writes no byte.
 abbrev pub RunsWords : List (List ℕ) → Type 0 → List ℕ → List ℕ → Ended → Type 0
 RunsWords words ended input text (NotRun why) = (input ≡ []) × (text ≡ []) × NamesNoTask words why
 RunsWords words ended input text (Ran result) =
     (o : Options) × (task : Task) × Says words o × IsTaskOf o task × RunsTask task o ended input text result
 
--- A run of the program on its standard streams. The arguments of `RunsStandard` are the command line, and whether the
--- reads reached the end of the input. Further arguments of `RunsStandard` are the bytes that the reads returned, the
+-- A run of the program on its standard streams. The first arguments of `RunsStandard` are the command line, and the
+-- statement that the reads reached the end of the input. The other arguments are the bytes that the reads returned, the
 -- bytes that the output has accepted, and how the run ended. If the last output of a run cannot be flushed, a part of
 -- this output is missing, and the run ends as `unflushed` says.
 abbrev pub RunsStandard : List (List ℕ) → Type 0 → List ℕ → List ℕ → Ended → Type 0

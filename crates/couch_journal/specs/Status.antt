@@ -1,4 +1,4 @@
--- The outcome of a task, and the exit status of the program `couch_journal`.
+-- Defines the outcome of a task, and the exit status of the program `couch_journal`.
 use Rattle.std.specs.Prelude.{ℕ, Bool, true, false, Option, None, Some, Result, Ok, Err}
 use Rattle.clap.specs.Words.{kind_of}
 use Rattle.cli_common.specs.Status.{kind_status}
@@ -11,17 +11,17 @@ use Rattle.couch_journal.specs.declared.ended.Outcome.TheVariants.{Done, Missing
 use Rattle.couch_journal.specs.declared.ended.Ended.{Ended}
 use Rattle.couch_journal.specs.declared.ended.Ended.TheVariants.{NotRun, Ran}
 
--- The outcome `Wrong` for the first wrong line, or `otherwise` if no line is wrong.
+-- The outcome `Wrong` with the number of the first wrong line, or the outcome `otherwise` if no line is wrong.
 abbrev pub wrong_or : Option ℕ → Outcome → Outcome
 wrong_or (Some line) otherwise = Wrong line
 wrong_or None otherwise = otherwise
 
--- The outcome of a task, given whether the task found that something is missing.
+-- The outcome of a task: `Missing` if the task found that something is missing, and otherwise `Done`.
 abbrev pub missing_or_done : Bool → Outcome
 missing_or_done true = Missing
 missing_or_done false = Done
 
--- The exit status after a task: 0 on success, 1 if something is missing, otherwise 3.
+-- The exit status after a task: 0 if the task succeeded, 1 if something is missing, otherwise 3.
 abbrev pub status_of : Result Outcome ScriptFault → ℕ
 status_of (Ok Done) = 0
 status_of (Ok Missing) = 1
@@ -38,7 +38,8 @@ abbrev pub ended_status : Ended → ℕ
 ended_status (NotRun why) = words_status why
 ended_status (Ran result) = status_of result
 
--- The result of a task whose last output could not be flushed, which is `Write`, unless the task failed before.
+-- The result of a task whose last output could not be flushed. A task with the outcome `Done` or `Missing` fails with
+-- `Write` instead, and any other result stays the same.
 abbrev pub unwritten : Result Outcome ScriptFault → Result Outcome ScriptFault
 unwritten (Ok Done) = Err faults.Write
 unwritten (Ok Missing) = Err faults.Write

@@ -1,4 +1,4 @@
--- The task that a command line of `couch_journal` names.
+-- Defines which task a command line of `couch_journal` names.
 use Rattle.std.specs.Prelude.{◌≡◌, ◌^◌, ◌<◌, ◌⊎◌, ℕ, ◌&&◌, ◌||◌, not, List, Bool, true, false, if◌then◌else◌, Option, Some, None, option_map, is_some, codes}
 use Rattle.std.specs.Borrow.{Bor}
 use Rattle.std.specs.Str.Parse.{without_leading_plus, IsNumeral, digits_value}
@@ -8,7 +8,7 @@ use Rattle.couch_journal.specs.declared.tasks.Named.TheVariants as named
 use Rattle.couch_journal.specs.declared.tasks.Task.{Task}
 use Rattle.couch_journal.specs.declared.tasks.Task.TheVariants as tasks
 
--- The command-line argument that names a task.
+-- The command-line argument that names the given task.
 abbrev pub word_of : Named → List ℕ
 word_of named.Page = codes "page"
 word_of named.Ask = codes "ask"
@@ -66,7 +66,7 @@ takes_unverified named.States = true
 takes_unverified named.Select = true
 takes_unverified other = false
 
--- Whether an option is given that the task does not take.
+-- Whether the command line has (`given`) an option that the task does not take.
 abbrev pub is_other : Bool → Bool → Bool
 is_other given taken = given && not taken
 
@@ -89,7 +89,7 @@ IsNumber (Some text) n =
     IsNumeral 10 (without_leading_plus text.now) × (digits_value 10 (without_leading_plus text.now) < 2 ^ 64)
     × (n ≡ digits_value 10 (without_leading_plus text.now))
 
--- The task `task` has the given name, and the values of the arguments and options o.
+-- The task `task` has the given name, and its values come from the arguments and options o.
 abbrev pub Fits : Named → Options → Task → Type 0
 Fits named.Page o task = task ≡ tasks.Page o.several
 Fits named.Ask o task = task ≡ tasks.Ask
@@ -109,7 +109,8 @@ Fits named.Name o task = (word : Bor (List ℕ)) × (o.first ≡ Some word) × (
 Fits named.Compare o task = task ≡ tasks.Compare o.documents
 Fits named.Info o task = task ≡ tasks.Info
 
--- The task with the name n takes the arguments and options o, and the task `task` has the values of o (`Fits`).
+-- The task named n takes the arguments and options o, and `task` is the task with this name and the values in o
+-- (`Fits`).
 abbrev pub Takes : Named → Options → Task → Type 0
 Takes n o task = (has_other_option n o ≡ false) × (arguments_given o ≡ arguments_of n) × Fits n o task
 

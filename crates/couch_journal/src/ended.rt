@@ -11,7 +11,7 @@ use script_engine::ScriptFault;
 pub(crate) enum Outcome {
     /// The task found everything that it needs.
     Done,
-    /// Something is missing, refused or not found.
+    /// The task found that something is missing, refused or not found.
     Missing,
     /// The input line with the given number, from 1, does not have the form that the task reads.
     Wrong(u64),

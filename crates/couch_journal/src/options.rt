@@ -81,7 +81,7 @@ impl From<AllocError> for NoTask {
     }
 }
 
-/// The arguments and options of a command line.
+/// The parsed arguments and options of a command line.
 #[derive(Drop)]
 pub(crate) struct Options<'a> {
     pub(crate) task: &'a str,
@@ -160,11 +160,12 @@ fn command<'a>(alloc: Global) -> Result<Command<'a>, AllocError>
     with_options(alloc, command)
 }
 
-/// Parses the arguments, of which the first is the program's name.
+/// Parses the arguments. The first argument is the program's name.
 ///
 /// # Errors
 ///
-/// The call returns `Words` if `clap` rejects the arguments or they request help, and `Memory` if an allocation fails.
+/// The call returns `Words` if `clap` rejects the arguments or the arguments request help, and `Memory` if an
+/// allocation fails.
 pub(crate) fn matches_of<'a>(alloc: Global, words: &'a [String]) -> Result<ArgMatches<'a>, NoTask>
     ensures ok { IfOk result (IsFound command_line (map string_bytes words.entry.now)) }
     ensures err { IfErr result (Refuses (map string_bytes words.entry.now)) }

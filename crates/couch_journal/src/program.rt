@@ -16,9 +16,9 @@ use std::env::Env;
 use std::io;
 use std::io::{Eprint, Input, Print, Printer, Write};
 
-/// Runs the program, and returns its exit status. The exit status is 0 on success, 1 if something is missing, and 2 for
-/// a usage error. The exit status is 3 if the input is damaged or does not have the form that the task reads, or if
-/// reading, writing or an allocation failed.
+/// Runs the program, and returns its exit status. The exit status is 0 if the task succeeded, 1 if something is
+/// missing, and 2 for a usage error. The exit status is 3 if the input is damaged or does not have the form that the
+/// task reads, or if reading, writing or an allocation failed.
 pub(crate) fn run_program<H: AllocGlobal + Env + Input + Print + Eprint>(rt: &H) -> u8
     ensures { result ≤ 3 }
 {
@@ -32,7 +32,7 @@ pub(crate) fn run_program<H: AllocGlobal + Env + Input + Print + Eprint>(rt: &H)
 }
 
 /// Runs the program on standard input and output. Returns how the run ended, and both streams. The contract says which
-/// bytes the call read and wrote. Output is buffered, and flushed at the end.
+/// bytes the call read and wrote. The output is buffered, and flushed at the end of the run.
 ///
 /// # Errors
 ///
@@ -57,7 +57,8 @@ where
     Ok((ended, reader, writer.into_inner()))
 }
 
-/// Flushes the output. Returns how the run ended, given whether flushing the output succeeded.
+/// Flushes the output. Returns how the run ended: `first` if flushing succeeds, and otherwise the result of
+/// `unflushed`.
 fn flushed<W: ScriptWrite>(writer: &mut W, first: Ended) -> Ended
     ensures kept { Keeps (W.held writer.old) (W.held writer.new) }
     ensures flushed { (Keeps (W.held writer.new) (W.sent writer.new) × (result ≡ first)) ⊎ (result ≡ unflushed first) }
@@ -68,8 +69,8 @@ fn flushed<W: ScriptWrite>(writer: &mut W, first: Ended) -> Ended
     }
 }
 
-/// Returns how a run ended if the last output of the run could not be flushed. If the run failed before, the call
-/// returns the earlier failure.
+/// Returns how a run ends whose last output could not be flushed: with `Write`, or with the run's earlier failure if
+/// the run had failed already.
 fn unflushed(ended: Ended) -> Ended
     ensures { result ≡ unflushed ended }
 {
@@ -79,8 +80,8 @@ fn unflushed(ended: Ended) -> Ended
     }
 }
 
-/// Returns the result of a task whose last output could not be flushed. If the task failed before, the call returns the
-/// earlier failure.
+/// Returns the result of a task whose last output could not be flushed: `Write`, or the task's earlier failure if the
+/// task had failed already.
 fn unwritten(ran: Result<Outcome, ScriptFault>) -> Result<Outcome, ScriptFault>
     ensures { result ≡ unwritten ran }
 {
@@ -91,7 +92,7 @@ fn unwritten(ran: Result<Outcome, ScriptFault>) -> Result<Outcome, ScriptFault>
     }
 }
 
-/// Reports how a run ended, unless it succeeded, and returns the exit status.
+/// Reports how a run ended, unless the run succeeded, and returns the exit status.
 fn tell<H: Print + Eprint>(rt: &H, ended: &Ended) -> u8
     ensures { result ≡ ended_status ended.now }
 {

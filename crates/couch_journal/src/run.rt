@@ -29,7 +29,7 @@ enum Response {
     Info,
 }
 
-/// Appends the output for a page of changes to `text`.
+/// Appends to `text` the output for a page of changes.
 fn show_page(
     alloc: Global,
     several: bool,
@@ -47,7 +47,7 @@ fn show_page(
     }
 }
 
-/// Appends the output for a response of `_bulk_docs` to `text`. Returns whether a document was rejected.
+/// Appends to `text` the output for a response of `_bulk_docs`. Returns whether a document was rejected.
 fn show_refused(alloc: Global, value: &Value<'_>, text: &mut Vec<u8>) -> Result<bool, Said>
     ensures ok { IfOk result (λ refused. (shown : List ℕ) × (text.new.items ≡ text.old.items ++ shown)
         × Shows Response.Refused (value_view value.now) shown refused) }
@@ -60,7 +60,7 @@ fn show_refused(alloc: Global, value: &Value<'_>, text: &mut Vec<u8>) -> Result<
     }
 }
 
-/// Appends the output for a description of a server or a database to `text`.
+/// Appends to `text` the output for a description of a server or a database.
 fn show_info(alloc: Global, value: &Value<'_>, text: &mut Vec<u8>) -> Result<bool, Said>
     ensures ok { IfOk result (λ refused. (shown : List ℕ) × (text.new.items ≡ text.old.items ++ shown)
         × Shows Response.Info (value_view value.now) shown refused) }
@@ -73,7 +73,7 @@ fn show_info(alloc: Global, value: &Value<'_>, text: &mut Vec<u8>) -> Result<boo
     }
 }
 
-/// Appends the output for a JSON value to `text`. Returns whether the value says that a document was rejected.
+/// Appends to `text` the output for a JSON value. Returns whether the value says that a document was rejected.
 ///
 /// # Errors
 ///
@@ -97,7 +97,7 @@ fn show(
     }
 }
 
-/// Appends the output for a response to `text`. Returns whether the response says that a document was rejected.
+/// Appends to `text` the output for a response. Returns whether the response says that a document was rejected.
 ///
 /// # Errors
 ///
@@ -138,7 +138,7 @@ fn write_shown<W: ScriptWrite>(
     }
 }
 
-/// Reads a response, and writes its contents as lines.
+/// Reads a response, and writes the contents of the response as lines.
 fn run_response<R: ScriptRead, W: ScriptWrite>(
     alloc: Global,
     response: Response,
@@ -242,7 +242,7 @@ fn run_states<R: ScriptRead, W: ScriptWrite>(
     Ok(wrong_or(task.wrong(), Outcome::Done))
 }
 
-/// Returns the filter that the options of the task `select` give.
+/// Returns the filter that the options of the task `select` describe.
 fn filter_of(alloc: Global, options: &Options<'_>) -> Result<Filter, AllocError> {
     let id = match options.doc {
         Some(id) => Some(String::from_str(alloc, id)?),
@@ -278,8 +278,8 @@ fn run_select<R: ScriptRead, W: ScriptWrite>(
     Ok(wrong_or(task.wrong(), missing_or_done(task.lacks())))
 }
 
-/// Reads requested leaves and received documents. Prints the requested documents and which leaves were received, or
-/// only the leaves that were not received if `only_lacks` is true.
+/// Reads the requested leaves and the received documents. Prints the requested documents and says which leaves were
+/// received. If `only_lacks` is true, prints only the leaves that were not received.
 fn run_received<R: ScriptRead, W: ScriptWrite>(
     alloc: Global,
     only_lacks: bool,
@@ -312,7 +312,7 @@ fn run_ask<R: ScriptRead, W: ScriptWrite>(
     }
 }
 
-/// Reads a list and the response of `_revs_diff`, and prints the missing leaves.
+/// Reads a list of leaves and the response of `_revs_diff`, and prints the missing leaves.
 fn run_lacking<R: ScriptRead, W: ScriptWrite>(
     alloc: Global,
     reader: &mut R,
@@ -345,7 +345,7 @@ fn run_diff<R: ScriptRead, W: ScriptWrite>(
     Ok(wrong_or(task.wrong(), Outcome::Done))
 }
 
-/// Cuts lines into parts.
+/// Splits the input's lines into parts.
 fn run_parts<R: ScriptRead, W: ScriptWrite>(
     alloc: Global,
     bytes: u64,

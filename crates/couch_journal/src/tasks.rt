@@ -10,18 +10,18 @@ use crate::options::Options;
 /// A task with its arguments.
 #[derive(Drop)]
 pub(crate) enum Task<'a> {
-    /// Prints the rows of a page of changes, or with `true` only the rows with several leaves.
+    /// Prints the rows of a page of changes. If the Boolean is true, the task prints only the rows with several leaves.
     Page(bool),
     /// Prints a `_bulk_get` request for the leaves of a list.
     Ask,
     /// Prints a `_revs_diff` request for the leaves of a list.
     Diff,
-    /// Prints those leaves of a list that a response of `_revs_diff` names as missing.
+    /// Prints the leaves of a list that a response of `_revs_diff` names as missing.
     Lacking,
     /// Prints the received documents and the missing leaves of the request, or only the missing leaves if the Boolean
     /// is true.
     Received(bool),
-    /// Cuts lines into parts with a maximum number of bytes and of lines.
+    /// Splits the input's lines into parts, with a maximum number of bytes and a maximum number of lines per part.
     Parts(u64, u64),
     /// Prints the documents that a server refused to store.
     Refused,
@@ -40,8 +40,8 @@ pub(crate) enum Task<'a> {
     Conflicts,
     /// Prints a line for each leaf. Each line begins with the given word.
     Name(&'a str),
-    /// Prints the leaves of a list that another list lacks. If the Boolean is true, the task prints only the leaves of
-    /// documents that the other list lacks.
+    /// Prints the leaves of one list that another list lacks. If the Boolean is true, the task prints only the leaves
+    /// of documents that the other list lacks.
     Compare(bool),
     /// Prints the identity of a server or of a database.
     Info,
@@ -167,7 +167,7 @@ fn takes_unverified(named: Named) -> bool
     }
 }
 
-/// Whether an option is given, although the task does not take the option.
+/// Whether the command line has (`given`) an option that the task does not take.
 fn is_other(given: bool, taken: bool) -> bool
     ensures { result ≡ is_other given taken }
 {
@@ -198,7 +198,7 @@ fn arguments_of(named: Named) -> u8
     }
 }
 
-/// Returns the number of arguments that the command line gives.
+/// Returns the number of arguments after the name of the task in the command line.
 fn arguments_given(options: &Options<'_>) -> u8
     ensures { result ≡ arguments_given options.now }
 {
@@ -303,7 +303,7 @@ fn name_of<'a>(options: &Options<'a>) -> Option<Task<'a>>
     }
 }
 
-/// Returns the number that an argument gives, or `None` if it is not a number.
+/// Returns the number in an argument, or `None` if the argument is not a number.
 fn number_of(word: Option<&str>) -> Option<u64>
     ensures some { IfSome result (IsNumber word.entry) }
     ensures none { IfNone result ((n : ℕ) → IsNumber word.entry n → ⊥) }

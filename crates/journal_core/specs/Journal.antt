@@ -1,12 +1,12 @@
--- Journals and their checksums, as specified in docs/PROFILE.md, "Journals".
+-- Defines journals and their checksums, as specified in docs/PROFILE.md, "Journals".
 use Rattle.std.specs.Prelude.{◌≡◌, ◌≤◌, ℕ, List, [], ◌∷◌, ◌++◌, Bool, false, nat_eq, All, codes, decimal, length}
 use Rattle.std.specs.List.{starts_with}
 use Rattle.sha2.specs.Sha256.{sha256}
 use Rattle.hex.specs.Hex.{encode_lower}
 use Rattle.line_reader.specs.Lines.{joined}
 
--- The hash of a block, in hexadecimal digits: the SHA-256 of the previous hash `chain`, the block's sequence, and the
--- bytes of the block's lines.
+-- The hash of a block, in hexadecimal digits: the SHA-256 of the previous block's hash `chain`, the block's sequence,
+-- and the bytes of the block's lines.
 unfoldable pub block_hash : List ℕ → List ℕ → List ℕ → List ℕ
 block_hash chain seq body = encode_lower (sha256 (chain ++ codes " " ++ seq ++ codes "\n" ++ body))
 
@@ -22,7 +22,7 @@ sum_line count hash seq = sum_head count ++ hash ++ codes " " ++ seq
 unfoldable pub is_sum : List ℕ → Bool
 is_sum line = starts_with nat_eq line (codes "sum ")
 
--- The hash that precedes the first block of a journal.
+-- The text that the first block of a journal uses instead of a previous block's hash.
 unfoldable pub first_chain : List ℕ
 first_chain = codes "start"
 
@@ -31,7 +31,8 @@ unfoldable pub first_seq : List ℕ
 first_seq = codes "0"
 
 -- The lines of a journal are blocks with right checksums. The second and third arguments of `Confirmed` are the hash
--- and the sequence of the last block. Without blocks, these arguments are `first_chain` and `first_seq`.
+-- and the sequence of the last block. For a journal without blocks, these two arguments are `first_chain` and
+-- `first_seq`.
 pub data Confirmed : List (List ℕ) → List ℕ → List ℕ → Type 0 where
   nothing : Confirmed [] first_chain first_seq
   block : {lines : List (List ℕ)} {chain seq : List ℕ} (body : List (List ℕ)) (next : List ℕ) → Confirmed lines chain seq

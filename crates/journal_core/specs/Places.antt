@@ -7,7 +7,7 @@ use Rattle.journal_core.specs.declared.blocks.Took.{Took}
 use Rattle.journal_core.specs.declared.blocks.Took.TheVariants.{Held, Closed, Damaged}
 
 -- A reader's place in a journal has the last confirmed block's hash and sequence, the confirmed lines, and the lines of
--- the current block. The place of a reader is complete (`whole`) if no wrong checksum was read.
+-- the current block. The place's field `whole` is true if the reader has read no wrong checksum.
 pub record Place : Type 0 where
   pub chain : List ℕ
   pub seq : List ℕ
@@ -18,16 +18,15 @@ pub record Place : Type 0 where
 abbrev pub start : Place
 start = record { chain = first_chain; seq = first_seq; confirmed = []; held = []; whole = true }
 
--- The sequence in a line, if the line ends a block of `count` lines.
+-- The sequence in the given line, provided that the line ends a block of `count` lines.
 unfoldable pub seq_of : ℕ → List ℕ → List ℕ
 seq_of count line = drop (length (sum_head count) + 65) line
 
--- The hash of the current block, if the block's sequence is the sequence in the given line.
+-- The hash of the current block, computed with the sequence in the given line.
 unfoldable pub hash_at : Place → List ℕ → List ℕ
 hash_at place line = block_hash place.chain (seq_of (length place.held) line) (joined place.held)
 
--- The line that ends the current block with a right checksum, if the block's sequence is the sequence in the given
--- line.
+-- The line that would end the current block with a right checksum and with the sequence in the given line.
 unfoldable pub right_end : Place → List ℕ → List ℕ
 right_end place line = sum_line (length place.held) (hash_at place line) (seq_of (length place.held) line)
 
@@ -35,7 +34,7 @@ right_end place line = sum_line (length place.held) (hash_at place line) (seq_of
 unfoldable pub end_in : Place → List ℕ → Option (List ℕ)
 end_in place line = if bytes_eq line (right_end place line) then Some (hash_at place line) else None
 
--- The place of a journal reader after a line that ends the current block with a right checksum, given the block's hash.
+-- The place of a journal reader after a line that ends the current block, whose hash is `hash`, with a right checksum.
 abbrev pub closed : Place → List ℕ → List ℕ → Place
 closed place line hash = record {
   chain = hash;
@@ -69,7 +68,7 @@ next place line = if place.whole then (if is_sum line then ended place line else
 abbrev pub place_after : List (List ℕ) → Place
 place_after lines = fold next start lines
 
--- The stored state of a journal reader at a place.
+-- The fields of a journal reader (`blocks`) store the given place.
 pub record IsAt (blocks : Blocks) (place : Place) : Type 0 where
   pub chain : blocks.chain.items ≡ place.chain
   pub seq : blocks.seq.items ≡ place.seq
@@ -83,8 +82,8 @@ pub record IsAt (blocks : Blocks) (place : Place) : Type 0 where
 abbrev pub is_confirmed : Place → Bool
 is_confirmed place = place.whole && nat_eq (length (joined place.held)) 0
 
--- The effect of a line on a journal reader, given the reader's place before the line (`place`) and after the line
--- (`place'`).
+-- The effect of a line on a journal reader. The parameter `place` is the reader's place before the line, and `place'`
+-- is the place after the line.
 abbrev pub TookAs : Place → Place → List ℕ → Took → Type 0
 TookAs place place' line Held = place' ≡ held_more place line
 TookAs place place' line (Closed body) = (hash : List ℕ) × (place' ≡ closed place line hash) × (body.items ≡ joined place.held)

@@ -1,4 +1,4 @@
--- Sealing a block.
+-- Defines the result of sealing a block of journal lines.
 use Rattle.std.specs.Prelude.{◌≡◌, ◌⊎◌, ℕ, List, [], ◌∷◌, ◌++◌, Bool, true, false, Option, None, Some, All, codes, length}
 use Rattle.std.specs.Io.KnownBytes.{Appends}
 use Rattle.sha2.specs.Hashers.{Holds256}
@@ -8,8 +8,8 @@ use Rattle.journal_core.specs.Journal.{Confirmed, block_hash, is_sum, sum_line}
 use Rattle.journal_core.specs.Wrong.{first_index, wrong_at}
 use Rattle.journal_core.specs.declared.seal.Seal.{Seal}
 
--- The number of lines before the first wrong line of a block, if there is one. The argument `wrong` says whether the
--- newest line, which follows `count` lines, is wrong.
+-- The number of lines before the first wrong line of a block, if the block has a wrong line. The argument `wrong` says
+-- whether the newest line, which follows `count` lines, is wrong.
 abbrev pub wrong_after : Option ℕ → Bool → ℕ → Option ℕ
 wrong_after (Some n) wrong count = Some n
 wrong_after None true count = Some count
@@ -27,8 +27,8 @@ pub record IsSealing (chain seq : List ℕ) (lines : List (List ℕ)) (seal : Se
 abbrev pub Seals : Seal → List ℕ → List ℕ → Seal → Type 0
 Seals old line text new = (text ≡ []) × ((chain seq : List ℕ) (lines : List (List ℕ)) → IsSealing chain seq lines old → IsSealing chain seq (lines ++ line ∷ []) new)
 
--- The input has no bytes after its last line end, and no line of the input is a sum line. The line that ends the block
--- is written.
+-- The input has no bytes after its last line end, and no line of the input is a line that ends a block. The line that
+-- ends the block is written.
 abbrev pub EndsRight : Seal → List ℕ → List ℕ → Type 0
 EndsRight old rest text = (rest ≡ []) × ((chain seq : List ℕ) (lines : List (List ℕ)) → IsSealing chain seq lines old
     → All (λ line. is_sum line ≡ false) lines × (text ≡ sum_line (length lines) (block_hash chain seq (joined lines)) seq ++ codes "\n"))
@@ -43,7 +43,7 @@ abbrev pub EndsSeal : Seal → List ℕ → List ℕ → Seal → Type 0
 EndsSeal old rest text new =
     (new.wrong ≡ None → EndsRight old rest text) × ((count : ℕ) → new.wrong ≡ Some count → EndsWrong old rest text count)
 
--- The input satisfies the predicate `given` and consists of the lines of a block, and the line that ends the block is
+-- The input satisfies the predicate `given`, and consists of the lines of a block. The line that ends the block is
 -- written. With the written line, the block continues every confirmed journal that ends with the hash `chain`.
 pub record IsSealedOn (chain seq : List ℕ) (given : List ℕ → Type 0) (held held' : Option (List ℕ)) : Type 0 where
   pub lines : List (List ℕ)
@@ -70,7 +70,7 @@ abbrev pub SealsOn : List ℕ → List ℕ → (List ℕ → Type 0) → Option 
 SealsOn chain seq given held held' None = IsSealedOn chain seq given held held'
 SealsOn chain seq given held held' (Some count) = IsUnsealedOn count given held held'
 
--- The result of sealing a block from the bytes `left`, which the reader had left before the call.
+-- The result of sealing a block from the bytes `left`, which the reader had not yet returned before the call.
 abbrev pub SealsBlock : List ℕ → List ℕ → Option (List ℕ) → Option (List ℕ) → Option (List ℕ) → Option ℕ → Type 0
 SealsBlock chain seq left held held' wrong = SealsOn chain seq (Gives left) held held' wrong
 
@@ -85,7 +85,7 @@ IsSeal chain seq input text =
     (lines : List (List ℕ)) × (input ≡ joined lines) × All (λ line. is_sum line ≡ false) lines
     × (text ≡ sum_line (length lines) (block_hash chain seq (joined lines)) seq ++ codes "\n")
 
--- The output is a prefix of the line that ends a block.
+-- The input consists of the lines of a block, and the output is a prefix of the line that ends the block.
 abbrev pub IsSealedPart : List ℕ → List ℕ → List ℕ → List ℕ → Type 0
 IsSealedPart chain seq input text = (back : List ℕ) × IsSeal chain seq input (text ++ back)
 

@@ -117,7 +117,7 @@ impl Blocks {
         Ok(())
     }
 
-    /// Returns the sequence in a line, if the line ends the current block.
+    /// Returns the sequence in a line, provided that the line ends the current block.
     fn seq_in(&self, line: &[u8]) -> Result<Vec<u8>, AllocError>
         ensures { IfOk result (λ seq. seq.items ≡ seq_of self.now.count line.now) }
     {

@@ -10,8 +10,8 @@ use sha2::{Digest, Sha256};
 use std::alloc::{AllocError, Global};
 use std::mem;
 
-/// Returns the number of lines before the first wrong line, if there is one. The argument `before` is the result for
-/// the earlier lines, and `wrong` says whether the line after the first `count` lines is wrong.
+/// Returns the number of lines before the first wrong line, or `None` if no line is wrong. The argument `before` is the
+/// result for the earlier lines, and `wrong` says whether the line after the first `count` lines is wrong.
 fn wrong_after(before: Option<u64>, wrong: bool, count: u64) -> Option<u64>
     ensures { result ≡ wrong_after before wrong count }
 {
@@ -48,8 +48,8 @@ impl Seal {
         })
     }
 
-    /// Returns the number of lines before the first line that a block cannot contain, if there is one. A block can
-    /// contain neither a line that ends a block, nor a last line without a line end.
+    /// Returns the number of lines before the first line that a block cannot contain, or `None` if no such line was
+    /// read. A block can contain neither a line that ends a block, nor a last line without a line end.
     pub fn wrong(&self) -> Option<u64>
         ensures { result ≡ self.now.wrong }
     {

@@ -1,4 +1,4 @@
-//! The line that ends a block, with the block's checksum.
+//! Computes the line that ends a block and has the block's checksum.
 ghost use Rattle.std.specs.Prelude.{◌≡◌, ◌+◌, ◌++◌, ℕ, List, IfOk, bytes_eq, codes, drop, string_bytes};
 ghost use Rattle.sha2.specs.Sha256.{sha256};
 ghost use Rattle.hex.specs.Hex.{encode_lower};
@@ -41,7 +41,7 @@ pub(crate) fn is_same(line: &[u8], other: &[u8]) -> bool
     line == other
 }
 
-/// Returns the hash of a block, over the previous block's hash, the block's sequence, and its lines.
+/// Returns the hash of a block: the digest of the previous block's hash, the block's sequence, and the block's lines.
 pub(crate) fn hash_of(
     alloc: Global,
     chain: &[u8],
@@ -101,7 +101,7 @@ pub(crate) fn sum_line(
     Ok(line)
 }
 
-/// Returns the part of a line after a head of `head` bytes, a hash and a blank.
+/// Returns the part of a line that follows a head of `head` bytes, a hash and a blank.
 pub(crate) fn seq_in(head: usize, line: &[u8]) -> &[u8]
     ensures { result.now ≡ drop (head + 65) line.now }
 {

@@ -1,4 +1,4 @@
--- An encoding of the values of lines, by which proofs decide their equality.
+-- Encodes the JSON values of lines, so that proofs can decide whether two values are equal.
 use Rattle.std.specs.Coded.{Coded}
 use denote.Signature.{static_lft}
 use Rattle.json_values.specs.declared.line.LineValue.{LineValue}

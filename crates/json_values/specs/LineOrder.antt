@@ -1,4 +1,4 @@
--- Values whose objects have their members in the order of their names.
+-- Defines JSON values in which every object has its members in the order of their names.
 use Rattle.std.specs.Prelude.{◌≡◌, ℕ, List, ⊤}
 use Rattle.std.specs.Ordering.{nat_cmp}
 use Rattle.std.specs.declared.cmp.Ordering.TheVariants.{Less}

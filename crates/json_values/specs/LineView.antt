@@ -1,4 +1,4 @@
--- The JSON data that the value of a line represents.
+-- Defines the JSON data that the value of a line represents.
 use Rattle.std.specs.Prelude.{ℕ, List, [], ◌∷◌, map}
 use Rattle.std.specs.Borrow.{Bor}
 use Rattle.serde_json.specs.Data.{Data, null, boolean, number, string, array, object, Items, Members, no_members, member}
@@ -10,7 +10,7 @@ abbrev pub members_of : List (Bor (List ℕ) × Data) → Members
 members_of [] = no_members
 members_of (m ∷ ms) = member m.0.now m.1 (members_of ms)
 
--- The data of a JSON value, given the data of the values inside this value.
+-- The data that a JSON value represents, computed from the data of the values inside this value.
 abbrev pub line_step : LineValue-F Data → Data
 line_step LineValue-F.Null = null
 line_step (LineValue-F.Bool b) = boolean b

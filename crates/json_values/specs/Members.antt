@@ -1,4 +1,4 @@
--- The members of a JSON object that were read, in the order of their names.
+-- Defines the list of the members of a JSON object that were read, in the order of their names.
 use Rattle.std.specs.Prelude.{List}
 use Rattle.json_values.specs.Entries.{Entry}
 use Rattle.json_values.specs.declared.members.Members.{Members}

@@ -1,4 +1,4 @@
--- The tokens of a JSON text from a position on.
+-- Defines the tokens of a JSON text from the reader's position on.
 use Rattle.std.specs.Prelude.{◌≡◌, ◌≢◌, ℕ, List, [], ◌∷◌, Bool, true, false, None, ⊤}
 use Rattle.json.specs.Token.{Token, bad}
 use Rattle.json.specs.Json.{value}
@@ -20,15 +20,15 @@ NotBeforeComma AfterValue text = head text ≢ 44
 NotBeforeComma AfterComma text = ⊤
 NotBeforeComma Failed text = ⊤
 
--- The text `old` gives the token t, and then the tokens of the text `new`, at every position at which a value may
--- begin.
+-- At every position at which a value may begin, the tokens of the text `old` are the token t and then the tokens of the
+-- text `new`.
 abbrev pub Begins : List ℕ → Token → Place → List ℕ → Type 0
 Begins old t place new = (p : spec.Place) → may_begin p ≡ true → punctuate p (lex between old) ≡ t ∷ tokens_at place new
 
 abbrev pub Closes : List ℕ → Token → Place → List ℕ → Type 0
 Closes old t place new = (p : spec.Place) → may_close p ≡ true → punctuate p (lex between old) ≡ t ∷ tokens_at place new
 
--- Whether the next token of a JSON text is a name.
+-- Whether the first of the remaining tokens is the name of a member.
 abbrev pub begins_key : List Token → Bool
 begins_key [] = false
 begins_key (Token.begin_object ∷ ts) = false
@@ -42,7 +42,7 @@ begins_key (Token.boolean b ∷ ts) = false
 begins_key (Token.null ∷ ts) = false
 begins_key (Token.bad ∷ ts) = false
 
--- Whether the next token of a JSON text ends an object.
+-- Whether the first of the remaining tokens ends an object.
 abbrev pub ends_object : List Token → Bool
 ends_object [] = false
 ends_object (Token.begin_object ∷ ts) = false
@@ -56,7 +56,7 @@ ends_object (Token.boolean b ∷ ts) = false
 ends_object (Token.null ∷ ts) = false
 ends_object (Token.bad ∷ ts) = false
 
--- Whether reading a JSON string may give the given token.
+-- Whether a token can be the result of reading a JSON string.
 abbrev pub of_string : Token → Bool
 of_string Token.begin_object = false
 of_string Token.end_object = false
@@ -69,7 +69,7 @@ of_string (Token.boolean b) = false
 of_string Token.null = false
 of_string Token.bad = true
 
--- The next tokens of a JSON text do not begin a value, at any nesting depth.
+-- For every nesting depth, the remaining tokens of a JSON text do not begin a value.
 abbrev pub BeginsNoValue : List Token → Type 0
 BeginsNoValue ts = (depth : ℕ) → value depth ts ≡ None
 

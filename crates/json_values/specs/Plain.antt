@@ -1,4 +1,4 @@
--- Definitions for flags that say which strings of a JSON value are known to need no escapes.
+-- Defines what the flags of a JSON value claim: that its member names, or its string values, need no escapes.
 use Rattle.std.specs.Prelude.{◌≡◌, ℕ, Bool, true, List, length, ⊤, refl}
 use Rattle.std.specs.Coded.{Coded, code_by, coded×, coded_bool}
 use Rattle.std.specs.List.{prefix_len}
@@ -11,7 +11,7 @@ use Rattle.json_values.specs.declared.plain_texts.PlainTexts.{PlainTexts}
 abbrev pub PlainIf : Bool → List ℕ → Type 0
 PlainIf known s = known ≡ true → prefix_len is_plain s ≡ length s
 
--- At every depth of a JSON value, a string needs no escapes if the flags say so.
+-- Each string at every depth of a JSON value needs no escapes if the flags `known` say so.
 abbrev mutual
   pub ArePlain : PlainTexts → Data → Type 0
   ArePlain known null = ⊤
@@ -29,11 +29,11 @@ abbrev mutual
   AreMembersPlain known no_members = ⊤
   AreMembersPlain known (member k d ms) = PlainIf known.names k × ArePlain known d × AreMembersPlain known ms
 
--- The new flags claim no more strings without escapes than the old flags.
+-- The flags `new` make no claim about names or values that the flags `old` do not make.
 abbrev pub Narrows : PlainTexts → PlainTexts → Type 0
 Narrows old new = (new.names ≡ true → old.names ≡ true) × (new.values ≡ true → old.values ≡ true)
 
--- The string of a token needs no escapes if the flags say so.
+-- The string in a token needs no escapes if the flags `known` say so.
 abbrev pub IsPlainToken : PlainTexts → Token → Type 0
 IsPlainToken known Token.begin_object = ⊤
 IsPlainToken known Token.end_object = ⊤

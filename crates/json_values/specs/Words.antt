@@ -1,4 +1,4 @@
--- Numbers and literals in JSON, and their ends.
+-- Defines the numbers and literals in a JSON text, and the indexes at which they end.
 use Rattle.std.specs.Prelude.{◌≡◌, ℕ, ◌-◌, ◌<◌, ◌≤◌, List, ◌++◌, length, take, drop, true, Some, MatchOption, Option}
 use Rattle.json.specs.Token.{bad}
 use Rattle.json.specs.Token as spec
@@ -16,11 +16,11 @@ abbrev pub WordAt : List ℕ → ℕ → Option (Token × ℕ) → spec.Token �
 WordAt d i r w =
     MatchOption r (w ≡ bad) (λ p. (w ≡ token_of p.0) × (is_good w ≡ true) × (i < p.1) × (p.1 ≤ length d) × (lex between (drop p.1 d) ≡ drop 1 (lex between (drop i d))))
 
--- The text of a JSON literal, which the lexer reads as one token if no further character of a literal follows.
+-- The text `name` is a JSON literal: the lexer reads it as one token if no further character of a literal follows.
 abbrev pub IsLiteral : List ℕ → spec.Token → Type 0
 IsLiteral name t = (0 < length name) × (is_good t ≡ true) × ((r : List ℕ) → ends_word r ≡ true → lex between r ≡ drop 1 (lex between (name ++ r)))
 
--- The text d has the number n from index i up to index `end`.
+-- The part of the text d from index i up to, but not including, index `end` is the number n.
 pub record IntegerAt (d : List ℕ) (i : ℕ) (n : Num) (end : ℕ) : Type 0 where
   pub within : i < length d
   pub from : i ≤ end

@@ -1,4 +1,4 @@
-//! The arena of a reader, which has the arrays and objects of a line.
+//! The memory arena of a reader, which holds the arrays and objects of a line.
 ghost use Rattle.std.specs.Prelude.{◌≡◌, IfOk};
 ghost use Rattle.serde_json.specs.Data.{array};
 ghost use Rattle.json_values.specs.LineView.{line_view, line_items};

@@ -1,9 +1,9 @@
-//! Initial capacities of arrays and objects.
+//! Chooses the initial capacities of arrays and objects.
 ghost use Rattle.std.specs.Prelude.{◌<◌};
 
 use std::cell::Cell;
 
-/// Eight lengths of 8. Most arrays and objects have at most 8 elements.
+/// A table of eight lengths, each of which is 8. Most arrays and objects have at most 8 elements.
 const FIRST: u64 = 0x0808_0808_0808_0808;
 
 /// A text of at least `LONG_TEXT` bytes is long. For a long text, saving memory is worth some additional instructions.
@@ -20,7 +20,7 @@ const MOST: usize = 16;
 /// than it needs. No contract depends on a capacity.
 #[derive(Drop)]
 pub(crate) struct Capacities {
-    /// Eight lengths of one byte each.
+    /// The eight lengths of the table, each stored in one byte.
     last: Cell<u64>,
 }
 
@@ -48,7 +48,7 @@ impl Capacities {
     }
 }
 
-/// Returns the position of a length in the table, in bits.
+/// Returns the position of a length in the table. The position is counted in bits.
 #[inline(always)]
 fn shift_of(is_object: bool, depth: usize) -> u32
     ensures { result < 64 }

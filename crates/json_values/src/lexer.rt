@@ -32,7 +32,7 @@ pub(crate) struct Lexer<'a> {
     /// The buffer for unescaped strings. If the text has a backslash, the buffer is at least as long as the remaining
     /// text.
     room: &'a mut [u8],
-    /// Facts about whether the strings read so far need escapes.
+    /// Flags that say which of the strings read so far are known to need no escapes.
     plain: PlainTexts,
 }
 
@@ -85,7 +85,7 @@ impl<'a> Lexer<'a> {
         self.text.len() >= LONG_TEXT
     }
 
-    /// Returns facts about whether the strings read so far need escapes.
+    /// Returns flags that say which of the strings read so far are known to need no escapes.
     #[inline(always)]
     pub(crate) fn plain(&self) -> PlainTexts
         ensures { result ≡ self.now.plain }
@@ -158,8 +158,8 @@ impl<'a> Lexer<'a> {
         Some(&text[start..stop])
     }
 
-    /// Reads the content of a string with escapes. The argument `after` is the byte that follows the content's first
-    /// bytes without escapes, or a space at the end of the text.
+    /// Reads the content of a string with escapes. The content begins with bytes that need no unescaping. The argument
+    /// `after` is the byte that follows these bytes, or a space at the end of the text.
     #[inline(never)]
     fn escaped_string(&mut self, after: u8) -> Option<&'a str>
         requires quote { head self.old.text ≡ 34 }

@@ -20,7 +20,7 @@ pub enum LineValue<'a> {
 }
 
 impl<'a> LineValue<'a> {
-    /// Returns the member with a name, if the value is an object that has it.
+    /// Returns the member with a name, if the value is an object that has this member.
     pub fn get(&self, name: &str) -> Option<&LineValue<'a>>
         ensures { option_map (λ v. line_view v.now) result ≡ get name.now (line_view self.now) }
     {

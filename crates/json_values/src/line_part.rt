@@ -10,8 +10,8 @@ use crate::line::LineValue;
 use crate::plain_texts::PlainTexts;
 use std::marker::Model;
 
-/// A line that was read: a JSON value, and facts about whether its strings need escapes. Clauses see the value. The
-/// members of each object in the line are in byte order of their names.
+/// A line that was read: a JSON value, and flags that say which of its strings are known to need no escapes. Contract
+/// clauses describe the line by the value. The members of each object in the line are in byte order of their names.
 #[derive(Drop)]
 pub struct Line<'a> {
     value: LineValue<'a>,
@@ -74,7 +74,7 @@ impl<'a> Line<'a> {
         }
     }
 
-    /// Returns the member with a name, if the value is an object that has it.
+    /// Returns the member with a name, if the value is an object that has this member.
     #[inline(always)]
     pub fn get(&self, name: &str) -> Option<LinePart<'_, 'a>>
         ensures { option_map line_view result ≡ get name.now (line_view self.now) }
@@ -89,8 +89,8 @@ impl<'a> Line<'a> {
     }
 }
 
-/// A JSON value inside a line. Clauses see the value. The members of each object in the line are in byte order of their
-/// names.
+/// A JSON value inside a line. Contract clauses describe the `LinePart` by this value. The members of each object in
+/// the line are in byte order of their names.
 #[derive(Drop)]
 pub struct LinePart<'v, 'a> {
     value: &'v LineValue<'a>,
@@ -124,7 +124,7 @@ impl<'v, 'a> LinePart<'v, 'a> {
         self.value
     }
 
-    /// Returns facts about which strings of the value need no escapes.
+    /// Returns flags that say which strings of the value are known to need no escapes.
     #[inline(always)]
     pub fn plain(&self) -> PlainTexts
         ensures { ArePlain result (line_view self.now) }

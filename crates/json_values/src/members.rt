@@ -1,4 +1,4 @@
-//! The members of an object while it is read, in byte order of their names.
+//! The members of an object while the object is read, in byte order of the members' names.
 ghost use Rattle.std.specs.Prelude.{◌≡◌, ◌<◌, ◌≤◌, [], length, slice_index, true, OnOk, IfOk, IfErr};
 ghost use Rattle.std.specs.Ordering.{nat_cmp};
 ghost use Rattle.std.specs.Cmp.Lexicographic.{slice_cmp};
@@ -12,13 +12,13 @@ use std::cmp::Ordering;
 use std::collections::BTreeMap;
 use std::mem;
 
-/// The maximum number of members in a list into which a member is inserted out of order.
+/// A list with at least this number of members is converted to a map before a member is inserted out of order.
 const FEW: usize = 64;
 
 /// The members of an object, in which each name occurs once.
 #[derive(Drop)]
 pub(crate) enum Members<'a, T> {
-    /// A list of members, which is used if there are few members or if they came in order of their names.
+    /// A list of members, which is used if the members are few or if they came in order of their names.
     Listed(Vec<(&'a str, T), &'a Bump>),
     /// A map of members, which is used for many members that came out of order.
     Mapped(BTreeMap<&'a str, T>),
@@ -55,7 +55,7 @@ impl<'a, T: Drop> Members<'a, T> {
         }
     }
 
-    /// Whether the list has many members, and a new member with the given name would not come last.
+    /// Whether the members are a list of at least `FEW` members, and a member with the given name would not come last.
     #[inline(always)]
     fn is_full(&self, name: &str) -> bool
         requires { IsRising (entries_of self.now) }
@@ -209,8 +209,8 @@ fn comes_last<T>(entries: &[(&str, T)], name: &str) -> bool
     }
 }
 
-/// Returns the index of the member with a name as `Ok`, or the index at which to insert it as `Err`. The call searches
-/// from the end of the list, because the names usually come nearly in order.
+/// Returns `Ok` with the index of the member that has the given name, or `Err` with the index at which to insert a
+/// member with this name. The call searches from the end of the list, because the names usually come nearly in order.
 #[inline(always)]
 fn place_of<T>(entries: &[(&str, T)], name: &str) -> Result<usize, usize>
     requires { IsRising entries.now }

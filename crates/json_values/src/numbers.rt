@@ -45,7 +45,7 @@ fn read_below_zero(bytes: &[u8]) -> Option<Number>
     }
 }
 
-/// Parses a string that consists only of digits, unless it has too many digits.
+/// Parses a string that consists only of digits, unless the string has too many digits.
 #[inline(always)]
 fn few_digits(bytes: &[u8]) -> Option<u64>
     ensures some { IfSome result (λ n. 0 < length bytes.now) }

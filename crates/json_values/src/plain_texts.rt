@@ -1,19 +1,19 @@
-//! Facts about which strings of a line need no escapes.
+//! Flags that say which strings of a line are known to need no escapes.
 ghost use Rattle.std.specs.Prelude.{◌≡◌, true, false};
 ghost use Rattle.json_values.specs.Plain.{Narrows};
 
-/// The facts about which strings of a line need no escapes. A string that needs no escapes contains no quotation mark,
-/// no backslash and no control byte, so it can be written as JSON unchanged.
+/// Flags that say which strings of a line are known to need no escapes. A string that needs no escapes contains no
+/// quotation mark, no backslash and no control byte, so it can be written as JSON unchanged.
 #[derive(Clone, Copy, Drop)]
 pub struct PlainTexts {
-    /// Whether all names of members need no escapes.
+    /// Whether the names of all members are known to need no escapes.
     pub names: bool,
-    /// Whether all strings of the line that are not names of members need no escapes.
+    /// Whether all strings of the line that are not names of members are known to need no escapes.
     pub values: bool,
 }
 
 impl PlainTexts {
-    /// Returns the facts that hold after a string with escapes, which is a name or a value, was read.
+    /// Returns the flags after reading a string with escapes. The string is the name of a member or a value.
     pub(crate) fn with_escaped(self, is_name: bool) -> PlainTexts
         ensures narrows { Narrows self result }
         ensures name { is_name ≡ true → result.names ≡ false }

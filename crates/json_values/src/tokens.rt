@@ -149,7 +149,7 @@ fn close<'a>(lexer: &mut Lexer<'a>, c: u8) -> (Token<'a>, Place)
     }
 }
 
-/// Returns the token for invalid text, after which no other token follows.
+/// Returns the token for invalid text. After this token, the text has no further token.
 #[cold]
 fn refuse<'a>(place: Place) -> (Option<Token<'a>>, Place)
     ensures { Yields (refused_at place) result.0 [] × (result.1 ≡ Place.Failed) }
@@ -161,7 +161,7 @@ fn refuse<'a>(place: Place) -> (Option<Token<'a>>, Place)
     }
 }
 
-/// Reads the next token, and returns it with the grammar position after it.
+/// Reads the next token, and returns the token with the grammar position after the token.
 #[inline(always)]
 fn read<'a>(lexer: &mut Lexer<'a>, place: Place) -> (Option<Token<'a>>, Place)
     requires { NotBeforeComma place lexer.old.text }
@@ -207,7 +207,7 @@ impl<'a> Tokens<'a> {
         }
     }
 
-    /// Returns facts about whether the strings read so far need escapes.
+    /// Returns flags that say which of the strings read so far are known to need no escapes.
     #[inline(always)]
     pub(crate) fn plain(&self) -> PlainTexts
         ensures { result ≡ self.now.plain }
@@ -289,7 +289,7 @@ impl<'a> Tokens<'a> {
         Some(number)
     }
 
-    /// Reads the closing brace of an object, if that brace comes next.
+    /// Reads the closing brace of an object, if the brace is the next token.
     #[inline(always)]
     pub(crate) fn take_end_object(&mut self) -> bool
         ensures end { MatchBool result (read_key self.old.tokens ≡ Some (None, self.new.tokens))
@@ -319,7 +319,7 @@ impl<'a> Tokens<'a> {
         }
     }
 
-    /// Records the length of an array or object that was read, if the text is long.
+    /// Records the length of an array or object after reading it, if the text is long.
     #[inline(always)]
     pub(crate) fn note(&self, is_object: bool, depth: usize, len: usize) {
         if self.lexer.is_long() {
@@ -327,7 +327,7 @@ impl<'a> Tokens<'a> {
         }
     }
 
-    /// Reads the closing bracket of an array, if that bracket comes next.
+    /// Reads the closing bracket of an array, if the bracket is the next token.
     #[inline(always)]
     pub(crate) fn take_end_array(&mut self) -> bool
         ensures end { MatchBool result (after_end_array self.old.tokens ≡ Some self.new.tokens)

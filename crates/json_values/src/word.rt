@@ -1,4 +1,4 @@
-//! Numbers and the literals `true`, `false` and `null`.
+//! Reads numbers and the literals `true`, `false` and `null`.
 ghost use Rattle.std.specs.Prelude.{◌≡◌, ◌<◌, ◌≤◌, ◌^◌, ◌||◌, length, take, drop, Some, IfSome};
 ghost use Rattle.std.specs.Str.Parse.{AllDigits, digits_value};
 ghost use Rattle.serde_json.specs.View.{number_view};
@@ -29,7 +29,7 @@ fn is_delimiter(c: u8) -> bool
     operator | space
 }
 
-/// Returns the index after a nonempty run of digits.
+/// Returns the index after the digits that begin at index `i`, or `None` if no digit is at index `i`.
 #[inline(always)]
 fn digits(text: &[u8], i: usize) -> Option<usize>
     requires { i ≤ length text.now }
@@ -146,7 +146,7 @@ fn literal<'a>(
     }
 }
 
-/// Reads the number or literal at an index, and returns it with the index after it.
+/// Reads the number or literal at an index, and returns the number or literal with the index after it.
 #[inline(always)]
 pub(crate) fn word<'a>(text: &'a str, from: usize) -> Option<(Token<'a>, usize)>
     requires { from < length text.now }
@@ -161,7 +161,8 @@ pub(crate) fn word<'a>(text: &'a str, from: usize) -> Option<(Token<'a>, usize)>
     }
 }
 
-/// Returns the value and the number of the digits at the start of a text, unless there are too many digits.
+/// Returns the value of the digits at the start of a text, and the number of these digits. Returns `None` if the text
+/// begins with no digit or with too many digits.
 #[inline(always)]
 fn digits_sum(rest: &[u8]) -> Option<(u64, usize)>
     ensures bounds { IfSome result (λ r. (0 < r.1) × (r.1 ≤ length rest.now) × (r.0 < 2 ^ 63)) }

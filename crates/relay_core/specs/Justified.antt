@@ -1,5 +1,5 @@
--- The conditions under which the relay may request that a server's log record a sequence. A history of the relay is a
--- list of exchanges, the last exchange first.
+-- Defines when the relay may request that a server's log record a sequence. A history of the relay is a list of
+-- exchanges, the last exchange first.
 use Rattle.std.specs.Prelude.{ℕ, ◌≡◌, ◌+◌, ◌-◌, ◌^◌, ◌≤◌, ◌==◌, codes, Bool, true, false, ◌&&◌, ◌||◌, not, if◌then◌else◌, List, [], ◌∷◌, ◌++◌, Option, None, Some, min, bytes_eq}
 use Rattle.std.specs.List.{list_any}
 use Rattle.relay_core.specs.declared.messages.Side.{Side}
@@ -49,14 +49,14 @@ abbrev pub log_in : ResponseView → Option LogView
 log_in (log_response log) = Some log
 log_in r = None
 
--- After an exchange, the log that one server (the source or the target) has last returned. The log `before` is the log
--- that this server had last returned before the exchange.
+-- After an exchange, the log that the given server (the source or the target) returned most recently. The parameter
+-- `before` is the log that the server had last returned before the exchange.
 abbrev pub log_after : Side → RequestView → ResponseView → Option LogView → Option LogView
 log_after Source (get_log Source) r before = log_in r
 log_after Target (get_log Target) r before = log_in r
 log_after side q r before = before
 
--- The log that one server (the source or the target) has last returned in a history.
+-- The log that the given server (the source or the target) returned most recently in a history.
 abbrev pub last_log : Side → List Exchange → Option LogView
 last_log side [] = None
 last_log side (e ∷ h) = log_after side e.request e.response (last_log side h)
@@ -70,7 +70,7 @@ abbrev pub newest_common : List EntryView → List EntryView → Option (Text ×
 newest_common [] source = None
 newest_common (e ∷ target) source = if has_pair source e.session e.seq then Some (e.session, e.seq) else newest_common target source
 
--- A window begins at the sequence of the newest pair of session and sequence in both logs, or at 0 if there is no such
+-- The sequence at which a window begins: the sequence of the newest pair in both logs, or 0 if the logs have no common
 -- pair.
 abbrev pub seq_of : Option (Text × Text) → Text
 seq_of None = codes "0"
@@ -78,9 +78,9 @@ seq_of (Some pair) = pair.1
 
 -- ---- progress of a run
 
--- Consecutive pages of changes lead from the sequence `begin` to the sequence s. After each page of a run, the target
--- had, or refused, each leaf of the page. The number n is the number of leaves in the pages up to s that the target
--- refused and does not have.
+-- The relay has read consecutive pages of changes from the sequence `begin` to the sequence s. After each page, the
+-- target had, or refused, each leaf of the page. The number n counts the leaves in these pages that the target refused
+-- and does not have.
 pub data Reached : Text → List Exchange → Text → ℕ → Type 0 where
   begun : {begin : Text} {h : List Exchange} {s : Text} {n : ℕ} → begin ≡ s → n ≡ 0 → Reached begin h s n
   paged : {begin : Text} {h : List Exchange} {s : Text} {n : ℕ} (before after rest : List Exchange) (since : Text) (wait : Option ℕ) (page : PageView) (m : ℕ) → h ≡ rest ++ (after ++ exchange_of (get_changes since wait) (page_response page) ∷ before) → Reached begin before since m → AreSettled after page.rows → page.last_seq ≡ s → n ≡ m + leaf_count (not_found after page.rows) → Reached begin h s n
@@ -91,7 +91,7 @@ abbrev pub log_of : Side → LogView → LogView → LogView
 log_of Target target source = target
 log_of Source target source = source
 
--- The replication logs of both servers were read after some pages, and the pages lead from the newest common pair of
+-- The relay read the logs of both servers after it had processed the pages of changes from the newest common pair of
 -- both logs to sequence s.
 pub record AreReady (h : List Exchange) (target source : LogView) (s : Text) (failures : ℕ) : Type 0 where
   pub before : List Exchange
@@ -103,22 +103,23 @@ pub record AreReady (h : List Exchange) (target source : LogView) (s : Text) (fa
   pub reached : Reached (seq_of (newest_common target.history source.history)) before s rejected
   pub counted : min rejected (2 ^ 64 - 1) ≤ failures
 
--- The condition under which the relay may request that a server's log record the sequence s: pages of changes have
--- reached s. The history of a written log is the new entry, followed by the history of the log that was last read.
+-- The condition under which the relay may request that a server's log record the sequence s: the relay has processed
+-- the pages of changes up to s. The history of a written log is the new entry, followed by the history of the log that
+-- was last read.
 pub record IsReady (h : List Exchange) (side : Side) (log : LogView) (s : Text) (failures : ℕ) : Type 0 where
   pub target : LogView
   pub source : LogView
   pub ready : AreReady h target source s failures
   pub own : log ≡ log_of side target source
 
--- The target stored its log in the given exchange, with the recorded sequence s. If the given exchange is a notice, the
--- statement `before`, which is about the earlier exchanges, must be true instead.
+-- In the given exchange, the target stored its log with the recorded sequence s. If the exchange is a notice, the
+-- statement `before` about the earlier exchanges must be true instead.
 abbrev pub IsStoring : RequestView → ResponseView → Text → Type 0 → Type 0
 IsStoring (put_log Target log checkpoint) stored_response s before = checkpoint.seq ≡ s
 IsStoring (tell notice) r s before = before
 IsStoring q r s before = ⊥
 
--- The last exchange that is not a notice stored the target's log with recorded sequence s.
+-- The last exchange that is not a notice stored the target's log with the recorded sequence s.
 abbrev pub IsStored : List Exchange → Text → Type 0
 IsStored [] s = ⊥
 IsStored (e ∷ h) s = IsStoring e.request e.response s (IsStored h s)

@@ -18,14 +18,14 @@ use Rattle.relay_core.specs.Justified.{is_rejected, not_found, last_log, seq_of,
 abbrev pub pair_view : Recorded → Text × Text
 pair_view r = (string_bytes r.session_id, string_bytes r.seq)
 
--- The sequence at which the window of a run begins.
+-- The sequence at which the current window of a run begins.
 abbrev pub begin_of : Run → Text
 begin_of run = seq_of (option_map pair_view run.begin)
 
 abbrev pub wait_of : Run → Option ℕ
 wait_of run = if run.waits then Some (if run.is_open then 5000 else 60000) else None
 
--- The documents of the relay's current `carry` request, which transfers these documents to the target.
+-- The documents that the relay transfers to the target by its current `carry` request.
 abbrev pub part_of : Transfer → List DocView
 part_of t = docs_view (take t.size (drop t.carried t.missing.items))
 
@@ -47,8 +47,8 @@ asked_of phase = option_map_or (λ n. tell (notice_view n)) (slice_get phase.not
 
 -- ---- what is known
 
--- Pages of changes lead from sequence `begin` to sequence `since`. The number `failures` is at least the number of the
--- pages' leaves that the target refused and lacks, or at least 2^64 - 1.
+-- The relay has processed the pages of changes from sequence `begin` to sequence `since`. The number `failures` is at
+-- least the number of the pages' leaves that the target refused and lacks, or at least 2^64 - 1.
 pub record IsReachedFrom (h : List Exchange) (begin since : Text) (failures : ℕ) : Type 0 where
   pub rejected : ℕ
   pub reached : Reached begin h since rejected
@@ -57,7 +57,7 @@ pub record IsReachedFrom (h : List Exchange) (begin since : Text) (failures : �
 abbrev pub IsReached : List Exchange → Run → Type 0
 IsReached h run = IsReachedFrom h (begin_of run) (string_bytes run.since) run.counts.doc_write_failures
 
--- The target's log was read after the pages that lead from `begin` to `since`.
+-- The relay read the target's log after it had processed the pages from `begin` to `since`.
 pub record IsRead (h : List Exchange) (begin since : Text) (failures : ℕ) (target : LogView) : Type 0 where
   pub before : List Exchange
   pub later : List Exchange

@@ -1,4 +1,4 @@
--- Tests of whether a list of documents or of error rows names a leaf of a document.
+-- Defines whether a list of documents, or a list of error rows, names a leaf of a document.
 use Rattle.std.specs.Prelude.{ℕ, ◌+◌, Bool, true, false, ◌&&◌, ◌||◌, not, List, [], ◌∷◌, ◌++◌, Option, None, Some, codes, filter, map, length, bytes_eq}
 use Rattle.std.specs.List.{list_any, list_all}
 use Rattle.relay_core.specs.Messages.{Text, DocView, RowErrorView}
@@ -34,7 +34,7 @@ have_leaves docs = list_all (λ d. is_filled d.1) docs
 abbrev pub are_named : List DocView → Text → List Text → Bool
 are_named docs id revs = list_all (λ r. names docs id r) revs
 
--- Whether the documents of the first list name each leaf of the second list.
+-- Whether the documents of the first list name each leaf of the documents of the second list.
 abbrev pub name_all : List DocView → List DocView → Bool
 name_all docs named = list_all (λ d. are_named docs d.0 d.1) named
 
@@ -58,7 +58,8 @@ docs_where p (d ∷ ds) = doc_if_any d.0 (filter (λ r. p d.0 r) d.1) ++ docs_wh
 abbrev pub is_refusal : RowErrorView → Bool
 is_refusal row = bytes_eq row.error (codes "forbidden") || bytes_eq row.error (codes "unauthorized")
 
--- Whether an error row that names the revision `rev`, or no revision, is about the given leaf.
+-- Whether an error row that names the given optional revision is about the given leaf. An error row without a revision
+-- is about every leaf.
 abbrev pub is_about : Option Text → Text → Bool
 is_about None leaf = true
 is_about (Some rev) leaf = bytes_eq rev leaf
@@ -82,7 +83,7 @@ are_all_about rows id revs = list_all (λ r. are_about rows id r) revs
 abbrev pub cover : List RowErrorView → List DocView → Bool
 cover rows docs = list_all (λ d. are_all_about rows d.0 d.1) docs
 
--- The error row of a leaf whose document is too large for the target.
+-- The error row for a leaf whose document is too large for the target.
 abbrev pub too_large_row : Text → Text → RowErrorView
 too_large_row id leaf = record { id = id; rev = Some leaf; error = codes "too_large"; reason = codes "status 413" }
 

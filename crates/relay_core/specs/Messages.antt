@@ -1,4 +1,4 @@
--- The messages between the relay and the two servers, as values of contracts. A text in a message is a list of bytes.
+-- Defines, for contracts, the messages between the relay and the two servers. A text in a message is a list of bytes.
 use Rattle.std.specs.Prelude.{ℕ, Bool, List, Option}
 use Rattle.relay_core.specs.declared.messages.Side.{Side}
 use Rattle.relay_core.specs.declared.messages.Operation.{Operation}
@@ -41,9 +41,9 @@ pub data FaultView : Type 0 where
   bad_answer : Operation → FaultView
   bad_log : Side → FaultView
   refused : Text → Side → ℕ → Text → FaultView
-  -- The fault that the target lacks leaves which the target has not refused. The fault has the id and revision of the
-  -- first of these leaves, and the number of these leaves. The fault also has the error and reason of the document's
-  -- first error row whose error is neither `forbidden` nor `unauthorized`, if such a row exists.
+  -- The fault of a run whose target lacks leaves that the target has not refused. The fault has the id and revision of
+  -- the first of these leaves, and the number of these leaves. The fault also has the error and reason of the
+  -- document's first error row whose error is neither `forbidden` nor `unauthorized`, if such a row exists.
   unaccounted : Text → Text → Option (Text × Text) → ℕ → FaultView
   log_changed : FaultView
 
@@ -82,7 +82,7 @@ pub data ResponseView : Type 0 where
   noted_response : ResponseView
   fault_response : FaultView → ResponseView
 
--- An exchange: a request, and the response to it.
+-- An exchange: a request, and the response to the request.
 pub record Exchange : Type 0 where
   pub request : RequestView
   pub response : ResponseView

@@ -1,4 +1,4 @@
--- Functions that convert the stored form of the relay's messages to the values that contracts use.
+-- Defines the functions that convert the relay's messages from their stored form to the values that contracts use.
 use Rattle.std.specs.Prelude.{List, map, option_map, String, string_bytes}
 use Rattle.std.specs.Global.{Global}
 use Rattle.relay_core.specs.declared.messages.DocLeaves.{DocLeaves}

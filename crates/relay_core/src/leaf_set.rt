@@ -1,4 +1,4 @@
-//! Sets of documents' leaf revisions, and sets of document ids.
+//! Sets of leaves (each with its document's id), and sets of document ids.
 ghost use Rattle.std.specs.Prelude.{◌≡◌, ◌||◌, IfOk, OnOk};
 ghost use Rattle.relay_core.specs.Messages.{Text};
 ghost use Rattle.relay_core.specs.Views.{doc_view, docs_view};
@@ -9,7 +9,7 @@ use crate::messages::DocLeaves;
 use indexmap::IndexSet;
 use std::alloc::{AllocError, Global};
 
-/// A set of leaves of documents, each as a pair of the document's id and the leaf revision.
+/// A set of leaves. Each leaf is a pair of its document's id and the leaf revision.
 pub(crate) type LeafSet<'a> = IndexSet<(&'a str, &'a str)>;
 
 /// Whether a set of leaves has a given leaf of the document with the given id.

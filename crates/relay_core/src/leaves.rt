@@ -45,7 +45,7 @@ fn has_all(leaves: &LeafSet<'_>, docs: &[DocLeaves]) -> bool
     true
 }
 
-/// Whether each leaf in the list `named` is also in the list `docs`.
+/// Whether each leaf of the documents `named` is also a leaf of the documents `docs`.
 pub fn name_all(alloc: Global, docs: &[DocLeaves], named: &[DocLeaves]) -> Result<bool, AllocError>
     ensures { IfOk result (λ b. b ≡ name_all (docs_view docs.now) (docs_view named.now)) }
 {
@@ -71,7 +71,7 @@ fn revs_in(
     Ok(kept)
 }
 
-/// Appends a document with the given leaves to a list, unless there are no leaves.
+/// Appends a document with the given leaves to a list, or appends nothing if no leaves are given.
 fn push_doc(
     alloc: Global,
     docs: &mut Vec<DocLeaves>,

@@ -14,7 +14,7 @@ use crate::phase::{Phase, Recorded, Run, Stage, Start, failed, quiet, seq_of};
 use crate::settings::Settings;
 use std::alloc::{AllocError, Global};
 
-/// The maximum number of restarts of a run before the run has recorded the end of the feed.
+/// The maximum number of times that a run may restart before it has recorded the end of the feed.
 const RESTARTS: u64 = 5;
 
 /// Returns the fault that a response reports, or the given fault if the response reports no fault.
@@ -60,7 +60,7 @@ fn newest_common(
     Ok(None)
 }
 
-/// Whether two optional pairs of a session and a sequence are the same.
+/// Whether two optional pairs, each of a session and a sequence, are equal.
 fn is_same(a: &Option<Recorded>, b: &Option<Recorded>) -> bool
     ensures { result ≡ true → option_map pair_view a.now ≡ option_map pair_view b.now }
 {
@@ -89,7 +89,8 @@ fn checkpoint_of(alloc: Global, run: &Run) -> Result<Checkpoint, AllocError>
     })
 }
 
-/// Returns the start of a run. If the run has not started, the start is the given date and sequence.
+/// Returns the given start of a run. If the run has no start yet, the call returns a start with the given date and
+/// sequence.
 fn start_of(
     alloc: Global,
     start: Option<Start>,
@@ -105,8 +106,8 @@ fn start_of(
     }
 }
 
-/// Begins a window at the newest pair of a session id and a sequence that both logs have. If the logs have no common
-/// pair, the window begins at sequence 0, and both logs record sequence 0 first.
+/// Begins a window (a range of the source's changes) at the newest pair of a session id and a sequence that both logs
+/// have. If the logs have no common pair, the window begins at sequence 0, and both logs record sequence 0 first.
 fn begin_window(
     alloc: Global,
     run: Run,
@@ -135,7 +136,7 @@ fn begin_window(
     })
 }
 
-/// Returns the notice that a run restarts, or no notice if the run does not restart.
+/// Returns a list with the notice that the run restarts if `is_anew` is true, and otherwise an empty list.
 fn restart_notices(alloc: Global, is_anew: bool) -> Result<Vec<Notice>, AllocError> {
     let mut notices = Vec::new(alloc);
     if is_anew {
@@ -206,8 +207,8 @@ pub(crate) fn after_target_log(alloc: Global, run: Run, response: Response) -> P
     }
 }
 
-/// Continues a run after both logs were read. The run stores both logs if the window is open, and the newest common
-/// entry of both logs has not changed since the window began. Otherwise a new window begins (`anew`).
+/// Continues a run after both logs were read. The run stores both logs if its window is open and the newest common
+/// entry of both logs has not changed since the window began. Otherwise the run begins a new window (`anew`).
 pub(crate) fn after_source_log(
     alloc: Global,
     run: Run,

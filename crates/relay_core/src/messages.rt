@@ -31,7 +31,7 @@ pub struct ChangesPage {
     pub last_seq: String,
     /// Whether the page is the last page of the feed.
     pub is_last: bool,
-    /// The number of changed documents after this page, as the server's response gives it.
+    /// The number of changed documents after this page, if the server's response gives this number.
     pub pending: Option<String>,
 }
 
@@ -68,7 +68,7 @@ pub enum Fault {
     /// A response has a status that the run cannot use. The fault has a string with the error and the reason of the
     /// server's response.
     Status(Side, Operation, u16, String),
-    /// A response is not exactly one JSON value.
+    /// A response body is not exactly one JSON value.
     NotJson(Operation),
     /// A response to `_changes` is not a page of a changes feed.
     BadFeed,
@@ -83,7 +83,7 @@ pub enum Fault {
     Refused(String, Side, u16, String),
     /// After the last try, the target still lacks a leaf that it has not refused.
     Unaccounted(Unaccounted),
-    /// Another replication changed the logs too often during this run.
+    /// The run restarted too often, because another replication changed the logs.
     LogChanged,
 }
 
@@ -107,18 +107,18 @@ pub enum Response {
     Log(ReplicationLog),
     /// A page of the source's changes feed.
     Page(ChangesPage),
-    /// The leaves that the target lacks, as the target's response names them.
+    /// The leaves that the target lacks, according to the target's response.
     Missing(Vec<DocLeaves>),
     /// The rows of a `_bulk_docs` response that report errors.
     RowErrors(Vec<RowError>),
-    /// A server rejected a transfer of documents with the given status, a 4xx other than 401, 403, 404, 408 and 429.
-    /// The variant has a string with the error and the reason of the server's response.
+    /// A server rejected a transfer of documents with the given status, which is a 4xx status other than 401, 403, 404,
+    /// 408 and 429. The variant has a string with the error and the reason of the server's response.
     CarryRejected(Side, u16, String),
     /// A server stored its replication log.
     Stored,
     /// A server did not store its replication log, because the log's revision has changed.
     Conflict,
-    /// The caller reports that it has printed a notice.
+    /// The caller has printed a notice.
     Noted,
     /// A response that ends the run with a fault.
     Fault(Fault),
@@ -175,7 +175,7 @@ pub enum Request<'a> {
     GetChanges(&'a str, Option<u32>),
     /// A request that asks the target which of the given leaves the target lacks.
     RevsDiff(&'a [DocLeaves]),
-    /// A carry, a request to copy the given leaves from the source to the target.
+    /// A request to copy the given leaves from the source to the target.
     Carry(&'a [DocLeaves]),
     /// A request that a server store its replication log with a new entry.
     PutLog(Side, &'a ReplicationLog, &'a Checkpoint),

@@ -19,7 +19,8 @@ use std::alloc::{AllocError, Global};
 /// The maximum number of times that a run tries to transfer the leaves of the same page.
 const TRIES: u64 = 5;
 
-/// Continues a run with the next page, after a checkpoint or if no checkpoint is due.
+/// Continues a run after a checkpoint, or if no checkpoint is due. The call requests the next page, or ends the run if
+/// the feed has ended and the run is not continuous.
 pub(crate) fn behind(settings: &Settings, mut run: Run, notices: Vec<Notice>) -> Phase
     ensures { (h : List Exchange) → IsReached h run → Knows h result }
 {
@@ -132,8 +133,8 @@ fn ask_carry(alloc: Global, run: Run, mut transfer: Transfer) -> Phase
     quiet(alloc, run, Stage::Carry(transfer))
 }
 
-/// Continues a run after a part of a transfer is done. The call raises the maximum number of documents of later parts
-/// to twice the number of documents of this part, but not above `settings.carry`.
+/// Continues a run after one part of a transfer is done. The call raises the maximum number of documents in a later
+/// part to twice the number of documents in this part, but not above `settings.carry`.
 fn advance(alloc: Global, settings: &Settings, mut run: Run, mut transfer: Transfer) -> Phase
     ensures { (h : List Exchange) → IsOpenAt h run transfer → Knows h result }
 {

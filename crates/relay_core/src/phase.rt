@@ -34,15 +34,16 @@ pub struct Run {
     pub begin: Option<Recorded>,
     /// The sequence up to which the target has, or has refused, each leaf.
     pub since: String,
-    /// Whether the current window is open. An open window is a window that the run must record in both logs.
+    /// Whether the current window (the source's changes since `begin`) is open. The run must record an open window in
+    /// both logs.
     pub is_open: bool,
     /// The number of pages with rows in the current window.
     pub pages: u64,
-    /// Whether the page that was read last was the last page of the feed.
+    /// Whether the page that the run read last was the last page of the feed.
     pub has_ended: bool,
     /// Whether the run requests the next page by longpoll.
     pub waits: bool,
-    /// The largest number of documents that the next transfer may have.
+    /// The largest number of documents that the next part of a transfer may have.
     pub carry: usize,
     /// The number of times that the run has repeated the request for the current page.
     pub tries: u64,
@@ -54,7 +55,7 @@ pub struct Run {
     pub date: String,
 }
 
-/// The data about a page that the run keeps without the page's rows.
+/// The data about a page that the run keeps after dropping the page's rows.
 #[derive(Drop)]
 pub struct PageEnd {
     pub last_seq: String,
@@ -76,9 +77,10 @@ pub struct Transfer {
     pub carried: usize,
     /// The number of documents in the current part of the transfer.
     pub size: usize,
-    /// The `_bulk_docs` rows of the transfer so far that refuse a leaf.
+    /// The error rows of the transfer so far that refuse a leaf. They are rows of `_bulk_docs` responses, or rows that
+    /// the relay creates for documents that are too large for the target.
     pub refused: Vec<RowError>,
-    /// The `_bulk_docs` rows of the transfer so far that report other errors than refusals.
+    /// The other error rows of the `_bulk_docs` responses in the transfer so far, which refuse no leaf.
     pub others: Vec<RowError>,
 }
 
@@ -106,7 +108,7 @@ pub enum Stage {
     Done(Option<Fault>),
 }
 
-/// The state of a run, with its next request.
+/// The state of a run between two requests, which determines the run's next request.
 #[derive(Drop)]
 pub struct Phase {
     pub run: Run,
@@ -117,7 +119,7 @@ pub struct Phase {
     pub stage: Stage,
 }
 
-/// Returns the sequence in a pair of a session id and a sequence, or `0` if there is no pair.
+/// Returns the sequence in an optional pair of a session id and a sequence, or `0` if no pair is given.
 pub(crate) fn seq_of(pair: &Option<Recorded>) -> &str
     ensures { result.now ≡ seq_of (option_map pair_view pair.now) }
 {
@@ -159,7 +161,8 @@ impl Phase {
         ))
     }
 
-    /// Returns the next request of the run. As long as a notice is left, the request is to print the notice.
+    /// Returns the next request of the run. As long as the caller has not printed all notices, the request is to print
+    /// the next notice.
     pub fn request(&self) -> Request<'_>
         ensures { request_view result ≡ asked_of self.now }
     {

@@ -57,8 +57,8 @@ pub(crate) fn push_too_large(
     Ok(())
 }
 
-/// Whether an error row with the revision `rev` concerns a leaf. A row without a revision concerns every leaf of the
-/// row's document.
+/// Whether an error row with the optional revision `rev` concerns a leaf. A row without a revision concerns every leaf
+/// of the row's document.
 fn is_about(rev: &Option<String>, leaf: &str) -> bool
     ensures { result ≡ is_about (option_map string_bytes rev.now) leaf.now }
 {
@@ -175,7 +175,8 @@ pub(crate) fn refused_leaves(
     Ok(leaves)
 }
 
-/// Returns the number of a document's leaves that no error row concerns, and the first of these leaves.
+/// Returns the number of a document's leaves that no error row in the list `rows` concerns, and the first of these
+/// leaves.
 fn first_open<'a>(rows: &[RowError], doc: &'a DocLeaves) -> (u64, Option<&'a str>) {
     let mut count: u64 = 0;
     let mut first = None;
@@ -190,7 +191,7 @@ fn first_open<'a>(rows: &[RowError], doc: &'a DocLeaves) -> (u64, Option<&'a str
     (count, first)
 }
 
-/// Returns the error and the reason of a document's first error row.
+/// Returns the error and the reason of a document's first error row in the list `others`.
 fn error_of(
     alloc: Global,
     others: &[RowError],
@@ -206,7 +207,9 @@ fn error_of(
     Ok(None)
 }
 
-/// Returns the number of missing leaves that no refusing row concerns, and the first of these leaves.
+/// Returns the number of the given leaves that no error row in the list `refused` concerns, and the first of these
+/// leaves. The result also has the error and the reason of the first error row of the leaf's document in the list
+/// `others`, if such a row exists.
 pub(crate) fn unaccounted(
     alloc: Global,
     refused: &[RowError],

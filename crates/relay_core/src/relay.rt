@@ -1,4 +1,4 @@
-//! One step of a run, which computes the next phase from a phase and the response to the phase's request.
+//! One step of a run: computes the run's next phase from its phase and from the response to the phase's request.
 ghost use Rattle.std.specs.Prelude.{◌≡◌, ◌∷◌, List, IfOk, is_some, slice_get};
 ghost use Rattle.relay_core.specs.Messages.{Exchange, exchange_of};
 ghost use Rattle.relay_core.specs.Views.{response_view};
@@ -47,7 +47,7 @@ fn dated(alloc: Global, mut run: Run, date: &str) -> Result<Run, AllocError>
     Ok(run)
 }
 
-/// Whether a notice is left that the caller has not printed.
+/// Whether the phase has a notice that the caller has not printed yet.
 fn is_telling(notices: &Vec<Notice>, told: usize) -> bool
     ensures { result ≡ is_some (slice_get notices.now.items told) }
 {

@@ -3,9 +3,9 @@
 /// The settings of a replication run.
 #[derive(Drop)]
 pub struct Settings {
-    /// The id of this replication session, which no other session has.
+    /// The id of this replication session. No other session has this id.
     pub session_id: String,
-    /// The largest number of documents in one transfer.
+    /// The largest number of documents in one part of a transfer.
     pub carry: u64,
     /// The maximum number of pages with rows between two checkpoints.
     pub every: u64,

@@ -1,4 +1,5 @@
--- The missing leaves that a response to `_revs_diff` names, as specified in docs/PROFILE.md, "Responses to the relay".
+-- Defines the missing leaves that a response to `_revs_diff` names, as specified in docs/PROFILE.md, "Responses to the
+-- relay".
 use Rattle.std.specs.Prelude.{if◌then◌else◌, List, [], ◌∷◌, Option, None, Some, option_map, option_and_then, codes, bytes_eq}
 use Rattle.indexmap.specs.IndexMap.{insert_entry}
 use Rattle.json.specs.Json.{Json, Members, no_members, member}
@@ -18,7 +19,7 @@ last_members found (member k j ms) = last_members (insert_entry bytes_eq found k
 abbrev pub doc_of : Text → List Text → DocView
 doc_of id revs = (id, revs)
 
--- The document and the missing leaves that a member of a `_revs_diff` response names. The name of the member is the
+-- The document and the missing leaves that one member of a `_revs_diff` response names. The name of the member is the
 -- document's id, and the list `missing` in the member's value has the leaves.
 abbrev pub missing_at : Text × Json → Option DocView
 missing_at m = option_map (doc_of m.0) (option_and_then (each_item as_str) (items_at (codes "missing") m.1))

@@ -1,5 +1,4 @@
--- Contracts describe the maps in the code by the lists that this file defines. The keys of the maps are references to
--- strings.
+-- Defines the lists by which contracts describe the maps in the code. The keys of the maps are references to strings.
 use Rattle.std.specs.Prelude.{List, [], Option, None, Some, map}
 use Rattle.std.specs.Borrow.{Bor}
 use Rattle.std.specs.Global.{Global}
@@ -9,7 +8,7 @@ use Rattle.json.specs.declared.value.Value.{Value}
 use Rattle.indexmap.specs.IndexSet.{IndexSet}
 use Rattle.relay_core.specs.Messages.{Text, DocView}
 
--- The strings that the references in a list refer to.
+-- The strings to which a list of references refers.
 abbrev pub texts_in : List (Bor Text) → List Text
 texts_in keys = map (λ k. k.now) keys
 

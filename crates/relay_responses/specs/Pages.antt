@@ -1,4 +1,4 @@
--- A page of changes, as specified in docs/PROFILE.md, "Responses to the relay".
+-- Defines the page of changes that a response contains, as specified in docs/PROFILE.md, "Responses to the relay".
 use Rattle.std.specs.Prelude.{ℕ, ◌==◌, ◌&&◌, not, nat_le, Bool, false, if◌then◌else◌, List, [], ◌∷◌, ◌++◌, Option, None, Some, option_map, option_and_then, codes, fold, bytes_eq}
 use Rattle.std.specs.List.{list_any, list_all}
 use Rattle.json.specs.Json.{Json, null, boolean, number, string, array, object}
@@ -18,7 +18,7 @@ plain s = if list_all is_plain_byte s then Some s else None
 abbrev pub rev_in : Json → Option Text
 rev_in j = option_and_then plain (text_at (codes "rev") j)
 
--- The given list of leaves, or `None` if the list is empty.
+-- The given list of leaves, or `None` if the given list is empty.
 abbrev pub some_leaf : List Text → Option (List Text)
 some_leaf [] = None
 some_leaf (r ∷ rs) = Some (r ∷ rs)
@@ -32,8 +32,8 @@ rows_in j = option_and_then (each_item row_in) (items_at (codes "results") j)
 
 -- ---- rows of one document
 
--- The list `revs` of a document's known leaves, followed by the new leaves of a second list. Each new leaf is added
--- once, in the order of the second list.
+-- A document's known leaves `revs`, followed by those leaves of a second list that are not in `revs`. Each new leaf is
+-- added once, in the order of the second list.
 abbrev pub add_revs : List Text → List Text → List Text
 add_revs revs [] = revs
 add_revs revs (r ∷ rs) = add_revs (if list_any (bytes_eq r) revs then revs else revs ++ r ∷ []) rs
@@ -50,8 +50,8 @@ merged rows = fold add_row [] rows
 
 -- ---- the page
 
--- The value of a page's member `pending`, which is the number of documents after the page. The result is `Some None` if
--- the member is missing or null, and `None` if the member has a value other than a number or null.
+-- The value of a page's optional member `pending`, which gives the number of documents after the page. The result is
+-- `Some None` if the member is missing or null, and `None` if the member has a value other than a number or null.
 abbrev pub pending_of : Option Json → Option (Option Text)
 pending_of None = Some None
 pending_of (Some null) = Some None

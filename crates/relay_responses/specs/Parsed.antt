@@ -1,4 +1,4 @@
--- The result of parsing a response.
+-- Defines the response that a parsed body gives, and the syntax of the numbers in the body.
 use Rattle.std.specs.Prelude.{⊤}
 use Rattle.json.specs.Json.{Json}
 use Rattle.json.specs.Tree.{HasNumbers}
@@ -8,7 +8,7 @@ use Rattle.relay_core.specs.Views.{fault_view}
 use Rattle.relay_responses.specs.declared.parsed.Parsed.{Parsed}
 use Rattle.relay_responses.specs.declared.parsed.Parsed.TheVariants as parsed
 
--- The response that the function f computes from a parsed value, or the fault if parsing failed.
+-- The response that the function f computes from the parsed value, or the fault if parsing failed.
 abbrev pub response_by : (Json → ResponseView) → Parsed → ResponseView
 response_by f (parsed.Json value) = f (value_view value)
 response_by f (parsed.Fault fault) = fault_response (fault_view fault)

@@ -1,5 +1,5 @@
--- The contents of a JSON response. If a JSON object has several members with the same name, the last of these members
--- counts.
+-- Defines functions that find the parts of a JSON response. If a JSON object has several members with the same name,
+-- the functions of this file use the last of these members.
 use Rattle.std.specs.Prelude.{if◌then◌else◌, List, [], ◌∷◌, ◌++◌, Option, None, Some, option_and_then}
 use Rattle.std.specs.Option.{option_map_or}
 use Rattle.std.specs.List.{list_all}
@@ -32,7 +32,7 @@ both (Some x) None = None
 abbrev pub digits_in : Text → Option Text
 digits_in s = if list_all is_ascii_digit s then Some s else None
 
--- The first of two optional values if it is present, otherwise the second.
+-- The first of two optional values if the first value is present, otherwise the second value.
 abbrev pub or_else : Option Text → Option Text → Option Text
 or_else (Some x) o = Some x
 or_else None o = o

@@ -1,5 +1,5 @@
--- The meaning of a server's response, which depends on the request, as specified in docs/PROFILE.md, "Responses to the
--- relay" and "Faults of the relay".
+-- Defines the meaning of a server's response, which depends on the request, as specified in docs/PROFILE.md, "Responses
+-- to the relay" and "Faults of the relay".
 use Rattle.std.specs.Prelude.{ℕ, Bool, ◌==◌, ◌&&◌, ◌||◌, not, nat_le, nat_lt, if◌then◌else◌, List, ◌++◌, Option, None, Some, option_and_then, codes}
 use Rattle.std.specs.Option.{option_map_or}
 use Rattle.json.specs.Json.{Json}

@@ -1,4 +1,4 @@
-//! The missing leaves that a response to `_revs_diff` names.
+//! Finds the missing leaves that a response to `_revs_diff` names.
 ghost use Rattle.std.specs.Prelude.{◌≡◌, [], IfOk, option_map};
 ghost use Rattle.json.specs.Find.{as_str};
 ghost use Rattle.json.specs.Value.{value_view, items_view, members_view};
@@ -16,7 +16,8 @@ use std::alloc::{AllocError, Global};
 /// The values of an object's members, by member name.
 type Members<'v, 'a> = IndexMap<&'a str, &'v Value<'a>>;
 
-/// Returns the members of an object by name. If several members have the same name, the last of these members counts.
+/// Returns the members of an object by name. If several members have the same name, the result has the last of these
+/// members.
 fn last_members<'v, 'a>(
     alloc: Global,
     members: &'v Vec<(&'a str, Value<'a>)>,

@@ -154,7 +154,7 @@ fn copied_docs(alloc: Global, docs: &Docs<'_>) -> Result<Vec<DocLeaves>, AllocEr
     Ok(copies)
 }
 
-/// Returns each document of the rows once, with the leaves of all rows of this document.
+/// Returns each document that the rows name once, with the leaves of all rows of this document.
 fn merged(alloc: Global, rows: &[DocLeaves]) -> Result<Vec<DocLeaves>, AllocError>
     ensures { IfOk result (λ v. docs_view v.items ≡ merged (docs_view rows.now)) }
 {
@@ -165,8 +165,8 @@ fn merged(alloc: Global, rows: &[DocLeaves]) -> Result<Vec<DocLeaves>, AllocErro
     copied_docs(alloc, &docs)
 }
 
-/// Returns the number of changed documents after a page, if the response gives this number. The outer option is `None`
-/// if the member `pending` exists, but is neither a number nor null.
+/// Returns the number of changed documents after a page, or `Some(None)` if the member `pending` is missing or null.
+/// The outer option is `None` if the member `pending` exists, but is neither a number nor null.
 fn pending_of(alloc: Global, value: &Value<'_>) -> Result<Option<Option<String>>, AllocError>
     ensures { IfOk result (λ o. option_map (option_map string_bytes) o
         ≡ pending_of (get (codes "pending") (value_view value.now))) }

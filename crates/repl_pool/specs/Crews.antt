@@ -1,9 +1,9 @@
--- The number of workers of a run of the pool, as specified in docs/PROFILE.md, "The pool".
+-- Defines the number of workers of a run of the pool, as specified in docs/PROFILE.md, "The pool".
 use Rattle.std.specs.Prelude.{ℕ, ◌+◌, ◌-◌, ◌/◌, nat_le, min, if◌then◌else◌}
 use Rattle.repl_target.specs.declared.replication.Plan.{Plan}
 
--- The maximum number of windows that a run from sequence `start` to `goal` can read, if `start` is less than `goal`. A
--- run reads the maximum number of windows if each sequence of the feed has a row.
+-- The maximum number of windows that a run from sequence `start` to sequence `goal` can read, if `start` is less than
+-- `goal`. A run reads this number of windows if each sequence of the feed has a row.
 abbrev pub most_windows : Plan → ℕ → ℕ → ℕ
 most_windows plan start goal = (goal - start - 1) / plan.batch + 1
 

@@ -1,4 +1,4 @@
--- The errors of a run between consistent peers, as specified in docs/PROFILE.md, "The pool".
+-- Defines the errors that a run between consistent peers may return, as specified in docs/PROFILE.md, "The pool".
 use Rattle.std.specs.Prelude.{◌≡◌, true, Err}
 use Rattle.repl_peer.specs.peer.Peer.{PeerValue, holds}
 use Rattle.repl_peer.specs.declared.fault.TargetFault.TheVariants as refusals
@@ -9,8 +9,9 @@ use Rattle.pool_workers.specs.declared.fault.PoolFault.{PoolFault}
 use Rattle.pool_workers.specs.declared.fault.PoolFault.TheVariants as faults
 use Rattle.repl_pool.specs.Early.{early_answer}
 
--- The errors that a run between consistent peers may return. The possible errors are an early error of the plan,
--- `SessionExists`, `Unfinished`, an error of a worker's call (`IsStepFault`), or a late error (`IsLateOn`).
+-- The errors that a run between consistent peers may return. The possible errors are an early error of the plan (a
+-- failed check before the run), `SessionExists`, `Unfinished`, an error of a worker's call (`IsStepFault`), or a late
+-- error (`IsLateOn`).
 abbrev pub IsExpectedRun : Type 0 → (Place → Type 0) → PeerValue → PeerValue → Plan → PoolFault → Type 0
 IsExpectedRun may_fill may_stop source target plan faults.NoWorkers =
     early_answer source target plan ≡ Err faults.NoWorkers

@@ -1,5 +1,5 @@
--- The windows of the source's feed that a run of the pool stores, as specified in docs/PROFILE.md, "Goal and windows"
--- and "The pool".
+-- Defines the windows of the source's feed that a run of the pool stores, as specified in docs/PROFILE.md, "Goal and
+-- windows" and "The pool".
 use Rattle.std.specs.Prelude.{◌≡◌, ℕ, ◌<◌, ◌≤◌, List, [], ◌∷◌, length, Option, Some, None}
 use Rattle.couch_base.specs.Database.{DatabaseValue}
 use Rattle.couch_base.specs.Feed.{WindowValue}
@@ -7,13 +7,14 @@ use Rattle.repl_peer.specs.peer.Peer.{PeerValue, SessionValue, session_in}
 use Rattle.repl_target.specs.declared.replication.Plan.{Plan}
 use Rattle.repl_target.specs.replication.Replication.{start_between, next_window}
 
--- The windows of a list are the plan's consecutive windows of the source's feed, from sequence `since`.
+-- The windows of the list are consecutive windows of the source's feed, as the plan defines them, and the first window
+-- begins at sequence `since`.
 abbrev pub ArePages : DatabaseValue → Plan → ℕ → List WindowValue → Type 0
 ArePages source plan since [] = Unit {0}
 ArePages source plan since (w ∷ windows) =
     (since < source.update_seq) × (w ≡ next_window source plan since) × ArePages source plan w.hi windows
 
--- The plan of a run allows n windows: n is at most the plan's `stop_after`, if the plan has one.
+-- A plan's optional limit `stop_after` allows n windows: n is at most this limit, if the plan has a limit.
 abbrev pub AreAllowed : Option ℕ → ℕ → Type 0
 AreAllowed None n = Unit {0}
 AreAllowed (Some stop_after) n = n ≤ stop_after

@@ -1,4 +1,4 @@
--- A run of the pool, as specified in docs/PROFILE.md, "The pool".
+-- Defines the result and the effects of a run of the pool, as specified in docs/PROFILE.md, "The pool".
 use Rattle.std.specs.Prelude.{◌≡◌, ◌⊎◌, ℕ, Bool, true, false, List, [], Option, Some, None, Result, Ok, Err, IfOk, IfErr, IfSome, sum}
 use Rattle.std.specs.declared.alloc.AllocError.{AllocError}
 use Rattle.doc_json.specs.Document.{Document}
@@ -56,15 +56,15 @@ pub data IsRecorded (plan : Plan) (fault : Option PoolFault) (complete : Bool) (
   refused : {why : TargetFault} → fault ≡ None → complete ≡ true → conclude_answer before plan.session ≡ Err why
       → after ≡ closed before plan → IsRecorded plan fault complete before after (faults.Refused why)
 
--- The arguments of `UnlessMemory` are the outcomes of a run before and after the run stores the session's entry at the
--- source. A run that was successful so far returns `Memory` if the allocation for the entry fails. If a run had failed
--- already, the run's error does not change.
+-- The first argument of `UnlessMemory` is the outcome of a run before it stores the session's entry at the source, and
+-- the second argument is the run's outcome afterwards. If the first outcome is a success, the second outcome is the
+-- same success or `Memory`. If the first outcome is an error, the second outcome is the same error.
 abbrev pub UnlessMemory : Result Report PoolFault → Result Report PoolFault → Type 0
 UnlessMemory (Ok report) result = (result ≡ Ok report) ⊎ (result ≡ Err faults.Memory)
 UnlessMemory (Err why) result = result ≡ Err why
 
 -- The source stores the entry of the target's session, unless the source has stored a newer entry or the allocation for
--- the entry fails. If a run succeeded, the allocation for the entry at the source did not fail.
+-- the entry fails. If the run succeeded, the allocation for the entry did not fail.
 pub record PutsEntry (source target source' : PeerValue) (plan : Plan) (outcome : Result Report PoolFault) : Type 0
   where
     pub entry : EntryValue
@@ -73,8 +73,8 @@ pub record PutsEntry (source target source' : PeerValue) (plan : Plan) (outcome 
     pub puts : PutsOver source (rep_between source target plan.chosen) entry put source'
     pub done : IfOk outcome (λ _. put ≡ Ok tt)
 
--- The end of a run of the pool. At the end of a run, the session is concluded or recorded at the target, and the
--- source stores the session's entry as `PutsEntry` says.
+-- The effect of ending a run of the pool. When a run ends, the target concludes or records the session, and the source
+-- stores the session's entry as `PutsEntry` says.
 pub data ClosesRun (plan : Plan) (fault : Option PoolFault) (complete : Bool)
     (source before source' after : PeerValue) : Result Report PoolFault → Type 0 where
   concluded : {report : Report} {outcome : Result Report PoolFault}
@@ -86,10 +86,10 @@ pub data ClosesRun (plan : Plan) (fault : Option PoolFault) (complete : Bool)
       → PutsEntry source after source' plan (Err why)
       → ClosesRun plan fault complete source before source' after (Err why)
 
--- The end of a run of the pool, with facts about the run's workers. At the end of a run, the target has grown from the
--- given target, and the windows of the run's session are pages of the source. If a worker halted, the gate allows the
--- halt, or a call of the worker failed. If no worker stopped and all parcels were received, the session has read as
--- many documents as the fetchers counted.
+-- The effect of ending a run of the pool, with facts about the run's workers. When a run ends, the target has grown
+-- from the given target, and the windows of the run's session are pages of the source's feed. If a worker halted, the
+-- gate allows the halt, or a call of the worker failed. If no worker stopped and all sent parcels were received, the
+-- session has read as many documents as the fetchers counted.
 pub record EndsRun {F : Type 0} (refuses : F → Document → Bool) (may_fill : Type 0) (may_stop : Place → Type 0)
     (plan : Plan) (source : PeerValue) (given : F × PeerValue) (counts : List ℕ) (source' after : PeerValue)
     (outcome : Result Report PoolFault) : Type 0 where
@@ -105,8 +105,8 @@ pub record EndsRun {F : Type 0} (refuses : F → Document → Bool) (may_fill : 
 
 -- ---- a run
 
--- An error of the plan leaves both peers unchanged, and no document is fetched. If the plan of a run is valid, the
--- outcome is not an error of the plan.
+-- If the plan of a run is invalid, the run returns the plan's error, changes neither peer, and fetches no document. If
+-- the plan of a run is valid, the run does not return an error of the plan.
 abbrev pub EarlyOrLate : {F : Type 0} → Type 0 → (Place → Type 0) → Result (Unit {0}) PoolFault → F × PeerValue
     → F × PeerValue → F × PeerValue → F × PeerValue → List ℕ → Result Report PoolFault → Type 0
 EarlyOrLate may_fill may_stop (Err why) source target source' target' fetched outcome =
@@ -122,20 +122,21 @@ IsUnbegunFor source target plan fault =
     ⊎ (fault ≡ faults.Refused refusals.Memory)
     ⊎ (why : TargetFault) × (begins_answer source target plan ≡ Err why) × (fault ≡ faults.Refused why)
 
--- The session of a run has not begun, and the run returns the reason as its error.
+-- The session of a run has not begun, and the run's error says why.
 pub record IsUnbegun (source target : PeerValue) (plan : Plan) (outcome : Result Report PoolFault) : Type 0 where
   pub fault : PoolFault
   pub told : outcome ≡ Err fault
   pub due : IsUnbegunFor source target plan fault
 
--- The error `Unfinished` has the low water of the run's session, and the session has recorded this sequence.
+-- If the error of a run is `Unfinished`, it has the low water of the run's session, which is the sequence that the
+-- session has recorded.
 abbrev pub TellsLowWater : PeerValue → SessionId → PoolFault → Type 0
 TellsLowWater target run (faults.Refused (refusals.Unfinished n)) =
     (s : SessionValue) × (session_in target.sessions run ≡ Some s) × (n ≡ low_water s.front) × (n ≡ s.recorded)
 TellsLowWater target run fault = Unit {0}
 
--- The session of a run has begun, the session's windows are pages of the source, and the source stores the session's
--- entry as `PutsEntry` says.
+-- The session of a run has begun, the session's windows are pages of the source's feed, and the source stores the
+-- session's entry as `PutsEntry` says.
 pub record IsBegun (source target source' target' : PeerValue) (plan : Plan) (outcome : Result Report PoolFault) : Type 0
   where
     pub begun : begins_answer source target plan ≡ Ok tt
@@ -143,8 +144,8 @@ pub record IsBegun (source target source' target' : PeerValue) (plan : Plan) (ou
     pub put : PutsEntry source target' source' plan outcome
     pub unfinished : IfErr outcome (TellsLowWater target' plan.session)
 
--- The effect of a run. If the run's session has not begun, both peers are unchanged. If the session has begun, the
--- source stores the session's entry as `PutsEntry` says.
+-- The effect of a run on the source and the target. If the run's session has not begun, both peers are unchanged. If
+-- the session has begun, the source stores the session's entry as `PutsEntry` says.
 abbrev pub LeavesOrPuts : {F : Type 0} → Plan → F × PeerValue → F × PeerValue → F × PeerValue → F × PeerValue
     → Result Report PoolFault → Type 0
 LeavesOrPuts plan source target source' target' outcome =
@@ -154,8 +155,8 @@ LeavesOrPuts plan source target source' target' outcome =
 -- The guarantees of a successful run. A successful run returns the report of the plan's session, which began at the
 -- common checkpoint and has recorded the source's update sequence. After a successful run, the target covers the
 -- source's selected feed above the common checkpoint. If the target was empty before the run and refused no document,
--- each selected document is the same at the source and at the target after the run. After a successful run, the
--- fetchers' counts add up to the number of documents read.
+-- each selected document is the same at the source and at the target after the run. After a successful run, the numbers
+-- of documents that the fetchers counted add up to the report's number of documents read.
 pub record EndsWell (source target target' : PeerValue) (plan : Plan) (n : ℕ) (report : Report) : Type 0 where
   pub reported : IsReported source target target' plan report
   pub covered : CoversFrom source target' plan.chosen (start_between source target plan.chosen)
@@ -190,11 +191,12 @@ pub record RunsOn {F : Type 0} (refuses : F → Document → Bool) (may_fill : T
   -- A third peer that was consistent with the source or the target of a run stays consistent, under the conditions of
   -- `KeepsOthersTied`.
   pub others : KeepsOthersTied source.1 target.1 source'.1 target'.1
-  -- An audit of the peers that a run returns is clean if the peers were consistent before the run.
+  -- An audit of the peers that a run returns reports nothing if the peers were consistent before the run.
   pub audited : (chosen : Choice) → IsTiedPair source.1 target.1 chosen
       → audit_answer source'.1 target'.1 chosen ≡ None
   -- If a run's session has not begun, both peers are unchanged and the error gives the reason. If a run's session has
-  -- begun, the session's windows are pages of the source, and the source stores the entry as `PutsEntry` says.
+  -- begun, the session's windows are pages of the source's feed, and the source stores the session's entry as
+  -- `PutsEntry` says.
   pub put : LeavesOrPuts plan source target source' target' outcome
   -- If the peers of a run were consistent, the error of the run is one that `IsExpectedRun` lists.
   pub expected : IfErr outcome

@@ -1,4 +1,5 @@
--- Replication in both directions by the pool, as specified in docs/PROFILE.md, "Both ways", and in PouchDB, `sync`.
+-- Defines replication in both directions by the pool, as specified in docs/PROFILE.md, "Both ways", and in PouchDB,
+-- `sync`.
 use Rattle.std.specs.Prelude.{ℕ, Bool, List, Result, Ok, Err}
 use Rattle.doc_json.specs.Document.{Document}
 use Rattle.repl_peer.specs.peer.Peer.{PeerValue}
@@ -11,7 +12,8 @@ use Rattle.pool_workers.specs.declared.fault.PoolFault.{PoolFault}
 use Rattle.repl_pool.specs.declared.both_ways.SyncFault.{SyncFault}
 use Rattle.repl_pool.specs.declared.both_ways.SyncFault.TheVariants as faults
 
--- The result of a run from a to b and a second run from b to a. The second run happens only if the first run succeeded.
+-- The result of a run from a to b and a second run from b to a. The pool starts the second run only if the first run
+-- succeeded.
 pub data SyncRuns {F : Type 0} (refuses : F → Document → Bool) (may_stop : Place → Type 0) (there back : Plan)
     (a b : F × PeerValue) : F × PeerValue → F × PeerValue → Result Synced SyncFault → Type 0 where
   refused_there : {why : PoolFault} {a' b' : F × PeerValue} {fetched : List ℕ}

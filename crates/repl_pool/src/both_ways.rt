@@ -32,7 +32,7 @@ pub struct SyncRan<F: WriteFilter> {
     pub a: Peer<F>,
     /// The second peer.
     pub b: Peer<F>,
-    /// The reports of both directions, or the error.
+    /// The reports of the runs in both directions, or the error of the run that failed.
     pub outcome: Result<Synced, SyncFault>,
 }
 
@@ -40,11 +40,12 @@ pub struct SyncRan<F: WriteFilter> {
 /// succeeds, a second `run` replicates `b` into `a`. The two runs have separate plans, and use the same gate.
 ///
 /// A successful call has all guarantees of `sync_alone`. Suppose that the peers are consistent in both directions
-/// (docs/PROFILE.md, "Tied peers"). After a successful call, each side has the other side's leaves of every document
-/// that both plans select, if neither side has refused the document. If the two trees of such a document agreed before
-/// the call and had complete histories, both sides have the same document after the call. If the peers are consistent
-/// in both directions, they stay consistent for every result of the call. `a` stays consistent with third peers whose
-/// UUID differs from `b`'s UUID, and `b` stays consistent with third peers whose UUID differs from `a`'s UUID.
+/// (docs/PROFILE.md, "Tied peers"). Then, after a successful call, each side has the other side's leaves of every
+/// document that both plans select, if neither side has refused the document. If the two trees of a document of this
+/// kind agreed before the call and had complete histories, both sides have the same document after the call. If the
+/// peers are consistent in both directions, they stay consistent for every result of the call. `a` stays consistent
+/// with third peers whose UUID differs from `b`'s UUID, and `b` stays consistent with third peers whose UUID differs
+/// from `a`'s UUID.
 ///
 /// The call blocks until both runs end. The contract does not guarantee that the two runs end.
 pub fn sync<F: WriteFilter + Send + Sync, G: Gate + Sync, R: Threads + Wait + Sync>(

@@ -11,7 +11,8 @@ use crate::running::Ran;
 use pool_workers::{PoolFault, Summed};
 use repl_target::{Peer, Plan, Report, TargetFault, WriteFilter, record_at_source};
 
-/// Records the session's low water at the target. Returns `Unfinished` with the low water, or the error of recording.
+/// Records the session's low water at the target. Returns `Unfinished` with the low water, or the error of the target's
+/// call `record`.
 fn record<F: WriteFilter>(target: &mut Peer<F>, plan: &Plan) -> PoolFault
     ensures told { result ≡ unfinished_at (record_answer target.old.1 plan.now.session) }
     ensures peer { target.new.1 ≡ after_record target.old.1 plan.now.session plan.now.at }
@@ -23,8 +24,8 @@ fn record<F: WriteFilter>(target: &mut Peer<F>, plan: &Plan) -> PoolFault
     }
 }
 
-/// Concludes the session at the target if no step failed or was stopped, and all sent parcels were received. If the
-/// session is not concluded, the call records the session's low water.
+/// Concludes the session at the target if `fault` is `None` (no step failed or was stopped), and all sent parcels were
+/// received (`complete`). If the session is not concluded, the call records the session's low water.
 fn close_target<F: WriteFilter>(
     target: &mut Peer<F>,
     plan: &Plan,
@@ -51,8 +52,8 @@ fn close_target<F: WriteFilter>(
     }
 }
 
-/// Takes the entry of the run's session from the target, and stores the entry in the source's log. If the source's log
-/// has a newer entry of the session, the call stores nothing.
+/// Reads the log entry of the run's session at the target, and stores the entry in the source's log. If the source's
+/// log has a newer entry of the session, the call stores nothing.
 ///
 /// The call returns the given outcome of the run. If the outcome is `Ok` and the allocation for the entry fails, the
 /// call returns `Memory`.

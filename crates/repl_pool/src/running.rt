@@ -49,7 +49,7 @@ pub struct Ran<F: WriteFilter> {
 pub struct Progress<'a> {
     /// The board.
     pub board: &'a Board,
-    /// The seats through which the workers update the board.
+    /// The seats (the workers' shares of the board) through which the workers update the board.
     pub seats: Vec<BoardSeat>,
 }
 
@@ -82,7 +82,8 @@ fn crew_of(plan: &Plan, start: u64, goal: u64) -> u64
     }
 }
 
-/// The board of a run, if the run has a board, and the seats through which the writers update the board.
+/// The board of a run, or `None`, and the seats (the writers' shares of the board) through which the writers update the
+/// board.
 #[derive(Drop)]
 struct Shows<'a> {
     board: Option<&'a Board>,
@@ -277,12 +278,12 @@ fn run_with<F: WriteFilter + Send + Sync, G: Gate + Sync, R: Threads + Wait + Sy
 
 /// Replicates the source's documents into the target with a pool of threads. The caller's thread begins the session at
 /// the common checkpoint of the two logs, and reads the source's feed in windows. The caller's thread stores each
-/// window at the target, and sends the window to a fetcher. A run has `plan.workers` fetchers, or fewer if the run can
-/// only read fewer windows, and one writer for each fetcher. A fetcher asks the target which leaves are missing, counts
-/// the requested documents at the source, and sends the request to a writer. A writer reads the requested parcel,
-/// settles the parcel, and records the session. A lock protects the target, and the workers share the source read-only.
-/// Workers call the gate at each place (stage of a window), and hold no lock during the call. If the gate never blocks,
-/// a fetcher and a writer share one thread and take turns.
+/// window at the target, and sends the window to a fetcher. A run has `plan.workers` fetchers, or fewer if the maximum
+/// number of the run's windows is smaller, and one writer for each fetcher. A fetcher asks the target which leaves are
+/// missing, counts the requested documents at the source, and sends the request to a writer. A writer reads the
+/// requested parcel, settles the parcel, and records the session. A lock protects the target, and the workers share the
+/// source read-only. Workers call the gate at each place (stage of a window), and hold no lock during the call. If the
+/// gate never blocks, a fetcher and a writer share one thread and take turns.
 ///
 /// After all workers have ended, the caller's thread concludes the session. If the session cannot be concluded, the
 /// caller's thread records the session's low water. The caller's thread then stores the session's entry in the source's
@@ -292,18 +293,18 @@ fn run_with<F: WriteFilter + Send + Sync, G: Gate + Sync, R: Threads + Wait + Sy
 ///
 /// If the run succeeds, the target covers each leaf of the source's selected feed above the session's start. A
 /// successful call returns the report of the session, which began at the common checkpoint and has recorded the
-/// source's update sequence. The fetchers' numbers of documents add up to the report's number of read documents. After
-/// a successful run that started with an empty target, without refusing a document, the target has the source's
-/// revisions, parents and contents of leaves of each selected document. If the run succeeds and the peers were
-/// consistent (docs/PROFILE.md, "Tied peers"), the target covers each leaf of the source's selected feed, even below
-/// the session's start.
+/// source's update sequence. The numbers of documents that the fetchers fetched add up to the report's number of
+/// documents read. After a successful run that started with an empty target, without refusing a document, the target
+/// has the source's revisions, parents and contents of leaves of each selected document. If the run succeeds and the
+/// peers were consistent (docs/PROFILE.md, "Tied peers"), the target covers each leaf of the source's selected feed,
+/// even below the session's start.
 ///
 /// At the source, the run changes only the outgoing logs, for every result. The target is unchanged, or has changed
 /// only by beginning the session and by calls with messages of the source. The target keeps all its documents, sessions
 /// and logs. If the peers were consistent, they stay consistent. A third peer that was consistent with the source or
-/// the target stays consistent with that peer, under two conditions (`KeepsOthersTied`). A third peer that is another
-/// source of the target must not have the source's UUID. A third peer that is another target of the source must not
-/// have the target's UUID. If the peers were consistent, an audit after the run finds no uncovered leaf.
+/// the target stays consistent with that peer under the following two conditions (`KeepsOthersTied`). A third peer that
+/// is another source of the target must not have the source's UUID. A third peer that is another target of the source
+/// must not have the target's UUID. If the peers were consistent, an audit after the run finds no uncovered leaf.
 ///
 /// The call blocks until the run ends. The contract does not guarantee that a run ends.
 ///
@@ -311,9 +312,9 @@ fn run_with<F: WriteFilter + Send + Sync, G: Gate + Sync, R: Threads + Wait + Sy
 ///
 /// - `NoWorkers`, `TooManyWorkers`, `BadBatch`, `SamePeer`: the errors of `check_run`, in this order. After an error of
 ///   `check_run`, both peers are unchanged.
-/// - `Refused`: a step failed. The error is `Refused(Unfinished)` if no worker failed or stopped, but the plan's
-///   `stop_after` stopped the replication below the source's update sequence.
-/// - `Halted`: the gate returned `Stop` at the place that the error names.
+/// - `Refused`: a step of the run failed. The error is `Refused(Unfinished)` if no worker failed or stopped, but the
+///   plan's `stop_after` stopped the replication below the source's update sequence.
+/// - `Halted`: the gate returned `Stop` at the place (stage of a window) that the error names.
 /// - `CountFull`: a fetcher's count of documents would exceed 9,007,199,254,740,991.
 /// - `Memory`: an allocation failed, or a thread cannot be created.
 ///
@@ -339,13 +340,13 @@ pub fn run<F: WriteFilter + Send + Sync, G: Gate + Sync, R: Threads + Wait + Syn
 
 /// Performs a `run` that shows its progress on a board. Viewers may read the progress on the board during the run
 /// (`Board::read`). Each writer updates the board through a separate seat. Before a writer settles a parcel, the writer
-/// adds the number of the parcel's documents to its read counter. After settling, and before the gate is called at
-/// `Settled`, the writer adds the number of settled documents to its settled counter. Updating and reading the board
-/// takes no lock.
+/// adds the number of documents in the parcel to the read counter of its seat. After settling the parcel, and before
+/// calling the gate at `Settled`, the writer adds the number of settled documents to the settled counter of its seat.
+/// Updating and reading the board takes no lock.
 ///
 /// The caller must give one seat for each worker of the plan. For every outcome, the call returns the seats in order,
-/// and no counter of a seat has decreased. If the run succeeds, the sum of the seats' read counters and the sum of
-/// their settled counters have both risen by the report's number of read documents.
+/// and no counter of a seat has decreased. If the run succeeds, the read counters of all seats together have risen by
+/// the report's number of documents read, and so have the settled counters.
 ///
 /// In addition to the errors of `run`, the call returns `BoardFull` if a writer's read counter would exceed
 /// 9,007,199,254,740,991. The run does not settle the parcel that would make the counter exceed its maximum.

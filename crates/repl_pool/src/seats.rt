@@ -7,8 +7,8 @@ ghost use Rattle.pool_workers.specs.Boards.{HasNothing, WorksAt};
 use progress_board::{Board, BoardFault, BoardSeat};
 use std::alloc::Global;
 
-/// A new board with its seats. The workers' seats are for `run_on`. A viewer may call `read` with its seat during the
-/// run.
+/// A new board with its seats. The caller gives the workers' seats to `run_on`. A viewer may call `read` with its seat
+/// during the run.
 #[derive(Drop)]
 pub struct Seats {
     /// The board.

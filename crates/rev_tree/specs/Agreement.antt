@@ -1,5 +1,5 @@
--- Trees of one document in two databases, as specified in docs/PROFILE.md, "Both ways", and in CouchDB, "Replication
--- and conflict model".
+-- Relates the trees of one document in two databases, as specified in docs/PROFILE.md, "Both ways", and in CouchDB,
+-- "Replication and conflict model".
 use Rattle.std.specs.Prelude.{◌≡◌, ◌⊎◌, true, None, Some}
 use Rattle.std.specs.FinMap.{get}
 use Rattle.rev_core.specs.Rev.{RevId}
@@ -19,8 +19,9 @@ IsWhole t = (r : RevId) → has t r ≡ true → get t.parents r ≡ None → r.
 abbrev pub IsRoot : TreeValue → RevId → Type 0
 IsRoot t r = (has t r ≡ true) × (get t.parents r ≡ None)
 
--- Tree t has grown from tree `old` by data of tree `other`. Tree t keeps the edges of `old`, and all revisions, edges
--- and contents of t are from `old` or `other`. Each root of tree t is a root of `old` or of `other`.
+-- Tree t has grown from tree `old` by adding revisions, edges and contents of tree `other`. Tree t keeps the edges of
+-- `old`, and all revisions, edges and contents of t are from `old` or `other`. Each root of tree t is a root of `old`
+-- or of `other`.
 pub record IsGrownBy (old other t : TreeValue) : Type 0 where
   pub kept : (c p : RevId) → get old.parents c ≡ Some p → get t.parents c ≡ Some p
   pub revs : (r : RevId) → has t r ≡ true → (has old r ≡ true) ⊎ (has other r ≡ true)

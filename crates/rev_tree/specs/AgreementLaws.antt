@@ -1,5 +1,5 @@
--- Two trees are the same if they agree, have complete histories and have each other's leaves. Further theorems of
--- `AgreementLaws` say how trees come to have each other's leaves.
+-- Proves that two trees are the same if they agree, have complete histories and have each other's leaves. Further
+-- theorems say how two trees come to have each other's leaves by growing in both directions.
 use Rattle.std.proofs.Common.{◌≡◌, ◌⊎◌, ℕ, zero, suc, true, false, not, ◌&&◌, ◌||◌, List, [], ◌∷◌, filter, Option, Some, None, is_some, refl, sym, ap, ◌∙◌, inl, inr, arith}
 use Rattle.std.specs.List.{list_any}
 use Rattle.std.specs.Option.{option_map_or}
@@ -26,7 +26,7 @@ use Rattle.rev_tree.specs.declared.origin.Origin.{Origin}
 pub IsGrownBy-same : (t other : TreeValue) → IsGrownBy t other t
 IsGrownBy-same t other = record { kept = λ c p h. h; revs = λ r h. inl h; parents = λ c p h. inl h; contents = λ r b h. inl h; roots = λ r h. inl h }
 
--- Theorems about tree t after adding a leaf of tree `other` with the leaf's ancestors.
+-- Theorems about the tree `after`, which is tree t after adding a leaf of tree `other` and the leaf's ancestors.
 module _ (old other t : TreeValue) (tree : IsTree other) (grown : IsGrownBy old other t) (leaf : RevId) (is : is_leaf other leaf ≡ true) (o : Origin) where
   abbrev revs : List RevId
   revs = ancestors other leaf
@@ -183,7 +183,8 @@ same_by_leaves s t ours theirs agree whole_s whole_t there back = record {
 
 -- ---- leaves of equal trees
 
--- Two orders insert k into a list at the same position if both orders compare k with each element in the same way.
+-- Inserting k into a sorted list gives the same position in two orders if both orders compare k with each element in
+-- the same way.
 same_placed : {K : Type 0} (R S : K → K → Ordering) → IsTotalOrder R → (k : K) (ys : List K) → ((y : K) → list_any (eq_by_cmp R y) ys ≡ true → R k y ≡ S k y) → placed R k ys ≡ placed S k ys
 same_placed R S total k [] h = refl
 same_placed R S total k (y ∷ ys) h =
@@ -197,8 +198,8 @@ same_order R S r s (k ∷ xs) h =
     ∙ same_placed R S r k (in_order R xs) (λ y m. h k y (ap (λ b. b || list_any (eq_by_cmp R k) xs) ((eq_by_cmp_equiv r).refl k)) (or_right _ _ (sym (any-in_order r xs y) ∙ m)))
     ∙ ap (placed S k) (same_order R S r s xs (λ a b m n. h a b (or_right _ _ m) (or_right _ _ n))) ∙ sym (in_order-cons s k xs)
 
--- Revision r is in the unsorted list of leaves of tree t exactly if r is a leaf of t. The comparison of r with the
--- list's elements may use the leaf order of any tree u.
+-- Revision r is in the unsorted list of the leaves of tree t exactly if r is a leaf of t. To find r in the list, the
+-- leaf order of any tree u may be used.
 any_leaf : (u t : TreeValue) (r : RevId) → list_any (eq_by_cmp (leaf_cmp u) r) (filter (is_leaf t) (keys t.origins)) ≡ is_leaf t r
 any_leaf u t r =
     let all = filter (is_leaf t) (keys t.origins) in

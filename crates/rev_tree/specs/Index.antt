@@ -1,4 +1,5 @@
--- The index of a tree maps the hash of a revision to the position of the revision's node in the list of nodes.
+-- Defines the index of a tree, which maps the hash of a revision to the position of the revision's node in the list of
+-- nodes.
 use Rattle.std.specs.Prelude.{ℕ, Bool, true, ◌&&◌, not, ◌+◌, ◌%◌, ◌^◌, List, [], ◌∷◌, ◌++◌, is_some, length, nat_eq, nat_lt, if◌then◌else◌}
 use Rattle.std.specs.Map.{lookup}
 use Rattle.std.specs.Hash.FoldHasher as hasher
@@ -9,19 +10,20 @@ use Rattle.rev_tree.specs.declared.nodes.TheConstants.{MOST_WALKED}
 abbrev pub mark_of : RevId → ℕ
 mark_of r = (hasher.finish (hasher.write hasher.initial r.sig) + r.generation) % 2 ^ 64
 
--- The entries of a tree's index after adding a hash with the position of a node. If the index already has an entry for
--- the hash, the entries do not change.
+-- The entries of a tree's index after adding the hash `mark` with the position `place` of a node. If the index already
+-- has an entry for the hash, the entries do not change.
 abbrev pub noted : List (ℕ × ℕ) → ℕ → ℕ → List (ℕ × ℕ)
 noted entries mark place =
     if is_some (lookup (nat_eq mark) entries) then entries else entries ++ (mark, place) ∷ []
 
--- The entries of a tree's index after adding the hashes of a list's revisions. The positions of the revisions are
--- counted from i. A hash that already has a position in the index keeps this position.
+-- The entries of a tree's index after adding the hashes of the listed revisions, whose nodes have the positions from i
+-- on, in the order of the list. A hash that already has a position in the index keeps this position.
 abbrev pub noted_from : List (ℕ × ℕ) → ℕ → List RevId → List (ℕ × ℕ)
 noted_from entries i [] = entries
 noted_from entries i (r ∷ revs) = noted_from (noted entries (mark_of r) i) (i + 1) revs
 
--- Whether each revision of a list is one generation below the previous revision, as in an ancestry.
+-- Whether in a list, the generation of each revision is one less than the generation of the revision before it, as in
+-- an ancestry.
 abbrev pub falls : List RevId → Bool
 falls [] = true
 falls (r ∷ []) = true

@@ -1,4 +1,4 @@
--- How a list of revisions is stored. No public contract mentions the stored form.
+-- Defines the stored form of a list of revisions. No public contract mentions this form.
 use Rattle.std.specs.Prelude.{List, [], ◌∷◌}
 use Rattle.rev_core.specs.Rev.{RevId}
 use Rattle.rev_tree.specs.declared.revs.Kept.{Kept}

@@ -1,4 +1,5 @@
--- The stored form of a tree: nodes that name their parents by index, and an index from revisions to positions.
+-- Defines the stored form of a tree: a list of nodes, which have the positions of their parents, and an index that maps
+-- revisions to positions.
 use Rattle.std.specs.Prelude.{◌≡◌, ℕ, ◌+◌, ◌^◌, ◌<◌, ◌≤◌, Bool, true, false, cond, List, [], ◌∷◌, ◌++◌, map, length, Option, Some, None, slice_get, IfSome}
 use Rattle.std.specs.FinMap as finmap
 use Rattle.std.specs.Option.{option_map_or}
@@ -22,16 +23,16 @@ abbrev pub Distinct : List RevId → Type 0
 Distinct [] = Unit {0}
 Distinct (r ∷ revs) = (is_among r revs ≡ false) × Distinct revs
 
--- Each revision of a list with its position, if the positions are counted from i.
+-- Pairs of a revision of a list and its position. The first revision has the position i.
 abbrev pub places_from : ℕ → List RevId → List (RevId × ℕ)
 places_from i [] = []
 places_from i (r ∷ revs) = (r, i) ∷ places_from (i + 1) revs
 
--- The position of revision r among the nodes, if a node has r.
+-- The position of the node of revision r in the list of nodes, or `None` if no node has r.
 abbrev pub place_of : List NodeValue → RevId → Option ℕ
 place_of nodes r = finmap.find rev_cmp r (places_from 0 (revs_in nodes))
 
--- The node of revision r, if there is one.
+-- The node of revision r, or `None` if no node has r.
 abbrev pub node_of : List NodeValue → RevId → Option NodeValue
 node_of nodes r = finmap.find rev_cmp r (map (λ n. (n.rev, n)) nodes)
 
@@ -44,12 +45,12 @@ rev_at revs (Some i) = slice_get revs i
 abbrev pub parent_in : List RevId → NodeValue → Option RevId
 parent_in revs n = rev_at revs n.parent
 
--- A list with one map entry of key r and value x, or the empty list if there is no value.
+-- A list with one map entry of key r and value x, or the empty list if no value is given.
 abbrev pub entry_of : {X : Type 0} → RevId → Option X → List (RevId × X)
 entry_of r None = []
 entry_of r (Some x) = (r, x) ∷ []
 
--- The map entries of all nodes for which the function f gives a value. The key of a node's map entry is the node's
+-- The map entries of the nodes for which the function f gives a value. The key of a node's map entry is the node's
 -- revision.
 abbrev pub entries_of : {X : Type 0} → (NodeValue → Option X) → List NodeValue → List (RevId × X)
 entries_of f [] = []
@@ -77,12 +78,12 @@ pub record IsLinked (nodes : List NodeValue) : Type 0 where
 abbrev pub deletes : NodeValue → Bool
 deletes n = option_map_or (λ (b : ContentValue). b.deleted) n.content false
 
--- Whether there is no best leaf yet, or leaf n goes before the best leaf in the winner's order.
+-- Whether leaf n goes before the best leaf so far in the winner's order, or a best leaf is not known yet.
 abbrev pub goes_before : NodeValue → Option NodeValue → Bool
 goes_before n None = true
 goes_before n (Some best) = is_lt (ordering_then (bool_cmp (deletes n) (deletes best)) (rev_cmp best.rev n.rev))
 
--- The number 1 if revision r is not in the list `known`, else 0.
+-- The number 1 if revision r is not in the list `known`, and otherwise 0.
 abbrev pub unless_among : List RevId → RevId → ℕ
 unless_among known r = cond (is_among r known) 0 1
 
@@ -91,7 +92,7 @@ abbrev pub count_new : List RevId → List RevId → ℕ
 count_new known [] = 0
 count_new known (r ∷ revs) = unless_among known r + count_new known revs
 
--- The nodes represent a tree, and `best` is the index of the winner's node, if there is one.
+-- The nodes represent a tree, and `best` is the index of the winner's node if the tree has a winner.
 pub record IsLed (nodes : List NodeValue) (best : ℕ) : Type 0 where
   pub tree : IsTree (tree_of nodes)
   pub first : slice_get (revs_in nodes) best ≡ first_of (leaves (tree_of nodes))
@@ -103,15 +104,16 @@ pub record NodesValue : Type 0 where
   pub capacity : ℕ
   pub index_capacity : ℕ
 
--- A list of nodes has space for `more` further nodes. If the list with `more` further nodes is too long to be scanned,
--- the index has space for an entry of each node.
+-- The list of nodes v has space for `more` further nodes. If the list with `more` further nodes is too long to be
+-- scanned, the index has space for an entry of each node.
 pub record HasRoom (v : NodesValue) (more : ℕ) : Type 0 where
   pub few : length v.items + more < 2 ^ 32
   pub nodes : length v.items + more ≤ v.capacity
   pub places : HasIndexRoom (length v.items + more) v.index_capacity
 
--- The effect of adding revision r to a list of nodes. After adding r, the node of r is at position k, and the earlier
--- nodes have kept their positions. Adding r uses the space for one node if r is new, and otherwise no space.
+-- The effect of adding revision r to the list of nodes `old`, which gives the list `new`. In `new`, the node of r is at
+-- position k, and the nodes of `old` have kept their positions. Adding r uses the space for one node if r is new, and
+-- otherwise no space.
 pub record HasGained (old new : NodesValue) (r : RevId) (origin : Origin) (k : ℕ) : Type 0 where
   pub tree : tree_of new.items ≡ with_rev (tree_of old.items) r origin
   pub at : slice_get (revs_in new.items) k ≡ Some r

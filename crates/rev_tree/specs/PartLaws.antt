@@ -1,5 +1,5 @@
--- Trees that are parts of other trees. A part of a tree grows by leaves with their ancestors, and a part that has all
--- leaves is the complete tree.
+-- Theorems about a tree that is a part of another tree. Adding a leaf and its ancestors to a part gives a part again,
+-- and a part that has all leaves is the complete tree.
 use Rattle.std.proofs.Common.{◌≡◌, ℕ, zero, suc, ◌≤◌, true, false, not, cond, ◌||◌, List, [], ◌∷◌, Option, Some, None, is_some, refl, sym, ap, ◌∙◌, inl, inr, arith}
 use Rattle.std.specs.Option.{option_map_or, option_or}
 use Rattle.std.specs.Ordering.{eq_by_cmp}
@@ -47,7 +47,7 @@ pub walk_begins : (m : FinMap rev_cmp RevId) (n : ℕ) (p : RevId) → (rest : L
 walk_begins m zero p = ([], refl)
 walk_begins m (suc n) p = (option_map_or (walk m n) (get m p) [], refl)
 
--- The edges of a traversal give each visited revision the same parent as the tree does.
+-- In the edges between the revisions that a traversal visits, each visited revision has the same parent as in the tree.
 pub edges_walked : (s : TreeValue) → IsTree s → (n : ℕ) (x c : RevId) → has s x ≡ true → x.generation ≤ n → is_among c (walk s.parents n x) ≡ true → find rev_cmp c (edges_of (walk s.parents n x)) ≡ get s.parents c
 edges_walked s tree zero x c known low h = let low' = (tree.revs x known).low in absurd (omega arith)
 edges_walked s tree (suc n) x c known low h = go (λ p there under among. edges_walked s tree n p c there under among) (get s.parents x) refl
@@ -71,7 +71,7 @@ edges_walked s tree (suc n) x c known low h = go (λ p there under among. edges_
           | false ↦ λ _ later. further p (tree.parent x p e) (omega (arith, falls, low)) later
         ] refl among)
 
--- If a traversal does not visit a revision, the revision is not the child of any edge of the traversal.
+-- If a traversal does not visit a revision, this revision is not the child in any edge between the visited revisions.
 edges_apart : (s : TreeValue) → IsTree s → (x c : RevId) → has s x ≡ true → is_among c (ancestors s x) ≡ false → find rev_cmp c (edges_of (ancestors s x)) ≡ None
 edges_apart s tree x c known apart =
     none_is (find rev_cmp c (edges_of (ancestors s x))) (λ p e. false≢true (sym apart ∙ (edge_found (ancestors s x) c p (IsAncestry-ancestors s tree x known).falls e).child))
@@ -114,7 +114,7 @@ given_is s leaf b h = λ i. record {
   body = option_map_or (λ (x : ContentValue). x.body) (h i) [];
 }
 
--- Merging a leaf's ancestry gives a content only to the leaf: the leaf's content in tree s.
+-- Merging the ancestry of a leaf of tree s adds a content only for the leaf: the content that replication sends for it.
 pub at_leaf : (s : TreeValue) (leaf q : RevId) → is_some (find rev_cmp q (at_head (ancestors s leaf) (given s leaf))) ≡ true → (q ≡ leaf) × (find rev_cmp q (at_head (ancestors s leaf) (given s leaf)) ≡ Some (given s leaf))
 at_leaf s leaf q h =
     let begins = walk_begins s.parents leaf.generation leaf in
@@ -144,7 +144,8 @@ module _ (s t : TreeValue) (tree : IsTree s) (part : IsPart s t) (leaf : RevId) 
   absent_parent : (q : RevId) → has t q ≡ false → get t.parents q ≡ None
   absent_parent q h = none_is (get t.parents q) (λ p e. false≢true (sym h ∙ part.child q p e))
 
-  -- The following lemmas are about part t of tree s after a leaf of s and the leaf's ancestors were added to t.
+  -- The following lemmas are about the tree `grown`: the part t of tree s after adding a leaf of s and the leaf's
+  -- ancestors.
   brought_parent : (q : RevId) → is_among q revs ≡ true → get grown.parents q ≡ get s.parents q
   brought_parent q among =
       let edge : find rev_cmp q (edges_of revs) ≡ get s.parents q = edges_walked s tree leaf.generation leaf q known (omega arith) among in

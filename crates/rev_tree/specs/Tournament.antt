@@ -1,5 +1,6 @@
--- A tournament finds the winner of a revision tree by a binary tree of matches between the leaves, the players. A
--- player is stored as the index of its node, counted from 1. The number 0 means that there is no player.
+-- Defines the tournament that finds the winner of a revision tree: a binary tree of matches between the leaves, which
+-- are the players. A player is stored as the index of its node, counted from 1. The number 0 is stored if an index has
+-- no player.
 use Rattle.std.specs.Prelude.{◌≡◌, ℕ, zero, suc, ◌-◌, ◌/◌, ◌<◌, ◌≤◌, ◌^◌, ◌⊎◌, Bool, true, false, cond, List, length, get_or, Option, Some, None, is_some, option_map, nat_lt, slice_get}
 use Rattle.std.specs.declared.cmp.Ordering.{Ordering}
 use Rattle.std.specs.Ordering.{is_lt, bool_cmp, ordering_then}
@@ -20,13 +21,13 @@ key_of n = (deletes n, n.rev)
 abbrev pub key_cmp : Key → Key → Ordering
 key_cmp a b = ordering_then (bool_cmp a.0 b.0) (rev_cmp b.1 a.1)
 
--- The second of two players does not go before the first in the winner's order.
+-- The second of two players does not go before the first player in the winner's order.
 abbrev pub IsBefore : Option Key → Option Key → Type 0
 IsBefore x None = Unit {0}
 IsBefore None (Some b) = ⊥
 IsBefore (Some a) (Some b) = is_lt (key_cmp b a) ≡ false
 
--- The key of the player that a tournament stores as a number, or `None` if the number is 0.
+-- The key of the player that is stored as the given number, or `None` if the number is 0.
 abbrev pub entry : List NodeValue → ℕ → Option Key
 entry nodes zero = None
 entry nodes (suc p) = option_map key_of (slice_get nodes p)
@@ -37,14 +38,14 @@ leaf_key None = None
 leaf_key (Some n) = cond n.has_child None (Some (key_of n))
 
 -- The key of the player at index k of the tournament. The parameters of `under` are the nodes, the stored winners of
--- the matches, the number of nodes that take part, and k.
+-- the matches, the number of nodes in the tournament, and k.
 abbrev pub under : List NodeValue → List ℕ → ℕ → ℕ → Option Key
 under nodes winners entered k =
     cond (nat_lt k (length winners)) (entry nodes (get_or winners k 0))
     (cond (nat_lt (k - length winners) entered) (leaf_key (slice_get nodes (k - length winners))) None)
 
--- Each stored winner is a node that takes part in the tournament, and has a content. Each leaf that takes part has a
--- content. The key of a node that has a content never changes.
+-- Each stored winner is a node in the tournament, and has a content. Each leaf in the tournament has a content. The key
+-- of a node that has a content never changes.
 pub record IsHeld (nodes : List NodeValue) (winners : List ℕ) (entered : ℕ) : Type 0 where
   pub within : entered ≤ length nodes
   pub fits : entered ≤ length winners
@@ -52,8 +53,8 @@ pub record IsHeld (nodes : List NodeValue) (winners : List ℕ) (entered : ℕ) 
   pub contents : (i p : ℕ) (n : NodeValue) → get_or winners i 0 ≡ suc p → slice_get nodes p ≡ Some n → is_some n.content ≡ true
   pub leaves : (j : ℕ) (n : NodeValue) → j < entered → slice_get nodes j ≡ Some n → n.has_child ≡ false → is_some n.content ≡ true
 
--- In each match of a tournament except match x, neither player goes before the match's stored winner in the winner's
--- order.
+-- In each match of a tournament except match x, neither player goes before the stored winner of the match, in the
+-- winner's order.
 pub record IsPlayed (nodes : List NodeValue) (winners : List ℕ) (entered x : ℕ) : Type 0 where
   pub held : IsHeld nodes winners entered
   pub ordered : (k : ℕ) → 2 ≤ k → k / 2 < length winners → (k / 2 ≡ x → ⊥) → IsBefore (entry nodes (get_or winners (k / 2) 0)) (under nodes winners entered k)
@@ -64,7 +65,7 @@ pub record IsEntry (nodes : List NodeValue) (winners : List ℕ) (entered k w : 
   pub within : w ≤ entered
   pub content : (p : ℕ) (n : NodeValue) → w ≡ suc p → slice_get nodes p ≡ Some n → is_some n.content ≡ true
 
--- The stored player w is `one` or `other`, and neither `one` nor `other` goes before w in the winner's order.
+-- The player w is `one` or `other`, and neither `one` nor `other` goes before w in the winner's order.
 pub record IsWinnerOf (nodes : List NodeValue) (one other w : ℕ) : Type 0 where
   pub either : (w ≡ one) ⊎ (w ≡ other)
   pub first : IsBefore (entry nodes w) (entry nodes one)

@@ -1,7 +1,8 @@
--- Bytes as integers.
+-- Converts the bytes of a string to an integer.
 use Rattle.std.specs.Prelude.{ℕ, zero, suc, ◌+◌, ◌*◌, ◌^◌, List, [], ◌∷◌}
 
--- The first n bytes of a string as a big-endian integer, with zeros after a shorter string.
+-- The first n bytes of a string as a big-endian integer. A string of fewer than n bytes is padded with zeros at its
+-- end.
 abbrev pub front_of : ℕ → List ℕ → ℕ
 front_of zero text = 0
 front_of (suc n) [] = 0

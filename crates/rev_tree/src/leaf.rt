@@ -37,8 +37,8 @@ impl<'a> Leaf<'a> {
         }
     }
 
-    /// Compares two leaves by the order that decides the winner. Live leaves come before deleted leaves, then greater
-    /// generations before lesser ones, then greater signatures before lesser ones.
+    /// Compares two leaves by the order that decides the winner. Live leaves come before deleted leaves. Among live
+    /// leaves, and among deleted leaves, greater generations come first, and then greater signatures.
     pub(crate) fn order(&self, other: &Leaf<'_>) -> Ordering
         ensures { result ≡ ordering_then (bool_cmp self.now.deleted other.now.deleted)
             (rev_cmp other.now.rev.now self.now.rev.now) }

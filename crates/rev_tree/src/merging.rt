@@ -15,12 +15,12 @@ use crate::origin::Origin;
 use rev_core::Rev;
 
 impl Nodes {
-    /// Whether the tree has all edges (from child to parent) of an ancestry. Returns an error with the first child
-    /// whose parent in the tree differs from its parent in the ancestry.
+    /// Whether the tree has all edges (from child to parent) of an ancestry. Returns an error if a child's parent in
+    /// the tree differs from the child's parent in the ancestry. The error names the first of these children.
     ///
     /// If the tree has the complete ancestry, the call needs only one lookup, because each node stores the index of its
-    /// parent. If the tree has no parent for a child, the call looks up the parent that the ancestry gives. The lookup
-    /// of the parent first tries the parent of the tree's last node.
+    /// parent. If the tree has no parent for a child, the call looks up the parent that the ancestry gives. This lookup
+    /// first tries the parent of the tree's last node.
     pub(crate) fn knows_edges(&self, revs: &[Rev]) -> Result<bool, Contradiction>
         requires some { 0 < length revs.now }
         ensures edges { IfOk result (λ b. b ≡ list_all (has_edge (tree_of self.now.items)) (edges_of revs.now)) }
@@ -56,9 +56,9 @@ impl Nodes {
         Ok(all)
     }
 
-    /// Returns a guess for the index of a child's parent. The guess is the index of the child's parent in the tree. If
-    /// the child has no known parent, the guess is the parent of the node that precedes the child's node, because
-    /// consecutive nodes are often leaves with the same parent.
+    /// Returns a guess for the index of the node of a child's parent. The guess is the index of the parent that the
+    /// tree has for the child. If the tree has no parent for the child, the guess is the index that the node before the
+    /// child's node has for its parent. Consecutive nodes are often leaves with the same parent.
     fn near(&self, child: usize) -> Option<usize>
         requires { child < length self.now.items }
         ensures { IfSome result (λ i. i < length self.now.items) }
@@ -69,8 +69,8 @@ impl Nodes {
         }
     }
 
-    /// Returns the index of a node's parent, or `None` if no parent is known. `place` is the index of the node, if
-    /// there is a node.
+    /// Returns the index of a node's parent, or `None` if no parent is known. The argument `place` is the index of the
+    /// node, or `None` if no node is given.
     fn parent_at(&self, place: Option<usize>) -> Option<usize>
         requires within { IfSome place (λ i. i < length self.now.items) }
         ensures within { IfSome result (λ i. i < length self.now.items) }
@@ -84,8 +84,8 @@ impl Nodes {
     }
 
     /// Inserts the revisions of an ancestry, its edges and the content of its head, and returns the index of the
-    /// winner's node. `best` is the index of the winner's node before the call. The caller has reserved space for the
-    /// missing revisions.
+    /// winner's node. The argument `best` is the index of the winner's node before the call. The caller has reserved
+    /// space for the missing revisions.
     pub(crate) fn put(
         &mut self,
         best: usize,

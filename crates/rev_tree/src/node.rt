@@ -15,7 +15,8 @@ use std::marker::Model;
 /// The number of values of a 64-bit integer, 2^64. A session's 128-bit number is stored as two 64-bit integers.
 const HALF: u128 = 1 << 64;
 
-/// A node: a revision, the revision's origin, and in `known` the node's flags, the index of the parent and the content.
+/// A node: a revision and the revision's origin. The field `known` has the node's flags, the index of the parent and
+/// the content.
 ///
 /// A tree may have millions of nodes, so a node is small. A session's number is stored as two 64-bit halves because a
 /// `u128` is aligned to 16 bytes.
@@ -28,7 +29,7 @@ pub(crate) struct Node {
     number: u64,
 }
 
-/// Whether a node's origin is a feed, and whether the node has a child.
+/// The flags of a node: whether the node's origin is a feed, and whether the node has a child.
 #[derive(Clone, Copy)]
 pub(crate) struct Marks {
     is_fed: bool,
@@ -37,8 +38,8 @@ pub(crate) struct Marks {
 
 /// The flags of a node, the index of its parent, and its content if the content is known.
 ///
-/// One enum holds the flags, the index and the content, because flags and index fit into the padding of the enum's tag.
-/// The index of the parent is counted from 1, and is 0 if no parent is known.
+/// One enum holds the flags, the index and the content, because the flags and the index fit into the padding after the
+/// enum's tag. The index of the parent is counted from 1, and is 0 if no parent is known.
 #[derive(Drop)]
 pub(crate) enum Known {
     Bare(Marks, u32),

@@ -1,4 +1,4 @@
-//! The nodes of a tree, which can be looked up by revision.
+//! The nodes of a tree, and the lookup of a node by its revision.
 ghost use Rattle.std.specs.Prelude.{◌≡◌, ℕ, ◌+◌, ◌<◌, ◌≤◌, ◌⊎◌, ◌∷◌, ◌++◌, [], Some, None, IfOk, IfSome, OnOk, slice_get, length, take, drop, true, nat_eq, vec_capacity};
 ghost use Rattle.std.specs.Option.{option_copied};
 ghost use Rattle.rev_core.specs.Rev.{RevId};
@@ -33,8 +33,8 @@ ghost use Rattle.rev_tree.specs.Nodes.{Distinct, HasGained, HasRoom, IsLinked, c
 
 /// Nodes with their index. A tree never removes a node, so the positions of nodes do not change.
 ///
-/// The invariant of a tree's nodes is that no revision has two nodes, and that the index of each parent is in range. By
-/// the invariant, a node is marked as a parent exactly if it is the parent of another node.
+/// The invariant of a tree's nodes is that no revision has two nodes, and that the index of each parent is in range.
+/// The invariant also says that a node is marked as a parent exactly if it is the parent of another node.
 #[derive(Drop)]
 pub(crate) struct Nodes {
     list: Vec<Node>,
@@ -112,10 +112,10 @@ impl Nodes {
         walked_to(&self.list, rev)
     }
 
-    /// Reserves space for inserting an ancestry. If nodes and given revisions together are at most `MOST_COUNTED`, the
-    /// call reserves space only for the revisions that the tree lacks. If nodes and given revisions together are more
-    /// than `MOST_COUNTED` but at most `MOST_WALKED`, the call reserves exactly the space for all given revisions. The
-    /// call fails if the tree could get more than `MOST_NODES` nodes.
+    /// Reserves space for inserting an ancestry. Let n be the number of nodes plus the number of given revisions. If n
+    /// is at most `MOST_COUNTED`, the call reserves space only for the revisions that the tree lacks. If n is more than
+    /// `MOST_COUNTED` but at most `MOST_WALKED`, the call reserves exactly the space for all given revisions. The call
+    /// fails if the tree could get more than `MOST_NODES` nodes.
     #[tactic(auto, using(crate::proofs::Rooms::count_within))]
     pub(crate) fn make_room(&mut self, revs: &[Rev]) -> Result<(), AllocError>
         ensures items { self.new.items ≡ self.old.items }
@@ -138,7 +138,8 @@ impl Nodes {
         fit_index(&mut self.places);
     }
 
-    /// Appends a new revision with its origin and returns its index. The caller has reserved the space for the node.
+    /// Appends a node for a new revision with the given origin, and returns the node's index. The caller has reserved
+    /// the space for the node.
     pub(crate) fn push(&mut self, rev: Rev, origin: Origin) -> usize
         requires new { place_of self.old.items rev ≡ None }
         requires room { HasRoom self.old 1 }
@@ -216,7 +217,8 @@ fn mark_of(rev: &Rev) -> u64
     hasher.finish().wrapping_add(u64::from(rev.generation()))
 }
 
-/// Returns the position of a revision in a list of nodes, each of which is one generation below the previous node.
+/// Returns the position of a revision's node in a list of nodes. Each node must be one generation below the previous
+/// node.
 #[inline(never)]
 fn fallen_to(nodes: &[Node], rev: &Rev) -> Option<usize>
     requires some { 0 < length nodes.now }
@@ -240,7 +242,7 @@ fn fallen_to(nodes: &[Node], rev: &Rev) -> Option<usize>
     }
 }
 
-/// Returns the position of a revision by scanning the nodes.
+/// Returns the position of a revision's node by scanning the nodes.
 fn walked_to(nodes: &[Node], rev: &Rev) -> Option<usize>
     ensures { result ≡ place_of nodes.now rev.now }
 {
@@ -252,7 +254,7 @@ fn walked_to(nodes: &[Node], rev: &Rev) -> Option<usize>
     None
 }
 
-/// Turns the index of the first `known` nodes into the index of all nodes. The caller has reserved the space that the
+/// Extends the index of the first `known` nodes to the index of all nodes. The caller has reserved the space that the
 /// index needs.
 fn index_rest(nodes: &[Node], places: &mut Places, known: usize)
     requires known { known ≤ length nodes.now }
@@ -307,7 +309,7 @@ fn falls_from(nodes: &[Node], first: usize) -> bool
     true
 }
 
-/// Whether `lower` is one generation below `upper`.
+/// Whether the generation of `lower` is one less than the generation of `upper`.
 fn is_below(upper: &Node, lower: &Node) -> bool
     ensures { result ≡ nat_eq upper.now.rev.generation (lower.now.rev.generation + 1) }
 {
@@ -355,10 +357,9 @@ fn once_new(nodes: &[Node], rev: &Rev) -> usize
     }
 }
 
-/// Reserves space in the list for the revisions of an ancestry. If nodes and given revisions together are at most
-/// `MOST_COUNTED`, the call reserves space only for the revisions that the list lacks. If nodes and given revisions
-/// together are more than `MOST_COUNTED` but at most `MOST_WALKED`, the call reserves exactly the space for all given
-/// revisions.
+/// Reserves space in the list for the revisions of an ancestry. Let n be the number of nodes plus the number of given
+/// revisions. If n is at most `MOST_COUNTED`, the call reserves space only for the revisions that the list lacks. If n
+/// is more than `MOST_COUNTED` but at most `MOST_WALKED`, the call reserves exactly the space for all given revisions.
 #[tactic(auto, using(crate::proofs::Rooms::count_within))]
 fn reserve_nodes(list: &mut Vec<Node>, revs: &[Rev]) -> Result<(), AllocError>
     ensures items { list.new.items ≡ list.old.items }
@@ -375,7 +376,7 @@ fn reserve_nodes(list: &mut Vec<Node>, revs: &[Rev]) -> Result<(), AllocError>
     }
 }
 
-/// Releases unused space of the list if the list has few nodes but space for many nodes was reserved.
+/// Releases the unused space of the list if the list has few nodes but has reserved space for many nodes.
 fn fit_nodes(list: &mut Vec<Node>)
     ensures { list.new.items ≡ list.old.items }
 {

@@ -1,4 +1,4 @@
-//! The lookup table from revisions to the positions of their nodes.
+//! A lookup table that maps revisions to the positions of their nodes.
 ghost use Rattle.std.specs.Prelude.{◌≡◌, ◌+◌, ◌^◌, ◌<◌, ◌≤◌, ◌∷◌, ◌++◌, [], length, nat_eq, None, IfOk, IfSome, OnOk};
 ghost use Rattle.std.specs.Map.{lookup};
 ghost use Rattle.rev_tree.specs.Index.{noted};
@@ -11,14 +11,14 @@ use std::alloc::{AllocError, Global};
 use std::marker::Model;
 
 /// The keys of the table are hashes of revisions, because hashes need less memory than revisions. If several revisions
-/// share a hash, the table has the position of only one of them, and a lookup of another revision scans the nodes. In
-/// practice, two revisions share a hash only if someone constructs them to do so.
+/// share a hash, the table has the position of only one of these revisions, and a lookup of another revision with this
+/// hash scans the nodes. In practice, two revisions share a hash only if someone constructs them to do so.
 ///
 /// The table is empty, and takes no memory, if the tree has few nodes or if each node is one generation below the
 /// previous node.
 ///
-/// The table also owns the tournament among the leaves. A tree without a table therefore needs no memory for a
-/// tournament.
+/// The table also owns the tournament, which finds the winner among the leaves. A tree without a table therefore needs
+/// no memory for a tournament.
 #[derive(Drop)]
 pub(crate) struct Places {
     index: Option<Box<Index>>,
@@ -74,7 +74,7 @@ impl Places {
         self.len() == 0
     }
 
-    /// Returns the position stored for a hash.
+    /// Returns the position that the table has for a hash, or `None` if the table has no entry for the hash.
     pub(crate) fn get(&self, mark: u64) -> Option<usize>
         ensures { result ≡ lookup (nat_eq mark) self.now.entries }
     {
@@ -84,8 +84,8 @@ impl Places {
         }
     }
 
-    /// Adds a hash with the position of a node, unless the hash already has an entry. The caller has reserved the space
-    /// for the entry.
+    /// Adds a hash with the position of a node, unless the table already has an entry for the hash. The caller has
+    /// reserved the space for the entry.
     pub(crate) fn note(&mut self, mark: u64, place: usize)
         requires { 0 < self.old.spare }
         ensures entries { self.new.entries ≡ noted self.old.entries mark place }

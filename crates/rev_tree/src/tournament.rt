@@ -1,4 +1,4 @@
-//! A tournament among the leaves of a tree.
+//! A tournament among the leaves of a tree, which finds the winner.
 ghost use Rattle.std.specs.Prelude.{◌≡◌, ◌+◌, ◌/◌, ◌<◌, ◌≤◌, ◌^◌, [], true, IfSome, length};
 ghost use Rattle.rev_tree.specs.Tournament.{IsBestLeaf, IsEntry, IsHeld, IsPlayed, IsWinnerOf};
 
@@ -13,8 +13,8 @@ use std::alloc::Global;
 /// a binary tree of matches, and the winner of match `i` is the player at index `i`. If node `n` takes part in the
 /// tournament and is a leaf, it is the player at index `winners.len() + n` of the tree of matches.
 ///
-/// The winner of a match is stored as its node's index, counted from 1, or as 0 if the match has no player. If a stored
-/// winner is no longer a leaf, it stays stored until its matches are played again.
+/// The winner of a match is stored as its node's index, counted from 1, or as 0 if the match has no player. If the
+/// stored winner of a match is no longer a leaf, the index of its node stays stored until its matches are played again.
 #[derive(Drop)]
 pub(crate) struct Tournament {
     winners: Vec<u32>,
@@ -86,8 +86,9 @@ impl Tournament {
         true
     }
 
-    /// If the tournament has fewer matches than the tree has nodes, restarts it with two matches for each node. Returns
-    /// true if the tournament has enough matches for all nodes, and false if an allocation fails.
+    /// If the tournament has fewer matches than the tree has nodes, the call restarts the tournament with two matches
+    /// for each node. Returns true if the tournament has enough matches for all nodes, and false if an allocation
+    /// fails.
     fn make_matches(&mut self, nodes: &[Node]) -> bool
         requires few { length nodes.now < 2 ^ 32 }
         requires played { IsPlayed nodes.now self.old.winners.items self.old.entered 0 }
@@ -107,7 +108,7 @@ impl Tournament {
         true
     }
 
-    /// Plays all matches of a node's player again, from the player's first match to the final.
+    /// Plays the matches of a node again: the node's first match, and then each match on the way to the final.
     fn replay(&mut self, nodes: &[Node], place: usize)
         requires few { length nodes.now < 2 ^ 32 }
         requires place { place < self.old.entered }
@@ -138,7 +139,8 @@ impl Tournament {
         self.winners[at] = better(nodes, one, other);
     }
 
-    /// Returns the stored form of the player at an index.
+    /// Returns the player at an index, in stored form: the index of the player's node, counted from 1, or 0 if the
+    /// index has no player.
     fn player(&self, nodes: &[Node], at: usize) -> u32
         requires few { length nodes.now < 2 ^ 32 }
         requires held { IsHeld nodes.now self.now.winners.items self.now.entered }

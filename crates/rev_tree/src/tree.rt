@@ -22,7 +22,8 @@ pub struct RevInfo<'a> {
 
 /// The revisions of a document with their parents, contents and origins.
 ///
-/// Each revision is a node, which names its parent by index. The tree stores the index of the winner's node.
+/// Each revision is stored as a node, which has the index of the parent's node. The tree stores the index of the
+/// winner's node.
 pub struct Tree {
     nodes: Nodes,
     best: usize,
@@ -73,7 +74,7 @@ impl Tree {
         self.nodes.node_in(&rev).is_some()
     }
 
-    /// Returns the parent of a revision, if it is known.
+    /// Returns the parent of a revision, if the tree knows the parent.
     pub fn parent_of(&self, rev: Rev) -> Option<Rev>
         ensures { result ≡ get self.now.parents rev }
     {
@@ -82,7 +83,7 @@ impl Tree {
         Some(*self.nodes.node_at(parent).rev())
     }
 
-    /// Returns the content of a revision, if it is known.
+    /// Returns the content of a revision, if the tree knows the content.
     pub fn content(&self, rev: Rev) -> Option<&Content>
         ensures { option_copied result ≡ get self.now.contents rev }
     {
@@ -237,7 +238,7 @@ impl Tree {
         self.nodes.all().len()
     }
 
-    /// Returns the leaves that are given revisions or descend from a given revision, winner first.
+    /// Returns the leaves that are equal to, or descend from, one of the given revisions, winner first.
     ///
     /// The call does not allocate if the tree's only leaf is one of the given revisions.
     pub fn leaves_above(&self, alloc: Global, revs: &[Rev]) -> Result<Revs, AllocError>

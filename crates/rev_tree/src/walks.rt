@@ -1,4 +1,4 @@
-//! Functions that go from a node to the node's ancestors, by index.
+//! Functions that go from a node to the node's ancestors, by the indexes of the nodes.
 ghost use Rattle.std.specs.Prelude.{◌≡◌, ◌<◌, List, IfOk, true, filter, length, slice_get};
 ghost use Rattle.rev_core.specs.Rev.{RevId};
 ghost use Rattle.rev_core.specs.Ancestry.{is_among};
@@ -11,14 +11,14 @@ use rev_core::Rev;
 use std::alloc::{AllocError, Global};
 
 impl Nodes {
-    /// Returns the revision at an index and its known ancestors.
+    /// Returns the revision of the node at index `start`, and the known ancestors of that revision.
     pub(crate) fn walk(&self, alloc: Global, start: usize) -> Result<Vec<Rev>, AllocError>
         requires within { start < length self.now.items }
         requires tree { IsTree (tree_of self.now.items) }
         ensures { IfOk result (λ v. v.items ≡ ancestors_at self.now.items start) }
     {
-        // The list has a revision and its ancestors. The length of the list is at most the number of nodes, and at most
-        // the revision's generation.
+        // The resulting list has a revision and its ancestors. The length of the list is at most the number of nodes,
+        // and at most the revision's generation.
         let most = self
             .all()
             .len()
@@ -37,7 +37,7 @@ impl Nodes {
         Ok(revs)
     }
 
-    /// Returns the known ancestor that is `steps` generations before the revision at index `start`.
+    /// Returns the known ancestor that is `steps` generations before the revision of the node at index `start`.
     pub(crate) fn ancestor_at(&self, start: usize, steps: usize) -> Option<Rev>
         requires within { start < length self.now.items }
         requires tree { IsTree (tree_of self.now.items) }
@@ -50,10 +50,11 @@ impl Nodes {
         Some(*self.node_at(at).rev())
     }
 
-    /// Returns the leaves that are one of the given revisions or descend from one of them. The result keeps the order
-    /// of the given leaves.
+    /// Returns the given leaves that are equal to, or descend from, one of the revisions `revs`. The result keeps the
+    /// order of the given leaves.
     ///
-    /// The call stores a result for each visited node, and uses the result again for other leaves.
+    /// The call stores a result for each visited node, and uses this result for other leaves that descend from the
+    /// node.
     pub(crate) fn those_above(
         &self,
         alloc: Global,
@@ -79,8 +80,8 @@ impl Nodes {
         Ok(above)
     }
 
-    /// Creates a table with an optional result for each node. The nodes of the given revisions have the result true,
-    /// and all other nodes have no result.
+    /// Creates a table with an optional result for each node: true for the nodes of the given revisions, and no result
+    /// for all other nodes.
     fn asked(&self, alloc: Global, revs: &[Rev]) -> Result<Vec<Option<bool>>, AllocError>
         ensures { IfOk result (λ v. IsTold self.now.items revs.now v.items) }
     {
@@ -93,8 +94,8 @@ impl Nodes {
         Ok(told)
     }
 
-    /// Whether the revision at an index or one of its ancestors is one of the given revisions. The call stores the
-    /// result for all visited nodes.
+    /// Whether the revision of the node at index `start`, or an ancestor of that revision, is one of the given
+    /// revisions. The call stores the result for all visited nodes.
     fn is_above(&self, told: &mut Vec<Option<bool>>, start: usize) -> bool
         requires within { start < length self.now.items }
         requires len { length told.old.items ≡ length self.now.items }

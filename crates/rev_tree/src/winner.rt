@@ -12,12 +12,12 @@ use crate::nodes::Nodes;
 use std::cmp::Ordering;
 
 impl Nodes {
-    /// Returns the index of the winner's node after an ancestry was inserted. `before` is the index of the node that
-    /// was the winner before the merge.
+    /// Returns the index of the winner's node after an ancestry was inserted. The argument `before` is the index of the
+    /// previous winner's node, and `head` is the index of the node of the ancestry's head.
     ///
     /// If the ancestry's head is a leaf and goes before the previous winner in the order of leaves, the head is the
-    /// winner. Unless the head is the winner, a previous winner that is still a leaf stays the winner. If the previous
-    /// winner is no longer a leaf, and no new leaf goes before it, the call looks for the winner among all leaves.
+    /// winner. Otherwise, if the previous winner is still a leaf, it stays the winner. If neither condition is true,
+    /// the call looks for the winner among all leaves.
     pub(crate) fn winner_after(&mut self, before: usize, head: usize) -> usize
         requires before { before < length self.old.items }
         requires head { head < length self.old.items }
@@ -35,7 +35,8 @@ impl Nodes {
         }
     }
 
-    /// Returns the index of the winner's node if the ancestry's head or the previous winner is the winner.
+    /// Returns the index of the winner's node if the winner is known to be the ancestry's head or the previous winner,
+    /// and otherwise `None`.
     fn head_or_previous(&self, before: usize, head: usize) -> Option<usize>
         requires before { before < length self.now.items }
         requires head { head < length self.now.items }
@@ -96,8 +97,8 @@ impl Nodes {
     }
 }
 
-/// Whether a leaf goes before the best leaf found so far, or is the first leaf found. Live leaves go before deleted
-/// leaves, then greater generations before lesser ones, then greater signatures before lesser ones.
+/// Whether a leaf goes before the best leaf found so far, or no best leaf was found yet. Live leaves go before deleted
+/// leaves. Among live leaves, and among deleted leaves, greater generations go first, and then greater signatures.
 pub(crate) fn goes_before(leaf: &Node, best: Option<&Node>) -> bool
     ensures { result ≡ goes_before leaf.now (option_copied best.entry) }
 {

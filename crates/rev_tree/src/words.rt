@@ -10,7 +10,8 @@ const WORD: usize = 8;
 /// The number of digits of an MD5 digest, which is the length of most signatures.
 const DIGITS: usize = 32;
 
-/// Returns the first eight bytes of a signature as a big-endian integer, with zeros after a shorter signature.
+/// Returns the first eight bytes of a signature as a big-endian integer. A shorter signature is padded with zeros at
+/// its end.
 pub(crate) fn front_of(text: &[u8]) -> u64
     ensures { result ≡ front_of 8 text.now }
 {
@@ -24,7 +25,8 @@ pub(crate) fn front_of(text: &[u8]) -> u64
 
 /// Whether two signatures are equal.
 ///
-/// If both signatures have the length of a digest, the call compares four pairs of integers without a loop.
+/// If both signatures have the length `DIGITS` of an MD5 digest, the call compares four pairs of integers without a
+/// loop.
 pub(crate) fn is_same(one: &[u8], other: &[u8]) -> bool
     requires one { is_sig one.now ≡ true }
     requires other { is_sig other.now ≡ true }

@@ -39,8 +39,8 @@ impl ScriptRead for NarrowReader<'_> {
 /// Each line of this script has 16 bytes including the line end, and each call of the reader returns at most 16 bytes.
 const SIXTEEN: &str = "a line of these\na line of these\na line of these\n";
 
-/// Each row of the test has a script, the number of successful reads, and the output before the failed read. The engine
-/// handles every complete line before the next read.
+/// Each row of the test table has a script, the number of successful reads, and the output before the read that fails.
+/// The engine handles every complete line before the next read.
 static READS: &[(&str, u64, &str)] = &[
     (SIXTEEN, 0, ""),
     (SIXTEEN, 1, "0\n"),
@@ -104,8 +104,8 @@ impl ScriptWrite for NarrowWriter {
     }
 }
 
-/// For each write of the output, the test makes a run in which this write fails. In a last run, no write fails. The
-/// written text is a prefix of the expected output, with one byte for each successful write.
+/// The test makes one run for each write of the output, in which this write fails, and a last run in which no write
+/// fails. In each run, the written text is a prefix of the expected output, with one byte for each successful write.
 #[test]
 fn stops_at_a_failed_write(rt: HostRuntime) -> Result<(), Fail> {
     let writes = ANSWERS.len() as u64;
@@ -163,8 +163,9 @@ impl ScriptWrite for GatheringWriter {
     }
 }
 
-/// Each row of the test has the number of flushes that succeed, and the flushed text. The engine flushes before the
-/// first read, before the read that finds the end, and after the last line, which has no line end.
+/// Each row of the test table has the number of flushes that succeed, and the text that these flushes sent. The engine
+/// flushes before the first read, before the read that finds the end of the input, and after the last line, which has
+/// no line end.
 static FLUSHES: &[(u64, &str)] = &[
     (0, ""),
     (1, ""),

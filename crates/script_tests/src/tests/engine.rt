@@ -39,7 +39,7 @@ impl Serve for Lengths {
     fn observe(&mut self, _number: u64, _line: &[u8], _refused: Option<&'static str>) {}
 }
 
-/// Prints a length and a line end.
+/// Appends a length and a line end to the output.
 fn print(answer: &mut Vec<u8>, length: usize) -> Result<(), AllocError>
     ensures { OnOk result (answer.new.items ≡ answer.old.items ++ (decimal length ++ codes "\n")) }
 {

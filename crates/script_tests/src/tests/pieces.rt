@@ -1,4 +1,4 @@
-//! Tests of output in pieces, with a server that prints a line, and then the line end.
+//! Tests of output in two pieces, with a server that prints a line first and then the line end.
 ghost use Rattle.std.specs.Prelude.{◌≡◌, ◌++◌, Ok, OnOk, codes};
 
 use script_engine::{OverRead, OverWrite, ScriptFault, Serve, run_lines};
@@ -53,7 +53,7 @@ fn push_marked(answer: &mut Vec<u8>, line: &[u8]) -> Result<(), AllocError>
     answer.extend_from_slice(line)
 }
 
-/// The expected output with enough memory, and the expected output if the allocation after the first piece fails.
+/// The expected output if no allocation fails, and the expected output if the allocation after the first piece fails.
 static ROOMS: &[(usize, bool, &str)] = &[
     (1, true, ">one\n>two three\n"),
     (usize::MAX, false, ">one"),
