@@ -1,4 +1,4 @@
--- The grammar of responses to `_changes` and `_revs_diff`, and the leaves in the responses, as specified in
+-- Defines the grammar of responses to `_changes` and `_revs_diff`, and the leaves in the responses, as specified in
 -- docs/PROFILE.md, "CouchDB's answers", and in CouchDB's API, "/{db}/_changes" and "/{db}/_revs_diff".
 --
 -- In this file, k is a name without its opening quotation mark, s is white space, and d is the number of open lists and

@@ -1,5 +1,5 @@
--- The grammar of CouchDB's responses, and the documents in the responses, as specified in docs/PROFILE.md, "CouchDB's
--- answers". The grammar of the kit's JSON library decides whether a text is JSON (`is_json`).
+-- Defines the grammar of CouchDB's responses, and the documents in the responses, as specified in docs/PROFILE.md,
+-- "CouchDB's answers". The grammar of the kit's JSON library decides whether a text is JSON (`is_json`).
 use Rattle.std.specs.Prelude.{◌≡◌, ℕ, ◌+◌, ◌<◌, ◌==◌, slice_index, List, [], ◌∷◌, ◌++◌, Bool, true, false, codes, Some}
 use Rattle.doc_envelope.specs.Texts.{Spaces, EndsString, Closed, is_space, is_json}
 use Rattle.doc_envelope.specs.Names.{is_log}

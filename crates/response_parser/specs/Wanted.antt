@@ -1,4 +1,5 @@
--- The rules for each kind of request, as specified in docs/PROFILE.md, "CouchDB's answers" and "Lines of documents".
+-- Defines the rules for each kind of request, as specified in docs/PROFILE.md, "CouchDB's answers" and "Lines of
+-- documents".
 use Rattle.std.specs.Prelude.{ℕ, List, Bool, true, false, cond, Option, Some}
 use Rattle.doc_envelope.specs.Envelopes.{enveloped, unfolded}
 use Rattle.response_parser.specs.declared.place.Place.{Place}
