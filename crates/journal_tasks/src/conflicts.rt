@@ -10,8 +10,8 @@ use json::Scratch;
 use line_reader::LineTask;
 use std::alloc::{AllocError, Global};
 
-/// The rank of a leaf in the order of winners. A live leaf ranks above a deleted leaf, then a greater generation above
-/// a lesser one, then a greater signature above a lesser one.
+/// The rank of a leaf in the order that decides which leaf wins. A live leaf ranks above a deleted leaf, then a greater
+/// generation above a lesser one, then a greater signature above a lesser one.
 #[derive(Drop, PartialEq, Eq, PartialOrd, Ord)]
 struct Rank {
     live: bool,
@@ -93,7 +93,7 @@ fn count_revs(alloc: Global, leaves: &[Leaf]) -> Result<usize, AllocError> {
     Ok(revs.len())
 }
 
-/// Appends the line of a leaf with its ancestry.
+/// Appends a line with a leaf and the leaf's ancestry.
 fn push_leaf(alloc: Global, text: &mut Vec<u8>, leaf: &Leaf) -> Result<(), AllocError> {
     text.extend_from_slice(b"leaf ".as_slice())?;
     push_rev(alloc, text, leaf.rev.as_str())?;
@@ -119,7 +119,7 @@ fn push_number(text: &mut Vec<u8>, word: &str, number: usize) -> Result<(), Allo
     text.extend_from_slice(digits.format(number).as_bytes())
 }
 
-/// Appends the lines of a document in conflict and of its leaves.
+/// Appends the line of a document in conflict, and a line for each of the document's leaves.
 fn push_doc(
     alloc: Global,
     text: &mut Vec<u8>,
