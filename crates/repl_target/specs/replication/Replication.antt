@@ -1,5 +1,5 @@
--- Replication by one thread, as specified in docs/PROFILE.md, "Replication by one thread", and in CouchDB, "Replication
--- Protocol".
+-- Defines replication by one thread, as specified in docs/PROFILE.md, "Replication by one thread", and in CouchDB,
+-- "Replication Protocol".
 use Rattle.std.specs.Prelude.{◌≡◌, ◌⊎◌, ℕ, zero, suc, ◌==◌, ◌<◌, Bool, true, false, ◌&&◌, nat_lt, nat_le, if◌then◌else◌, [], Option, Some, None, Result, Ok, Err}
 use Rattle.std.specs.declared.alloc.AllocError.{AllocError}
 use Rattle.rev_core.specs.Rev.{RevId}

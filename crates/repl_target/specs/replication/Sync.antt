@@ -1,4 +1,4 @@
--- Replication in both directions, as specified in docs/PROFILE.md, "Both ways", and in PouchDB, `sync`.
+-- Defines replication in both directions, as specified in docs/PROFILE.md, "Both ways", and in PouchDB, `sync`.
 use Rattle.std.specs.Prelude.{◌≡◌, Bool, true, Result, Ok, Err}
 use Rattle.rev_core.specs.Rev.{RevId}
 use Rattle.rev_tree.specs.Tree.{has, is_leaf}
@@ -42,9 +42,9 @@ abbrev pub HasRefusedNone : PeerValue → Id → Type 0
 HasRefusedNone p id =
     (s : SessionValue) → Among s p.sessions → (x : RefusedValue) → Among x s.ledger → x.doc.id ≡ id → ⊥
 
--- The effect of the replications in both directions on a document. After both replications, each side has the other
--- side's leaves of the document. If the document's trees agreed and had complete histories before both replications,
--- both sides have the same document afterwards.
+-- How the replications in both directions change a document. After both replications, each of the two databases has the
+-- other database's leaves of the document. If the document's trees agreed and had complete histories before both
+-- replications, both databases have the same document afterwards.
 pub record Meets (a b a' b' : DatabaseValue) (id : Id) : Type 0 where
   pub there : KnowsLeaves b' a' id
   pub back : KnowsLeaves a' b' id
