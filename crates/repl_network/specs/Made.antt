@@ -1,4 +1,4 @@
--- Documents that were made only by edits, as specified in docs/PROFILE.md, "Nets" and "Ids of local edits".
+-- Defines which documents were made only by edits, as specified in docs/PROFILE.md, "Nets" and "Ids of local edits".
 use Rattle.std.specs.Prelude.{◌≡◌, ◌≢◌, ℕ, Bool, true, List, Option, Some, Ok}
 use Rattle.std.specs.FinMap.{get}
 use Rattle.rev_core.specs.Rev.{RevId}
@@ -12,7 +12,7 @@ use Rattle.couch_base.specs.Edit.{edited}
 use Rattle.repl_peer.specs.peer.Peer.{PeerValue}
 use Rattle.repl_network.specs.Nets.{IsAt, AllAgree, AllWhole}
 
--- An edit of a document: its parent, whether it deletes, and its body.
+-- An edit of a document: the parent revision, whether the edit deletes the document, and the body.
 pub record EditValue : Type 0 where
   pub before : Option RevId
   pub deleted : Bool
@@ -39,7 +39,7 @@ HaveNoCollision among =
     (e f : EditValue) → among e ≡ true → among f ≡ true
     → edit_sig e.before e.deleted e.body ≡ edit_sig f.before f.deleted f.body → e ≡ f
 
--- An edit at a place of the network fails, or is in the given set of edits.
+-- An edit at the peer with index `place` fails, or is in the given set of edits.
 abbrev pub IsOneOf : (EditValue → Bool) → List PeerValue → ℕ → Id → Option RevId → Bool → List ℕ → Type 0
 IsOneOf among peers place id parent deleted body =
     (p : PeerValue) → IsAt peers place p → (e : RevId × Option RevId) → edited p.db id parent deleted body ≡ Ok e
