@@ -36,7 +36,7 @@ pub record State : Type 0 where
   pub error : List ℕ
   -- The kind of item that the parser's last byte completed.
   pub found : Found
-  -- The number of documents that the parser has skipped.
+  -- The number of skipped documents: objects without a document, values instead of a document, and lines `refused`.
   pub passed : ℕ
   -- The number of bytes that the parser has read.
   pub taken : ℕ
