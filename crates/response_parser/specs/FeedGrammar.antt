@@ -117,7 +117,7 @@ pub data IsDiffMember : Bool → Bool → List ℕ → List Piece → Type 0 whe
 
 -- ---- responses
 
--- A page of `_changes`, or a response of `_revs_diff`, with white space around it.
+-- A page of `_changes`, or a response of `_revs_diff`, with white space around the page or the response.
 pub data AreLeaves : List ℕ → List Piece → Type 0 where
   page : {o : List ℕ} {ps : List Piece} (s s' : List ℕ) → Spaces s → IsObjectOf IsPageMember o ps → Spaces s' → AreLeaves (s ++ (o ++ s')) ps
   difference : {o : List ℕ} {ps : List Piece} (s s' : List ℕ) → Spaces s → IsObjectOf IsDiffMember o ps → Spaces s' → AreLeaves (s ++ (o ++ s')) ps

@@ -45,7 +45,7 @@ pub record IsPlainDocument (o u : List ℕ) : Type 0 where
   pub text : u ≡ codes "{\"_id\"" ++ (line ++ 125 ∷ [])
   pub json : is_json u ≡ true
 
--- The contents of an object whose first member is `_id`: the object itself, unless it is a log.
+-- The contents of an object whose first member is `_id`: the object itself, unless the object is a log.
 pub data IsDocument (wanted : Wanted) : List ℕ → List Piece → Type 0 where
   document : {o u v : List ℕ} → IsPlainDocument o u → is_log u ≡ false → covered wanted u ≡ Some v → IsDocument wanted o ((found.Document, v) ∷ [])
   log : {o u : List ℕ} → IsPlainDocument o u → is_log u ≡ true → IsDocument wanted o []

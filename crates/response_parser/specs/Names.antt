@@ -164,9 +164,9 @@ passes Reason first = false
 passes Other first = false
 passes Foreign first = false
 
--- The error for a name's value, if there is one. The value of a name gives an error if the value must be an id or a
--- revision but is not a string. A string `reason` gives `CouchError` if a string `error` came before in the response,
--- and the parser entered no list or object in between.
+-- The error that the value of a name causes, if the value causes an error. The value of a name causes an error if the
+-- value must be an id or a revision but is not a string. A string `reason` causes `CouchError` if a string `error` came
+-- before in the response, and the parser entered no list or object in between.
 abbrev pub refusal_of : Name → ℕ → Bool → Option Refusal
 refusal_of Plain first failed = None
 refusal_of Document first failed = None

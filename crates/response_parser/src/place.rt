@@ -7,7 +7,7 @@ use thiserror::Error;
 pub enum Wanted {
     /// Documents in CouchDB responses. The parser skips objects without a document.
     Documents,
-    /// The same, in envelopes.
+    /// Documents in CouchDB responses, which the parser wraps in envelopes. The parser skips objects without a document.
     Enveloped,
     /// Documents in CouchDB responses. The parser rejects objects without a document.
     Bodies,
