@@ -184,9 +184,9 @@ pub fn check_plan(source: u128, target: u128, plan: &Plan) -> Result<(), TargetF
     Ok(())
 }
 
-/// Begins the session of a plan, and returns its start. The session starts at the common checkpoint of the two logs,
-/// and has the checkpoint's session as its base. If the logs have no common checkpoint, the session starts at 0. The
-/// goal of the session is the source's update sequence.
+/// Begins the session of a plan, and returns the session's start. The session starts at the common checkpoint of the
+/// two logs, and has the checkpoint's session as its base. If the logs have no common checkpoint, the session starts at
+/// 0. The goal of the session is the source's update sequence.
 ///
 /// If the call fails, it returns `Memory`, or an error of `Peer::begin`. An error changes nothing.
 pub fn begin_plan<F: WriteFilter, G: WriteFilter>(
@@ -223,7 +223,8 @@ pub fn begin_plan<F: WriteFilter, G: WriteFilter>(
     Ok(start)
 }
 
-/// Reads windows from a start until no further window is due, and settles each window before it reads the next window.
+/// Reads windows from a start until no further window must be read, and settles each window before it reads the next
+/// window.
 fn read_windows<F: WriteFilter, G: WriteFilter>(
     alloc: Global,
     source: &Peer<F>,

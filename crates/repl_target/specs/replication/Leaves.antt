@@ -14,12 +14,12 @@ use Rattle.repl_target.specs.declared.replication.Plan.{Plan}
 use Rattle.repl_target.specs.ties.Ties.{IsTiedWith, IsSentEntry, KeepsOthersTied}
 use Rattle.repl_target.specs.replication.Calls.{IsLeft}
 
--- For each document, its tree in database `now` is its tree in database `old`, grown by data from its tree in database
+-- For each document, the tree in database `now` is the tree in database `old`, grown by data from the tree in database
 -- `other` (`IsGrownBy`).
 abbrev pub HasGrownBy : DatabaseValue → DatabaseValue → DatabaseValue → Type 0
 HasGrownBy old other now = (id : Id) → IsGrownBy (tree_of old.docs id) (tree_of other.docs id) (tree_of now.docs id)
 
--- After a replication, the source is unchanged, or its log has an entry of a session of the target.
+-- After a replication, the source is unchanged, or the source's log has an entry of a session of the target.
 abbrev pub IsPut : PeerValue → PeerValue → Choice → PeerValue → Type 0
 IsPut source target chosen source' =
     (source' ≡ source)
