@@ -1,5 +1,5 @@
-//! Worked examples of wrapping documents in envelopes and unwrapping them. Some calls get only the beginning of a text,
-//! up to a point where a run of bytes of a string may follow.
+//! Worked examples that wrap documents in envelopes, and unwrap documents from envelopes. Some calls get only the
+//! beginning of a text, up to a point where a run of bytes of a string may follow.
 use doc_envelope::Envelope;
 use std::alloc::Global;
 use std::process::Abort;

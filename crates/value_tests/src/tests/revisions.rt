@@ -15,7 +15,7 @@ enum Call<'a> {
     Write(&'a str),
     /// Compare two revisions.
     Compare(&'a str, &'a str),
-    /// Create an ancestry, given its newest generation and its signatures.
+    /// Create an ancestry from the newest generation and the signatures.
     Ancestry(u32, &'a [&'a str]),
     /// Create an ancestry, and read the revisions and the head of a copy.
     Copy(Parts<'a>),
