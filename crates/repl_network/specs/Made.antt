@@ -18,7 +18,7 @@ pub record EditValue : Type 0 where
   pub deleted : Bool
   pub body : List ℕ
 
--- Edit e gives revision r its revision id.
+-- Edit e produces the revision id r.
 abbrev pub Makes : EditValue → RevId → Type 0
 Makes e r = edit_rev e.before e.deleted e.body ≡ Ok r
 
@@ -52,19 +52,19 @@ MadeAgree peers =
     (among : EditValue → Bool) → HaveNoCollision among → (id : Id) → AllMadeBy among peers id
     → AllAgree peers id × AllWhole peers id
 
--- If only edits of a set made a document before the call, this is also true after the call, unless the document's id is
--- `id`.
+-- A document that was made only by edits of a set before the call, and whose id is not `id`, is also made only by edits
+-- of the set after the call.
 abbrev pub StaysMadeExcept : Id → List PeerValue → List PeerValue → Type 0
 StaysMadeExcept id peers peers' =
     (among : EditValue → Bool) (other : Id) → other ≢ id → AllMadeBy among peers other → AllMadeBy among peers' other
 
--- If only edits of a set made a document before an edit of document `id`, this is also true after the edit. If the
--- document's id is `id`, the edit must fail or be in the set (`IsOneOf`).
+-- A document that was made only by edits of a set before an edit of document `id` is also made only by edits of the set
+-- after this edit. If the document's id is `id`, the edit must fail or be in the set (`IsOneOf`).
 abbrev pub StaysMadeByEdit : ℕ → Id → Option RevId → Bool → List ℕ → List PeerValue → List PeerValue → Type 0
 StaysMadeByEdit place id parent deleted body peers peers' =
     (among : EditValue → Bool) (at : Id) → (at ≡ id → IsOneOf among peers place id parent deleted body)
     → AllMadeBy among peers at → AllMadeBy among peers' at
 
--- If only edits of a set made a document before the call, this is also true after the call.
+-- A document that was made only by edits of a set before the call is also made only by edits of the set after the call.
 abbrev pub StaysMade : List PeerValue → List PeerValue → Type 0
 StaysMade peers peers' = (among : EditValue → Bool) (id : Id) → AllMadeBy among peers id → AllMadeBy among peers' id
