@@ -7,7 +7,8 @@ use thiserror::Error;
 pub enum Wanted {
     /// Documents in CouchDB responses. The parser skips objects without a document.
     Documents,
-    /// Documents in CouchDB responses, which the parser wraps in envelopes. The parser skips objects without a document.
+    /// Documents in CouchDB responses. The parser wraps these documents in envelopes, and skips objects without a
+    /// document.
     Enveloped,
     /// Documents in CouchDB responses. The parser rejects objects without a document.
     Bodies,
@@ -86,13 +87,13 @@ pub enum Refusal {
     /// The input is CouchDB's error response.
     #[error("CouchError")]
     CouchError,
-    /// It is compressed.
+    /// The input is compressed.
     #[error("Gzip")]
     Gzip,
-    /// It is HTML.
+    /// The input is HTML.
     #[error("Html")]
     Html,
-    /// It has HTTP headers.
+    /// The input has HTTP headers.
     #[error("Headers")]
     Headers,
     /// The input is a multipart response.
