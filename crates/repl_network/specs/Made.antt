@@ -52,8 +52,8 @@ MadeAgree peers =
     (among : EditValue → Bool) → HaveNoCollision among → (id : Id) → AllMadeBy among peers id
     → AllAgree peers id × AllWhole peers id
 
--- A document that was made only by edits of a set before the call, and whose id is not `id`, is also made only by edits
--- of the set after the call.
+-- A document whose id is not `id`, and that was made only by edits of a set before the call, is made only by these
+-- edits after it.
 abbrev pub StaysMadeExcept : Id → List PeerValue → List PeerValue → Type 0
 StaysMadeExcept id peers peers' =
     (among : EditValue → Bool) (other : Id) → other ≢ id → AllMadeBy among peers other → AllMadeBy among peers' other
