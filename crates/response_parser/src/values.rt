@@ -129,7 +129,7 @@ impl Reading {
         self.judge(name, first)
     }
 
-    /// Reads the byte after a member's value, which the parser has handled as the member's name requires.
+    /// Reads the byte after a member's value that the parser has accepted.
     fn pass_value(&mut self, byte: u8)
         ensures { state_of self.new ≡ value_passed (state_of self.old) byte }
     {
