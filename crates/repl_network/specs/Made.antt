@@ -53,7 +53,7 @@ MadeAgree peers =
     → AllAgree peers id × AllWhole peers id
 
 -- A document whose id is not `id`, and that was made only by edits of a set before the call, is made only by these
--- edits after it.
+-- edits after the call.
 abbrev pub StaysMadeExcept : Id → List PeerValue → List PeerValue → Type 0
 StaysMadeExcept id peers peers' =
     (among : EditValue → Bool) (other : Id) → other ≢ id → AllMadeBy among peers other → AllMadeBy among peers' other

@@ -20,7 +20,7 @@ use Rattle.repl_target.specs.replication.Replication.{SameDocument}
 use Rattle.repl_target.specs.replication.Sync.{HasRefusedNone}
 use Rattle.repl_network.specs.declared.hop.Hop.{Hop}
 
--- The peers of a network without their filters.
+-- The list of a network's peers, without the filters of these peers.
 abbrev pub peers_of : {F : Type 0} → List (F × PeerValue) → List PeerValue
 peers_of peers = map (λ p. p.1) peers
 
