@@ -46,8 +46,8 @@ abbrev pub told_hushed : Bool → Told → Told
 told_hushed quiet (Ok text) = Ok (hushed quiet text)
 told_hushed quiet (Err name) = Err name
 
--- The result `told` of a line is one that the relation `answers` allows. If the program is quiet, the output of a
--- successful line is removed from this result.
+-- The relation `answers` allows the result `loud` of a line. The line's result `told` is `loud`, except that a
+-- successful line of a quiet program has no output.
 abbrev pub UnlessQuiet : {L : Type 0} → Answering State L → Answering State L
 UnlessQuiet answers old ask told new =
     (loud : Told) × answers old ask loud new × (told ≡ told_hushed old.program.quiet loud)

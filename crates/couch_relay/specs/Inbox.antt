@@ -16,8 +16,8 @@ pub record IsInbox (inbox : Inbox) : Type 0 where
   pub within : inbox.at ≤ length inbox.held.items
   pub some : 0 < length inbox.buffer.items
 
--- A call has read bytes from a reader. The list `old` has all bytes that the reader returned before the call, and the
--- list `new` has all bytes that the reader has returned after the call.
+-- A call has read bytes from a reader. The list `old` has all bytes that the reader had returned before the call. The
+-- list `new` has all bytes that the reader had returned by the end of the call.
 abbrev pub Took : Option (List ℕ) → Option (List ℕ) → Type 0
 Took old new = (bytes : List ℕ) × Appends old new bytes
 

@@ -7,8 +7,8 @@ use crate::members::split_member;
 use crate::printing::{after, is_printed_member};
 use json_values::plain_end;
 
-/// Returns true only if a text is JSON. The call recognizes an envelope whose text is as `Envelope::put` prints it, if
-/// the first member of the envelope is `_id`.
+/// Returns true only if a text is JSON. The call recognizes only envelopes with the first member `_id`, in the form in
+/// which `Envelope::put` prints envelopes.
 #[inline(never)]
 pub fn is_printed_envelope(text: &[u8]) -> bool
     ensures { result ≡ true → is_json text.now ≡ true }

@@ -52,7 +52,7 @@ fn add_missing(
     Ok(true)
 }
 
-/// Returns the missing leaves that a response names, or `None` if the text is not a response of `_revs_diff`.
+/// Returns the missing leaves that `value` names, or `None` if `value` is not a `_revs_diff` response for `docs`.
 fn missing_of(alloc: Global, docs: &Docs, value: &Value<'_>) -> Result<Option<Docs>, AllocError> {
     let Value::Object(members) = value else {
         return Ok(None);
@@ -111,8 +111,8 @@ impl Lacking {
         self.refused
     }
 
-    /// Returns the missing leaves that the response names, or `None` if the text of the response is not a response of
-    /// `_revs_diff`.
+    /// Returns the missing leaves that the response names. Returns `None` if the text is not a `_revs_diff` response,
+    /// or if the response names a leaf that is not in the list.
     fn missing(&mut self) -> Result<Option<Docs>, AllocError> {
         let Ok(text) = str::from_utf8(self.response.as_slice()) else {
             return Ok(None);

@@ -66,8 +66,8 @@ pub record IsRead (h : List Exchange) (begin since : Text) (failures : ℕ) (tar
   pub reached : IsReachedFrom before begin since failures
 
 -- The source returned a page of changes, and the transfer of the page is in progress. The documents `missing` have
--- those leaves of the page that, according to the responses after the page, the target does not have. The target
--- refused each leaf that the error rows `rows` name.
+-- those leaves of the page for which no response after the page shows that the target has them. The target refused
+-- each leaf that the error rows `rows` name.
 pub record IsOpen (h : List Exchange) (begin since last : Text) (failures : ℕ) (missing : List DocView) (rows : List RowErrorView) : Type 0 where
   pub before : List Exchange
   pub after : List Exchange

@@ -311,8 +311,8 @@ fn run_with<F: WriteFilter + Send + Sync, G: Gate + Sync, R: Threads + Wait + Sy
 ///
 /// - `NoWorkers`, `TooManyWorkers`, `BadBatch`, `SamePeer`: the errors of `check_run`, in this order. After an error of
 ///   `check_run`, both peers are unchanged.
-/// - `Refused`: a step failed. The error is `Refused(Unfinished)` if no worker failed or stopped, but the last window
-///   ended below the source's update sequence because of the plan's `stop_after`.
+/// - `Refused`: a step failed. The error is `Refused(Unfinished)` if no worker failed or stopped, but the plan's
+///   `stop_after` stopped the replication below the source's update sequence.
 /// - `Halted`: the gate returned `Stop` at the place that the error names.
 /// - `CountFull`: a fetcher's count of documents would exceed 9,007,199,254,740,991.
 /// - `Memory`: an allocation failed, or a thread cannot be created.

@@ -183,7 +183,7 @@ Answered wanted w left held held' passed =
 
 -- The effect of a run that failed. If the input of a run is invalid at its last byte, the items before this byte are
 -- written. If a device or an allocation failed, the written text is a prefix of the output for the complete input. If
--- the run failed in a long document, the beginning of the document's output is written, too. After the error
+-- the run failed in a long document, the beginning of the document's output may also be written. After the error
 -- `LateMember`, the text written for a long document is not the beginning of the document's complete output.
 abbrev pub Stopped : Wanted → Words → Option (List ℕ) → Option (List ℕ) → Option (List ℕ) → AnswerFault → Type 0
 Stopped wanted w left held held' (Refused why at) =

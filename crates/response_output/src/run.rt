@@ -410,7 +410,7 @@ fn run_chunks<R: ScriptRead, W: ScriptWrite>(
 /// # Errors
 ///
 /// - `Refused` if the input is not a response. All items before the rejected byte have been written. If the rejected
-///   byte is in a long document, the beginning of this document has also been written.
+///   byte is in a long document, the beginning of this document may also have been written.
 /// - `LateMember` if a long document ends in which a member `_id`, `_rev`, `_revisions` or `_deleted` follows an
 ///   attachment. All earlier items, and the beginning of the document, have been written.
 /// - `Device` if the reader, the writer or an allocation failed. The fault in `Device` is `Read` if the reader failed
