@@ -32,7 +32,7 @@ pub const MOST_ROWS: u64 = 10_000;
 pub struct Plan {
     /// The id of the new session.
     pub session: SessionId,
-    /// The number of fetchers, which is also the number of writers. `replicate_alone` ignores this number.
+    /// The number of fetchers, which is also the number of writers. `replicate_alone` ignores the number of fetchers.
     pub workers: u64,
     /// The maximum number of rows of a window: 1 to 10,000.
     pub batch: u64,

@@ -91,7 +91,7 @@ abbrev pub IsGrown : (Document → Bool) → DatabaseValue → Choice → Sessio
 IsGrown refuses source chosen run given now =
     (calls : List Call) × AllFrom source chosen run calls × (now ≡ after_calls refuses given calls)
 
--- How a replication changes its target. Either the target is unchanged, or the plan's session has begun at the common
+-- How a replication changes the target. Either the target is unchanged, or the plan's session has begun at the common
 -- checkpoint, and calls for this session have changed the target further.
 abbrev pub IsLeft : (Document → Bool) → PeerValue → PeerValue → Plan → PeerValue → Type 0
 IsLeft refuses source given plan now =
