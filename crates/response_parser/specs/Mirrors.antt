@@ -1,6 +1,6 @@
--- This file compares a parser that does not store the runs (long parts of strings) of a long document with a parser
--- that stores each byte. The *full* state is the state of a parser that stores each byte. The *stored* state has the
--- same fields, but the stored text lacks the runs.
+-- This file compares a parser that does not store the runs (parts of strings) of a long document with a parser that
+-- stores each byte. The *full* state is the state of a parser that stores each byte. The *stored* state has the same
+-- fields, but the stored text lacks the runs.
 use Rattle.std.specs.Prelude.{◌≡◌, ℕ, ◌≤◌, ◌==◌, length, slice_index, List, ◌++◌, Bool, true, false}
 use Rattle.doc_envelope.specs.Names.{is_log}
 use Rattle.response_parser.specs.Names.{is_plain}

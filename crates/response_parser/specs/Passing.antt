@@ -1,5 +1,5 @@
--- Defines how the parser's state changes when the parser reads a run, which is a long part of a string that the parser
--- does not store.
+-- Defines how the parser's state changes when the parser reads a run, which is a part of a string that the parser does
+-- not store.
 use Rattle.std.specs.Prelude.{◌≡◌, ◌⊎◌, ℕ, ◌≤◌, ◌==◌, nat_eq, length, List, true, false}
 use Rattle.std.specs.List.{starts_with}
 use Rattle.doc_envelope.specs.Names.{is_log}
