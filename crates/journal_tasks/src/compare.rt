@@ -58,7 +58,7 @@ impl Compare {
         Ok(())
     }
 
-    /// Appends the line that the task prints for a line of the second list, with the leaves that the task prints.
+    /// If the task prints output for a line of the second list, appends this output.
     fn push(&self, text: &mut Vec<u8>, leaves: Leaves) -> Result<(), AllocError> {
         let Leaves { seq, id, revs } = leaves;
         if self.documents && self.docs.contains_key(id.as_str()) {
