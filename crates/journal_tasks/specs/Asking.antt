@@ -1,22 +1,23 @@
--- A `_bulk_get` request for the leaves of a list.
+-- Defines the `_bulk_get` request for the leaves that a list names.
 use Rattle.std.specs.Prelude.{◌≡◌, ℕ, Bool, true, false, if◌then◌else◌, List, [], ◌∷◌, ◌++◌, codes}
 use Rattle.json.specs.Print.{quoted}
 use Rattle.journal_tasks.specs.Counting.{IsCounting, wrong_line}
 use Rattle.journal_tasks.specs.Lists.{is_wrong, leaves_in}
 use Rattle.journal_tasks.specs.declared.ask.Ask.{Ask}
 
--- The item of a `_bulk_get` request for a leaf.
+-- The JSON object that requests a leaf in the body of a `_bulk_get` request.
 abbrev pub asked_leaf : List ℕ × List ℕ → List ℕ
 asked_leaf leaf = codes "{\"id\":" ++ quoted leaf.0 ++ codes ",\"rev\":" ++ quoted leaf.1 ++ codes "}"
 
 -- The items of a `_bulk_get` request for the given leaves. If the request has already begun, a comma precedes the first
--- item. If not, the request's beginning precedes the first item.
+-- item; if not, `{"docs":[` precedes the first item.
 abbrev pub asked_items : Bool → List (List ℕ × List ℕ) → List ℕ
 asked_items begun [] = []
 asked_items begun (leaf ∷ leaves) =
     (if begun then codes "," else codes "{\"docs\":[") ++ asked_leaf leaf ++ asked_items true leaves
 
--- Whether a request has begun after the items for the given leaves were added.
+-- Whether a request has begun after the items for `leaves` were added: the request had begun before, or there are
+-- leaves.
 abbrev pub has_begun : Bool → List (List ℕ × List ℕ) → Bool
 has_begun begun [] = begun
 has_begun begun (leaf ∷ leaves) = true
@@ -25,13 +26,14 @@ has_begun begun (leaf ∷ leaves) = true
 abbrev pub ask_body : List (List ℕ × List ℕ) → List ℕ
 ask_body leaves = asked_items false leaves ++ (if has_begun false leaves then codes "]}\n" else [])
 
--- The given lines of a list were read, and the text of their leaves was appended.
+-- A task has read the given lines of a list, and has appended the items for the leaves that these lines name.
 pub record IsAsking (lines : List (List ℕ)) (text : List ℕ) (ask : Ask) : Type 0 where
   pub counting : IsCounting is_wrong lines ask.count
   pub begun : ask.begun ≡ has_begun false (leaves_in lines)
   pub text_is : text ≡ asked_items false (leaves_in lines)
 
--- The complete list was read: the request has all its leaves, and the number of the first wrong line is known.
+-- A task has read the complete list: the request has all leaves of the list, and the number of the first wrong line is
+-- known.
 pub record HasAsked (lines : List (List ℕ)) (rest text : List ℕ) (ask : Ask) : Type 0 where
   pub text_is : text ≡ ask_body (leaves_in lines)
   pub wrong : ask.count.wrong ≡ wrong_line is_wrong lines rest

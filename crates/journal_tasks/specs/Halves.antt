@@ -1,4 +1,4 @@
--- The two parts of an input, which its first empty line separates.
+-- Defines the two parts of an input, which the input's first empty line separates.
 use Rattle.std.specs.Prelude.{ℕ, Bool, if◌then◌else◌, nat_eq, List, [], ◌∷◌, length}
 use Rattle.std.specs.List.{list_any}
 

@@ -1,4 +1,4 @@
--- Lists of leaves, as specified in docs/PROFILE.md, "Journals".
+-- Defines the leaves that a list names, as specified in docs/PROFILE.md, "Journals".
 use Rattle.std.specs.Prelude.{ℕ, Bool, true, false, List, [], ◌∷◌, map, flat_map}
 use Rattle.journal_lines.specs.Entries.{EntryView, entry_in, state, lacks, leaf, wrong}
 
@@ -19,6 +19,6 @@ is_wrong_entry (lacks leaves) = false
 is_wrong_entry (leaf head) = false
 is_wrong_entry wrong = true
 
--- Whether a line does not have the form of a line of a list.
+-- Whether a line has none of the forms that a line of a list may have.
 abbrev pub is_wrong : List ℕ → Bool
 is_wrong line = is_wrong_entry (entry_in line)

@@ -1,4 +1,4 @@
--- Definitions that say which requested revisions were received.
+-- Defines which requested revisions were received, and what is printed.
 use Rattle.std.specs.Prelude.{◌≡◌, ℕ, Bool, true, false, ◌&&◌, ◌||◌, not, if◌then◌else◌, is_none, is_some, List, [], ◌∷◌, ◌++◌, length, nat_eq, filter, flat_map, fold, map, Option, None, Some, option_map, unwrap_or, bytes_eq, codes, String, string_bytes}
 use Rattle.std.specs.Global.{Global}
 use Rattle.std.specs.HashMap.{get_by_text}
@@ -27,18 +27,18 @@ named wrong = []
 abbrev pub requested_in : List (List ℕ) → List LeavesView
 requested_in lines = flat_map (λ line. named (entry_in line)) lines
 
--- The head of the document that a line of a response has.
+-- The head (id and leaf) of the document in a line of a response, if the line has a document.
 abbrev pub head_of : EntryView → List HeadView
 head_of (state leaves) = []
 head_of (lacks leaves) = []
 head_of (leaf head) = head ∷ []
 head_of wrong = []
 
--- The heads of the documents that the lines of a response have, in order.
+-- The heads of the documents in the lines of a response, in order.
 abbrev pub heads_in : List (List ℕ) → List HeadView
 heads_in lines = flat_map (λ line. head_of (entry_in line)) lines
 
--- Whether a line of a request names a document.
+-- Whether a line of a request names the document `id`.
 abbrev pub is_requested : List LeavesView → List ℕ → Bool
 is_requested requested id = list_any (λ leaves. bytes_eq leaves.1 id) requested
 
@@ -51,13 +51,13 @@ is_received heads id rev = list_any (λ head. bytes_eq head.0 id && knows_rev he
 abbrev pub received_leaves : List HeadView → List ℕ → List (List ℕ)
 received_leaves heads id = fold (λ revs head. if bytes_eq head.0 id then add_rev revs head.1.0 else revs) [] heads
 
--- The revisions of a line of a request that were not received.
+-- The revisions that a line of a request names and that were not received.
 abbrev pub missing_in : List HeadView → LeavesView → List (List ℕ)
 missing_in heads leaves = filter (λ rev. not (is_received heads leaves.1 rev)) leaves.2
 
 -- ---- the output
 
--- Whether a line of a response has a document that was requested.
+-- Whether a line of a response has a document that the request names.
 abbrev pub is_answer : List LeavesView → EntryView → Bool
 is_answer requested (state leaves) = false
 is_answer requested (lacks leaves) = false
@@ -71,7 +71,7 @@ is_unnamed (lacks leaves) = false
 is_unnamed (leaf head) = true
 is_unnamed wrong = true
 
--- Whether each line of the input is wrong. The first empty line separates the request and the response.
+-- For each line of the input, whether the line is wrong. The first empty line separates the request and the response.
 abbrev pub wrong_flags : List (List ℕ) → List Bool
 wrong_flags lines =
     map (λ line. is_unnamed (entry_in line)) (first_part lines)
@@ -81,19 +81,20 @@ wrong_flags lines =
 abbrev pub wrong_received : List (List ℕ) → List ℕ → Option ℕ
 wrong_received lines rest = wrong_line (λ wrong. wrong) (wrong_flags lines) rest
 
--- The text that is printed for a line of a response. The argument `only` says that only missing leaves are printed.
+-- The text that is printed for a line of a response. If the flag `only` is set, only missing leaves are printed.
 abbrev pub passed_line : Bool → List LeavesView → List ℕ → List ℕ
 passed_line only requested line = if is_answer requested (entry_in line) && not only then line ++ codes "\n" else []
 
--- The text that is printed before the end of the input: the requested documents of the response, unless `only` is true.
+-- The text that is printed before the end of the input: the response's lines with requested documents, unless `only` is
+-- true.
 abbrev pub passed_on : Bool → List (List ℕ) → List ℕ
 passed_on only lines = flat_map (passed_line only (requested_in (first_part lines))) (second_part lines)
 
 abbrev pub is_empty : List (List ℕ) → Bool
 is_empty revs = nat_eq (length revs) 0
 
--- The lines that are printed for a line of the request, of which the revisions `missing` were not received. The argument
--- `received` is the received leaves of the line's document.
+-- The lines that are printed for the leaves in a line of the request. The argument `missing` lists those of these
+-- leaves that were not received. The argument `received` lists the received leaves of the line's document.
 abbrev pub told_of : Bool → List (List ℕ) → List (List ℕ) → LeavesView → List ℕ
 told_of true received missing leaves =
     if is_empty missing then [] else leaves_line (codes "state") leaves.0 leaves.1 missing
@@ -101,11 +102,11 @@ told_of false received missing leaves =
     leaves_line (codes "state") leaves.0 leaves.1 received
     ++ (if is_empty missing then [] else leaves_line (codes "lacks") leaves.0 leaves.1 leaves.2)
 
--- The lines that are printed for a line of the request.
+-- The lines that are printed for the leaves in a line of the request, if the response has the documents `heads`.
 abbrev pub told : Bool → List HeadView → LeavesView → List ℕ
 told only heads leaves = told_of only (received_leaves heads leaves.1) (missing_in heads leaves) leaves
 
--- The text that is printed at the end of the input, if no line is wrong.
+-- The lines for the request, which are printed at the end of the input if no line is wrong.
 abbrev pub told_in : Bool → List (List ℕ) → List ℕ
 told_in only lines = flat_map (told only (heads_in (second_part lines))) (requested_in (first_part lines))
 
@@ -135,70 +136,72 @@ DocView = List WantedView × List (List ℕ)
 abbrev pub doc_view : Doc → DocView
 doc_view doc = (map wanted_view doc.wanted.items, texts_of doc.leaves.keys)
 
--- The stored data of the document with the given id, if the document was requested.
+-- The data that `docs` stores for the document `id`, if the document was requested.
 abbrev pub doc_at : {S : Type 0} → IndexMap (String Global) Doc S → List ℕ → Option DocView
 doc_at docs id = option_map doc_view (get_by_text docs id)
 
 abbrev pub doc_or_new : Option DocView → DocView
 doc_or_new doc = unwrap_or doc ([], [])
 
--- The state of a requested revision after a leaf was received. If a leaf was received, the leaf and its ancestors count
--- as received.
+-- A requested revision after the leaf `arrived` was received. The revision counts as received if it was received
+-- before, or is the leaf or an ancestor of the leaf.
 abbrev pub received_by : LeafView → WantedView → WantedView
 received_by arrived wanted = (wanted.0, wanted.1 || knows_rev arrived wanted.0)
 
--- The stored data of a document after the revisions `revs` of the document were requested.
+-- The data stored for a document after the document's revisions `revs` were requested.
 abbrev pub with_wanted : List (List ℕ) → DocView → DocView
 with_wanted revs doc = (doc.0 ++ map (λ rev. (rev, false)) revs, doc.1)
 
--- The stored data of a document after the leaf `arrived` of the document was received.
+-- The data stored for a document after the document's leaf `arrived` was received.
 abbrev pub with_leaf : LeafView → DocView → DocView
 with_leaf arrived doc = (map (received_by arrived) doc.0, add_rev doc.1 arrived.0)
 
--- The stored data of all documents after leaves of one document were requested.
+-- The data stored for every document after `leaves`, leaves of one document, were requested.
 abbrev pub wanted_at : LeavesView → (List ℕ → Option DocView) → List ℕ → Option DocView
 wanted_at leaves docs id =
     if bytes_eq leaves.1 id then Some (with_wanted leaves.2 (doc_or_new (docs leaves.1))) else docs id
 
--- The stored data of all documents after a line of the request was read.
+-- The data stored for every document after a line of the request was read.
 abbrev pub requested_by : EntryView → (List ℕ → Option DocView) → List ℕ → Option DocView
 requested_by (state leaves) docs id = wanted_at leaves docs id
 requested_by (lacks leaves) docs id = wanted_at leaves docs id
 requested_by (leaf head) docs id = docs id
 requested_by wrong docs id = docs id
 
--- The stored data of all documents after a leaf of one document was received.
+-- The data stored for every document after a leaf of one document was received.
 abbrev pub leaf_at : HeadView → (List ℕ → Option DocView) → List ℕ → Option DocView
 leaf_at head docs id = if bytes_eq head.0 id then option_map (with_leaf head.1) (docs head.0) else docs id
 
--- The stored data of all documents after a line of the response was read.
+-- The data stored for every document after a line of the response was read.
 abbrev pub answered_by : EntryView → (List ℕ → Option DocView) → List ℕ → Option DocView
 answered_by (state leaves) docs id = docs id
 answered_by (lacks leaves) docs id = docs id
 answered_by (leaf head) docs id = leaf_at head docs id
 answered_by wrong docs id = docs id
 
--- Whether a line of the response has a document that is stored.
+-- Whether a line of the response has a document for which `docs` stores data.
 abbrev pub is_stored : EntryView → (List ℕ → Option DocView) → Bool
 is_stored (state leaves) docs = false
 is_stored (lacks leaves) docs = false
 is_stored (leaf head) docs = is_some (docs head.0)
 is_stored wrong docs = false
 
--- Whether a revision is stored as received.
+-- Whether the list `wanted` says that revision `rev` was received.
 abbrev pub is_marked : List WantedView → List ℕ → Bool
 is_marked wanted rev = list_any (λ item. item.1 && bytes_eq item.0 rev) wanted
 
--- The revisions of a list that are not stored as received.
+-- The revisions in `revs` of which the list `wanted` does not say that they were received.
 abbrev pub unmarked : List WantedView → List (List ℕ) → List (List ℕ)
 unmarked wanted revs = filter (λ rev. not (is_marked wanted rev)) revs
 
--- The lines that are printed for a line of the request, given the stored data of the line's document.
+-- The lines that are printed for the leaves in a line of the request, if `doc` is the data that is stored for the
+-- line's document.
 abbrev pub told_by : Bool → Option DocView → LeavesView → List ℕ
 told_by only None leaves = []
 told_by only (Some doc) leaves = told_of only doc.1 (unmarked doc.0 leaves.2) leaves
 
--- Whether a revision that a line of the request names was not received, given the stored data of the line's document.
+-- Whether a line of the request names a revision that was not received, according to the data stored for the line's
+-- document.
 abbrev pub lacks_by : Option DocView → LeavesView → Bool
 lacks_by None leaves = false
 lacks_by (Some doc) leaves = not (is_empty (unmarked doc.0 leaves.2))
@@ -207,12 +210,12 @@ lacks_by (Some doc) leaves = not (is_empty (unmarked doc.0 leaves.2))
 abbrev pub wanted_revs : List LeavesView → List ℕ → List (List ℕ)
 wanted_revs requested id = flat_map (λ leaves. if bytes_eq leaves.1 id then leaves.2 else []) requested
 
--- The stored data of a document after the given request and response were read.
+-- The data stored for document `id` after the given request and response were read.
 abbrev pub doc_of : List LeavesView → List HeadView → List ℕ → Option DocView
 doc_of requested heads id =
     if is_requested requested id then Some (map (λ rev. (rev, is_received heads id rev)) (wanted_revs requested id), received_leaves heads id) else None
 
--- The given lines were read, and the text of `passed_on` is printed.
+-- The task has read the given lines, and has printed the text `passed_on`.
 pub record IsReceiving (only : Bool) (lines : List (List ℕ)) (text : List ℕ) (task : Received) : Type 0 where
   pub counting : IsCounting (λ wrong. wrong) (wrong_flags lines) task.count
   pub only_is : task.only_lacks ≡ only
@@ -221,8 +224,8 @@ pub record IsReceiving (only : Bool) (lines : List (List ℕ)) (text : List ℕ)
   pub docs_are : (id : List ℕ) → doc_at task.docs id ≡ doc_of (requested_in (first_part lines)) (heads_in (second_part lines)) id
   pub text_is : text ≡ passed_on only lines
 
--- The complete input was read: the output is complete, and the number of the first wrong line is known. If no line is
--- wrong, it is also known whether a requested revision was not received.
+-- The task has read the complete input: the output is complete, and the number of the first wrong line is known. If no
+-- line is wrong, the task also knows whether a requested revision was not received.
 pub record HasReceived (only : Bool) (lines : List (List ℕ)) (rest text : List ℕ) (task : Received) : Type 0 where
   pub text_is : text ≡ received_text only lines rest
   pub wrong : task.count.wrong ≡ wrong_received lines rest

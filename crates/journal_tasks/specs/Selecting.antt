@@ -1,7 +1,7 @@
 -- This file defines which documents of a journal are selected.
 use Rattle.std.specs.Prelude.{ℕ, Bool, true, ◌&&◌, nat_le, if◌then◌else◌, List, Option, None, Some, bytes_eq}
 
--- Whether a document is requested by its id. If no id is given, every document is requested.
+-- Whether the user requested the document `id`. If the user gave no id, every document is requested.
 abbrev pub is_asked : Option (List ℕ) → List ℕ → Bool
 is_asked None id = true
 is_asked (Some only) id = bytes_eq only id

@@ -37,7 +37,7 @@ impl Ask {
         }
     }
 
-    /// Returns the number (from 1) of the first input line that does not have the form of a line of a list of leaves.
+    /// Returns the number (from 1) of the first input line that is not a valid line of a list of leaves.
     pub fn wrong(&self) -> Option<u64>
         ensures { result ≡ self.now.count.wrong }
     {

@@ -11,7 +11,7 @@ use std::alloc::{AllocError, Global};
 
 /// The task's input is a list of leaves, an empty line and a second list of leaves. The task prints for each line of
 /// the second list the leaves that the first list does not have. With the option `documents`, the task prints only
-/// documents that the first list does not have. The task prints all leaves of such a document.
+/// documents that the first list does not have, and prints all leaves of these documents.
 ///
 /// The task holds the first list in memory.
 #[derive(Drop)]
@@ -45,7 +45,7 @@ impl Compare {
         }
     }
 
-    /// Returns the number (from 1) of the first input line that does not have the form of a line of a list of leaves.
+    /// Returns the number (from 1) of the first input line that is not a valid line of a list of leaves.
     pub fn wrong(&self) -> Option<u64> {
         self.count.wrong
     }
@@ -58,7 +58,7 @@ impl Compare {
         Ok(())
     }
 
-    /// Appends to the output those leaves in a line of the second list that the task prints.
+    /// If the task prints output for a line of the second list, appends this output.
     fn push(&self, text: &mut Vec<u8>, leaves: Leaves) -> Result<(), AllocError> {
         let Leaves { seq, id, revs } = leaves;
         if self.documents && self.docs.contains_key(id.as_str()) {

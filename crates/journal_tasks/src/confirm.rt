@@ -1,4 +1,4 @@
-//! The task that checks which part of a journal its checksums confirm.
+//! The task that finds out which part of a journal the journal's checksums confirm.
 ghost use Rattle.std.specs.Prelude.{ℕ, List, OnOk, ⊤};
 ghost use Rattle.std.specs.Io.KnownBytes.{Appends};
 
@@ -13,7 +13,7 @@ use std::alloc::{AllocError, Global};
 /// also prints the confirmed prefix's lacks lines, each of which names a document that still lacks leaves. If the task
 /// is given a sequence, the prefix ends at the last block of this sequence.
 ///
-/// The task holds one block and the lines that it prints in memory.
+/// The task holds in memory one block, and the lines that the task prints.
 #[derive(Drop)]
 pub struct Confirm {
     alloc: Global,

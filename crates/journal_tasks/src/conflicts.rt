@@ -10,8 +10,8 @@ use json::Scratch;
 use line_reader::LineTask;
 use std::alloc::{AllocError, Global};
 
-/// The rank of a leaf in the order of winners. A live leaf ranks above a deleted leaf, then a greater generation above
-/// a lesser one, then a greater signature above a lesser one.
+/// The rank of a leaf in the order that decides which leaf wins. A live leaf ranks above a deleted leaf. Otherwise, the
+/// leaf with the greater generation ranks higher or, if the generations are equal, the leaf with the greater signature.
 #[derive(Drop, PartialEq, Eq, PartialOrd, Ord)]
 struct Rank {
     live: bool,
@@ -20,9 +20,9 @@ struct Rank {
     index: usize,
 }
 
-/// Prints the documents with two or more live leaves, and their leaves, the winner first.
+/// Prints the documents with two or more live leaves, and the leaves of each of these documents, the winner first.
 ///
-/// The task holds the revisions of all documents in memory, without their bodies.
+/// The task holds the revisions of all documents in memory, but no bodies.
 #[derive(Drop)]
 pub struct Conflicts {
     alloc: Global,
@@ -33,7 +33,7 @@ pub struct Conflicts {
     found: u64,
 }
 
-/// Returns the generation of a revision, and the part of its id after the generation.
+/// Returns the generation of a revision, and the part of the revision id after the generation.
 fn parts_of(rev: &str) -> (u64, &str) {
     match rev.split_once('-') {
         Some((number, name)) => match number.parse::<u64>() {
@@ -75,7 +75,7 @@ fn ranks_of(alloc: Global, leaves: &[Leaf]) -> Result<Vec<Rank>, AllocError> {
     Ok(ranks)
 }
 
-/// Adds the revisions of a leaf and of its ancestors to a set.
+/// Adds a leaf's revision, and the revisions of the leaf's ancestors, to a set.
 fn add_revs(alloc: Global, revs: &mut IndexSet<String>, leaf: &Leaf) -> Result<(), AllocError> {
     revs.insert(String::from_str(alloc, leaf.rev.as_str())?)?;
     for (index, name) in leaf.names.iter().enumerate() {
@@ -93,7 +93,7 @@ fn count_revs(alloc: Global, leaves: &[Leaf]) -> Result<usize, AllocError> {
     Ok(revs.len())
 }
 
-/// Appends the line of a leaf with its ancestry.
+/// Appends a line with a leaf and the leaf's ancestry.
 fn push_leaf(alloc: Global, text: &mut Vec<u8>, leaf: &Leaf) -> Result<(), AllocError> {
     text.extend_from_slice(b"leaf ".as_slice())?;
     push_rev(alloc, text, leaf.rev.as_str())?;
@@ -119,7 +119,7 @@ fn push_number(text: &mut Vec<u8>, word: &str, number: usize) -> Result<(), Allo
     text.extend_from_slice(digits.format(number).as_bytes())
 }
 
-/// Appends the lines of a document in conflict and of its leaves.
+/// Appends the line of a document in conflict, and a line for each of the document's leaves.
 fn push_doc(
     alloc: Global,
     text: &mut Vec<u8>,

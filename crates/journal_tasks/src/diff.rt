@@ -1,4 +1,4 @@
-//! The task that writes a `_revs_diff` request, which asks a server which leaves of a list it lacks.
+//! The task that writes a `_revs_diff` request, which asks a server which leaves of a list the server lacks.
 ghost use Rattle.std.specs.Prelude.{⊤};
 
 use crate::count::Count;
@@ -73,7 +73,7 @@ impl Diff {
         }
     }
 
-    /// Returns the number (from 1) of the first input line that does not have the form of a line of a list of leaves.
+    /// Returns the number (from 1) of the first input line that is not a valid line of a list of leaves.
     pub fn wrong(&self) -> Option<u64> {
         self.count.wrong
     }

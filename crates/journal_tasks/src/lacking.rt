@@ -25,8 +25,8 @@ pub struct Lacking {
     refused: bool,
 }
 
-/// Adds the missing revisions of a document, as a member of the response lists them. Returns true if the member is a
-/// list of revisions, all of which are in the list of leaves.
+/// Adds the missing revisions of a document, which a member of the response lists. Returns true if the member is a list
+/// of revisions, all of which are in the list of leaves.
 fn add_missing(
     alloc: Global,
     missing: &mut Docs,
@@ -100,7 +100,7 @@ impl Lacking {
         }
     }
 
-    /// Returns the number (from 1) of the first input line that does not have the form of a line of a list of leaves.
+    /// Returns the number (from 1) of the first input line that is not a valid line of a list of leaves.
     pub fn wrong(&self) -> Option<u64> {
         self.count.wrong
     }

@@ -28,12 +28,12 @@ impl Name {
         })
     }
 
-    /// Returns the number (from 1) of the first input line that does not have the form of a line of a list of leaves.
+    /// Returns the number (from 1) of the first input line that is not a valid line of a list of leaves.
     pub fn wrong(&self) -> Option<u64> {
         self.count.wrong
     }
 
-    /// Appends the line of a leaf.
+    /// Appends the output line for a leaf.
     fn push(&self, text: &mut Vec<u8>, id: &str, rev: &str) -> Result<(), AllocError> {
         text.extend_from_slice(self.word.as_slice())?;
         text.push(b' ')?;

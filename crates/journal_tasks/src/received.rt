@@ -25,7 +25,7 @@ struct Wanted {
     received: bool,
 }
 
-/// A requested document, and its revisions that were received.
+/// The requested revisions and the received leaves of a requested document.
 #[derive(Drop)]
 struct Doc {
     /// The revisions that were requested of the document.
@@ -63,7 +63,7 @@ fn new_doc(alloc: Global) -> Doc
     }
 }
 
-/// Returns the given document, or a document without revisions if the argument is `None`.
+/// Returns the given document or, if the argument is `None`, a document without revisions.
 fn or_new(alloc: Global, doc: Option<Doc>) -> Doc
     ensures { doc_view result ≡ doc_or_new (option_map doc_view doc) }
 {
@@ -164,8 +164,8 @@ fn with_wanted(alloc: Global, doc: Doc, revs: &[String]) -> Result<Doc, AllocErr
     })
 }
 
-/// Returns a document after one of its leaves was received. In the result, the leaf and its ancestors are marked as
-/// received.
+/// Returns a document's data after one of the document's leaves was received. In the result, the leaf and its ancestors
+/// are marked as received.
 fn with_leaf(alloc: Global, doc: Doc, leaf: &Leaf) -> Result<Doc, AllocError>
     ensures { IfOk result (λ after. doc_view after ≡ with_leaf (leaf_view leaf.now) (doc_view doc)) }
 {

@@ -73,7 +73,7 @@ impl Select {
         })
     }
 
-    /// Returns the number (from 1) of the first input line that does not have the form of a line of a journal.
+    /// Returns the number (from 1) of the first input line that is not a valid line of a journal.
     pub fn wrong(&self) -> Option<u64> {
         self.count.wrong
     }
@@ -98,7 +98,7 @@ impl Select {
         self.lacks
     }
 
-    /// Records the number of the line that has a leaf.
+    /// Records that the last line that was read has the given leaf.
     fn note_leaf(&mut self, leaf: Leaf) -> Result<(), AllocError> {
         self.map.add(&leaf)?;
         let number = self.count.lines;

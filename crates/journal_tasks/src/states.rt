@@ -136,7 +136,7 @@ impl States {
         })
     }
 
-    /// Returns the number (from 1) of the first input line that does not have the form of a line of a journal.
+    /// Returns the number (from 1) of the first input line that is not a valid line of a journal.
     pub fn wrong(&self) -> Option<u64> {
         self.count.wrong
     }

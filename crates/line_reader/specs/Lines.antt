@@ -1,4 +1,4 @@
--- The lines of a program's input.
+-- Defines the lines of a program's input.
 use Rattle.std.specs.Prelude.{◌≡◌, ℕ, List, [], ◌∷◌, ◌++◌, false, All}
 use Rattle.script_engine.specs.Lines.{has_line_end}
 

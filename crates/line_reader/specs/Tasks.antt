@@ -1,4 +1,4 @@
--- Tasks that read lines.
+-- Defines tasks that read lines, and the text that a task appends.
 use Rattle.std.specs.Prelude.{◌≡◌, ◌⊎◌, ℕ, List, [], ◌∷◌, ◌++◌, Bool, true, false, Option, All}
 use Rattle.std.specs.Io.KnownBytes.{Appends}
 use Rattle.script_engine.specs.Device.{Gives}

@@ -51,7 +51,7 @@ fn take_in(progress: &mut Progress, bytes: &[u8]) -> Result<(), AllocError>
     progress.begun.extend_from_slice(bytes)
 }
 
-/// Passes each line whose line end is in the given bytes to the task, and writes the text that the task appends.
+/// Passes to the task each line whose line end is in the given bytes, and writes the text that the task appends.
 fn feed<T: LineTask, W: ScriptWrite>(
     task: &mut T,
     progress: &mut Progress,

@@ -1,4 +1,4 @@
--- The bodies of requests for leaves, as JSON tokens, as specified in docs/PROFILE.md, "Requests of the relay".
+-- Defines the bodies of requests for leaves, as JSON tokens, as specified in docs/PROFILE.md, "Requests of the relay".
 use Rattle.std.specs.Prelude.{List, [], ◌∷◌, ◌++◌, codes}
 use Rattle.json.specs.Token.{Token, begin_object, end_object, begin_array, end_array, key, string}
 use Rattle.relay_core.specs.Messages.{Text, DocView}

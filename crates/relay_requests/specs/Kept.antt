@@ -1,4 +1,4 @@
--- The values that contracts use for those entries of a log's history that are kept.
+-- Defines the values by which contracts describe the entries that a log's history keeps.
 use Rattle.std.specs.Prelude.{List, map}
 use Rattle.relay_requests.specs.declared.logs.Recorded.{Recorded}
 use Rattle.relay_requests.specs.Logs as logs

@@ -1,4 +1,4 @@
--- The text of a replication log, as specified in docs/PROFILE.md, "Logs of the relay".
+-- Defines the text of a replication log, as specified in docs/PROFILE.md, "Logs of the relay".
 use Rattle.std.specs.Prelude.{List, [], ◌∷◌, ◌++◌, length, Option, None, Some, Bool, not, ◌&&◌, nat_lt, if◌then◌else◌, codes, decimal, count_by, bytes_eq}
 use Rattle.std.specs.List.{list_any}
 use Rattle.hex.specs.Hex.{encode_lower}
@@ -52,8 +52,8 @@ is_of_session session r = bytes_eq r.0 session
 abbrev pub is_recorded : Text → Text → Recorded → Bool
 is_recorded session seq r = bytes_eq r.0 session && bytes_eq r.1 seq
 
--- Whether a log that keeps the newer entries `kept` of its history also keeps the given entry. A history keeps at most
--- 50 entries, and at most two entries of a session. The kept entries of one session have different sequences.
+-- Whether a log keeps entry e of its history, if the log already keeps the newer entries `kept`. A history keeps at
+-- most 50 entries, and at most two entries of a session. The kept entries of one session have different sequences.
 abbrev pub may_keep : List Recorded → EntryView → Bool
 may_keep kept e =
     nat_lt (length kept) 50 && nat_lt (count_by (is_of_session e.session) kept) 2 && not (list_any (is_recorded e.session e.seq) kept)

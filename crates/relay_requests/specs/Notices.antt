@@ -1,4 +1,5 @@
--- The notices of a run, and the report at the run's end, as specified in docs/PROFILE.md, "Counts of the relay".
+-- Defines the notices of a run, and the report at the run's end, as specified in docs/PROFILE.md, "Counts of the
+-- relay".
 use Rattle.std.specs.Prelude.{List, [], ◌∷◌, ◌++◌, Option, None, Some, Bool, true, false, ◌==◌, if◌then◌else◌, codes, decimal}
 use Rattle.json.specs.Token.{Token, begin_object, end_object, key, string, boolean}
 use Rattle.json.specs.Print.{escape}

@@ -1,5 +1,5 @@
--- The text of a request, as specified in docs/PROFILE.md, "Relay" and "Requests of the relay". A request has a head
--- line with the server and the operation, and a line with the body.
+-- Defines the text of a request, as specified in docs/PROFILE.md, "Relay" and "Requests of the relay". A request has a
+-- head line with the server and the operation, and a line with the body.
 use Rattle.std.specs.Prelude.{ℕ, List, [], ◌∷◌, ◌++◌, Option, None, Some, Bool, ◌==◌, length, if◌then◌else◌, codes, decimal, string_bytes}
 use Rattle.json.specs.Print.{print}
 use Rattle.percent_encoding.specs.Percent.{percent_encode}

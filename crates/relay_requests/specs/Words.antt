@@ -1,4 +1,4 @@
--- The texts of requests and faults, as specified in docs/PROFILE.md, "Faults of the relay".
+-- Defines the texts of requests and faults, as specified in docs/PROFILE.md, "Faults of the relay".
 use Rattle.std.specs.Prelude.{ℕ, List, [], ◌∷◌, ◌++◌, Option, None, Some, codes, decimal}
 use Rattle.json.specs.Token.{string}
 use Rattle.json.specs.Print.{print}

@@ -132,7 +132,7 @@ pub(crate) struct Recorded<'a> {
     pub(crate) seq: &'a str,
 }
 
-/// Returns the number of a session's entries among the kept entries of a log.
+/// Returns how many of the kept entries of a log belong to a session.
 fn count_of_session(kept: &[Recorded<'_>], session_id: &str) -> usize
     ensures { result ≡ count_by (is_of_session session_id.now) (kept_view kept.now) }
 {

@@ -1,4 +1,4 @@
--- The effect of a replication on two peers of a network, and on the network.
+-- Defines how a replication changes its two peers, and the network of these peers.
 use Rattle.std.specs.Prelude.{◌≡◌, ◌≢◌, ℕ, Bool, List, [], ◌∷◌, slice_get}
 use Rattle.doc_json.specs.Document.{Document}
 use Rattle.couch_base.specs.Database.{LawfulDatabase}
@@ -11,7 +11,7 @@ use Rattle.repl_target.specs.replication.Leaves.{Leaves}
 use Rattle.repl_network.specs.declared.hop.Hop.{Hop}
 use Rattle.repl_network.specs.Nets.{IsAt}
 
--- The effect of a replication on its two peers, for every result, by one thread or by several threads.
+-- How a replication changes its two peers, for every result of the replication, by one thread or by several threads.
 pub record Carried (refuses : Document → Bool) (source target : PeerValue) (plan : Plan) (source' target' : PeerValue) : Type 0
   where
     pub source_law : LawfulDatabase source.db
@@ -19,7 +19,7 @@ pub record Carried (refuses : Document → Bool) (source target : PeerValue) (pl
     pub target_law : LawfulDatabase target'.db
     pub leaves : Leaves refuses source target plan source' target'
 
--- The effect of a replication on the network, in which all other peers are unchanged.
+-- How a replication changes the network: all peers other than the source and the target are unchanged.
 pub record Hopped (peers : List PeerValue) (hop : Hop) (peers' : List PeerValue) : Type 0 where
   pub refuses : Document → Bool
   pub source : PeerValue
@@ -34,14 +34,14 @@ pub record Hopped (peers : List PeerValue) (hop : Hop) (peers' : List PeerValue)
   pub others : (n : ℕ) → n ≢ hop.from → n ≢ hop.to → slice_get peers' n ≡ slice_get peers n
   pub carried : Carried refuses source target hop.plan source_then target_then
 
--- The effect of a successful replication on the network. If two peers were consistent before a successful replication,
--- the target covers the source's complete selected feed.
+-- How a successful replication changes the network. If two peers were consistent before a successful replication, the
+-- target covers the source's complete selected feed.
 pub record Ended (peers : List PeerValue) (hop : Hop) (peers' : List PeerValue) : Type 0 where
   pub hopped : Hopped peers hop peers'
   pub whole : IsTiedPair hopped.source hopped.target hop.plan.chosen
       → CoversFeed hopped.source hopped.target_then hop.plan.chosen hopped.source.db.update_seq
 
--- The effect of consecutive successful replications on the network.
+-- How consecutive successful replications change the network.
 abbrev pub AllHopped : List PeerValue → List Hop → List PeerValue → Type 0
 AllHopped peers [] peers' = peers' ≡ peers
 AllHopped peers (hop ∷ hops) peers' = (mid : List PeerValue) × Ended peers hop mid × AllHopped mid hops peers'

@@ -1,4 +1,4 @@
--- Replication through a hub, which is the first peer of a network.
+-- Defines replication through a hub, which is the first peer of a network.
 use Rattle.std.specs.Prelude.{◌≡◌, ℕ, ◌+◌, true, List, [], ◌∷◌}
 use Rattle.doc_json.specs.Chosen.{is_chosen}
 use Rattle.couch_base.specs.Database.{Id}
@@ -7,12 +7,12 @@ use Rattle.repl_target.specs.declared.replication.Plan.{Plan}
 use Rattle.repl_network.specs.declared.hop.Hop.{Hop}
 use Rattle.repl_network.specs.Nets.{AllAgree, AllWhole, IsRefusedNowhere, IsSameEverywhere}
 
--- The hops of a hub's synchronization that lead to the hub, one for each other peer.
+-- The hops (replications) by which a hub's synchronization copies to the hub, one from each other peer.
 abbrev pub gathers : ℕ → List Plan → List Hop
 gathers n [] = []
 gathers n (plan ∷ plans) = record { from = n + 1; to = 0; plan = plan } ∷ gathers (n + 1) plans
 
--- The hops of a hub's synchronization that lead from the hub, one for each other peer.
+-- The hops by which a hub's synchronization copies from the hub, one to each other peer.
 abbrev pub spreads : ℕ → List Plan → List Hop
 spreads n [] = []
 spreads n (plan ∷ plans) = record { from = 0; to = n + 1; plan = plan } ∷ spreads (n + 1) plans

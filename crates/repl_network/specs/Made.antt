@@ -1,4 +1,4 @@
--- Documents that were made only by edits, as specified in docs/PROFILE.md, "Nets" and "Ids of local edits".
+-- Defines which documents were made only by edits, as specified in docs/PROFILE.md, "Nets" and "Ids of local edits".
 use Rattle.std.specs.Prelude.{◌≡◌, ◌≢◌, ℕ, Bool, true, List, Option, Some, Ok}
 use Rattle.std.specs.FinMap.{get}
 use Rattle.rev_core.specs.Rev.{RevId}
@@ -12,13 +12,13 @@ use Rattle.couch_base.specs.Edit.{edited}
 use Rattle.repl_peer.specs.peer.Peer.{PeerValue}
 use Rattle.repl_network.specs.Nets.{IsAt, AllAgree, AllWhole}
 
--- An edit of a document: its parent, whether it deletes, and its body.
+-- An edit of a document: the parent revision, whether the edit deletes the document, and the body.
 pub record EditValue : Type 0 where
   pub before : Option RevId
   pub deleted : Bool
   pub body : List ℕ
 
--- Edit e gives revision r its revision id.
+-- Edit e produces the revision id r.
 abbrev pub Makes : EditValue → RevId → Type 0
 Makes e r = edit_rev e.before e.deleted e.body ≡ Ok r
 
@@ -39,7 +39,7 @@ HaveNoCollision among =
     (e f : EditValue) → among e ≡ true → among f ≡ true
     → edit_sig e.before e.deleted e.body ≡ edit_sig f.before f.deleted f.body → e ≡ f
 
--- An edit at a place of the network fails, or is in the given set of edits.
+-- An edit at the peer with index `place` fails, or is in the given set of edits.
 abbrev pub IsOneOf : (EditValue → Bool) → List PeerValue → ℕ → Id → Option RevId → Bool → List ℕ → Type 0
 IsOneOf among peers place id parent deleted body =
     (p : PeerValue) → IsAt peers place p → (e : RevId × Option RevId) → edited p.db id parent deleted body ≡ Ok e
@@ -52,19 +52,19 @@ MadeAgree peers =
     (among : EditValue → Bool) → HaveNoCollision among → (id : Id) → AllMadeBy among peers id
     → AllAgree peers id × AllWhole peers id
 
--- If only edits of a set made a document before the call, this is also true after the call, unless the document's id is
--- `id`.
+-- A document whose id is not `id`, and that was made only by edits of a set before the call, is made only by these
+-- edits after the call.
 abbrev pub StaysMadeExcept : Id → List PeerValue → List PeerValue → Type 0
 StaysMadeExcept id peers peers' =
     (among : EditValue → Bool) (other : Id) → other ≢ id → AllMadeBy among peers other → AllMadeBy among peers' other
 
--- If only edits of a set made a document before an edit of document `id`, this is also true after the edit. If the
--- document's id is `id`, the edit must fail or be in the set (`IsOneOf`).
+-- A document that was made only by edits of a set before an edit of document `id` is also made only by edits of the set
+-- after this edit. If the document's id is `id`, the edit must fail or be in the set (`IsOneOf`).
 abbrev pub StaysMadeByEdit : ℕ → Id → Option RevId → Bool → List ℕ → List PeerValue → List PeerValue → Type 0
 StaysMadeByEdit place id parent deleted body peers peers' =
     (among : EditValue → Bool) (at : Id) → (at ≡ id → IsOneOf among peers place id parent deleted body)
     → AllMadeBy among peers at → AllMadeBy among peers' at
 
--- If only edits of a set made a document before the call, this is also true after the call.
+-- A document that was made only by edits of a set before the call is also made only by edits of the set after the call.
 abbrev pub StaysMade : List PeerValue → List PeerValue → Type 0
 StaysMade peers peers' = (among : EditValue → Bool) (id : Id) → AllMadeBy among peers id → AllMadeBy among peers' id

@@ -1,5 +1,5 @@
--- Networks of any number of peers, each at a numbered place, as specified in docs/PROFILE.md, "Nets", and in CouchDB,
--- "Replication and conflict model". Replications between any two peers of a network may be made, in any order.
+-- Defines networks of any number of peers, each at a numbered place, as specified in docs/PROFILE.md, "Nets", and in
+-- CouchDB, "Replication and conflict model". Replications between any two peers of a network may be made, in any order.
 use Rattle.std.specs.Prelude.{◌≡◌, ◌≢◌, ◌⊎◌, ℕ, ◌<◌, Bool, true, List, [], ◌∷◌, map, length, Option, Some, Ok, slice_get}
 use Rattle.rev_core.specs.Rev.{RevId}
 use Rattle.rev_tree.specs.Tree.{TreeValue, has, merged, no_revisions}
@@ -20,7 +20,7 @@ use Rattle.repl_target.specs.replication.Replication.{SameDocument}
 use Rattle.repl_target.specs.replication.Sync.{HasRefusedNone}
 use Rattle.repl_network.specs.declared.hop.Hop.{Hop}
 
--- The peers of a network without their filters.
+-- The list of a network's peers, without the filters of these peers.
 abbrev pub peers_of : {F : Type 0} → List (F × PeerValue) → List PeerValue
 peers_of peers = map (λ p. p.1) peers
 
@@ -97,7 +97,7 @@ LeadsEverywhere hops count = (m n : ℕ) → m < count → n < count → Leads h
 
 -- ---- guarantees
 
--- The effect of consecutive hops on a document that each plan selects and no peer has refused. Before the hops, the
+-- How consecutive hops change a document that each hop's plan selects and no peer has refused. Before the hops, the
 -- peers of the network must be consistent, and the document's trees must agree and have complete histories. If a chain
 -- of hops leads from one place to another, the second peer has all revisions of the document that the first peer had.
 -- If a chain of hops leads from every place to every other place, the document is the same in all peers. After the

@@ -1,4 +1,5 @@
--- The results and effects of calls on a network, as specified in docs/PROFILE.md, "Nets".
+-- Defines the results of calls on a network, and how the calls change the peers, as specified in docs/PROFILE.md,
+-- "Nets".
 use Rattle.std.specs.Prelude.{◌≡◌, ◌≢◌, ◌⊎◌, ℕ, ◌+◌, ◌<◌, ◌≤◌, Bool, List, [], ◌∷◌, ◌++◌, length, Some, Result, Ok, Err, MatchResult, slice_get}
 use Rattle.doc_json.specs.Document.{Document}
 use Rattle.doc_json.specs.Chosen.{Choice}
@@ -19,8 +20,8 @@ use Rattle.repl_network.specs.Hubs.{gathers, spreads}
 
 -- ---- replications
 
--- The effect of a hop between two existing places. A hop is a replication on one thread, by the hop's plan. A hop
--- leaves peers at other places unchanged.
+-- How a hop between two existing places changes the network. A hop is a replication on one thread, by the hop's plan. A
+-- hop leaves peers at other places unchanged.
 pub record IsHop {F : Type 0} (refuses : F → Document → Bool) (peers : List (F × PeerValue)) (hop : Hop)
     (result : Result Report TargetFault) (peers' : List (F × PeerValue)) : Type 0 where
   pub source : F × PeerValue
@@ -35,7 +36,7 @@ pub record IsHop {F : Type 0} (refuses : F → Document → Bool) (peers : List 
   pub others : (n : ℕ) → n ≢ hop.from → n ≢ hop.to → slice_get peers' n ≡ slice_get peers n
   pub replicates : Replicates (refuses target.0) source.1 target.1 hop.plan result source_then target_then
 
--- The result of a hop at an index of the list of hops. A hop first checks that its two places exist and differ, and
+-- The result of the hop at index `at` of the list of hops. A hop first checks that its two places exist and differ, and
 -- then replicates.
 pub data TakesHop {F : Type 0} (refuses : F → Document → Bool) (at : ℕ) (peers : List (F × PeerValue)) (hop : Hop)
     : Result Report NetFault → List (F × PeerValue) → Type 0 where
@@ -49,7 +50,7 @@ pub data TakesHop {F : Type 0} (refuses : F → Document → Bool) (at : ℕ) (p
   taken : {report : Report} {peers' : List (F × PeerValue)} → IsHop refuses peers hop (Ok report) peers'
       → TakesHop refuses at peers hop (Ok report) peers'
 
--- The effect of the hops of a list, which are made in order until a hop fails.
+-- How the hops of a list, which are made in order until a hop fails, change the network.
 abbrev pub TakesHops : {F : Type 0} → (F → Document → Bool) → ℕ → List (F × PeerValue) → List Hop
     → Result (Unit {0}) NetFault → List (F × PeerValue) → Type 0
 TakesHops refuses at peers [] result peers' = (result ≡ Ok tt) × (peers' ≡ peers)
@@ -62,8 +63,8 @@ TakesHops {F = F} refuses at peers (hop ∷ hops) result peers' =
 abbrev pub ArePlanned : ℕ → List Plan → List Plan → Type 0
 ArePlanned count there back = (count ≡ length there + 1) × (count ≡ length back + 1)
 
--- The effect of a synchronization by the hub. If the number of plans for a hub is wrong, or the allocation for the hops
--- fails, all peers are unchanged.
+-- How a synchronization by the hub changes the network. If the number of plans for a hub is wrong, or the allocation
+-- for the hops fails, all peers are unchanged.
 abbrev pub TakesHub : {F : Type 0} → (F → Document → Bool) → List (F × PeerValue) → List Plan → List Plan
     → Result (Unit {0}) NetFault → List (F × PeerValue) → Type 0
 TakesHub refuses peers there back result peers' =

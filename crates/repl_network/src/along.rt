@@ -20,7 +20,7 @@ use repl_target::{Peer, Plan, Report, TargetFault, WriteFilter, replicate_alone}
 use rev_core::Rev;
 use std::alloc::Global;
 
-/// Replicates along hops between the peers of a network, in order, until a hop fails. Each hop is a call of
+/// Performs hops (replications between two peers of a network) in order, until a hop fails. Each hop is a call of
 /// `replicate_alone` with the hop's plan.
 ///
 /// If every two peers are consistent (docs/PROFILE.md, "Nets"), they stay consistent, even if the call fails. Suppose

@@ -1,4 +1,4 @@
--- The audit of a replication, as specified in docs/PROFILE.md, "Audit" and "Covered leaves".
+-- Defines the audit of a replication, as specified in docs/PROFILE.md, "Audit" and "Covered leaves".
 use Rattle.std.specs.Prelude.{◌≡◌, ℕ, true, Option, Some, None}
 use Rattle.rev_core.specs.Rev.{RevId}
 use Rattle.rev_tree.specs.declared.origin.SessionId.{SessionId}
@@ -17,7 +17,8 @@ use Rattle.repl_target.specs.declared.auditing.found.Audit.TheVariants.{Clean, H
 abbrev pub hole_under : PeerValue → PeerValue → Choice → ℕ → Option Leaf
 hole_under source target chosen n = first_uncovered target (chosen_feed chosen source.db 0 n)
 
--- The first leaf at or below a checkpoint that the target does not cover, or `None` if there is no checkpoint.
+-- The first leaf that is at or below a checkpoint and that the target does not cover, or `None` if there is no
+-- checkpoint.
 abbrev pub hole_at : PeerValue → PeerValue → Choice → Option (SessionId × ℕ) → Option Leaf
 hole_at source target chosen None = None
 hole_at source target chosen (Some checkpoint) = hole_under source target chosen checkpoint.1

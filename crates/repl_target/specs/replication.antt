@@ -1,4 +1,4 @@
--- These modules define replication in one direction and in both directions.
+-- Defines replication in one direction and in both directions.
 pub mod Replication
 pub mod Expected
 pub mod Calls

@@ -1,2 +1,2 @@
--- Definitions of tied windows, messages and peers.
+-- Defines tied (consistent) windows, messages and peers.
 pub mod Ties

@@ -40,7 +40,7 @@ pub fn audit<F: WriteFilter, G: WriteFilter>(
 }
 
 /// Searches the source's selected feed above a sequence for a leaf that the target does not cover. Returns the first
-/// such leaf, or `Clean` if every leaf is covered.
+/// uncovered leaf, or `Clean` if every leaf is covered.
 ///
 /// The call reads the source's feed without copying it.
 pub fn hole_above<F: WriteFilter, G: WriteFilter>(
@@ -65,7 +65,7 @@ pub fn hole_above<F: WriteFilter, G: WriteFilter>(
 }
 
 /// Searches the source's selected feed, above sequence `above` and at or below sequence `upto`, for a leaf that the
-/// target does not cover. Returns the first such leaf, or `Clean` if every leaf is covered.
+/// target does not cover. Returns the first uncovered leaf, or `Clean` if every leaf is covered.
 ///
 /// The call reads the source's feed without copying it.
 pub fn hole_within<F: WriteFilter, G: WriteFilter>(

@@ -1,4 +1,4 @@
-//! Replication of one peer into another by one thread, and audits.
+//! Replicates one peer into another by one thread, and audits replications.
 //!
 //! The rules are in docs/PROFILE.md, "Goal and windows", "Common checkpoint" and "Audit". This crate re-exports all
 //! public items of `repl_peer`.

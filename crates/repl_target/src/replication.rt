@@ -32,7 +32,7 @@ pub const MOST_ROWS: u64 = 10_000;
 pub struct Plan {
     /// The id of the new session.
     pub session: SessionId,
-    /// The number of fetchers, which is also the number of writers. `replicate_alone` ignores this number.
+    /// The number of fetchers, which is also the number of writers. `replicate_alone` ignores the number of fetchers.
     pub workers: u64,
     /// The maximum number of rows of a window: 1 to 10,000.
     pub batch: u64,
@@ -88,7 +88,7 @@ impl Plan {
 /// - `SamePeer`: the two databases have the same UUID.
 /// - The error of a step of the replication. The effects of the failed step and of all earlier steps remain.
 /// - `Unfinished`: the plan's `stop_after` windows were read, and they end below the goal. When the call returns
-///   `Unfinished`, both sides have recorded the session.
+///   `Unfinished`, both peers have recorded the session.
 ///
 /// If the source's log has a newer entry of the session, the call stores no entry and returns no error.
 pub fn replicate_alone<F: WriteFilter, G: WriteFilter>(
@@ -184,11 +184,11 @@ pub fn check_plan(source: u128, target: u128, plan: &Plan) -> Result<(), TargetF
     Ok(())
 }
 
-/// Begins the session of a plan, and returns its start. The session starts at the common checkpoint of the two logs,
-/// and has the checkpoint's session as its base. If the logs have no common checkpoint, the session starts at 0. The
-/// goal of the session is the source's update sequence.
+/// Begins the session of a plan, and returns the session's start. The session starts at the common checkpoint of the
+/// two logs, and has the checkpoint's session as its base. If the logs have no common checkpoint, the session starts at
+/// 0. The goal of the session is the source's update sequence.
 ///
-/// Returns `Memory`, or an error of `Peer::begin`. An error changes nothing.
+/// If the call fails, it returns `Memory`, or an error of `Peer::begin`. An error changes nothing.
 pub fn begin_plan<F: WriteFilter, G: WriteFilter>(
     source: &Peer<F>,
     target: &mut Peer<G>,
@@ -223,7 +223,8 @@ pub fn begin_plan<F: WriteFilter, G: WriteFilter>(
     Ok(start)
 }
 
-/// Reads windows from a start until no further window is due, and settles each window before it reads the next window.
+/// Reads windows from a start until no further window must be read, and settles each window before it reads the next
+/// window.
 fn read_windows<F: WriteFilter, G: WriteFilter>(
     alloc: Global,
     source: &Peer<F>,
@@ -263,7 +264,7 @@ pub fn has_left(stop_after: Option<u64>, windows: u64) -> bool
 }
 
 /// Reads the window above a sequence, stores the window at the target, and settles the leaves that the target lacks.
-/// Returns the end of the window.
+/// Returns the sequence at which the window ends.
 fn carry_window<F: WriteFilter, G: WriteFilter>(
     alloc: Global,
     source: &Peer<F>,

@@ -1,4 +1,4 @@
--- The grammar of a script's output, and the changes in the output, as specified in docs/PROFILE.md, "Lines of
+-- Defines the grammar of a script's output, and the changes in the output, as specified in docs/PROFILE.md, "Lines of
 -- documents".
 use Rattle.std.specs.Prelude.{◌≡◌, ℕ, ◌||◌, ◌==◌, List, [], ◌∷◌, ◌++◌, Bool, true, false, not, codes}
 use Rattle.std.specs.List.{list_all}

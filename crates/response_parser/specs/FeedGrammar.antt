@@ -1,4 +1,4 @@
--- The grammar of responses to `_changes` and `_revs_diff`, and the leaves in the responses, as specified in
+-- Defines the grammar of responses to `_changes` and `_revs_diff`, and the leaves in the responses, as specified in
 -- docs/PROFILE.md, "CouchDB's answers", and in CouchDB's API, "/{db}/_changes" and "/{db}/_revs_diff".
 --
 -- In this file, k is a name without its opening quotation mark, s is white space, and d is the number of open lists and
@@ -117,7 +117,7 @@ pub data IsDiffMember : Bool → Bool → List ℕ → List Piece → Type 0 whe
 
 -- ---- responses
 
--- A page of `_changes`, or a response of `_revs_diff`, with white space around it.
+-- A page of `_changes`, or a response of `_revs_diff`, with white space around the page or the response.
 pub data AreLeaves : List ℕ → List Piece → Type 0 where
   page : {o : List ℕ} {ps : List Piece} (s s' : List ℕ) → Spaces s → IsObjectOf IsPageMember o ps → Spaces s' → AreLeaves (s ++ (o ++ s')) ps
   difference : {o : List ℕ} {ps : List Piece} (s s' : List ℕ) → Spaces s → IsObjectOf IsDiffMember o ps → Spaces s' → AreLeaves (s ++ (o ++ s')) ps

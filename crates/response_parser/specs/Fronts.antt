@@ -1,5 +1,5 @@
--- The beginning of a long document's output, which is written before the document's end is read, as specified in
--- docs/PROFILE.md, "Documents in envelopes".
+-- Defines the beginning of a long document's output, which is written before the document's end is read, as specified
+-- in docs/PROFILE.md, "Documents in envelopes".
 use Rattle.std.specs.Prelude.{◌≡◌, ℕ, ◌≤◌, nat_eq, length, List, ◌++◌, false, Some}
 use Rattle.std.specs.List.{starts_with}
 use Rattle.doc_envelope.specs.Streams.{Front}
@@ -11,7 +11,8 @@ use Rattle.response_parser.specs.Values.{document_found}
 use Rattle.response_parser.specs.declared.place.Wanted.{Wanted}
 use Rattle.response_parser.specs.declared.place.Wanted.TheVariants.{Documents, Enveloped, Bodies, Unfolded, Leaves, Changes}
 
--- The minimum number of bytes that a document has before the first run that the parser does not store.
+-- The minimum number of bytes that a document has before the first run (a part of a string) that the parser does not
+-- store.
 abbrev pub long : ℕ
 long = 262144
 
@@ -25,8 +26,8 @@ IsStart Unfolded s S = IsTakeStart s S
 IsStart Leaves s S = ⊥
 IsStart Changes s S = ⊥
 
--- A document's beginning that ends with a run: the complete text, the text without the runs, and the outputs for these
--- two texts.
+-- A document's beginning that ends with a run (bytes that are not stored): the complete text, the text without the
+-- runs, and the outputs for these two texts.
 pub record Cut : Type 0 where
   pub full : List ℕ
   pub stored : List ℕ

@@ -1,5 +1,5 @@
--- The grammar of CouchDB's responses, and the documents in the responses, as specified in docs/PROFILE.md, "CouchDB's
--- answers". The grammar of the kit's JSON library decides whether a text is JSON (`is_json`).
+-- Defines the grammar of CouchDB's responses, and the documents in the responses, as specified in docs/PROFILE.md,
+-- "CouchDB's answers". The grammar of the kit's JSON library decides whether a text is JSON (`is_json`).
 use Rattle.std.specs.Prelude.{◌≡◌, ℕ, ◌+◌, ◌<◌, ◌==◌, slice_index, List, [], ◌∷◌, ◌++◌, Bool, true, false, codes, Some}
 use Rattle.doc_envelope.specs.Texts.{Spaces, EndsString, Closed, is_space, is_json}
 use Rattle.doc_envelope.specs.Names.{is_log}
@@ -13,14 +13,14 @@ use Rattle.response_parser.specs.declared.place.Found.TheVariants as found
 
 -- ---- values and names
 
--- The text t of a JSON value, up to the comma or brace that follows, and the text u of the value on one line.
+-- The text t is a JSON value, up to the comma or brace that follows the value, and u is the same value on one line.
 pub record IsValue (t u : List ℕ) : Type 0 where
   pub closed : Closed 0 t u
   pub first : is_space (slice_index t 0) ≡ false
   pub json : is_json u ≡ true
 
--- A name k without its opening quotation mark. The parameter `first` says whether k is the first name of its object, d
--- is the number of open lists and objects, and `name` is the meaning of k.
+-- The text k is a name without its opening quotation mark. The parameter `first` says whether k is the first name of
+-- its object, d is the number of open lists and objects, and `name` is the meaning of k.
 pub record IsNamed (wanted : Wanted) (first : Bool) (d : ℕ) (k : List ℕ) (name : Name) : Type 0 where
   pub string : EndsString k
   pub json : is_json (34 ∷ k) ≡ true
@@ -34,7 +34,7 @@ pub data Holds (wanted : Wanted) : Name → List ℕ → List Piece → Type 0 w
   of_last : {u : List ℕ} → Holds wanted Last u []
   of_other : {u : List ℕ} → Holds wanted Other u []
 
--- The text o of an object whose first member is `_id`, and the text u of the same object on one line.
+-- The text o is an object whose first member is `_id`, and u is the same object on one line.
 pub record IsPlainDocument (o u : List ℕ) : Type 0 where
   pub before : List ℕ
   pub behind : List ℕ
@@ -45,7 +45,7 @@ pub record IsPlainDocument (o u : List ℕ) : Type 0 where
   pub text : u ≡ codes "{\"_id\"" ++ (line ++ 125 ∷ [])
   pub json : is_json u ≡ true
 
--- The contents of an object whose first member is `_id`: the object itself, unless it is a log.
+-- The contents of an object whose first member is `_id`: the object itself, unless the object is a log.
 pub data IsDocument (wanted : Wanted) : List ℕ → List Piece → Type 0 where
   document : {o u v : List ℕ} → IsPlainDocument o u → is_log u ≡ false → covered wanted u ≡ Some v → IsDocument wanted o ((found.Document, v) ∷ [])
   log : {o u : List ℕ} → IsPlainDocument o u → is_log u ≡ true → IsDocument wanted o []
@@ -93,7 +93,7 @@ pub data AreAnswers (wanted : Wanted) : List ℕ → List Piece → Type 0 where
   of_list : (s : List ℕ) {l more : List ℕ} {ps qs : List Piece} → Spaces s → IsList wanted 0 l ps → AreAnswers wanted more qs
       → AreAnswers wanted (s ++ (l ++ more)) (ps ++ qs)
 
--- At least one response, with white space around each.
+-- At least one response, with white space around each response.
 pub data IsAnswered (wanted : Wanted) : List ℕ → List Piece → Type 0 where
   object_first : (s : List ℕ) {o more : List ℕ} {ps qs : List Piece} → Spaces s → IsObject wanted 0 o ps → AreAnswers wanted more qs
       → IsAnswered wanted (s ++ (o ++ more)) (ps ++ qs)

@@ -1,4 +1,4 @@
--- The grammar of a script's output, and the documents in the output, as specified in docs/PROFILE.md, "Lines of
+-- Defines the grammar of a script's output, and the documents in the output, as specified in docs/PROFILE.md, "Lines of
 -- documents".
 use Rattle.std.specs.Prelude.{◌≡◌, ℕ, ◌==◌, List, [], ◌∷◌, ◌++◌, true, false, not}
 use Rattle.std.specs.List.{list_all}

@@ -1,5 +1,5 @@
--- The effect of one byte of a line of a script's output on the parser's state, as specified in docs/PROFILE.md, "Lines
--- of documents".
+-- Defines how one byte of a line of a script's output changes the parser's state, as specified in docs/PROFILE.md,
+-- "Lines of documents".
 use Rattle.std.specs.Prelude.{ℕ, ◌&&◌, ◌||◌, ◌==◌, nat_le, [], ◌∷◌, Bool, cond, codes}
 use Rattle.std.specs.Str.{bytes_eq}
 use Rattle.doc_envelope.specs.Texts.{is_json}
@@ -22,7 +22,7 @@ abbrev pub is_lower : ℕ → Bool
 is_lower b = nat_le 97 b && nat_le b 122
 
 -- The parser's state after a line end. If a response is required and the parser has not read a response, the parser
--- returns to its initial place.
+-- returns to its initial place in the grammar.
 abbrev pub line_ended : State → State
 line_ended s = at (cond (s.some || is_strict s.wanted) Between Start) s
 

@@ -1,6 +1,6 @@
--- This file compares a parser that does not store the runs of a long document with a parser that stores each byte. The
--- *full* state is the state of a parser that stores each byte. The *stored* state has the same fields, but its text
--- lacks the runs.
+-- This file compares a parser that does not store the runs (parts of strings) of a long document with a parser that
+-- stores each byte. The *full* state is the state of a parser that stores each byte. The *stored* state has the same
+-- fields, but the stored text lacks the runs.
 use Rattle.std.specs.Prelude.{◌≡◌, ℕ, ◌≤◌, ◌==◌, length, slice_index, List, ◌++◌, Bool, true, false}
 use Rattle.doc_envelope.specs.Names.{is_log}
 use Rattle.response_parser.specs.Names.{is_plain}
@@ -13,7 +13,7 @@ use Rattle.response_parser.specs.declared.place.Name.{Name}
 use Rattle.response_parser.specs.declared.place.Name.TheVariants as names
 use Rattle.response_parser.specs.declared.place.Found.TheVariants.{Nothing}
 
--- Whether the parser makes no use of its stored text at the given place.
+-- Whether the parser, at the given place in the grammar, makes no use of its stored text.
 abbrev pub is_idle : Place → Bool
 is_idle Start = false
 is_idle Begin = false
@@ -72,8 +72,9 @@ pub record InDocument (name : Name) (s : State) : Type 0 where
   pub nested : is_plain name ≡ true → (s.nesting == 0) ≡ false
   pub found : s.found ≡ Nothing
 
--- The full state and the stored state of a parser in a document. The states differ only in their texts. The texts
--- differ only in the document's beginning (`cut`), from which the stored text lacks the runs.
+-- In a document, the state of a parser that stores each byte (full state), and of a parser that does not store the runs
+-- (stored state). The states differ only in their texts. The texts differ only in the document's beginning (`cut`),
+-- from which the stored text lacks the runs.
 pub record Mirrors (cut : Cut) (name : Name) (full stored : State) : Type 0 where
   pub place : IsWithin name stored.place
   pub same : full ≡ record stored { text = full.text }
@@ -87,8 +88,8 @@ pub record Mirrors (cut : Cut) (name : Name) (full stored : State) : Type 0 wher
   pub stored_length : long ≤ length cut.stored
   pub log : is_plain name ≡ true → is_log cut.stored ≡ false
 
--- The full state and the stored state of a parser that has rejected a byte of a document after the document's output
--- has begun.
+-- The full state (with each byte) and the stored state (without the runs) of a parser that has rejected a byte of a
+-- document after the document's output has begun.
 pub record Rejected (cut : Cut) (full stored : State) : Type 0 where
   pub like : Like full stored
   pub refused : is_refused stored.place ≡ true

@@ -1,4 +1,4 @@
--- The meaning of a member's name, as specified in docs/PROFILE.md, "CouchDB's answers".
+-- Defines the meaning of a member's name, as specified in docs/PROFILE.md, "CouchDB's answers".
 use Rattle.std.specs.Prelude.{ℕ, ◌||◌, ◌&&◌, ◌==◌, List, Bool, true, false, cond, codes, Option, Some, None}
 use Rattle.std.specs.Str.{bytes_eq}
 use Rattle.response_parser.specs.declared.place.Wanted.{Wanted}
@@ -131,8 +131,8 @@ is_error Reason = false
 is_error Other = false
 is_error Foreign = false
 
--- The kind of item that the parser finds in a name's value, given the value's first byte. The text of a document begins
--- with a brace, and the text of an id or a revision begins with a quotation mark.
+-- The kind of item that the parser finds in the value of a name. The argument `first` is the value's first byte. The
+-- text of a document begins with a brace, and the text of an id or a revision begins with a quotation mark.
 abbrev pub found_of : Name → ℕ → Found
 found_of Plain first = found.Nothing
 found_of Document first = cond (first == 123) found.Document found.Nothing
@@ -148,7 +148,7 @@ found_of Reason first = found.Nothing
 found_of Other first = found.Nothing
 found_of Foreign first = found.Nothing
 
--- Whether the parser counts a name's value as a skipped document, given the value's first byte.
+-- Whether the parser counts the value of a name as a skipped document. The argument `first` is the value's first byte.
 abbrev pub passes : Name → ℕ → Bool
 passes Plain first = false
 passes Document first = cond (first == 123) false true
@@ -164,9 +164,9 @@ passes Reason first = false
 passes Other first = false
 passes Foreign first = false
 
--- The error for a name's value, if there is one. The value of a name gives an error if the value must be an id or a
--- revision but is not a string. A string `reason` gives `CouchError` if a string `error` came before in the response,
--- and the parser entered no list or object in between.
+-- The error that the value of a name causes, if the value causes an error. The value of a name causes an error if the
+-- value must be an id or a revision but is not a string. A string `reason` causes `CouchError` if a string `error` came
+-- before in the response, and the parser entered no list or object in between.
 abbrev pub refusal_of : Name → ℕ → Bool → Option Refusal
 refusal_of Plain first failed = None
 refusal_of Document first failed = None

@@ -1,5 +1,5 @@
--- The effect of one byte outside of names and values on the parser's state, as specified in docs/PROFILE.md, "CouchDB's
--- answers".
+-- Defines how one byte outside of names and values changes the parser's state, as specified in docs/PROFILE.md,
+-- "CouchDB's answers".
 use Rattle.std.specs.Prelude.{ℕ, ◌+◌, ◌-◌, ◌&&◌, ◌||◌, ◌==◌, nat_lt, [], ◌∷◌, Bool, true, false, not, cond, codes}
 use Rattle.doc_envelope.specs.Texts.{is_space, is_json}
 use Rattle.response_parser.specs.Wanted.{wants_leaves, wants_changes, is_strict}
@@ -35,7 +35,7 @@ closed place s =
 abbrev pub list_closed : State → State
 list_closed s = closed AfterMember (record s { inner = false })
 
--- The parser's place after an object that is an item of a list or the entry of a document.
+-- The parser's place in the grammar after an object that is an item of a list or the entry of a document.
 abbrev pub behind_object : State → Place
 behind_object s = cond (s.diff && s.depth == 2) AfterMember AfterItem
 
@@ -60,7 +60,7 @@ entry_opened s = opened Member (record s { diff = true; found = found.Id })
 abbrev pub list_opened : State → State
 list_opened s = cond (wants_changes s.wanted) (refused NoAnswer s) (opened Item s)
 
--- Whether a place of the parser is before the first response.
+-- Whether a place in the grammar is before the first response.
 abbrev pub is_first : Place → Bool
 is_first Start = true
 is_first Begin = true

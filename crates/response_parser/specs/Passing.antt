@@ -1,4 +1,5 @@
--- This file defines the effect of runs of bytes that the parser reads, but does not store.
+-- Defines how the parser's state changes when the parser reads a run, which is a part of a string that the parser does
+-- not store.
 use Rattle.std.specs.Prelude.{◌≡◌, ◌⊎◌, ℕ, ◌≤◌, ◌==◌, nat_eq, length, List, true, false}
 use Rattle.std.specs.List.{starts_with}
 use Rattle.doc_envelope.specs.Names.{is_log}
@@ -17,9 +18,10 @@ pub record IsLong (name : Name) (s : State) : Type 0 where
   pub length_is : long ≤ length s.text
   pub log : is_plain name ≡ true → is_log s.text ≡ false
 
--- A run that is not stored may follow the text of the state s. Either the text has not grown since its front was built,
--- and the front stays the same, or a new front is built, which begins with the earlier front. The arguments of
--- `FollowsFront` are the earlier and the later front, each with the length of the text from which the front was built.
+-- A run that is not stored may follow the text of the state s. A front is the beginning of a document's output. Either
+-- the text has not grown since its front was built, and the front stays the same, or a new front is built, which begins
+-- with the earlier front. The other arguments of `FollowsFront` are the earlier and the later front, each with the
+-- length of the text from which the front was built.
 abbrev pub FollowsFront : State → List ℕ → ℕ → List ℕ → ℕ → Type 0
 FollowsFront s front at front' at' =
     (((length front == 0) ≡ false) × (length s.text ≡ at) × (front' ≡ front) × (at' ≡ at))

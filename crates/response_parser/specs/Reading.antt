@@ -1,4 +1,4 @@
--- The items that the parser finds in a list of bytes, as specified in docs/PROFILE.md, "CouchDB's answers".
+-- Defines the items that the parser finds in a list of bytes, as specified in docs/PROFILE.md, "CouchDB's answers".
 use Rattle.std.specs.Prelude.{ℕ, List, [], ◌∷◌, ◌++◌, Bool, true, false, cond, ◌||◌, Result, Ok, Err}
 use Rattle.response_parser.specs.State.{State}
 use Rattle.response_parser.specs.Steps.{step, is_refused}
@@ -43,8 +43,8 @@ abbrev pub pieces : State → List ℕ → List Piece
 pieces s [] = []
 pieces s (b ∷ bytes) = given (step s b) ++ pieces (step s b) bytes
 
--- The result of the input's end at the given place of the parser: success if the input may end there, otherwise an
--- error.
+-- The result if the input ends while the parser is at the given place in the grammar: success if the input may end
+-- there, otherwise an error.
 abbrev pub end_of : Place → Result (Unit {0}) Refusal
 end_of Start = Err NoAnswer
 end_of Begin = Ok tt
@@ -68,7 +68,7 @@ end_of (Revs place) = Err CutOff
 end_of (Line place) = Err CutOff
 end_of (Refused why) = Err why
 
--- Whether input that ends at the given place of the parser ends within a line of a script's output.
+-- Whether input that ends while the parser is at the given place ends within a line of a script's output.
 abbrev pub has_rest : Place → Bool
 has_rest Start = false
 has_rest Begin = false

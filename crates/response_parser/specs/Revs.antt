@@ -1,4 +1,4 @@
--- The effect of one byte of a list of missing revisions on the parser's state, as specified in docs/PROFILE.md,
+-- Defines how one byte of a list of missing revisions changes the parser's state, as specified in docs/PROFILE.md,
 -- "CouchDB's answers".
 use Rattle.std.specs.Prelude.{ℕ, ◌==◌, [], ◌∷◌, cond}
 use Rattle.doc_envelope.specs.Texts.{is_space, is_json}

@@ -1,4 +1,4 @@
--- The effect on the parser's state if the parser reads several bytes of a value at once.
+-- Defines how the parser's state changes if the parser reads several bytes of a value at once.
 use Rattle.std.specs.Prelude.{◌≡◌, ℕ, ◌==◌, length, take, List, [], ◌∷◌, ◌++◌, Bool, true, false}
 use Rattle.response_parser.specs.State.{State, more}
 use Rattle.response_parser.specs.Reading.{after, pieces}
@@ -7,7 +7,7 @@ use Rattle.response_parser.specs.declared.place.Place.TheVariants.{Value, Quoted
 use Rattle.response_parser.specs.declared.place.Name.{Name}
 use Rattle.response_parser.specs.declared.place.Found.TheVariants.{Nothing}
 
--- The count n, increased once for each of the given bytes.
+-- The count n after it was increased by one (`more`) for each of the given bytes.
 abbrev pub more_by : ℕ → List ℕ → ℕ
 more_by n [] = n
 more_by n (b ∷ bytes) = more_by (more n) bytes
@@ -36,7 +36,7 @@ pub record Copies (s : State) (bytes : List ℕ) (name : Name) (quoted : Bool) (
 
 -- If the parser can copy the given bytes up to position `from` into a value, the parser can also copy the bytes up to
 -- position `to`. The parameters q and n say whether the position `from` is within a string, and how many brackets are
--- open there. The parameters q' and n' say the same of the position `to`.
+-- open there. The parameters q' and n' say the same about the position `to`.
 abbrev pub Continues : List ℕ → ℕ → Bool → ℕ → ℕ → Bool → ℕ → Type 0
 Continues bytes from q n to q' n' =
     (s : State) → (name : Name) → (q0 : Bool) → (n0 : ℕ) → IsInValue s name q0 n0 → Copies s (take from bytes) name q n

@@ -1,6 +1,6 @@
--- The first bytes of known formats that are not responses, as specified in docs/PROFILE.md, "CouchDB's answers". The
--- format Gzip is specified in RFC 1952, a status line in RFC 9112, and the delimiter of a part in RFC 2046. The known
--- byte order marks are the byte order marks of UTF-8 and UTF-16.
+-- Defines the first bytes of known formats that are not responses, as specified in docs/PROFILE.md, "CouchDB's
+-- answers". The format Gzip is specified in RFC 1952, a status line in RFC 9112, and the delimiter of a part in RFC
+-- 2046. The known byte order marks are the byte order marks of UTF-8 and UTF-16.
 use Rattle.std.specs.Prelude.{ℕ, ◌||◌, List, [], ◌∷◌, ◌++◌, Bool, cond, codes}
 use Rattle.std.specs.Str.{bytes_eq}
 use Rattle.response_parser.specs.State.{State}
@@ -15,7 +15,8 @@ begins_sign t =
     || bytes_eq t (254 ∷ []) || bytes_eq t (255 ∷ []) || bytes_eq t (codes "H") || bytes_eq t (codes "HT") || bytes_eq t (codes "HTT")
     || bytes_eq t (codes "HTTP")
 
--- The error for the known format that begins with the given text, or `NoAnswer` if no known format does.
+-- The error for the known format that begins with the given text, or `NoAnswer` if no known format begins with this
+-- text.
 abbrev pub sign_of : List ℕ → Refusal
 sign_of t =
     cond (bytes_eq t (31 ∷ 139 ∷ [])) Gzip

@@ -1,4 +1,4 @@
--- The state of the parser, as specified in docs/PROFILE.md, "CouchDB's answers".
+-- Defines the state of the parser, as specified in docs/PROFILE.md, "CouchDB's answers".
 use Rattle.std.specs.Prelude.{ℕ, ◌+◌, ◌++◌, nat_lt, List, [], ◌∷◌, Bool, false, cond}
 use Rattle.response_parser.specs.Wanted.{first_place}
 use Rattle.response_parser.specs.declared.place.Place.{Place}
@@ -36,7 +36,7 @@ pub record State : Type 0 where
   pub error : List ℕ
   -- The kind of item that the parser's last byte completed.
   pub found : Found
-  -- The number of documents that the parser has skipped.
+  -- The number of skipped documents: objects without a document, values instead of a document, and lines `refused`.
   pub passed : ℕ
   -- The number of bytes that the parser has read.
   pub taken : ℕ
@@ -62,7 +62,7 @@ start wanted = record {
   taken = 0;
 }
 
--- A count increased by one, at most 2 ^ 64 - 1.
+-- The count n increased by one, unless n is the maximum 2 ^ 64 - 1.
 abbrev pub more : ℕ → ℕ
 more n = cond (nat_lt n 18446744073709551615) (n + 1) n
 

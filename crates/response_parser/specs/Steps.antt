@@ -1,5 +1,5 @@
--- The effect of one byte of the input on the parser's state, as specified in docs/PROFILE.md, "CouchDB's answers" and
--- "Lines of documents".
+-- Defines how one byte of the input changes the parser's state, as specified in docs/PROFILE.md, "CouchDB's answers"
+-- and "Lines of documents".
 use Rattle.std.specs.Prelude.{ℕ, Bool, true, false, cond}
 use Rattle.response_parser.specs.State.{State, more}
 use Rattle.response_parser.specs.Signs.{in_sign}
@@ -57,8 +57,8 @@ is_refused (Revs place) = false
 is_refused (Line place) = false
 is_refused (Refused why) = true
 
--- The parser's state after counting a byte as read, before the byte's further effect. The parser counts no byte after
--- it has rejected a byte.
+-- The parser's state after the parser has counted a byte as read, but has not yet processed the byte. The parser counts
+-- no byte after it has rejected a byte.
 abbrev pub begun : State → State
 begun s = record s { found = found.Nothing; taken = cond (is_refused s.place) s.taken (more s.taken) }
 

@@ -1,4 +1,5 @@
--- The values by which contracts describe a stored parser and a stored front.
+-- Defines the values by which contracts describe a stored parser and a stored front (the beginning of a document's
+-- output).
 use Rattle.std.specs.Prelude.{ℕ, List}
 use Rattle.response_parser.specs.State.{State}
 use Rattle.response_parser.specs.declared.reading.Reading.{Reading}

@@ -1,4 +1,4 @@
--- The effect of one byte of a value on the parser's state, as specified in docs/PROFILE.md, "CouchDB's answers".
+-- Defines how one byte of a value changes the parser's state, as specified in docs/PROFILE.md, "CouchDB's answers".
 use Rattle.std.specs.Prelude.{ℕ, ◌+◌, ◌-◌, ◌&&◌, ◌||◌, ◌==◌, nat_lt, length, slice_index, List, [], ◌∷◌, ◌++◌, true, not, cond, Option, Some, None}
 use Rattle.doc_envelope.specs.Texts.{is_space, is_json}
 use Rattle.doc_envelope.specs.Names.{is_log}
@@ -96,7 +96,7 @@ in_escaped name s b = at (Quoted name) (added b s)
 
 -- ---- entries of documents
 
--- The parser's state after the first byte of a value, given the parser's place.
+-- The parser's state after the first byte of a value, if the parser is at the given place in the grammar.
 abbrev pub in_begun : Place → State → ℕ → State
 in_begun Start s b = moved_between Start s b
 in_begun Begin s b = moved_between Begin s b

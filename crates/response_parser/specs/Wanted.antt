@@ -1,4 +1,5 @@
--- The rules for each kind of request, as specified in docs/PROFILE.md, "CouchDB's answers" and "Lines of documents".
+-- Defines the rules for each kind of request, as specified in docs/PROFILE.md, "CouchDB's answers" and "Lines of
+-- documents".
 use Rattle.std.specs.Prelude.{ℕ, List, Bool, true, false, cond, Option, Some}
 use Rattle.doc_envelope.specs.Envelopes.{enveloped, unfolded}
 use Rattle.response_parser.specs.declared.place.Place.{Place}
@@ -30,7 +31,7 @@ wants_changes Unfolded = false
 wants_changes Leaves = false
 wants_changes Changes = true
 
--- Whether a request rejects objects without a document, instead of skipping such objects. A request that rejects
+-- Whether the parser, for a request, rejects and does not skip objects without a document. A request that rejects
 -- objects without documents also accepts empty input.
 abbrev pub is_strict : Wanted → Bool
 is_strict Documents = false

@@ -29,7 +29,8 @@ impl Reading {
         self.place = Place::Refused(why);
     }
 
-    /// Opens a list or an object, and sets the parser's place to a given place inside it.
+    /// Opens a list or an object, and sets the parser's place in the grammar to the given place, which is inside this
+    /// list or object.
     pub(crate) fn open(&mut self, place: Place)
         ensures { state_of self.new ≡ opened place (state_of self.old) }
     {
@@ -85,7 +86,7 @@ impl Reading {
         }
     }
 
-    /// Returns the parser's place after an object that is an item of a list or the entry of a document.
+    /// Returns the parser's place in the grammar after an object that is an item of a list or the entry of a document.
     fn behind_object(&self) -> Place
         ensures { result ≡ behind_object (state_of self.now) }
     {

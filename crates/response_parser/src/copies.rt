@@ -236,7 +236,7 @@ fn spot_after(bytes: &[u8], quoted: bool, nesting: u8) -> Spot
 
 impl Reading {
     /// Copies bytes of the input that belong to the current value, up to the byte that completes the value. Returns
-    /// their number.
+    /// the number of copied bytes.
     #[inline(always)]
     pub(crate) fn copy(&mut self, bytes: &[u8]) -> Result<usize, AllocError>
         requires { (state_of self.old).found ≡ Nothing }
@@ -253,7 +253,8 @@ impl Reading {
         }
     }
 
-    /// Copies the first bytes of the input if the parser is inside a value. Returns their number.
+    /// Copies the first bytes of the input that belong to the current value. Returns the number of copied bytes. The
+    /// parser must be inside a value.
     fn copy_value(&mut self, name: Name, quoted: bool, bytes: &[u8]) -> Result<usize, AllocError>
         requires found { (state_of self.old).found ≡ Nothing }
         requires place { (state_of self.old).place ≡ in_value_of name quoted }

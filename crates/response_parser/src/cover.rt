@@ -1,4 +1,5 @@
-//! Reports complete documents, and wraps or unwraps their envelopes if the caller requested it.
+//! Reports each complete document in the form that the caller requested: the document itself, an envelope with the
+//! document, or the document from an envelope.
 ghost use Rattle.std.specs.Prelude.{◌≡◌, OnOk, Some};
 ghost use Rattle.response_parser.specs.Stored.{state_of};
 ghost use Rattle.response_parser.specs.Values.{document_found, found_as};
@@ -9,8 +10,8 @@ use crate::reading::Reading;
 use std::alloc::AllocError;
 
 impl Reading {
-    /// Reports a complete document, which the call wraps in an envelope or unwraps from one if the caller requested
-    /// this.
+    /// Reports a complete document in the form that the caller requested: unchanged, wrapped in an envelope, or
+    /// unwrapped from an envelope.
     pub(crate) fn find_document(&mut self) -> Result<(), AllocError>
         ensures { OnOk result (state_of self.new ≡ document_found (state_of self.old)) }
     {

@@ -16,7 +16,8 @@ use std::alloc::{AllocError, Global};
 /// The minimum number of bytes of a document that the parser stores before it passes bytes on without storing them.
 const LONG: usize = 262_144;
 
-/// The parser builds a front only for a run that has at least `RUN` bytes in one read.
+/// The parser builds a front (the beginning of a document's output) only for a run that has at least `RUN` bytes in one
+/// read.
 const RUN: usize = 1_024;
 
 /// After an attempt to build a front for a text of n bytes, the parser reads at least n / 4 further bytes before the
@@ -28,7 +29,7 @@ const SHARE: u64 = 4;
 #[derive(Drop)]
 pub struct Front {
     text: Vec<u8>,
-    /// The number of the bytes of the document that the parser had stored when the front was built.
+    /// The number of bytes of the document that the parser had stored when it built the front.
     length: usize,
     /// The number of read bytes after which the parser may build a front again.
     next: u64,
@@ -46,14 +47,14 @@ impl Front {
         }
     }
 
-    /// Returns the text of the front.
+    /// Returns the text of the front (the beginning of the current document's output).
     pub fn text(&self) -> &[u8]
         ensures { result.now ≡ front_of self.now }
     {
         self.text.as_slice()
     }
 
-    /// Makes the front empty, because the document has ended.
+    /// Makes the front (the beginning of the document's output) empty, because the document has ended.
     pub fn end(&mut self)
         ensures { front_of self.new ≡ [] }
     {
@@ -112,7 +113,7 @@ impl Front {
         Ok(true)
     }
 
-    /// Whether a text is not empty and begins with the front.
+    /// Whether a text is not empty and begins with the front (the beginning of the document's output).
     fn may_become(&self, text: &[u8]) -> bool
         ensures begins { result ≡ true → starts_with nat_eq text.now (front_of self.now) ≡ true }
         ensures some { result ≡ true → (length text.now == 0) ≡ false }

@@ -280,7 +280,7 @@ fn is_rev_byte(byte: u8) -> bool
         || byte == b'.'
 }
 
-/// Whether the given place is one before the first response.
+/// Whether a place in the grammar is before the first response.
 fn is_first(place: Place) -> bool
     ensures { result ≡ is_first place }
 {

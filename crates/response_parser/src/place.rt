@@ -7,7 +7,8 @@ use thiserror::Error;
 pub enum Wanted {
     /// Documents in CouchDB responses. The parser skips objects without a document.
     Documents,
-    /// The same, in envelopes.
+    /// Documents in CouchDB responses. The parser wraps these documents in envelopes, and skips objects without a
+    /// document.
     Enveloped,
     /// Documents in CouchDB responses. The parser rejects objects without a document.
     Bodies,
@@ -86,13 +87,13 @@ pub enum Refusal {
     /// The input is CouchDB's error response.
     #[error("CouchError")]
     CouchError,
-    /// It is compressed.
+    /// The input is compressed.
     #[error("Gzip")]
     Gzip,
-    /// It is HTML.
+    /// The input is HTML.
     #[error("Html")]
     Html,
-    /// It has HTTP headers.
+    /// The input has HTTP headers.
     #[error("Headers")]
     Headers,
     /// The input is a multipart response.
@@ -106,7 +107,7 @@ pub enum Refusal {
 /// The parser's place in a line of a script's output, which says what the next byte belongs to.
 #[derive(Clone, Copy, Debug, PartialEq, Eq)]
 pub enum LinePlace {
-    /// In the first word.
+    /// The next byte is in the first word of the line.
     Word,
     /// The next byte is in the part of the line that the parser ignores.
     Rest,
@@ -122,24 +123,24 @@ pub enum LinePlace {
     AfterId,
     /// The next byte is at the start of a revision of a `change` line.
     BeforeRev,
-    /// In a revision.
+    /// The next byte is in a revision of a `change` line.
     Rev,
 }
 
 /// The parser's place in a list of missing revisions, which says what the next byte belongs to.
 #[derive(Clone, Copy, Debug, PartialEq, Eq)]
 pub enum RevPlace {
-    /// Before the opening bracket.
+    /// The next byte is before the opening bracket of the list.
     List,
-    /// After the opening bracket.
+    /// The next byte follows the opening bracket of the list.
     First,
-    /// After a comma.
+    /// The next byte follows a comma in the list.
     Next,
-    /// In a revision.
+    /// The next byte is in a missing revision.
     Rev,
     /// The next byte follows a backslash in a missing revision.
     Escape,
-    /// After a revision.
+    /// The next byte follows a missing revision.
     Behind,
 }
 
@@ -152,13 +153,13 @@ pub enum Place {
     Begin,
     /// The next byte is one of the first bytes of input that may be multipart or begin with a byte order mark.
     Sign,
-    /// After a response.
+    /// The next byte follows a response.
     Between,
     /// The next byte follows the opening bracket of a JSON list.
     Item,
     /// The next byte follows a comma between two items of a list.
     NextItem,
-    /// After an item.
+    /// The next byte follows an item of a list.
     AfterItem,
     /// The next byte follows the opening brace of a JSON object.
     Member,
@@ -166,17 +167,17 @@ pub enum Place {
     NextMember,
     /// The next byte follows a member whose value is a list of objects.
     AfterMember,
-    /// In a member's name.
+    /// The next byte is in a member's name.
     Key,
     /// The next byte follows a backslash in a member's name.
     KeyEscape,
-    /// After a member's name.
+    /// The next byte follows a member's name.
     Colon(Name),
     /// The next byte is before a value that may be the entry of a document.
     Ahead(Name),
     /// The next byte is before the opening bracket of a list.
     List,
-    /// In a member's value.
+    /// The next byte is in a member's value.
     Value(Name),
     /// The next byte is in a string of a member's value.
     Quoted(Name),

@@ -17,7 +17,7 @@ use std::alloc::{AllocError, Global};
 pub struct Reading {
     pub(crate) wanted: Wanted,
     pub(crate) place: Place,
-    /// Whether the last byte closed a list or an object.
+    /// Whether the parser has already read the closing bracket of a list or an object in the input.
     pub(crate) some: bool,
     /// The number of open lists and objects.
     pub(crate) depth: u8,
@@ -29,18 +29,18 @@ pub struct Reading {
     pub(crate) first: bool,
     /// Whether the innermost open list is a document's list of revisions.
     pub(crate) inner: bool,
-    /// Whether the input is a response of `_revs_diff`.
+    /// Whether the current response is a response of `_revs_diff`.
     pub(crate) diff: bool,
-    /// Whether the response is a CouchDB error.
+    /// Whether the current response has a string `error`, after which the parser has entered no list or object.
     pub(crate) failed: bool,
     /// The number of brackets of the current value that are open.
     pub(crate) nesting: u8,
-    /// The part of the current name or value that the parser has read.
+    /// The part of the current name or value that the parser has stored.
     pub(crate) text: Vec<u8>,
     /// The text of CouchDB's last error in the input.
     pub(crate) error: Vec<u8>,
     pub(crate) found: Found,
-    /// The number of objects that the parser skipped because they have no document.
+    /// The number of skipped documents: objects without a document, values instead of a document, and lines `refused`.
     pub(crate) passed: u64,
     /// The number of bytes that the parser has read.
     pub(crate) taken: u64,
@@ -123,7 +123,8 @@ impl Reading {
         self.error.as_slice()
     }
 
-    /// Returns the number of objects that the parser skipped because they have no document.
+    /// Returns the number of documents that the parser skipped: objects without a document, values that a response has
+    /// instead of a document, and lines `refused` of a script's output.
     pub fn passed(&self) -> u64
         ensures { result ≡ (state_of self.now).passed }
     {

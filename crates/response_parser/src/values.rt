@@ -129,7 +129,7 @@ impl Reading {
         self.judge(name, first)
     }
 
-    /// Reads the byte after a member's value, which the parser has handled as the member's name requires.
+    /// Reads the byte after a member's value that the parser has accepted.
     fn pass_value(&mut self, byte: u8)
         ensures { state_of self.new ≡ value_passed (state_of self.old) byte }
     {
@@ -140,7 +140,7 @@ impl Reading {
         }
     }
 
-    /// Handles a complete value, by the value's first byte.
+    /// Handles a complete value, depending on the value's first byte.
     fn judge(&mut self, name: Name, first: u8) -> Result<(), AllocError>
         ensures { OnOk result (state_of self.new ≡ judged name first (state_of self.old)) }
     {
@@ -207,8 +207,8 @@ fn first_of(text: &[u8]) -> u8
     if text.is_empty() { 0 } else { text[0] }
 }
 
-/// Returns the kind of item that a member completes, given the meaning of the member's name and the first byte of its
-/// value.
+/// Returns the kind of item that a member completes, given the meaning of the member's name and the first byte of the
+/// member's value.
 fn found_of(name: Name, first: u8) -> Found
     ensures { result ≡ found_of name first }
 {

@@ -16,20 +16,20 @@ pub record AreChunks (c : Chunks) : Type 0 where
   pub fits : c.count ≤ length c.room.items
   pub few : c.turns ≤ max_reads
 
--- The result of reading a chunk, which says whether a chunk was read. The reader's remaining bytes are `left` before
--- the call, and `left'` after the call.
+-- A call that reads a chunk has a result, which says whether a chunk was read. The reader's remaining bytes are `left`
+-- before the call, and `left'` after the call.
 abbrev pub ReadsChunk : Bool → Option (List ℕ) → Option (List ℕ) → List ℕ → Type 0
 ReadsChunk true left left' chunk = Consumes left left' chunk × (0 < length chunk) × (length chunk ≤ 65536)
 ReadsChunk false left left' chunk = Keeps left left' × IsAtEnd left' × (chunk ≡ [])
 
--- A reader made `turns` reads, and no read failed. The reader's reads and failures are counted in `reads` and
--- `failures`. A prime marks a count after the reads.
+-- A reader made `turns` reads, and no read failed. The counts of the reader's reads and failures are `reads` and
+-- `failures` before these reads, and `reads'` and `failures'` after these reads.
 pub record HasRead (turns reads reads' failures failures' : ℕ) : Type 0 where
   pub made : counted reads' 0 ≡ counted reads turns
   pub unfailing : failures' ≡ failures
 
--- The reader failed, or the maximum number of reads was reached. The reader's reads and failures are counted in `reads`
--- and `failures`. A prime marks a count after the call.
+-- The reader failed, or the maximum number of reads was reached. The counts of the reader's reads and failures are
+-- `reads` and `failures` before the call, and `reads'` and `failures'` after the call.
 abbrev pub StopsReading : ℕ → ℕ → ℕ → ℕ → Type 0
 StopsReading reads reads' failures failures' =
     FailsOnce failures failures' ⊎ ((counted reads' 0 ≡ counted reads max_reads) × (failures' ≡ failures))

@@ -1,10 +1,10 @@
--- The history of the bytes of a stream.
+-- Defines the bytes that have passed through a stream, according to the stream's history.
 use Rattle.std.specs.Prelude.{ℕ, List, [], ◌++◌}
 use Rattle.script_engine.specs.declared.passed.Pass.{Pass}
 use Rattle.script_engine.specs.declared.passed.Pass.TheVariants as pass
 
--- The bytes of a stream's history after a step. The start of the history (`Nothing`) has no bytes, and the step `More`
--- appends bytes to the earlier bytes.
+-- All bytes in a stream's history that ends with the given step. The start of the history (`Nothing`) has no bytes, and
+-- the step `More` appends bytes to the earlier bytes.
 abbrev pub passed_bytes : Pass → List ℕ
 passed_bytes pass.Nothing = []
 passed_bytes (pass.More before bytes) = before.now.bytes ++ bytes.now

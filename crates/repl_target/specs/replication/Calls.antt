@@ -1,5 +1,5 @@
--- Sequences of calls on a target, and their effect, as specified in docs/PROFILE.md, "Sessions of a peer" and "Tied
--- windows and messages".
+-- Defines sequences of calls on a target, and how they change the target, as specified in docs/PROFILE.md, "Sessions of
+-- a peer" and "Tied windows and messages".
 use Rattle.std.specs.Prelude.{◌≡◌, ◌⊎◌, ℕ, ◌<◌, ◌≤◌, min, Bool, List, [], ◌∷◌, Option, Result, Ok, Err}
 use Rattle.rev_core.specs.Rev.{RevId}
 use Rattle.rev_tree.specs.declared.origin.SessionId.{SessionId}
@@ -28,8 +28,8 @@ settled_of refuses p parcel (Ok at) = settled_before refuses at.1 (settling_of p
 abbrev pub most_settled : (Document → Bool) → PeerValue → SessionId → ParcelValue → ℕ
 most_settled refuses p session parcel = settled_of refuses p parcel (settle_check p session parcel)
 
--- The target after settling ran out of memory. The first n documents of the parcel are settled, or fewer if settling
--- without failed allocations settles fewer.
+-- The target after an allocation failed while a parcel was settled. The first n documents of the parcel are settled, or
+-- fewer if fewer would be settled without a failed allocation.
 abbrev pub after_some : (Document → Bool) → PeerValue → SessionId → ParcelValue → ℕ → PeerValue
 after_some refuses p session parcel n =
     after_stop refuses p session parcel (min n (most_settled refuses p session parcel))
@@ -91,8 +91,8 @@ abbrev pub IsGrown : (Document → Bool) → DatabaseValue → Choice → Sessio
 IsGrown refuses source chosen run given now =
     (calls : List Call) × AllFrom source chosen run calls × (now ≡ after_calls refuses given calls)
 
--- The effect of a replication on its target. Either the target is unchanged, or the plan's session has begun at the
--- common checkpoint, and calls for this session have changed the target further.
+-- How a replication changes the target. Either the target is unchanged, or the plan's session has begun at the common
+-- checkpoint, and calls for this session have changed the target further.
 abbrev pub IsLeft : (Document → Bool) → PeerValue → PeerValue → Plan → PeerValue → Type 0
 IsLeft refuses source given plan now =
     (now ≡ given)

@@ -1,5 +1,5 @@
--- The errors of a replication by one thread between consistent peers, as specified in docs/PROFILE.md, "Replication by
--- one thread".
+-- Defines the errors of a replication by one thread between consistent peers, as specified in docs/PROFILE.md,
+-- "Replication by one thread".
 use Rattle.std.specs.Prelude.{◌≡◌, ℕ, ◌<◌, true, false, Some}
 use Rattle.repl_peer.specs.peer.Peer.{PeerValue, holds}
 use Rattle.repl_peer.specs.declared.fault.TargetFault.{TargetFault}

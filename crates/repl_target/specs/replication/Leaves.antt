@@ -1,5 +1,5 @@
--- The effect of a replication on both peers, on one thread or several, as specified in docs/PROFILE.md, "Replication by
--- one thread", "The pool" and "Tied peers".
+-- Defines how a replication on one thread or several changes both peers, as specified in docs/PROFILE.md, "Replication
+-- by one thread", "The pool" and "Tied peers".
 use Rattle.std.specs.Prelude.{◌≡◌, ◌⊎◌, Bool, List}
 use Rattle.rev_tree.specs.Agreement.{IsGrownBy}
 use Rattle.doc_json.specs.Document.{Document}
@@ -14,20 +14,20 @@ use Rattle.repl_target.specs.declared.replication.Plan.{Plan}
 use Rattle.repl_target.specs.ties.Ties.{IsTiedWith, IsSentEntry, KeepsOthersTied}
 use Rattle.repl_target.specs.replication.Calls.{IsLeft}
 
--- For each document, its tree in database `now` is its tree in database `old`, grown by data from its tree in database
+-- For each document, the tree in database `now` is the tree in database `old`, grown by data from the tree in database
 -- `other` (`IsGrownBy`).
 abbrev pub HasGrownBy : DatabaseValue → DatabaseValue → DatabaseValue → Type 0
 HasGrownBy old other now = (id : Id) → IsGrownBy (tree_of old.docs id) (tree_of other.docs id) (tree_of now.docs id)
 
--- After a replication, the source is unchanged, or its log has an entry of a session of the target.
+-- After a replication, the source is unchanged, or the source's log has an entry of a session of the target.
 abbrev pub IsPut : PeerValue → PeerValue → Choice → PeerValue → Type 0
 IsPut source target chosen source' =
     (source' ≡ source)
     ⊎ (e : EntryValue) × IsSentEntry target e × (source' ≡ after_put_entry source (rep_between source target chosen) e)
 
--- The effect of a replication on both peers. At the source of a replication, only the log may have changed. A
--- replication's target is unchanged or has grown by calls of the plan's session. After a replication, source and target
--- stay tied to each other and to third peers.
+-- How a replication changes both peers. At the source of a replication, only the log may have changed. A replication's
+-- target is unchanged or has grown by calls of the plan's session. After a replication, source and target stay tied to
+-- each other and to third peers.
 pub record Leaves (refuses : Document → Bool) (source target : PeerValue) (plan : Plan) (source' target' : PeerValue)
     : Type 0 where
   pub log : source' ≡ record source { outgoing = source'.outgoing }

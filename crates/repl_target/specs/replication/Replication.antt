@@ -1,5 +1,5 @@
--- Replication by one thread, as specified in docs/PROFILE.md, "Replication by one thread", and in CouchDB, "Replication
--- Protocol".
+-- Defines replication by one thread, as specified in docs/PROFILE.md, "Replication by one thread", and in CouchDB,
+-- "Replication Protocol".
 use Rattle.std.specs.Prelude.{◌≡◌, ◌⊎◌, ℕ, zero, suc, ◌==◌, ◌<◌, Bool, true, false, ◌&&◌, nat_lt, nat_le, if◌then◌else◌, [], Option, Some, None, Result, Ok, Err}
 use Rattle.std.specs.declared.alloc.AllocError.{AllocError}
 use Rattle.rev_core.specs.Rev.{RevId}
@@ -56,8 +56,8 @@ checkpoint_of source target chosen = checkpoint_between source target (rep_betwe
 abbrev pub start_between : PeerValue → PeerValue → Choice → ℕ
 start_between source target chosen = start_at (checkpoint_of source target chosen)
 
--- The scope of a new session. A new session's base is the session of the common checkpoint, and its goal is the
--- source's update sequence.
+-- The scope of a new session. A new session's base is the session of the common checkpoint, and the session's goal is
+-- the source's update sequence.
 abbrev pub scope_between : PeerValue → PeerValue → Choice → Scope
 scope_between source target chosen = record {
   rep = rep_between source target chosen;
@@ -149,7 +149,7 @@ ReadsUntil refuses source plan from why target' =
 
 -- ---- the end
 
--- The target after the plan's session is concluded or, if it cannot be concluded, recorded.
+-- The target after the plan's session is concluded or, if the session cannot be concluded, recorded.
 abbrev pub closed_as : PeerValue → Plan → Result Report TargetFault → PeerValue
 closed_as p plan (Ok report) = after_conclude p plan.session plan.at
 closed_as p plan (Err fault) = after_record (after_conclude p plan.session plan.at) plan.session plan.at

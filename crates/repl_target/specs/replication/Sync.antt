@@ -1,4 +1,4 @@
--- Replication in both directions, as specified in docs/PROFILE.md, "Both ways", and in PouchDB, `sync`.
+-- Defines replication in both directions, as specified in docs/PROFILE.md, "Both ways", and in PouchDB, `sync`.
 use Rattle.std.specs.Prelude.{◌≡◌, Bool, true, Result, Ok, Err}
 use Rattle.rev_core.specs.Rev.{RevId}
 use Rattle.rev_tree.specs.Tree.{has, is_leaf}
@@ -42,9 +42,9 @@ abbrev pub HasRefusedNone : PeerValue → Id → Type 0
 HasRefusedNone p id =
     (s : SessionValue) → Among s p.sessions → (x : RefusedValue) → Among x s.ledger → x.doc.id ≡ id → ⊥
 
--- The effect of the replications in both directions on a document. After both replications, each side has the other
--- side's leaves of the document. If the document's trees agreed and had complete histories before both replications,
--- both sides have the same document afterwards.
+-- How the replications in both directions change a document. After both replications, each of the two databases has the
+-- other database's leaves of the document. If the document's trees agreed and had complete histories before both
+-- replications, both databases have the same document afterwards.
 pub record Meets (a b a' b' : DatabaseValue) (id : Id) : Type 0 where
   pub there : KnowsLeaves b' a' id
   pub back : KnowsLeaves a' b' id
@@ -56,8 +56,8 @@ pub record Meets (a b a' b' : DatabaseValue) (id : Id) : Type 0 where
   pub whole : IsWhole (tree_of a.docs id) → IsWhole (tree_of b.docs id)
       → IsWhole (tree_of a'.docs id) × IsWhole (tree_of b'.docs id)
 
--- Suppose that the peers were tied in both directions before both replications. Then `Meets` is true afterwards for
--- each document that both plans select, and that neither side has ever refused.
+-- Suppose that the peers were tied in both directions before both replications. If so, `Meets` is true after both
+-- replications for each document that both plans select, and that neither peer has ever refused.
 abbrev pub MeetBoth : PeerValue → PeerValue → PeerValue → PeerValue → Plan → Plan → Type 0
 MeetBoth a b a' b' there back =
     IsTiedPair a b there.chosen → IsTiedPair b a back.chosen → (id : Id) → HasRefusedNone a' id → HasRefusedNone b' id

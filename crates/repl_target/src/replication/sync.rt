@@ -36,10 +36,10 @@ pub enum SyncFault {
 /// Replicates in both directions, on one thread. The call first replicates `a` into `b`. If the replication of `a` into
 /// `b` succeeds, the call then replicates `b` into `a`. Each direction is a `replicate_alone` with a separate plan.
 ///
-/// If the peers are consistent in both directions (docs/PROFILE.md, "Tied peers") and the call succeeds, each side then
-/// has the other side's leaves of each shared document. A document is shared if both plans select the document and
-/// neither side has ever refused it. If a shared document's two trees agreed before the call and had complete
-/// histories, both sides then have the same revisions, parents, contents of leaves and winner. Two trees agree if no
+/// If the peers are consistent in both directions (docs/PROFILE.md, "Tied peers") and the call succeeds, each peer then
+/// has the other peer's leaves of each shared document. A document is shared if both plans select the document and
+/// neither peer has ever refused the document. If a shared document's two trees agreed before the call and had complete
+/// histories, both peers then have the same revisions, parents, contents of leaves and winner. Two trees agree if no
 /// revision has different parents or contents in the two trees. After the call, the two trees of this shared document
 /// still agree and have complete histories.
 ///

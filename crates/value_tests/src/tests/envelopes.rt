@@ -1,5 +1,5 @@
-//! Worked examples of wrapping documents in envelopes and unwrapping them. Some calls get only the beginning of a text,
-//! up to a point where a run of bytes of a string may follow.
+//! Worked examples that wrap documents in envelopes, and unwrap documents from envelopes. Some calls get only the
+//! beginning of a text, up to a point where a run of bytes of a string may follow.
 use doc_envelope::Envelope;
 use std::alloc::Global;
 use std::process::Abort;
@@ -55,14 +55,14 @@ static WRAPPED: &[Row] = &[
             r#"{"_id":"a","_rev":"2-b","_revisions":{"start":2,"ids":["b","c"]},"whole":"\"x\":\"y\",\"_attachments\":{\"f\":{\"data\":\"QUJDREVGRw"#,
         ),
     ),
-    // The call returns `false`, because the member `_revisions` may follow the input.
+    // In the next row, the call returns `false`, because the member `_revisions` may follow the input.
     (
         Call::BeginPut,
         r#"{"_id":"a","_rev":"2-b","_attachments":{"f":{"data":"QUJDREVGRw"#,
         None,
     ),
-    // The calls return `false`, because the input ends in a member other than `_attachments`, outside of a string, or
-    // shortly after a quotation mark.
+    // In the next rows, the calls return `false`, because the input ends in a member other than `_attachments`, outside
+    // of a string, or shortly after a quotation mark.
     (
         Call::BeginPut,
         r#"{"_id":"a","_revisions":{"start":1,"ids":["b"]},"x":{"f":{"data":"QUJDREVGRw"#,
@@ -97,8 +97,8 @@ static UNWRAPPED: &[Row] = &[
         r#"{"_id":"a","_rev":"2-b","whole":"\"x\":\"y\",\"_attachments\":{\"f\":{\"data\":\"QUJDREVGRw"#,
         Some(r#"{"_id":"a","_rev":"2-b","x":"y","_attachments":{"f":{"data":"QUJDREVGRw"#),
     ),
-    // The calls return `false`, because the input ends outside of a wrapped string, in a member other than `whole`, or
-    // shortly after an escape.
+    // In the next rows, the calls return `false`, because the input ends outside of a wrapped string, in a member other
+    // than `whole`, or shortly after an escape.
     (
         Call::BeginTake,
         r#"{"_id":"a","_rev":"2-b","whole":"\"x\":1234567890"#,

@@ -22,7 +22,7 @@ enum Call {
     End,
     /// Read the low water.
     LowWater,
-    /// Count the maximal runs of adjacent done windows above the low water.
+    /// Count the ranges of adjacent done windows above the low water, each range as long as possible.
     RangeCount,
 }
 

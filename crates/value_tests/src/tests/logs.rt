@@ -6,7 +6,7 @@ use std::alloc::Global;
 use std::process::Abort;
 use test_support::{bare_entry, shown};
 
-/// A call on logs. A `usize` is the index of a log in the test's list of logs (`Bench::logs`).
+/// A call on logs. In the variants, a `usize` is the index of a log in the test's list of logs (`Bench::logs`).
 #[derive(Clone, Copy)]
 enum Call<'a> {
     /// Create an empty log, and append it to the list of logs.

@@ -15,7 +15,7 @@ enum Call<'a> {
     Write(&'a str),
     /// Compare two revisions.
     Compare(&'a str, &'a str),
-    /// Create an ancestry, given its newest generation and its signatures.
+    /// Create an ancestry from the newest generation and the signatures.
     Ancestry(u32, &'a [&'a str]),
     /// Create an ancestry, and read the revisions and the head of a copy.
     Copy(Parts<'a>),
@@ -38,7 +38,7 @@ enum Call<'a> {
 /// The calls of a test, and each call's expected result.
 type Rows = &'static [(Call<'static>, &'static str)];
 
-/// The newest generation of an ancestry, and its signatures.
+/// The newest generation of an ancestry, and the ancestry's signatures.
 #[derive(Clone, Copy)]
 struct Parts<'a> {
     start: u32,
@@ -114,7 +114,7 @@ fn written(alloc: Global, text: &str) -> Option<String> {
     rev_text(alloc, rev)
 }
 
-/// Returns whether the first of two parsed revisions is less, and whether they are equal.
+/// Parses two revisions, and returns whether the first is less than the second, and whether the two are equal.
 fn compared_texts(alloc: Global, first: &str, second: &str) -> Option<String> {
     match (rev(first), rev(second)) {
         (Some(first), Some(second)) => compared(alloc, first, second),
@@ -122,7 +122,7 @@ fn compared_texts(alloc: Global, first: &str, second: &str) -> Option<String> {
     }
 }
 
-/// Returns whether the first of two revisions is less, and whether the two revisions are equal.
+/// Returns whether the first of two revisions is less than the second, and whether the two revisions are equal.
 fn compared(alloc: Global, first: Rev, second: Rev) -> Option<String> {
     let (less, equal) = (first < second, first == second);
     format!(in alloc; "less {less}, equal {equal}").ok()

@@ -6,10 +6,10 @@ use std::alloc::Global;
 use std::process::Abort;
 use test_support::shown;
 
-/// What to read.
+/// The text that the test reads.
 #[derive(Clone, Copy)]
 enum Call<'a> {
-    /// Bytes.
+    /// The given bytes.
     Read(&'a [u8]),
     /// A JSON text of arrays that are nested to a given depth.
     Nested(usize),
