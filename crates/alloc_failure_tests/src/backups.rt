@@ -14,8 +14,8 @@ const REP: RepId = RepId {
     chosen: None,
 };
 
-/// The observed values of a peer: its database's life and update sequence, and the numbers of its local writes and log
-/// entries.
+/// The observed values of a peer: the life (incarnation) and update sequence of its database, and the numbers of its
+/// local writes and log entries.
 type Seen = (u64, u64, usize, usize);
 
 /// Returns the number of entries in the log of the replication.

@@ -64,7 +64,7 @@ fn page(alloc: Global, source: &Peer<Rules>, chosen: &Chosen) -> Option<Window> 
     }
 }
 
-/// Whether an audit of the selected documents is clean.
+/// Whether an audit of the selected documents finds no uncovered leaf.
 fn is_clean(
     alloc: Global,
     source: &Peer<Rules>,

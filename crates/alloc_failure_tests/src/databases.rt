@@ -251,7 +251,7 @@ fn exchanged(alloc: Global, db: &Database, empty: &Database) -> Result<Counts> {
     counted(alloc, db, empty, &window)
 }
 
-/// Copies a database, and gives the copy the life 1.
+/// Copies a database, and gives the copy the life 1 (a database's life is a number that a restore of a backup changes).
 fn db_copied(alloc: Global, db: &Database) -> Result<Database> {
     match db.copy_in(alloc, 1) {
         Err(AllocError) => Ok(db.copy_in(alloc, 1)?),

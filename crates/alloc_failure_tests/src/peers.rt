@@ -123,8 +123,8 @@ fn opened(alloc: Global, peer: &Peer<Rules>, asked: &Asked) -> Option<Parcel> {
     }
 }
 
-/// Returns the parameters of a session that begins at sequence 0, and should end at sequence `goal` of the source's
-/// life 0.
+/// Returns the parameters of a session that begins at sequence 0, and should end at sequence `goal` of the source,
+/// whose database has the life 0.
 fn beginning(goal: u64) -> Beginning {
     let scope = Scope {
         rep: REP,

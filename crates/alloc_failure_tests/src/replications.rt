@@ -27,7 +27,7 @@ pub(crate) fn is_memory(fault: TargetFault) -> bool {
     }
 }
 
-/// Audits two peers, and retries if an allocation fails. Returns whether the audit is clean.
+/// Audits two peers, and retries if an allocation fails. Returns whether the audit finds no uncovered leaf.
 pub(crate) fn is_clean(alloc: Global, source: &Peer<Rules>, target: &Peer<Rules>) -> bool {
     let found = match audit(alloc, source, target, None).ok() {
         Some(found) => Some(found),
