@@ -21,7 +21,8 @@ is_name_byte b =
 abbrev pub is_name : List ℕ → Bool
 is_name text = nat_lt 0 (length text) && nat_le (length text) 32 && list_all is_name_byte text
 
--- The number of items per request body: the number in the given text, or the default `absent` if there is no text.
+-- The number of items per request body: the number that the given text represents, or the default `absent` if there is
+-- no text.
 abbrev pub IsSize : ℕ → Option (List ℕ) → ℕ → Type 0
 IsSize absent None n = n ≡ absent
 IsSize absent (Some text) n =
@@ -91,8 +92,8 @@ Asks word second third whole svg task = (n : Named) × (word ≡ Some (word_of n
 
 -- ---- arguments without a task
 
--- The reason why task n cannot be built from an argument and flags. The reason is `Wrong` only if n does not accept the
--- argument and flags. The reason `Memory` is possible for every argument.
+-- The reason why task n cannot be built from an argument and flags. The reason is `Wrong` only if task n does not
+-- accept the argument and flags. The reason `Memory` is possible for every argument.
 abbrev pub FitsNone : Named → Option (List ℕ) → Bool → Bool → NoTask → Type 0
 FitsNone n word whole svg (Words error) = ⊥
 FitsNone n word whole svg Unknown = ⊥
